@@ -1,0 +1,14 @@
+//! The words that every layer shares: tags of versions, numbers of steps, refusals, and written limits.
+#![tactic(auto)]
+
+pub use limits::{LONGEST_VALUE, MOST_BYTES, MOST_MEMBERS, MOST_MESSAGES, MOST_PHASES};
+pub use refusal::Refusal;
+pub use stamp::Stamp;
+pub use tag::Tag;
+
+mod limits;
+mod refusal;
+mod stamp;
+mod tag;
+#[cfg(test)]
+mod tests;
