@@ -1,0 +1,64 @@
+//! Products, quotients and powers of elements; the sum of two elements, and their difference, is `a ^ b`.
+
+ghost use Rattle.std.specs.Prelude.{◌≡◌, ◌<◌};
+ghost use Rattle.gf256.specs.Field.{field_product, field_power};
+
+/// `x^8` modulo `x^8 + x^4 + x^3 + x^2 + 1`: what is added where a doubling carries out of the byte.
+pub const REDUCED_X8: u8 = 0x1D;
+
+/// The product of two elements.
+pub fn mul(a: u8, b: u8) -> u8
+    ensures { result ≡ field_product a b }
+{
+    let mut sum = 0;
+    let mut term = b;
+    for i in 0..8u32 {
+        if (a >> i) & 1 == 1 {
+            sum ^= term;
+        }
+        term = double(term);
+    }
+    sum
+}
+
+/// `x` times `a`.
+fn double(a: u8) -> u8
+    ensures { result ≡ field_product 2 a }
+{
+    let high = a >> 7;
+    ((a & 0x7F) << 1) ^ (high * REDUCED_X8)
+}
+
+/// The inverse of `a`: the element that gives 1 when it is multiplied by `a`.
+pub fn inv(a: u8) -> u8
+    requires { 0 < a }
+    ensures { field_product result a ≡ 1 }
+{
+    // The 255 elements that are not zero form a group under the product, so a^255 is 1.
+    pow(a, 254)
+}
+
+/// `a` divided by `b`: the element that gives `a` when it is multiplied by `b`.
+pub fn div(a: u8, b: u8) -> u8
+    requires { 0 < b }
+    ensures { field_product result b ≡ a }
+{
+    mul(a, inv(b))
+}
+
+/// The product of `exponent` factors `a`, which is 1 where there is none.
+pub fn pow(a: u8, exponent: u32) -> u8
+    ensures { result ≡ field_power a exponent }
+{
+    let mut product = 1;
+    let mut base = a;
+    let mut left = exponent;
+    while left > 0 {
+        if left % 2 == 1 {
+            product = mul(product, base);
+        }
+        base = mul(base, base);
+        left /= 2;
+    }
+    product
+}
