@@ -1,0 +1,104 @@
+ghost use Rattle.std.specs.Prelude.{◌≡◌, ◌≢◌, ◌↔◌, ◌⊎◌, ℕ, List, length, IfOk, OnOk, IfErr, MatchResult};
+ghost use Rattle.decoder.specs.Decoded.{IsDecoded};
+ghost use Rattle.decoder.specs.Pieces.{AreLawful, AreOfBytes, ArePiecesOf, HaveNoValue, IsInterpolated};
+
+use crate::blocks::interpolated;
+use crate::lawful::are_lawful;
+use crate::padding::{is_padding_zero, is_zero};
+use bytes::Bytes;
+use encoder::Piece;
+use std::alloc::Global;
+use std::marker::Model;
+use tag::Refusal;
+
+/// A value with the `k` pieces that it was decoded from, made by `decode` alone.
+#[derive(Debug, Drop)]
+pub struct Decoded {
+    k: u8,
+    pieces: Vec<Piece>,
+    value: Bytes,
+}
+
+impl Model for Decoded {
+    ghost use Rattle.decoder.specs.Decoded.{Decoding, IsDecoded};
+
+    ghost Value = { Decoding };
+
+    ghost view = { λ d. record { k = d.k; pieces = d.pieces.items; value = d.value } };
+
+    ghost invariant = { λ d. IsDecoded (record { k = d.k; pieces = d.pieces.items; value = d.value }) };
+}
+
+impl Decoded {
+    /// The value of which these are pieces.
+    pub fn value(&self) -> &Bytes
+        ensures value { result.now ≡ self.now.value }
+        ensures decoded { IsDecoded self.now }
+    {
+        &self.value
+    }
+
+    /// The `k` pieces, in the order in which they were given.
+    pub fn pieces(&self) -> &[Piece]
+        ensures pieces { result.now ≡ self.now.pieces }
+        ensures decoded { IsDecoded self.now }
+    {
+        self.pieces.as_slice()
+    }
+
+    /// How many pieces there are.
+    pub fn k(&self) -> u8
+        ensures { result ≡ self.now.k }
+    {
+        self.k
+    }
+}
+
+/// The value of `len` bytes whose fragments the pieces are, cut into `k` blocks of `len.div_ceil(k)` bytes. Refused with
+/// `BadPieces` where the pieces are not `k` pieces at distinct points of a value of `len` bytes, within the limits, or
+/// where no such value has these fragments: then a byte past `len` in the interpolated blocks is not 0. Else refused
+/// with `NoMemory`, which is told only where there is such a value.
+pub fn decode(alloc: Global, k: u8, len: u32, pieces: Vec<Piece>) -> Result<Decoded, Refusal>
+    ensures kept { IfOk result (λ d. (d.k ≡ k) × (d.pieces ≡ pieces.items)) }
+    ensures lawful { OnOk result (AreLawful k len pieces.items) }
+    ensures interpolated { IfOk result (λ d. IsInterpolated k len pieces.items d.value) }
+    ensures only { IfOk result (λ d. (v : List ℕ) → IsInterpolated k len pieces.items v → v ≡ d.value) }
+
+    ensures bad_pieces { (result ≡ Err Refusal.BadPieces) ↔
+        ((¬ AreLawful k len pieces.items) ⊎ HaveNoValue k len pieces.items) }
+    ensures refused { IfErr result (λ e. (e ≡ Refusal.BadPieces) ⊎ (e ≡ Refusal.NoMemory)) }
+
+    // Any k pieces of a value give it back, wherever memory is not refused.
+    ensures round_trip { (v : List ℕ) → length v ≡ len → ArePiecesOf v k pieces.items →
+        MatchResult result (λ d. d.value ≡ v) (λ e. e ≡ Refusal.NoMemory) }
+{
+    if !are_lawful(k, len, &pieces) {
+        return Err(Refusal::BadPieces);
+    }
+    let value = value_of(alloc, k, len, &pieces)?;
+    Ok(Decoded { k, pieces, value })
+}
+
+/// The value of `len` bytes whose fragments the lawful pieces are. Where memory is refused, the bytes past `len` are
+/// looked at without it, so that bad pieces are always told.
+fn value_of(alloc: Global, k: u8, len: u32, pieces: &[Piece]) -> Result<Bytes, Refusal>
+    requires lawful { AreLawful k len pieces.now }
+    requires bytes { AreOfBytes pieces.now }
+    ensures interpolated { IfOk result (λ value. IsInterpolated k len pieces.now value) }
+    ensures only { IfOk result (λ value. (v : List ℕ) → IsInterpolated k len pieces.now v → v ≡ value) }
+    ensures refused { IfErr result (λ e. ((e ≡ Refusal.BadPieces) × HaveNoValue k len pieces.now)
+        ⊎ ((e ≡ Refusal.NoMemory) × (¬ HaveNoValue k len pieces.now))) }
+{
+    let Ok(mut blocks) = interpolated(alloc, k, len, pieces) else {
+        return Err(if is_padding_zero(k, len, pieces) {
+            Refusal::NoMemory
+        } else {
+            Refusal::BadPieces
+        });
+    };
+    if !is_zero(&blocks[len as usize..]) {
+        return Err(Refusal::BadPieces);
+    }
+    blocks.truncate(len as usize);
+    Ok(Bytes::from_vec(blocks)?)
+}
