@@ -1,0 +1,31 @@
+-- The bytes of the pieces in a bank.
+use Rattle.std.specs.Prelude.{ℕ, length, sum_by, is_some, if◌then◌else◌, Option, Some, None}
+use Rattle.std.specs.FinMap as map
+use Rattle.tag.specs.declared.tag.Tag.{Tag}
+use Rattle.bank.specs.declared.row.Arrival.{Arrival}
+use Rattle.bank.specs.declared.row.Row.{Row}
+use Rattle.bank.specs.declared.request.Request.{Request}
+use Rattle.bank.specs.declared.request.Request.TheVariants as request
+use Rattle.bank.specs.Bank.{Bank, piece_of}
+
+-- the bytes of a piece that came
+abbrev pub arrival_bytes : Option Arrival → ℕ
+arrival_bytes None = 0
+arrival_bytes (Some a) = length a.piece.bytes
+
+-- the bytes of a row's piece
+abbrev pub row_bytes : Row → ℕ
+row_bytes r = arrival_bytes r.arrival
+
+-- the bytes of the piece in an entry
+abbrev pub entry_bytes : Tag × Row → ℕ
+entry_bytes e = row_bytes e.1
+
+-- the bytes of all pieces in a bank
+abbrev pub bank_bytes : Bank → ℕ
+bank_bytes b = sum_by entry_bytes (map.entries b.rows)
+
+-- the bytes that a request adds: those of a piece, where none came for its tag before
+abbrev pub added_bytes : Bank → Request → ℕ
+added_bytes b (request.PreWrite tag piece) = if is_some (piece_of b tag) then 0 else length piece.bytes
+added_bytes b q = 0

@@ -1,0 +1,40 @@
+-- What a request keeps of what a member knew, and what it adds.
+use Rattle.std.specs.Prelude.{◌≡◌, ℕ, ◌<◌, false, Option, Some, IsSome}
+use Rattle.tag.specs.declared.tag.Tag.{Tag}
+use Rattle.tag.specs.Tag.{tag_lt}
+use Rattle.bank.specs.declared.kind.Kind.{Kind}
+use Rattle.bank.specs.declared.reply.Answer.{Answer}
+use Rattle.bank.specs.Bank.{Bank}
+use Rattle.bank.specs.Knowledge.{came_by, finalized_at, arrived_at, pending_since, final_since, pointer_at}
+use Rattle.bank.specs.Knowledge.{IsTrueAnswer}
+
+-- if it came, it came before step `now`
+abbrev pub IsEarlier : Option ℕ → ℕ → Type 0
+IsEarlier came now = (step : ℕ) → came ≡ Some step → step < now
+
+-- all that the member knows came before step `now`
+pub record IsBefore (b : Bank) (now : ℕ) : Type 0 where
+  pub finalized : (tag : Tag) → IsEarlier (finalized_at b tag) now
+  pub arrived : (tag : Tag) → IsEarlier (arrived_at b tag) now
+  pub pending : IsEarlier (pending_since b.pointer) now
+  pub final : IsEarlier (final_since b.pointer) now
+
+-- of each step before `now`, both banks say the same
+pub record SameBefore (old new : Bank) (now : ℕ) : Type 0 where
+  pub finalized : (tag : Tag) (step : ℕ) → step < now
+      → came_by (finalized_at new tag) step ≡ came_by (finalized_at old tag) step
+  pub arrived : (tag : Tag) (step : ℕ) → step < now
+      → came_by (arrived_at new tag) step ≡ came_by (arrived_at old tag) step
+  pub pointer : (step : ℕ) → step < now → pointer_at new step ≡ pointer_at old step
+
+-- the tag is finalized, and no finalized tag is above it
+pub record IsGreatest (b : Bank) (tag : Tag) : Type 0 where
+  pub final : IsSome (finalized_at b tag)
+  pub greatest : (other : Tag) → IsSome (finalized_at b other) → tag_lt tag other ≡ false
+
+-- a request was served at step `now`: nothing of the past changed, all that is known came before any later step,
+-- and the answer is true
+pub record IsServed (old new : Bank) (now : ℕ) (kind : Kind) (answer : Answer) : Type 0 where
+  pub past : SameBefore old new now
+  pub order : (later : ℕ) → now < later → IsBefore new later
+  pub truth : IsTrueAnswer new now kind answer

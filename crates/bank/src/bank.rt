@@ -1,0 +1,245 @@
+ghost use Rattle.std.specs.Prelude.{◌≡◌, ℕ, ◌<◌, ◌^◌, IsTrue, Some, slice_get, option_copied};
+ghost use Rattle.std.specs.Prelude.{IfOk, IfErr, OnOk, OnErr, IsOk, IsNone};
+ghost use Rattle.tag.specs.declared.refusal.Refusal.TheVariants.{NoMemory};
+
+use crate::rows::{bytes_of, place_of, rank_of};
+use crate::{Answer, Arrival, Label, Pointer, Reply, Row, Status};
+use bytes::Bytes;
+use encoder::Piece;
+use std::alloc::Global;
+use std::marker::Model;
+use tag::{Refusal, Stamp, Tag};
+
+/// One server's bank for one position of an object.
+///
+/// Each request takes the number `now` of the step that serves it, and its reply keeps it. Where `now` is after all
+/// that the bank keeps, the clause `served` says that the past stays as it was and that the reply is true.
+/// A refusal is `NoMemory`: there was no room for a new tag, or for one more owner of a piece.
+#[derive(Debug, Drop)]
+pub struct Bank {
+    // In the order in which the tags came.
+    rows: Vec<(Tag, Row)>,
+    pointer: Pointer,
+}
+
+impl Model for Bank {
+    ghost use Rattle.std.specs.FinMap as map;
+    ghost use Rattle.std.specs.Coded.{codes};
+    ghost use Rattle.bank.specs.Bank.{Bank as Table, bank_code};
+    ghost use Rattle.bank.specs.Kept.{IsKept};
+
+    ghost Value = { Table };
+
+    ghost coded = { bank_code (Prim.hlevel codes) (Prim.hlevel codes) (Prim.hlevel codes) };
+
+    ghost view = { λ b. record { rows = map.from_entries b.rows.items; pointer = b.pointer } };
+
+    ghost invariant = { λ b. IsKept b.rows.items };
+}
+
+impl Bank {
+    ghost use Rattle.std.specs.FinMap as map;
+    ghost use Rattle.bank.specs.Bank.{opened_bank, pre_written, finalized, with_pointer, piece_of, knows};
+    ghost use Rattle.bank.specs.Bytes.{bank_bytes};
+    ghost use Rattle.bank.specs.Facts.{IsBefore, IsGreatest, IsServed};
+    ghost use Rattle.bank.specs.Pointer.{status_of, raised};
+    ghost use Rattle.bank.specs.Serve.{greatest_final};
+    ghost use Rattle.bank.specs.declared.kind.Kind.TheVariants as kind;
+    ghost use Rattle.bank.specs.declared.reply.Answer.TheVariants as answer;
+
+    /// A bank that keeps the opening tag, finalized, with the fragment of the empty value at `point`.
+    pub fn new(alloc: Global, point: u8, now: Stamp) -> Result<Bank, Refusal>
+        ensures bank { IfOk result (λ b. b ≡ opened_bank point now) }
+        ensures order { (later : ℕ) → now < later → IfOk result (λ b. IsBefore b later) }
+        ensures bytes { IfOk result (λ b. bank_bytes b ≡ 0) }
+        ensures refused { IfErr result (λ e. e ≡ NoMemory) }
+    {
+        let piece = Piece {
+            point,
+            len: 0,
+            bytes: Bytes::new(),
+        };
+        let row = Row {
+            label: Label::Finalized { since: now },
+            arrival: Some(Arrival { piece, step: now }),
+        };
+        let mut rows = Vec::new(alloc);
+        rows.push((Tag::OPENING, row))?;
+        Ok(Bank {
+            rows,
+            pointer: Pointer::Unset,
+        })
+    }
+
+    /// The pointer to the position after the bank's own.
+    pub fn pointer(&self) -> Pointer
+        ensures { result ≡ self.now.pointer }
+    {
+        self.pointer
+    }
+
+    /// How many tags there are.
+    pub fn count(&self) -> usize
+        ensures { result ≡ map.len self.now.rows }
+    {
+        self.rows.len()
+    }
+
+    /// The tag that has `i` others below it, with what is kept for it.
+    pub fn kept(&self, i: usize) -> (Tag, &Row)
+        requires { i < map.len self.now.rows }
+        ensures { slice_get (map.entries self.now.rows) i ≡ Some (result.0, result.1.now) }
+    {
+        for (tag, row) in &self.rows {
+            if rank_of(&self.rows, *tag) == i {
+                return (*tag, row);
+            }
+        }
+        unreachable!()
+    }
+
+    /// How many bytes all the pieces have.
+    pub fn bytes(&self) -> u64
+        requires { bank_bytes self.now < 2 ^ 64 }
+        ensures { result ≡ bank_bytes self.now }
+    {
+        bytes_of(&self.rows)
+    }
+
+    /// Answers the status of the pointer.
+    pub fn ask_next(&self, now: Stamp) -> Reply
+        ensures reply { result ≡ record { step = now; answer = answer.Pointer (status_of self.now.pointer) } }
+        ensures served { IsBefore self.now now → IsServed self.now self.now now kind.Next result.answer }
+    {
+        Reply {
+            step: now,
+            answer: Answer::Pointer(self.pointer.status()),
+        }
+    }
+
+    /// Raises the pointer to `status`, where that is greater.
+    pub fn put_next(&mut self, status: Status, now: Stamp) -> Reply
+        ensures bank { self.new ≡ with_pointer self.old (raised self.old.pointer status now) }
+        ensures reply { result ≡ record { step = now; answer = answer.Done } }
+        ensures served { IsBefore self.old now → IsServed self.old self.new now (kind.Spread status) result.answer }
+    {
+        self.pointer = self.pointer.raised(status, now);
+        Reply {
+            step: now,
+            answer: Answer::Done,
+        }
+    }
+
+    /// Answers the greatest finalized tag.
+    pub fn query(&self, now: Stamp) -> Reply
+        ensures reply { result ≡ record { step = now; answer = answer.Greatest (greatest_final self.now) } }
+        ensures greatest { IsGreatest self.now (greatest_final self.now) }
+        ensures served { IsBefore self.now now → IsServed self.now self.now now kind.Query result.answer }
+    {
+        let mut greatest = Tag::OPENING;
+        for (tag, row) in &self.rows {
+            if row.is_finalized() {
+                greatest = greatest.later(*tag);
+            }
+        }
+        Reply {
+            step: now,
+            answer: Answer::Greatest(greatest),
+        }
+    }
+
+    /// Keeps `piece` for `tag`, unless a piece came before. A new tag is pre-written; a known one keeps its label.
+    pub fn pre_write(&mut self, tag: Tag, piece: Piece, now: Stamp) -> Result<Reply, Refusal>
+        ensures bank { OnOk result (self.new ≡ pre_written self.old tag piece now) }
+        ensures reply { IfOk result (λ r. r ≡ record { step = now; answer = answer.Done }) }
+        ensures served { IsBefore self.old now
+            → IfOk result (λ r. IsServed self.old self.new now (kind.PreWrite tag) r.answer) }
+
+        ensures refused { IfErr result (λ e. e ≡ NoMemory) }
+        ensures unchanged { OnErr result (self.new ≡ self.old) }
+        ensures known { IsTrue (knows self.old tag) → IsOk result }
+    {
+        match place_of(&self.rows, tag) {
+            Some(place) => self.rows[place].1.fill(piece, now),
+            None => {
+                let row = Row {
+                    label: Label::PreWritten { since: now },
+                    arrival: Some(Arrival { piece, step: now }),
+                };
+                self.rows.push((tag, row))?;
+            }
+        }
+        Ok(Reply {
+            step: now,
+            answer: Answer::Done,
+        })
+    }
+
+    /// Makes `tag` final. A new tag is finalized without a piece.
+    pub fn finalize(&mut self, tag: Tag, now: Stamp) -> Result<Reply, Refusal>
+        ensures bank { OnOk result (self.new ≡ finalized self.old tag now) }
+        ensures reply { IfOk result (λ r. r ≡ record { step = now; answer = answer.Done }) }
+        ensures served { IsBefore self.old now
+            → IfOk result (λ r. IsServed self.old self.new now (kind.Finalize tag) r.answer) }
+
+        ensures refused { IfErr result (λ e. e ≡ NoMemory) }
+        ensures unchanged { OnErr result (self.new ≡ self.old) }
+        ensures known { IsTrue (knows self.old tag) → IsOk result }
+    {
+        match place_of(&self.rows, tag) {
+            Some(place) => self.rows[place].1.finalize(now),
+            None => {
+                let row = Row {
+                    label: Label::Finalized { since: now },
+                    arrival: None,
+                };
+                self.rows.push((tag, row))?;
+            }
+        }
+        Ok(Reply {
+            step: now,
+            answer: Answer::Done,
+        })
+    }
+
+    /// Makes `tag` final, as `finalize` does, and answers its piece, which shares its bytes with the one that is kept.
+    pub fn fetch(&mut self, tag: Tag, now: Stamp) -> Result<Reply, Refusal>
+        ensures bank { OnOk result (self.new ≡ finalized self.old tag now) }
+        ensures reply { IfOk result (λ r. r ≡ record { step = now; answer = answer.Piece (piece_of self.old tag) }) }
+        ensures served { IsBefore self.old now
+            → IfOk result (λ r. IsServed self.old self.new now (kind.Fetch tag) r.answer) }
+
+        ensures refused { IfErr result (λ e. e ≡ NoMemory) }
+        ensures unchanged { OnErr result (self.new ≡ self.old) }
+        ensures known { IsTrue (knows self.old tag) → IsNone (piece_of self.old tag) → IsOk result }
+    {
+        let piece = self.copy_of(tag)?;
+        self.finalize(tag, now)?;
+        Ok(Reply {
+            step: now,
+            answer: Answer::Piece(piece),
+        })
+    }
+
+    // A copy of the tag's piece.
+    fn copy_of(&self, tag: Tag) -> Result<Option<Piece>, Refusal>
+        ensures copy { IfOk result (λ p. p ≡ piece_of self.now tag) }
+        ensures refused { IfErr result (λ e. e ≡ NoMemory) }
+        ensures none { IsNone (piece_of self.now tag) → IsOk result }
+    {
+        match self.row_of(tag) {
+            Some(row) => row.copy_of_piece(),
+            None => Ok(None),
+        }
+    }
+
+    // The tag's row.
+    fn row_of(&self, tag: Tag) -> Option<&Row>
+        ensures { option_copied result ≡ map.get self.now.rows tag }
+    {
+        match place_of(&self.rows, tag) {
+            Some(place) => Some(&self.rows[place].1),
+            None => None,
+        }
+    }
+}

@@ -1,0 +1,3 @@
+pub mod Distinct
+mod Places
+pub mod Quorums

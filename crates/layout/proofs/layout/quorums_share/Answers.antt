@@ -1,0 +1,5 @@
+use Rattle.layout.proofs.Quorums.{quorums_share}
+use Rattle.layout.proofs.layout.quorums_share.Goals as goal
+
+pub returns : goal.returns
+returns c = quorums_share

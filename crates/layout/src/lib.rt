@@ -1,0 +1,10 @@
+//! Layouts: which servers keep the fragments of a value, how many fragments give it back, and quorums.
+#![tactic(auto)]
+
+pub use layout::{Layout, quorums_share};
+pub use member_set::MemberSet;
+
+mod layout;
+mod member_set;
+#[cfg(test)]
+mod tests;

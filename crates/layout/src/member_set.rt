@@ -1,0 +1,83 @@
+ghost use Rattle.std.specs.Prelude.{◌≡◌, not};
+ghost use Rattle.std.specs.FinSet as set;
+
+use std::marker::Model;
+
+// One place for each `u8`.
+const PLACES: usize = 256;
+
+/// A set of members.
+#[derive(Debug, Drop)]
+pub struct MemberSet {
+    // Whether each was inserted.
+    present: [bool; PLACES],
+    count: usize,
+}
+
+impl Model for MemberSet {
+    ghost use Rattle.std.specs.Prelude.{◌≡◌, length};
+    ghost use Rattle.std.specs.FinSet as set;
+    ghost use Rattle.std.specs.Ordering.{nat_cmp};
+    ghost use Rattle.std.specs.Coded.{coded_ℕ};
+    ghost use Rattle.layout.specs.MemberSet.{marked};
+    ghost use Rattle.layout.specs.declared.member_set.TheConstants.{PLACES};
+
+    ghost Value = { set.FinSet nat_cmp };
+
+    ghost coded = { set.code coded_ℕ };
+
+    ghost view = { λ s. marked s.present };
+
+    ghost invariant = { λ s. (s.count ≡ set.len (marked s.present)) × (length s.present ≡ PLACES) };
+}
+
+impl MemberSet {
+    /// The empty set.
+    pub fn new() -> MemberSet
+        ensures { result ≡ set.empty }
+    {
+        MemberSet {
+            present: [false; PLACES],
+            count: 0,
+        }
+    }
+
+    /// Inserts `member`, and answers whether it was new.
+    pub fn insert(&mut self, member: u8) -> bool
+        ensures inserted { self.new ≡ set.insert self.old member }
+        ensures was_new { result ≡ not (set.contains self.old member) }
+    {
+        let place = usize::from(member);
+        if self.present[place] {
+            return false;
+        }
+        self.present[place] = true;
+        self.count += 1;
+        true
+    }
+
+    /// Whether `member` was inserted.
+    pub fn has(&self, member: u8) -> bool
+        ensures { result ≡ set.contains self.now member }
+    {
+        self.present[usize::from(member)]
+    }
+
+    /// How many members were inserted, each counted once.
+    pub fn count(&self) -> usize
+        ensures { result ≡ set.len self.now }
+    {
+        self.count
+    }
+}
+
+impl Default for MemberSet {
+    ghost use Rattle.std.specs.Prelude.{◌≡◌};
+    ghost use Rattle.std.specs.FinSet as set;
+
+    ghost is_default = { λ s. s ≡ set.empty };
+
+    fn default() -> MemberSet {
+        MemberSet::new()
+    }
+}
