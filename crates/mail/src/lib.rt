@@ -1,0 +1,24 @@
+//! The messages of an object that wait to be handled.
+#![tactic(auto)]
+
+ghost use Rattle.std.specs.Prelude.{◌+◌, ◌≤◌, List, length};
+ghost use Rattle.std.specs.List.{AllByRecursion};
+ghost use Rattle.tag.specs.declared.limits.TheConstants.{LONGEST_VALUE, MOST_BYTES, MOST_MESSAGES};
+ghost use Rattle.mail.specs.declared.message.Message.{Message as Sent};
+ghost use Rattle.mail.specs.Mail.{mail_bytes};
+ghost use Rattle.mail.specs.Message.{message_bytes};
+
+pub use mail::Mail;
+pub use message::{Body, Message};
+
+mod mail;
+mod message;
+#[cfg(test)]
+mod tests;
+
+/// Where no piece is longer than a value, a mail has room for one more.
+pub fn pieces_have_room()
+    ensures { (messages : List Sent) → length messages ≤ MOST_MESSAGES
+        → AllByRecursion (λ m. message_bytes m ≤ LONGEST_VALUE) messages
+        → mail_bytes messages + LONGEST_VALUE ≤ MOST_BYTES }
+{}

@@ -1,0 +1,167 @@
+ghost use Rattle.std.specs.Prelude.{◌≡◌, ◌+◌, ◌<◌, ◌≤◌, ◌==◌, ◌++◌, [], length, nat_le, slice_get, remove};
+ghost use Rattle.std.specs.Prelude.{Some, OnOk, OnErr};
+ghost use Rattle.tag.specs.Refusal.{IsByCause};
+ghost use Rattle.tag.specs.declared.limits.TheConstants.{MOST_BYTES, MOST_MESSAGES};
+ghost use Rattle.bank.specs.Answer.{answer_bytes};
+ghost use Rattle.mail.specs.Mail.{is_within, mail_bytes, mail_cause, replied, repeated};
+
+use crate::Message;
+use bank::Reply;
+use std::alloc::Global;
+use std::marker::Model;
+use std::slice;
+use tag::{MOST_BYTES, MOST_MESSAGES, Refusal};
+
+/// The messages of an object that wait, in the order of their places, from 0.
+#[derive(Debug, Drop)]
+pub struct Mail {
+    messages: Vec<Message>,
+}
+
+impl Model for Mail {
+    ghost use Rattle.std.specs.Prelude.{List, IsTrue};
+    ghost use Rattle.mail.specs.declared.message.Message.{Message};
+    ghost use Rattle.mail.specs.Mail.{is_within};
+
+    ghost Value = { List Message };
+
+    ghost view = { λ m. m.messages.items };
+
+    ghost invariant = { λ m. IsTrue (is_within m.messages.items) };
+}
+
+impl Mail {
+    /// A mail with no message.
+    pub fn new(alloc: Global) -> Mail
+        ensures { result ≡ [] }
+    {
+        Mail {
+            messages: Vec::new(alloc),
+        }
+    }
+
+    /// How many messages wait.
+    pub fn len(&self) -> usize
+        ensures value { result ≡ length self.now }
+        ensures within { result ≤ MOST_MESSAGES }
+    {
+        self.messages.len()
+    }
+
+    /// Whether no message waits.
+    pub fn is_empty(&self) -> bool
+        ensures { result ≡ (length self.now == 0) }
+    {
+        self.messages.is_empty()
+    }
+
+    /// The message at a place.
+    pub fn at(&self, place: usize) -> &Message
+        requires { place < length self.now }
+        ensures { slice_get self.now place ≡ Some result.now }
+    {
+        &self.messages[place]
+    }
+
+    /// How many bytes the pieces in all messages have.
+    pub fn bytes(&self) -> u64
+        ensures value { result ≡ mail_bytes self.now }
+        ensures within { result ≤ MOST_BYTES }
+    {
+        bytes_of(&self.messages)
+    }
+
+    /// Posts all messages behind those that wait, or none. `Full` where they would be more than `MOST_MESSAGES`,
+    /// or their pieces have more than `MOST_BYTES` bytes, and else `NoMemory` where the list can't grow.
+    pub fn post_all(&mut self, messages: Vec<Message>) -> Result<(), Refusal>
+        ensures posted { OnOk result (self.new ≡ self.old ++ messages.items) }
+        ensures unchanged { OnErr result (self.new ≡ self.old) }
+        ensures cause { IsByCause (mail_cause (self.old ++ messages.items)) result }
+    {
+        if !self.has_room(&messages) {
+            return Err(Refusal::Full);
+        }
+        let mut messages = messages;
+        self.messages.append(&mut messages)?;
+        Ok(())
+    }
+
+    // Whether the messages may wait together with those that wait already.
+    fn has_room(&self, messages: &[Message]) -> bool
+        ensures { result ≡ is_within (self.now ++ messages.now) }
+    {
+        messages.len() <= MOST_MESSAGES - self.messages.len()
+            && are_within(messages, MOST_BYTES - self.bytes())
+    }
+
+    /// Puts the reply in the place of the request there. It takes no memory, and asks that there is room for the
+    /// bytes of the reply's piece: `bytes` and the bytes of the answer are at most `MOST_BYTES` together.
+    pub fn reply_in_place(&mut self, place: usize, reply: Reply)
+        requires place { place < length self.old }
+        requires room { mail_bytes self.old + answer_bytes reply.answer ≤ MOST_BYTES }
+        ensures { self.new ≡ replied self.old place reply }
+    {
+        self.messages[place].answer(reply);
+    }
+
+    /// Removes the message at a place. Those behind it move down by one.
+    pub fn take_out(&mut self, place: usize) -> Message
+        requires { place < length self.old }
+        ensures message { slice_get self.old place ≡ Some result }
+        ensures rest { self.new ≡ remove self.old place }
+    {
+        self.messages.remove(place)
+    }
+
+    /// Loses the message at a place. Those behind it move down by one.
+    pub fn lose(&mut self, place: usize)
+        requires { place < length self.old }
+        ensures { self.new ≡ remove self.old place }
+    {
+        self.take_out(place);
+    }
+
+    /// Posts a copy of the message at a place behind those that wait; a piece shares its bytes with the copy.
+    /// `Full` and `NoMemory` as for `post_all`.
+    pub fn repeat(&mut self, place: usize) -> Result<(), Refusal>
+        requires { place < length self.old }
+        ensures posted { OnOk result (self.new ≡ repeated self.old place) }
+        ensures unchanged { OnErr result (self.new ≡ self.old) }
+        ensures cause { IsByCause (mail_cause (repeated self.old place)) result }
+    {
+        let message = self.at(place);
+        if !self.has_room(slice::from_ref(message)) {
+            return Err(Refusal::Full);
+        }
+        let copy = message.clone()?;
+        self.messages.push(copy)?;
+        Ok(())
+    }
+}
+
+// How many bytes the pieces in the messages have.
+fn bytes_of(messages: &[Message]) -> u64
+    requires { mail_bytes messages.now ≤ MOST_BYTES }
+    ensures { result ≡ mail_bytes messages.now }
+{
+    let mut total = 0;
+    for message in messages {
+        total += message.bytes();
+    }
+    total
+}
+
+// Whether the pieces in the messages have at most `most` bytes.
+fn are_within(messages: &[Message], most: u64) -> bool
+    ensures { result ≡ nat_le (mail_bytes messages.now) most }
+{
+    let mut left = most;
+    for message in messages {
+        let bytes = message.bytes();
+        if left < bytes {
+            return false;
+        }
+        left -= bytes;
+    }
+    true
+}

@@ -1,0 +1,64 @@
+ghost use Rattle.std.specs.Prelude.{◌≡◌, ◌^◌, ◌<◌};
+
+use bank::{Kind, Reply, Request};
+
+/// A request to a member, or the reply of its bank, with what was asked.
+#[derive(Clone, Debug, PartialEq, Eq, Drop)]
+pub enum Body {
+    Request(Request),
+    Reply { kind: Kind, reply: Reply },
+}
+
+impl Body {
+    ghost use Rattle.mail.specs.Message.{body_kind};
+
+    /// What the phase of the message asks.
+    pub fn kind(&self) -> Kind
+        ensures { result ≡ body_kind self.now }
+    {
+        match self {
+            Body::Request(request) => request.kind(),
+            Body::Reply { kind, reply: _ } => *kind,
+        }
+    }
+}
+
+/// A message between a phase of a call and a member of a position.
+#[derive(Clone, Debug, PartialEq, Eq, Drop)]
+pub struct Message {
+    /// The call's number in its object, from 1.
+    pub call: u64,
+    /// The phase's number in its call, from 1.
+    pub phase: u32,
+    /// The position that the phase asks, from 0.
+    pub position: u32,
+    /// The member's place in the position's layout, from 0.
+    pub member: u8,
+    pub body: Body,
+}
+
+impl Message {
+    ghost use Rattle.mail.specs.Message.{message_bytes, answered};
+
+    /// How many bytes the piece in the message has, if there is one.
+    pub fn bytes(&self) -> u64
+        ensures value { result ≡ message_bytes self.now }
+        ensures bound { result < 2 ^ 63 }
+    {
+        match &self.body {
+            Body::Request(Request::PreWrite(_, piece)) => piece.bytes.len() as u64,
+            Body::Reply { kind: _, reply } => reply.answer.bytes(),
+            _ => 0,
+        }
+    }
+
+    /// Puts the reply in the place of the request.
+    pub(crate) fn answer(&mut self, reply: Reply)
+        ensures { self.new ≡ answered self.old reply }
+    {
+        self.body = Body::Reply {
+            kind: self.body.kind(),
+            reply,
+        };
+    }
+}

@@ -1,0 +1,29 @@
+use Rattle.std.proofs.Common.{◌≡◌, ◌+◌, ◌<◌, ◌≤◌, false, length, is_some, arith}
+use Rattle.std.proofs.lemmas.Bool.Decides.{nat_tests}
+use Rattle.phase.specs.Phase.{has_taken}
+use Rattle.phase.proofs.Takes.{record_more}
+use Rattle.phase.proofs.phase.Phase.add.Goals as goal
+
+-- a quorum is still missing
+pub invariant_of-self : goal.invariant_of-self
+invariant_of-self c =
+    let p = c.self.inside in
+    let unended : is_some p.end ≡ false = grind (arith, nat_tests, rw (← c.self.view_is) at c.requires.open) in
+    let missing : has_taken p.replies.items c.args.taken.member ≡ false = rw (← c.self.view_is) at c.requires.missing in
+    let below : length p.replies.items + 1 < p.quorum = omega (arith, c.if-len-from.true, c.len.ensures, c.push_reserved.ensures.len) in
+    rw c.push_reserved.ensures.items (
+      record_more p.members p.quorum p.replies.items p.end _ _ c.self.invariant.0 unended missing (grind (arith, nat_tests)),
+      omega (arith, c.self.invariant.1, c.push_reserved.ensures.capacity),
+    )
+
+-- the reply makes the quorum
+pub invariant_of-self-2 : goal.invariant_of-self-2
+invariant_of-self-2 c =
+    let p = c.self.inside in
+    let unended : is_some p.end ≡ false = grind (arith, nat_tests, rw (← c.self.view_is) at c.requires.open) in
+    let missing : has_taken p.replies.items c.args.taken.member ≡ false = rw (← c.self.view_is) at c.requires.missing in
+    let reached : p.quorum ≤ length p.replies.items + 1 = omega (arith, c.if-len-from.false, c.len.ensures, c.push_reserved.ensures.len) in
+    rw c.push_reserved.ensures.items (
+      record_more p.members p.quorum p.replies.items p.end _ _ c.self.invariant.0 unended missing (grind (arith, nat_tests)),
+      omega (arith, c.self.invariant.1, c.push_reserved.ensures.capacity),
+    )

@@ -1,0 +1,98 @@
+-- Phases, and what takes make of them.
+use Rattle.std.specs.Prelude.{◌≡◌, ℕ, ◌+◌, ◌≤◌, ◌==◌, ◌&&◌, Bool, not, if◌then◌else◌, nat_lt, nat_eq, List, [], ◌∷◌, ◌++◌, length, map, Option, Some, None, is_some}
+use Rattle.std.specs.List.{list_any, IsDistinct}
+use Rattle.bank.specs.declared.kind.Kind.{Kind}
+use Rattle.bank.specs.declared.reply.Reply.{Reply}
+use Rattle.mail.specs.declared.message.Message.{Message}
+use Rattle.mail.specs.declared.message.Body.{Body}
+use Rattle.mail.specs.declared.message.Body.TheVariants as body
+use Rattle.phase.specs.declared.phase.Taken.{Taken}
+use Rattle.phase.specs.declared.phase.Took.{Took}
+use Rattle.phase.specs.declared.phase.Took.TheVariants as took
+
+-- a phase: its call, its number there, what it asks of the members of a position, how many are to reply,
+-- the steps at which it began and ended, and the replies that were taken
+pub record Phase : Type 0 where
+  pub call : ℕ
+  pub number : ℕ
+  pub kind : Kind
+  pub position : ℕ
+  pub members : ℕ
+  pub quorum : ℕ
+  pub start : ℕ
+  pub replies : List Taken
+  pub end : Option ℕ
+
+-- a phase that has taken nothing yet
+abbrev pub begun : (call number : ℕ) → Kind → (position members quorum now : ℕ) → Phase
+begun call number kind position members quorum now = record {
+  call = call;
+  number = number;
+  kind = kind;
+  position = position;
+  members = members;
+  quorum = quorum;
+  start = now;
+  replies = [];
+  end = None;
+}
+
+-- the members whose replies were taken
+abbrev pub members_of : List Taken → List ℕ
+members_of replies = map (λ t. t.member) replies
+
+-- whether a reply of the member is among those taken
+abbrev pub has_taken : List Taken → ℕ → Bool
+has_taken replies member = list_any (λ t. t.member == member) replies
+
+-- whether the phase has this call and number, and has not ended
+abbrev pub is_current : Phase → ℕ → ℕ → Bool
+is_current p call number = call == p.call && (number == p.number && not (is_some p.end))
+
+-- whether one more reply makes the quorum
+abbrev pub makes_quorum : Phase → Bool
+makes_quorum p = not (nat_lt (length p.replies + 1) p.quorum)
+
+-- what the take of a reply does
+abbrev pub took_reply : Phase → (call number member : ℕ) → Took
+took_reply p call number member =
+    if is_current p call number
+    then (if has_taken p.replies member
+    then took.Doubled
+    else (if makes_quorum p then took.Complete else took.Recorded))
+    else took.Stale
+
+abbrev pub took_body : Phase → (call number member : ℕ) → Body → Took
+took_body p call number member (body.Request q) = took.Stale
+took_body p call number member (body.Reply k r) = took_reply p call number member
+
+-- what the take of a message does
+abbrev pub took_by : Phase → Message → Took
+took_by p m = took_body p m.call m.phase m.member m.body
+
+-- the phase with one more reply, taken at step `now`; it ends where that makes the quorum
+abbrev pub with_reply : Phase → (member : ℕ) → Reply → (now : ℕ) → Phase
+with_reply p member r now = record p {
+  replies = p.replies ++ record { member = member; reply = r; step = now } ∷ [];
+  end = if makes_quorum p then Some now else None;
+}
+
+-- the phase after the take of a reply at step `now`
+abbrev pub after_reply : Phase → (call number member : ℕ) → Reply → (now : ℕ) → Phase
+after_reply p call number member r now =
+    if is_current p call number then (if has_taken p.replies member then p else with_reply p member r now) else p
+
+abbrev pub after_body : Phase → (call number member : ℕ) → Body → (now : ℕ) → Phase
+after_body p call number member (body.Request q) now = p
+after_body p call number member (body.Reply k r) now = after_reply p call number member r now
+
+-- the phase after the take of a message at step `now`
+abbrev pub after_take : Phase → Message → (now : ℕ) → Phase
+after_take p m now = after_body p m.call m.phase m.member m.body now
+
+-- no member is recorded twice, and the phase has ended exactly where there are replies of a quorum
+pub record IsRecord (members quorum : ℕ) (replies : List Taken) (end : Option ℕ) : Type 0 where
+  pub distinct : IsDistinct nat_eq (members_of replies)
+  pub room : (1 ≤ quorum) × (quorum ≤ members)
+  pub within : length replies ≤ quorum
+  pub ended : is_some end ≡ not (nat_lt (length replies) quorum)
