@@ -1,0 +1,47 @@
+-- The command lines as `clap` sees them.
+use Rattle.std.specs.Prelude.{◌≡◌, false, true, Some, codes, List, [], ◌∷◌}
+use Rattle.clap.specs.Lexer.{usize_max}
+use Rattle.clap.specs.declared.builder.command.Command.{Command}
+use Rattle.clap.specs.declared.builder.command.Command.TheViews.{out-Command}
+use Rattle.clap.specs.Simple.{on_top}
+use Rattle.clap.specs.Words.{app_of, App, Rule, Text, new_app, new_rule, with_rule, with_subcommand}
+use Rattle.clap.specs.declared.builder.action.ArgAction.TheVariants.{Set, Append}
+
+-- a word that has to be there
+abbrev pub positional : Text → Rule
+positional id = record (new_rule id) { required = true; action = Some Set }
+
+-- any number of words
+abbrev pub several : Text → Rule
+several id = record (new_rule id) {
+  action = Some Append;
+  range = Some (record { start_inclusive = 0; end_inclusive = usize_max });
+}
+
+-- `fragments K N HEX`
+abbrev pub fragments_form : App
+fragments_form = with_rule (with_rule (with_rule (new_app (codes "fragments"))
+    (positional (codes "K"))) (positional (codes "N"))) (positional (codes "HEX"))
+
+-- `decode K LEN POINT:HEX..`
+abbrev pub decode_form : App
+decode_form = with_rule (with_rule (with_rule (new_app (codes "decode"))
+    (positional (codes "K"))) (positional (codes "LEN")))
+    (several (codes "POINT:HEX"))
+
+-- with no flag and no command that asks for help
+abbrev pub without_help : App → App
+without_help = on_top (λ s. record s { disable_help_flag = true; disable_help_subcommand = true })
+
+-- the whole command line
+abbrev pub cas_form : App
+cas_form = with_subcommand (with_subcommand (without_help (new_app (codes "cas"))) fragments_form.top) decode_form.top
+
+-- the command is read as the form says, and has no global argument
+abbrev pub IsForm : Command → App → Type 0
+IsForm command form = (app_of command ≡ form) × ((out-Command command).has_globals ≡ false)
+
+-- the words that `clap` reads: the program's name, the command, `--`, and the words behind the command
+abbrev pub marked_words : List Text → List Text
+marked_words [] = codes "cas" ∷ []
+marked_words (command ∷ rest) = codes "cas" ∷ command ∷ codes "--" ∷ rest

@@ -1,0 +1,42 @@
+//! The program `cas`: the fragments of a value, and the value of fragments, from the command line.
+#![tactic(auto)]
+
+mod arguments;
+mod fault;
+mod fragments;
+mod hexadecimal;
+mod number;
+mod output;
+mod program;
+mod request;
+#[cfg(test)]
+mod tests;
+mod value;
+
+use fault::Fault;
+use program::run_words;
+use std::io::BufWriter;
+use std::process::ExitCode;
+use std::rt::Stdout;
+use std::{env, io};
+use tag::Refusal;
+
+fn main(rt: HostRuntime) -> ExitCode {
+    let mut err = rt.stderr();
+    let status = match begun(&rt) {
+        Ok((words, mut out)) => run_words(&rt, words.as_slice(), &mut out, &mut err),
+        Err(fault) => fault.report(&mut err),
+    };
+    ExitCode::from(status)
+}
+
+/// The words after the program's name, and standard output behind a buffer.
+fn begun(rt: &HostRuntime) -> Result<(Vec<String>, BufWriter<Stdout>), Fault> {
+    let mut arguments = env::args(rt).map_err(Fault::from_arguments)?;
+    let _program = arguments.next();
+    let words = arguments.collect(rt.alloc())?;
+    let Ok(out) = BufWriter::new(rt.alloc(), rt.stdout()) else {
+        return Err(Fault::Refused(Refusal::NoMemory));
+    };
+    Ok((words, out))
+}

@@ -1,0 +1,13 @@
+//! Numbers as decimal digits.
+ghost use Rattle.std.specs.Prelude.{◌≡◌, ◌<◌, ◌^◌, ℕ, MatchOption};
+ghost use Rattle.cas.specs.Number.{IsNumber};
+
+/// The number that a word's decimal digits write. None for any other word, one with a sign too, and from 2^64 on.
+pub fn parse_number(word: &str) -> Option<u64>
+    ensures { MatchOption result ((n : ℕ) → ¬ (IsNumber word.now n)) (IsNumber word.now) }
+{
+    if word.as_bytes().first().copied() == Some(b'+') {
+        return None;
+    }
+    word.parse::<u64>().ok()
+}
