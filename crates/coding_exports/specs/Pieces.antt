@@ -1,0 +1,15 @@
+-- The pieces that fragments make which stand one after another.
+use Rattle.std.specs.Prelude.{ℕ, List, [], ◌∷◌, take, drop}
+use Rattle.encoder.specs.Fragment.{fragment_len}
+use Rattle.encoder.specs.declared.fragment.Piece.{Piece}
+
+-- the pieces at these points of a value of len bytes, where each fragment has fragment_len bytes
+unfoldable pub pieces_from : ℕ → ℕ → List ℕ → List ℕ → List Piece
+pieces_from len fragment_len [] fragments = []
+pieces_from len fragment_len (point ∷ points) fragments =
+    record { point = point; len = len; bytes = take fragment_len fragments }
+    ∷ pieces_from len fragment_len points (drop fragment_len fragments)
+
+-- the pieces at these points of a value of len bytes that is cut into k blocks
+abbrev pub pieces_of : ℕ → ℕ → List ℕ → List ℕ → List Piece
+pieces_of k len points fragments = pieces_from len (fragment_len k len) points fragments
