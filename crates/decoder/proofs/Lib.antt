@@ -1,3 +1,4 @@
 pub mod Cut
+pub mod Determined
 pub mod Interpolated
 pub mod Whole
