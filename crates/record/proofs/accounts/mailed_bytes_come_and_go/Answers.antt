@@ -1,0 +1,5 @@
+use Rattle.record.proofs.Accounting.{mailed-stepped}
+use Rattle.record.proofs.accounts.mailed_bytes_come_and_go.Goals as goal
+
+pub returns : goal.returns
+returns c = λ fragment object now step. mailed-stepped fragment object now step

@@ -1,0 +1,5 @@
+use Rattle.record.proofs.Running.{run_atomic}
+use Rattle.record.proofs.atomicity.runs_are_atomic.Goals as goal
+
+pub returns : goal.returns
+returns c = λ fragment layout start steps code lawful may. run_atomic fragment code layout start steps lawful may

@@ -1,0 +1,5 @@
+use Rattle.record.proofs.Whole.{answered_are_whole}
+use Rattle.record.proofs.shape.answered_calls_are_whole.Goals as goal
+
+pub returns : goal.returns
+returns c = answered_are_whole

@@ -1,0 +1,5 @@
+use Rattle.record.proofs.Begun.{courses_are_beginnings}
+use Rattle.record.proofs.shape.courses_are_beginnings.Goals as goal
+
+pub returns : goal.returns
+returns c = courses_are_beginnings

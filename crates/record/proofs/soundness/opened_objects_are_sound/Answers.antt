@@ -1,0 +1,5 @@
+use Rattle.record.proofs.Opening.{opening_sound}
+use Rattle.record.proofs.soundness.opened_objects_are_sound.Goals as goal
+
+pub returns : goal.returns
+returns c = λ fragment layout now code lawful. opening_sound fragment code layout now lawful

@@ -1,0 +1,5 @@
+use Rattle.record.proofs.Running.{opened_run_sound}
+use Rattle.record.proofs.soundness.runs_are_sound.Goals as goal
+
+pub returns : goal.returns
+returns c = λ fragment layout start steps code lawful may. opened_run_sound fragment code layout start steps lawful may

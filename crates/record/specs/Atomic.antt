@@ -1,0 +1,52 @@
+-- What atomic means of the calls of one object: it knows their entries alone.
+use Rattle.std.specs.Prelude.{nat_eq, ◌≡◌, ℕ, zero, suc, ◌<◌, ◌≢◌, true, List, [], ◌∷◌, map, Option, Some, None, IsSome, get_or}
+use Rattle.std.specs.List.{AllByRecursion, IsDistinct}
+use Rattle.layout.specs.Quorum.{has}
+use Rattle.record.specs.declared.call.Entry.{Entry}
+use Rattle.record.specs.declared.call.Operation.{Operation}
+use Rattle.record.specs.declared.call.Operation.TheVariants as operation
+
+-- what stands where there is no call
+abbrev pub no_entry : Entry
+no_entry = record { call = 0; operation = operation.Move; called = 0; answered = None; value = None }
+
+-- the entry of a call, by its number, from 1
+abbrev pub entry_at : List Entry → (number : ℕ) → Entry
+entry_at entries zero = no_entry
+entry_at entries (suc index) = get_or entries index no_entry
+
+-- a read returns the current value and leaves it; a write leaves its own
+abbrev pub Leaves : Operation → Option (List ℕ) → (current next : List ℕ) → Type 0
+Leaves operation.Read value current next = (value ≡ Some current) × (next ≡ current)
+Leaves operation.Write value current next = value ≡ Some next
+Leaves operation.Move value current next = ⊥
+
+-- one register: each read has the value of the nearest write before it, or the current one where there is none
+abbrev pub IsRegister : (current : List ℕ) → List Entry → Type 0
+IsRegister current [] = Unit {0}
+IsRegister current (entry ∷ later) = (next : List ℕ) × Leaves entry.operation entry.value current next × IsRegister next later
+
+-- a was answered before b was called
+abbrev pub IsAnsweredBefore : Entry → Entry → Type 0
+IsAnsweredBefore a b = (step : ℕ) × (a.answered ≡ Some step) × (step < b.called)
+
+-- none comes behind an entry that was called after its answer
+abbrev pub KeepsOrder : List Entry → Type 0
+KeepsOrder [] = Unit {0}
+KeepsOrder (entry ∷ later) = AllByRecursion (λ other. IsAnsweredBefore other entry → ⊥) later × KeepsOrder later
+
+-- reads stand in the list where they are answered, writes may, moves never do
+abbrev pub MayStand : Entry → Type 0
+MayStand entry = (entry.operation ≢ operation.Move) × (entry.operation ≡ operation.Read → IsSome entry.answered)
+
+-- these call numbers are a sequence of the entries
+pub record IsSequence (entries : List Entry) (order : List ℕ) : Type 0 where
+  pub distinct : IsDistinct nat_eq order
+  pub fitting : AllByRecursion (λ number. MayStand (entry_at entries number)) order
+  pub complete : (number : ℕ) → (entry_at entries number).operation ≢ operation.Move → IsSome (entry_at entries number).answered → has order number ≡ true
+  pub one_register : IsRegister [] (map (λ number. entry_at entries number) order)
+  pub in_order : KeepsOrder (map (λ number. entry_at entries number) order)
+
+-- all answered reads and writes, and some unanswered writes, follow one register in an order that keeps answer before call
+abbrev pub IsAtomic : List Entry → Type 0
+IsAtomic entries = (order : List ℕ) × IsSequence entries order

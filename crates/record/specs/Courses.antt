@@ -1,0 +1,143 @@
+-- The order of a call's phases: which phase is due at each stage of a read, a write or a move, and where its replies lead.
+use Rattle.std.specs.Prelude.{◌≡◌, ℕ, suc, ◌<◌, ◌==◌, if◌then◌else◌, List, [], ◌∷◌, Option, Some, None}
+use Rattle.tag.specs.declared.tag.Tag.{Tag}
+use Rattle.tag.specs.Tag.{opening_tag, next_tag, later_tag, tag_lt}
+use Rattle.bank.specs.declared.status.Status.{Status}
+use Rattle.bank.specs.declared.status.Status.TheVariants.{Unset, Pending, Final}
+use Rattle.bank.specs.declared.kind.Kind.{Kind}
+use Rattle.bank.specs.declared.kind.Kind.TheVariants.{Next, Spread, Query, PreWrite, Finalize, Fetch}
+use Rattle.bank.specs.declared.reply.Answer.{Answer}
+use Rattle.bank.specs.declared.reply.Answer.TheVariants as answer
+use Rattle.bank.specs.Knowledge.{status_le}
+use Rattle.phase.specs.declared.phase.Taken.{Taken}
+use Rattle.phase.specs.Phase.{Phase}
+use Rattle.record.specs.declared.call.CallKind.{CallKind}
+use Rattle.record.specs.declared.call.CallKind.TheVariants.{Read, Write, Move}
+use Rattle.record.specs.declared.stage.Stage.{Stage}
+use Rattle.record.specs.declared.stage.Stage.TheVariants.{ReadNext, ReadSpread, QueryFrom, FetchAt, PreWriteAt, FinalizeAt, AgainNext, AgainSpread}
+use Rattle.record.specs.declared.stage.Stage.TheVariants.{MoveSpread, MoveQuery, MoveFetch, MovePreWrite, MoveFinalize, MoveFinal, Ended, Moved}
+
+-- the pointer's status that an answer shows
+abbrev pub shown_status : Answer → Status
+shown_status (answer.Pointer status) = status
+shown_status _ = Unset
+
+-- the tag that an answer shows
+abbrev pub shown_tag : Answer → Tag
+shown_tag (answer.Greatest tag) = tag
+shown_tag _ = opening_tag
+
+-- the later of two statuses: unset, pending, final
+abbrev pub later_status : Status → Status → Status
+later_status s t = if status_le s t then t else s
+
+-- the greatest status that the replies show
+abbrev pub greatest_status : List Taken → Status
+greatest_status [] = Unset
+greatest_status (taken ∷ replies) = later_status (shown_status taken.reply.answer) (greatest_status replies)
+
+-- the greatest tag that the replies show
+abbrev pub greatest_tag : List Taken → Tag
+greatest_tag [] = opening_tag
+greatest_tag (taken ∷ replies) = later_tag (shown_tag taken.reply.answer) (greatest_tag replies)
+
+-- the phase that is due, with its position; none where the call may be answered
+abbrev pub due : Stage → Option (Kind × ℕ)
+due (ReadNext position finalized) = Some (Next, position)
+due (ReadSpread position finalized status) = Some (Spread status, position)
+due (QueryFrom position last tag shown_at) = Some (Query, position)
+due (FetchAt shown_at last tag) = Some (Fetch tag, shown_at)
+due (PreWriteAt last tag) = Some (PreWrite tag, last)
+due (FinalizeAt last tag) = Some (Finalize tag, last)
+due (AgainNext last position tag) = Some (Next, position)
+due (AgainSpread last position tag status) = Some (Spread status, position)
+due (MoveSpread position) = Some (Spread Pending, position)
+due (MoveQuery position) = Some (Query, position)
+due (MoveFetch position tag) = Some (Fetch tag, position)
+due (MovePreWrite position tag) = Some (PreWrite tag, suc position)
+due (MoveFinalize position tag) = Some (Finalize tag, suc position)
+due (MoveFinal position tag) = Some (Spread Final, position)
+due (Ended last tag) = None
+due (Moved position tag) = None
+
+-- a first reading ends where there is no pointer; else the status that was found is spread
+abbrev pub after_next : Status → (position finalized : ℕ) → Stage
+after_next Unset position finalized = QueryFrom finalized position opening_tag finalized
+after_next Pending position finalized = ReadSpread position finalized Pending
+after_next Final position finalized = ReadSpread position finalized Final
+
+-- a first reading goes on at the next position, which is the last known to be finalized where the status was final
+abbrev pub after_spread : Status → (position finalized : ℕ) → Stage
+after_spread Final position finalized = ReadNext (suc position) (suc position)
+after_spread Pending position finalized = ReadNext (suc position) finalized
+after_spread Unset position finalized = ReadNext (suc position) finalized
+
+-- once the queries are complete: a read fetches the greatest tag, a write takes the next one
+abbrev pub tagged : CallKind → (number : ℕ) → (shown_at last : ℕ) → Tag → Stage
+tagged Read number shown_at last greatest = FetchAt shown_at last greatest
+tagged (Write value) number shown_at last greatest = PreWriteAt last (next_tag greatest number)
+tagged Move number shown_at last greatest = FetchAt shown_at last greatest
+
+-- a query that found a tag: it counts where it is not below the greatest so far, and the next position follows up to the last
+abbrev pub after_query : CallKind → (number : ℕ) → Tag → (position last : ℕ) → Tag → (shown_at : ℕ) → Stage
+after_query kind number found position last greatest shown_at =
+    let later = later_tag greatest found in
+    let place = if tag_lt found greatest then shown_at else position in
+    if position == last then tagged kind number place last later else QueryFrom (suc position) last later place
+
+-- what the last position's own quorum finalized by its fetch need not be put there again
+abbrev pub after_fetch : (shown_at last : ℕ) → Tag → Stage
+after_fetch shown_at last tag = if shown_at == last then AgainNext last last tag else PreWriteAt last tag
+
+-- a later reading that ends where it began ends the call; else the tag is put into the later last position too
+abbrev pub after_again : Status → (last position : ℕ) → Tag → Stage
+after_again Unset last position tag = if position == last then Ended last tag else PreWriteAt position tag
+after_again Pending last position tag = AgainSpread last position tag Pending
+after_again Final last position tag = AgainSpread last position tag Final
+
+-- where the replies of a complete phase lead call number `number`
+abbrev pub after : CallKind → (number : ℕ) → Stage → List Taken → Stage
+after kind number (ReadNext position finalized) replies = after_next (greatest_status replies) position finalized
+after kind number (ReadSpread position finalized status) replies = after_spread status position finalized
+after kind number (QueryFrom position last greatest shown_at) replies = after_query kind number (greatest_tag replies) position last greatest shown_at
+after kind number (FetchAt shown_at last tag) replies = after_fetch shown_at last tag
+after kind number (PreWriteAt last tag) replies = FinalizeAt last tag
+after kind number (FinalizeAt last tag) replies = AgainNext last last tag
+after kind number (AgainNext last position tag) replies = after_again (greatest_status replies) last position tag
+after kind number (AgainSpread last position tag status) replies = AgainNext last (suc position) tag
+after kind number (MoveSpread position) replies = MoveQuery position
+after kind number (MoveQuery position) replies = MoveFetch position (greatest_tag replies)
+after kind number (MoveFetch position tag) replies = MovePreWrite position tag
+after kind number (MovePreWrite position tag) replies = MoveFinalize position tag
+after kind number (MoveFinalize position tag) replies = MoveFinal position tag
+after kind number (MoveFinal position tag) replies = Moved position tag
+after kind number (Ended last tag) replies = Ended last tag
+after kind number (Moved position tag) replies = Moved position tag
+
+-- a phase that is not complete leaves the stage as it is
+abbrev pub passed : CallKind → (number : ℕ) → Stage → Option ℕ → List Taken → Stage
+passed kind number stage None replies = stage
+passed kind number stage (Some end) replies = after kind number stage replies
+
+-- the stage after these phases
+abbrev pub stage_after : CallKind → (number : ℕ) → Stage → List Phase → Stage
+stage_after kind number stage [] = stage
+stage_after kind number stage (phase ∷ phases) = stage_after kind number (passed kind number stage phase.end phase.replies) phases
+
+-- each phase but the current one is complete before the next begins
+abbrev pub IsEndedBefore : Phase → List Phase → Type 0
+IsEndedBefore phase [] = Unit {0}
+IsEndedBefore phase (next ∷ later) = (end : ℕ) × (phase.end ≡ Some end) × (end < next.start)
+
+-- from this stage on the phases are those that are due, one after another
+abbrev pub IsCourse : CallKind → (number : ℕ) → Stage → List Phase → Type 0
+IsCourse kind number stage [] = Unit {0}
+IsCourse kind number stage (phase ∷ phases) =
+    (due stage ≡ Some (phase.kind, phase.position)) × IsEndedBefore phase phases
+    × IsCourse kind number (passed kind number stage phase.end phase.replies) phases
+
+-- the last phase ended before a step
+abbrev pub EndsBefore : List Phase → ℕ → Type 0
+EndsBefore [] step = ⊥
+EndsBefore (phase ∷ []) step = (end : ℕ) × (phase.end ≡ Some end) × (end < step)
+EndsBefore (phase ∷ next ∷ later) step = EndsBefore (next ∷ later) step

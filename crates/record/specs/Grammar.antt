@@ -1,0 +1,206 @@
+-- The phases of a call in whole. Of a read or a write: a reading of the sequence, the queries, a read's fetch, and puts with
+-- later readings. Of a move: six phases.
+use Rattle.std.specs.Prelude.{◌≡◌, ◌≢◌, ◌⊎◌, ◌↔◌, ℕ, suc, if◌then◌else◌, List, [], ◌∷◌, ◌++◌, Some, None, IsSome, slice_get}
+use Rattle.tag.specs.declared.tag.Tag.{Tag}
+use Rattle.tag.specs.Tag.{opening_tag, next_tag, later_tag, tag_eq}
+use Rattle.bank.specs.declared.status.Status.{Status}
+use Rattle.bank.specs.declared.kind.Kind.{Kind}
+use Rattle.phase.specs.Phase.{Phase}
+use Rattle.record.specs.declared.call.CallKind.{CallKind}
+use Rattle.bank.specs.declared.status.Status.TheVariants.{Unset, Pending, Final}
+use Rattle.bank.specs.declared.kind.Kind.TheVariants.{Next, Spread, Query, PreWrite, Finalize, Fetch}
+use Rattle.record.specs.declared.call.CallKind.TheVariants.{Read, Write, Move}
+use Rattle.record.specs.declared.stage.Stage.{Stage}
+use Rattle.record.specs.Courses.{greatest_status, greatest_tag, due, stage_after, IsCourse, IsEndedBefore}
+use Rattle.record.specs.Records.{Call, Object}
+use Rattle.record.specs.Legal.{first_stage, source_of, IsLegal}
+use Rattle.record.specs.Journals.{stage_tag, tag_of}
+
+abbrev pub Asks : Phase → Kind → (position : ℕ) → Type 0
+Asks phase kind position = (phase.kind ≡ kind) × (phase.position ≡ position)
+
+-- the last finalized position after this status was found at a position
+abbrev pub finalized_after : Status → (position finalized : ℕ) → ℕ
+finalized_after Final position finalized = suc position
+finalized_after Pending position finalized = finalized
+finalized_after Unset position finalized = finalized
+
+-- a reading of the sequence from a position: each pointer that is found is spread, up to the position where none is found
+abbrev pub IsReading : (position finalized : ℕ) → List Phase → (last to : ℕ) → Type 0
+IsReading position finalized [] last to = ⊥
+IsReading position finalized (next ∷ []) last to =
+    Asks next Next position × (greatest_status next.replies ≡ Unset) × (last ≡ position) × (to ≡ finalized)
+IsReading position finalized (next ∷ spread ∷ later) last to =
+    Asks next Next position × (greatest_status next.replies ≢ Unset) × Asks spread (Spread (greatest_status next.replies)) position
+    × IsReading (suc position) (finalized_after (greatest_status next.replies) position finalized) later last to
+
+-- queries of the positions from one to the last, in order
+abbrev pub AreQueries : (position last : ℕ) → List Phase → Type 0
+AreQueries position last [] = position ≡ suc last
+AreQueries position last (query ∷ later) = Asks query Query position × AreQueries (suc position) last later
+
+-- the greatest tag that queries show
+abbrev pub greatest_shown : Tag → List Phase → Tag
+greatest_shown tag [] = tag
+greatest_shown tag (query ∷ later) = greatest_shown (later_tag tag (greatest_tag query.replies)) later
+
+-- a read has the greatest tag that it found, a write the next one
+abbrev pub TakesTag : CallKind → (number : ℕ) → (greatest tag : Tag) → Type 0
+TakesTag Read number greatest tag = tag ≡ greatest
+TakesTag (Write value) number greatest tag = tag ≡ next_tag greatest number
+TakesTag Move number greatest tag = ⊥
+
+-- a read or a write that has its tag: a reading, then the queries from the last finalized position to the last, then the rest
+pub record FindsTag (kind : CallKind) (number : ℕ) (phases : List Phase) (tag : Tag) : Type 0 where
+  pub first : List Phase
+  pub queries : List Phase
+  pub rest : List Phase
+  pub split : phases ≡ first ++ (queries ++ rest)
+  pub last : ℕ
+  pub finalized : ℕ
+  pub reading : IsReading 0 0 first last finalized
+  pub asked : AreQueries finalized last queries
+  pub takes : TakesTag kind number (greatest_shown opening_tag queries) tag
+
+-- the position of the last of these queries that shows the tag, the first of them at `position`; `place` where none does
+abbrev pub place_shown : Tag → (position place : ℕ) → List Phase → ℕ
+place_shown tag position place [] = place
+place_shown tag position place (query ∷ later) =
+    place_shown tag (suc position) (if tag_eq (greatest_tag query.replies) tag then position else place) later
+
+-- a reading from a position that ends at `last`
+abbrev pub IsReadingTo : (position : ℕ) → List Phase → (last : ℕ) → Type 0
+IsReadingTo position phases last = (to : ℕ) × IsReading position position phases last to
+
+-- a tag is put into a position, and the sequence is read from there on, up to `last`
+pub record Round : Type 0 where
+  pub pre_write : Phase
+  pub finalize : Phase
+  pub reading : List Phase
+  pub last : ℕ
+
+abbrev pub round_phases : List Round → List Phase
+round_phases [] = []
+round_phases (round ∷ later) = round.pre_write ∷ round.finalize ∷ (round.reading ++ round_phases later)
+
+abbrev pub IsRound : Tag → (position : ℕ) → Round → Type 0
+IsRound tag position round =
+    Asks round.pre_write (PreWrite tag) position × Asks round.finalize (Finalize tag) position × IsReadingTo position round.reading round.last
+
+-- what follows a reading from one position that ended at another: nothing where it ended where it began, else a round there
+abbrev pub AreRounds : Tag → (from to : ℕ) → List Round → Type 0
+AreRounds tag from to [] = to ≡ from
+AreRounds tag from to (round ∷ later) = (to ≢ from) × IsRound tag to round × AreRounds tag to round.last later
+
+-- the sequence is read from a position, and rounds follow until a reading ends where it began
+pub record IsReread (tag : Tag) (position : ℕ) (phases : List Phase) : Type 0 where
+  pub reading : List Phase
+  pub rounds : List Round
+  pub split : phases ≡ reading ++ round_phases rounds
+  pub last : ℕ
+  pub is_reading : IsReadingTo position reading last
+  pub are_rounds : AreRounds tag position last rounds
+
+-- the tag is put into a position, and the sequence is read from there
+pub record IsPut (tag : Tag) (position : ℕ) (phases : List Phase) : Type 0 where
+  pub pre_write : Phase
+  pub finalize : Phase
+  pub later : List Phase
+  pub split : phases ≡ pre_write ∷ finalize ∷ later
+  pub pre_writes : Asks pre_write (PreWrite tag) position
+  pub finalizes : Asks finalize (Finalize tag) position
+  pub again : IsReread tag position later
+
+-- a read fetches its tag at the last position that showed it, and puts it into the last position where that is another; a write
+-- puts its tag into the last position
+abbrev pub IsRest : CallKind → Tag → (place last : ℕ) → List Phase → Type 0
+IsRest Read tag place last [] = ⊥
+IsRest Read tag place last (fetch ∷ later) =
+    Asks fetch (Fetch tag) place × (((place ≡ last) × IsReread tag last later) ⊎ ((place ≢ last) × IsPut tag last later))
+IsRest (Write value) tag place last phases = IsPut tag last phases
+IsRest Move tag place last phases = ⊥
+
+-- the phases of a whole read or write
+pub record IsWhole (kind : CallKind) (number : ℕ) (phases : List Phase) (tag : Tag) : Type 0 where
+  pub finds : FindsTag kind number phases tag
+  pub rest : IsRest kind tag (place_shown tag finds.finalized finds.finalized finds.queries) finds.last finds.rest
+
+-- the phases of a whole move from a position: the next one is spread as pending, the greatest tag is found, fetched and put into
+-- the next position, and that one is spread as final
+pub record IsWholeMove (position : ℕ) (phases : List Phase) (tag : Tag) : Type 0 where
+  pub spread : Phase
+  pub query : Phase
+  pub fetch : Phase
+  pub pre_write : Phase
+  pub finalize : Phase
+  pub final : Phase
+  pub split : phases ≡ spread ∷ query ∷ fetch ∷ pre_write ∷ finalize ∷ final ∷ []
+  pub spreads : Asks spread (Spread Pending) position
+  pub queries : Asks query Query position
+  pub takes : tag ≡ greatest_tag query.replies
+  pub fetches : Asks fetch (Fetch tag) position
+  pub pre_writes : Asks pre_write (PreWrite tag) (suc position)
+  pub finalizes : Asks finalize (Finalize tag) (suc position)
+  pub ends : Asks final (Spread Final) position
+
+-- the phases of a whole call, a move from this position
+abbrev pub IsSentence : CallKind → (number from : ℕ) → List Phase → Tag → Type 0
+IsSentence Read number from phases tag = IsWhole Read number phases tag
+IsSentence (Write value) number from phases tag = IsWhole (Write value) number phases tag
+IsSentence Move number from phases tag = IsWholeMove from phases tag
+
+-- each phase is complete, and was before the next one began
+abbrev pub AreInTurn : List Phase → Type 0
+AreInTurn [] = Unit {0}
+AreInTurn (phase ∷ []) = IsSome phase.end
+AreInTurn (phase ∷ next ∷ later) = IsEndedBefore phase (next ∷ later) × AreInTurn (next ∷ later)
+
+-- the phases are those that are due from this stage on, up to one where none is due and the call has this tag
+pub record IsFinished (kind : CallKind) (number : ℕ) (stage : Stage) (phases : List Phase) (tag : Tag) : Type 0 where
+  pub course : IsCourse kind number stage phases
+  pub none_due : due (stage_after kind number stage phases) ≡ None
+  pub tagged : stage_tag (stage_after kind number stage phases) ≡ Some tag
+
+-- the finished calls are those whose phases are complete, one after another, in the shape of a whole call
+abbrev pub FinishedAreWhole : Type 0
+FinishedAreWhole =
+    (kind : CallKind) (number from : ℕ) (phases : List Phase) (tag : Tag) →
+    IsFinished kind number (first_stage kind from) phases tag ↔ (AreInTurn phases × IsSentence kind number from phases tag)
+
+-- an answered call has a tag, and its phases are those of a whole call
+pub record IsAnsweredWhole (object : Object) (index : ℕ) (call : Call) : Type 0 where
+  pub tag : Tag
+  pub tagged : tag_of object index call ≡ Some tag
+  pub in_turn : AreInTurn call.phases
+  pub whole : IsSentence call.kind (suc index) (source_of object index) call.phases tag
+
+abbrev pub AnsweredAreWhole : Type 0
+AnsweredAreWhole =
+    (object : Object) (index : ℕ) (call : Call) (step : ℕ) → IsLegal object → slice_get object.calls index ≡ Some call → call.answered ≡ Some step →
+    IsAnsweredWhole object index call
+
+-- each phase but the last is complete before the next one begins
+abbrev pub AreBegun : List Phase → Type 0
+AreBegun [] = Unit {0}
+AreBegun (phase ∷ later) = IsEndedBefore phase later × AreBegun later
+
+-- these phases begin those: each asks the same, and has the same replies where it is complete
+abbrev pub Begin : List Phase → List Phase → Type 0
+Begin [] others = Unit {0}
+Begin (phase ∷ later) [] = ⊥
+Begin (phase ∷ later) (other ∷ others) =
+    Asks other phase.kind phase.position × (IsSome phase.end → other.replies ≡ phase.replies) × Begin later others
+
+-- the phases begin those of a whole call
+pub record IsBeginning (kind : CallKind) (number from : ℕ) (phases : List Phase) : Type 0 where
+  pub in_turn : AreBegun phases
+  pub whole : List Phase
+  pub tag : Tag
+  pub is_whole : IsSentence kind number from whole tag
+  pub begin : Begin phases whole
+
+-- a call's phases are those that are due exactly where they are the beginning of a whole call's
+abbrev pub CoursesAreBeginnings : Type 0
+CoursesAreBeginnings =
+    (kind : CallKind) (number from : ℕ) (phases : List Phase) →
+    IsCourse kind number (first_stage kind from) phases ↔ IsBeginning kind number from phases

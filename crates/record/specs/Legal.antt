@@ -1,0 +1,112 @@
+-- Which records of an object are legal, as far as labels, pointers and steps go.
+use Rattle.std.specs.Prelude.{◌≡◌, ℕ, suc, ◌<◌, ◌≤◌, ◌⊎◌, Bool, true, false, if◌then◌else◌, List, [], ◌∷◌, length, take, Some, None, slice_get}
+use Rattle.std.specs.List.{AllByRecursion}
+use Rattle.tag.specs.declared.tag.Tag.{Tag}
+use Rattle.tag.specs.Tag.{opening_tag}
+use Rattle.layout.specs.Layout.{IsLawful}
+use Rattle.bank.specs.declared.kind.Kind.{Kind}
+use Rattle.phase.specs.Phase.{Phase}
+use Rattle.record.specs.declared.call.CallKind.{CallKind}
+use Rattle.record.specs.Records.{Call, Object, layout_at, bank_at}
+use Rattle.bank.specs.Bank.{Bank}
+use Rattle.bank.specs.declared.status.Status.TheVariants.{Pending, Final}
+use Rattle.bank.specs.declared.kind.Kind.TheVariants.{Spread, PreWrite, Finalize, Fetch}
+use Rattle.record.specs.declared.call.CallKind.TheVariants.{Read, Write, Move}
+use Rattle.record.specs.Knowledge.{IsTruePhase}
+use Rattle.bank.specs.Knowledge.{finalized_at, arrived_at, pending_since, final_since}
+use Rattle.record.specs.declared.stage.Stage.{Stage}
+use Rattle.record.specs.Courses.{due, stage_after, IsCourse, EndsBefore}
+use Rattle.record.specs.declared.stage.Stage.TheVariants.{ReadNext, MoveSpread}
+
+-- whether a call is a move
+abbrev pub is_move : CallKind → Bool
+is_move Read = false
+is_move (Write value) = false
+is_move Move = true
+
+-- how many of the calls are moves
+abbrev pub moves_in : List Call → ℕ
+moves_in [] = 0
+moves_in (call ∷ calls) = if is_move call.kind then suc (moves_in calls) else moves_in calls
+
+-- reads and writes begin at position 0; a move after `moves` others leads from the position of that number
+abbrev pub first_stage : CallKind → (moves : ℕ) → Stage
+first_stage Read moves = ReadNext 0 0
+first_stage (Write value) moves = ReadNext 0 0
+first_stage Move moves = MoveSpread moves
+
+-- the position that a move at this place of the calls leads from
+abbrev pub source_of : Object → (index : ℕ) → ℕ
+source_of object index = moves_in (take index object.calls)
+
+-- where the call at this place stands
+abbrev pub stage_of : Object → (index : ℕ) → Call → Stage
+stage_of object index call = stage_after call.kind (suc index) (first_stage call.kind (source_of object index)) call.phases
+
+-- phases are numbered from `number` on, and name their call
+abbrev pub AreNumbered : (call number : ℕ) → List Phase → Type 0
+AreNumbered call number [] = Unit {0}
+AreNumbered call number (phase ∷ phases) = (phase.call ≡ call) × (phase.number ≡ number) × AreNumbered call (suc number) phases
+
+-- the call step begins phase 1
+abbrev pub BeginsAt : List Phase → ℕ → Type 0
+BeginsAt [] step = ⊥
+BeginsAt (phase ∷ phases) step = phase.start ≡ step
+
+-- a call's phases are true, and those of a read, a write or a move as far as it has come. It is answered after the last of all
+pub record IsLegalCall (object : Object) (index : ℕ) (call : Call) : Type 0 where
+  pub numbered : AreNumbered (suc index) 1 call.phases
+  pub begins : BeginsAt call.phases call.called
+  pub phases : AllByRecursion (IsTruePhase object) call.phases
+  pub course : IsCourse call.kind (suc index) (first_stage call.kind (source_of object index)) call.phases
+  pub answer : (step : ℕ) → call.answered ≡ Some step → (due (stage_of object index call) ≡ None) × EndsBefore call.phases step
+
+-- a phase of this kind began at the position before the step
+pub record HasBegun (object : Object) (kind : Kind) (position step : ℕ) : Type 0 where
+  pub index : ℕ
+  pub call : Call
+  pub at : slice_get object.calls index ≡ Some call
+  pub place : ℕ
+  pub phase : Phase
+  pub within : slice_get call.phases place ≡ Some phase
+  pub same_kind : phase.kind ≡ kind
+  pub same_position : phase.position ≡ position
+  pub before : phase.start < step
+
+-- what a bank knows beyond the opening tag, a phase has asked of it
+pub record IsCaused (object : Object) (position : ℕ) (bank : Bank) : Type 0 where
+  pub finalized : (tag : Tag) (step : ℕ) → finalized_at bank tag ≡ Some step →
+      (tag ≡ opening_tag) ⊎ (HasBegun object (Finalize tag) position step ⊎ HasBegun object (Fetch tag) position step)
+  pub arrived : (tag : Tag) (step : ℕ) → arrived_at bank tag ≡ Some step → (tag ≡ opening_tag) ⊎ HasBegun object (PreWrite tag) position step
+  pub pending : (step : ℕ) → pending_since bank.pointer ≡ Some step →
+      HasBegun object (Spread Pending) position step ⊎ HasBegun object (Spread Final) position step
+  pub final : (step : ℕ) → final_since bank.pointer ≡ Some step → HasBegun object (Spread Final) position step
+
+-- a bank has the opening tag, finalized and with a piece, since a step
+pub record IsOpenedAt (bank : Bank) (step : ℕ) : Type 0 where
+  pub finalized : finalized_at bank opening_tag ≡ Some step
+  pub arrived : arrived_at bank opening_tag ≡ Some step
+
+-- a bank was opened at a step, no later than this one
+abbrev pub IsOpenedBy : Bank → ℕ → Type 0
+IsOpenedBy bank step = (opened : ℕ) × IsOpenedAt bank opened × (opened ≤ step)
+
+-- the members of a position opened their banks before a phase began there
+abbrev pub AreOpened : Object → Phase → Type 0
+AreOpened object phase = (member : ℕ) → member < length (layout_at object phase.position).members →
+    IsOpenedBy (bank_at object phase.position member) phase.start
+
+-- every phase began in open banks
+abbrev pub BeginInOpen : Object → Type 0
+BeginInOpen object = (index place : ℕ) (call : Call) (phase : Phase) → slice_get object.calls index ≡ Some call →
+    slice_get call.phases place ≡ Some phase → AreOpened object phase
+
+-- layouts are lawful, and calls; calls are numbered as they came; a move is called after the one before it was answered; what
+-- banks know, phases have asked
+pub record IsLegal (object : Object) : Type 0 where
+  pub layouts : AllByRecursion IsLawful object.layouts
+  pub calls : (index : ℕ) (call : Call) → slice_get object.calls index ≡ Some call → IsLegalCall object index call
+  pub in_turn : (i j : ℕ) (a b : Call) → slice_get object.calls i ≡ Some a → slice_get object.calls j ≡ Some b → i < j → a.called < b.called
+  pub moves : (i j : ℕ) (a b : Call) → slice_get object.calls i ≡ Some a → slice_get object.calls j ≡ Some b → i < j → a.kind ≡ Move → b.kind ≡ Move →
+      (step : ℕ) × (a.answered ≡ Some step) × (step < b.called)
+  pub banks : (position member : ℕ) → IsCaused object position (bank_at object position member)

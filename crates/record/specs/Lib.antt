@@ -1,0 +1,15 @@
+pub mod Records
+pub mod Knowledge
+pub mod Courses
+pub mod Legal
+pub mod Atomic
+pub mod Journals
+pub mod Sequence
+pub mod Fragments
+pub mod Wants
+pub mod Steps
+pub mod Accounts
+pub mod May
+pub mod Sound
+pub mod Grammar
+pub mod Examples

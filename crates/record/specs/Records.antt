@@ -1,0 +1,41 @@
+-- The record of one object: its layouts and banks by position, its waiting messages, and its calls with their phases.
+use Rattle.std.specs.Prelude.{ℕ, List, [], Option, get_or}
+use Rattle.std.specs.FinMap as map
+use Rattle.layout.specs.Layout.{Layout}
+use Rattle.bank.specs.Bank.{Bank}
+use Rattle.bank.specs.declared.status.Pointer.TheVariants as pointer
+use Rattle.mail.specs.declared.message.Message.{Message}
+use Rattle.phase.specs.Phase.{Phase}
+use Rattle.record.specs.declared.call.CallKind.{CallKind}
+
+-- a call: what it does, the steps of its call and answer, the value that it settled, and its phases; its number is its
+-- place in the object, counted from 1
+pub record Call : Type 0 where
+  pub kind : CallKind
+  pub called : ℕ
+  pub answered : Option ℕ
+  pub settled : Option (List ℕ)
+  pub phases : List Phase
+
+-- an object: a layout and a bank for each member at each position, the waiting messages, and the calls
+pub record Object : Type 0 where
+  pub layouts : List Layout
+  pub banks : List (List Bank)
+  pub mail : List Message
+  pub calls : List Call
+
+-- a bank that knows nothing, where there is none
+abbrev pub no_bank : Bank
+no_bank = record { rows = map.empty; pointer = pointer.Unset }
+
+-- a layout without members, where there is none
+abbrev pub no_layout : Layout
+no_layout = record { k = 0; members = [] }
+
+-- the layout of a position
+abbrev pub layout_at : Object → (position : ℕ) → Layout
+layout_at object position = get_or object.layouts position no_layout
+
+-- the bank of a member of a position
+abbrev pub bank_at : Object → (position member : ℕ) → Bank
+bank_at object position member = get_or (get_or object.banks position []) member no_bank

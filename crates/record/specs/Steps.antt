@@ -1,0 +1,269 @@
+-- What each step leaves of the record. `now` is the step's number.
+use Rattle.std.specs.Prelude.{ℕ, suc, pred, Bool, false, ◌==◌, ◌&&◌, ◌||◌, is_some, if◌then◌else◌, List, [], ◌∷◌, ◌++◌, length, get_or, Option, Some, None}
+use Rattle.std.specs.Prelude.{slice_get, slice_set}
+use Rattle.std.specs.List.{remove}
+use Rattle.layout.specs.Layout.{Layout}
+use Rattle.layout.specs.Quorum.{has}
+use Rattle.layout.specs.Layout.{quorum_of}
+use Rattle.encoder.specs.declared.fragment.Piece.{Piece}
+use Rattle.bank.specs.Bank.{Bank, opened_bank, empty_piece}
+use Rattle.bank.specs.Serve.{served_bank, reply_to}
+use Rattle.bank.specs.declared.kind.Kind.{Kind}
+use Rattle.bank.specs.declared.kind.Kind.TheVariants.{Next, Spread, Query, PreWrite, Finalize, Fetch}
+use Rattle.bank.specs.declared.request.Request.{Request}
+use Rattle.bank.specs.declared.request.Request.TheVariants as request
+use Rattle.bank.specs.declared.status.Status.TheVariants.{Pending}
+use Rattle.mail.specs.declared.message.Message.{Message}
+use Rattle.mail.specs.declared.message.Body.{Body}
+use Rattle.mail.specs.declared.message.Body.TheVariants as body
+use Rattle.mail.specs.Message.{answered}
+use Rattle.phase.specs.Phase.{Phase, begun, after_take, members_of}
+use Rattle.record.specs.declared.call.CallKind.{CallKind}
+use Rattle.record.specs.declared.call.CallKind.TheVariants.{Read, Write, Move}
+use Rattle.record.specs.Records.{Call, Object, layout_at, bank_at}
+use Rattle.record.specs.Courses.{due}
+use Rattle.record.specs.Legal.{stage_of}
+use Rattle.record.specs.Fragments.{Code}
+use Rattle.record.specs.Wants.{current_phase}
+
+-- Pieces
+
+-- the value whose fragments a call sends: the written one, else the settled one
+abbrev pub sent_value : CallKind → (settled : Option (List ℕ)) → Option (List ℕ)
+sent_value Read settled = settled
+sent_value (Write value) settled = Some value
+sent_value Move settled = settled
+
+abbrev pub value_or_empty : Option (List ℕ) → List ℕ
+value_or_empty None = []
+value_or_empty (Some value) = value
+
+-- the piece of a member: its fragment of the value
+abbrev pub fragment_piece : Code → Layout → (value : List ℕ) → (member : ℕ) → Piece
+fragment_piece fragment layout value member = record { point = member; len = length value; bytes = fragment value layout.k member }
+
+-- the pieces that a call sends to the members of a position
+abbrev pub sent_pieces : Code → Object → Call → (position : ℕ) → (member : ℕ) → Piece
+sent_pieces fragment object call position member =
+    fragment_piece fragment (layout_at object position) (value_or_empty (sent_value call.kind call.settled)) member
+
+-- Parts of the record
+
+-- the record with another bank for a member of a position
+abbrev pub with_bank : Object → (position member : ℕ) → Bank → Object
+with_bank object position member bank =
+    record object { banks = slice_set object.banks position (slice_set (get_or object.banks position []) member bank) }
+
+-- the record with another call at a place
+abbrev pub with_call : Object → (index : ℕ) → Call → Object
+with_call object index call = record object { calls = slice_set object.calls index call }
+
+-- the request of a phase of this kind; only a pre-write brings the piece
+abbrev pub request_to : Kind → Piece → Request
+request_to Next piece = request.Next
+request_to (Spread status) piece = request.Spread status
+request_to Query piece = request.Query
+request_to (PreWrite tag) piece = request.PreWrite tag piece
+request_to (Finalize tag) piece = request.Finalize tag
+request_to (Fetch tag) piece = request.Fetch tag
+
+-- the messages of a phase, one request to each member from `member` on
+abbrev pub requests : (call phase : ℕ) → Kind → (position : ℕ) → List ℕ → (member : ℕ) → (ℕ → Piece) → List Message
+requests call phase kind position [] member piece = []
+requests call phase kind position (server ∷ servers) member piece =
+    record { call = call; phase = phase; position = position; member = member; body = body.Request (request_to kind (piece member)) }
+    ∷ requests call phase kind position servers (suc member) piece
+
+-- a phase of this kind begins at a position with this layout
+abbrev pub new_phase : (call number : ℕ) → Kind → (position : ℕ) → Layout → (now : ℕ) → Phase
+new_phase call number kind position layout now = begun call number kind position (length layout.members) (quorum_of layout) now
+
+-- the call at this place begins a phase, whose requests go to the end of the mail
+abbrev pub with_phase : Object → (index : ℕ) → Call → Kind → (position now : ℕ) → (ℕ → Piece) → Object
+with_phase object index call kind position now piece =
+    let number = suc (length call.phases) in
+    record object {
+      calls = slice_set object.calls index
+          (record call { phases = call.phases ++ new_phase (suc index) number kind position (layout_at object position) now ∷ [] });
+      mail = object.mail ++ requests (suc index) number kind position (layout_at object position).members 0 piece;
+    }
+
+-- Opening
+
+-- the banks of members `member`, `member` + 1, .., one for each server
+abbrev pub opened_banks : List ℕ → (member now : ℕ) → List Bank
+opened_banks [] member now = []
+opened_banks (server ∷ servers) member now = opened_bank member now ∷ opened_banks servers (suc member) now
+
+-- an object that begins with this layout
+abbrev pub opened_object : Layout → ℕ → Object
+opened_object layout now = record { layouts = layout ∷ []; banks = opened_banks layout.members 0 now ∷ []; mail = []; calls = [] }
+
+-- Calls
+
+-- a call that begins
+abbrev pub new_call : CallKind → ℕ → Call
+new_call kind now = record { kind = kind; called = now; answered = None; settled = None; phases = [] }
+
+-- a read or a write begins with the first phase of its first reading
+abbrev pub called_object : Object → CallKind → (now : ℕ) → Object
+called_object object kind now =
+    let index = length object.calls in
+    with_phase (record object { calls = object.calls ++ new_call kind now ∷ [] }) index (new_call kind now) Next 0 now empty_piece
+
+-- a move appends the next position with its banks, and begins with its first phase
+abbrev pub moving_object : Object → Layout → (now : ℕ) → Object
+moving_object object layout now =
+    let index = length object.calls in
+    let last = pred (length object.layouts) in
+    with_phase
+    (record object {
+      layouts = object.layouts ++ layout ∷ [];
+      banks = object.banks ++ opened_banks layout.members 0 now ∷ [];
+      calls = object.calls ++ new_call Move now ∷ [];
+    }) index (new_call Move now) (Spread Pending) last now empty_piece
+
+-- the phase that is due begins
+abbrev pub begun_object : Code → Object → (index : ℕ) → Call → Option (Kind × ℕ) → (now : ℕ) → Object
+begun_object fragment object index call None now = object
+begun_object fragment object index call (Some next) now = with_phase object index call next.0 next.1 now (sent_pieces fragment object call next.1)
+
+-- the call at this place begins the phase that is due
+abbrev pub advanced_object : Code → Object → (index : ℕ) → Call → (now : ℕ) → Object
+advanced_object fragment object index call now = begun_object fragment object index call (due (stage_of object index call)) now
+
+-- the call at this place settles a value
+abbrev pub settled_object : Object → (index : ℕ) → Call → List ℕ → Object
+settled_object object index call value = with_call object index (record call { settled = Some value })
+
+-- the call at this place is answered
+abbrev pub answered_object : Object → (index : ℕ) → Call → (now : ℕ) → Object
+answered_object object index call now = with_call object index (record call { answered = Some now })
+
+-- Messages
+
+-- a server handles a request: its bank changes, and the reply stands in the request's place
+abbrev pub handled_object : Object → (place : ℕ) → Message → Request → (now : ℕ) → Object
+handled_object object place message asked now =
+    let bank = bank_at object message.position message.member in
+    record (with_bank object message.position message.member (served_bank bank asked now)) {
+      mail = slice_set object.mail place (answered message (reply_to bank asked now));
+    }
+
+abbrev pub served_by : Object → (place : ℕ) → Message → Body → (now : ℕ) → Object
+served_by object place message (body.Request asked) now = handled_object object place message asked now
+served_by object place message (body.Reply kind made) now = object
+
+-- the last of the phases takes the message
+abbrev pub taking_phases : List Phase → Message → (now : ℕ) → List Phase
+taking_phases [] message now = []
+taking_phases (phase ∷ []) message now = after_take phase message now ∷ []
+taking_phases (phase ∷ next ∷ later) message now = phase ∷ taking_phases (next ∷ later) message now
+
+-- the current phase of the call takes the message
+abbrev pub taking_call : Message → (now : ℕ) → Call → Call
+taking_call message now call = record call { phases = taking_phases call.phases message now }
+
+abbrev pub taken_calls : List Call → Message → (now : ℕ) → Option Call → List Call
+taken_calls calls message now None = calls
+taken_calls calls message now (Some call) = slice_set calls (pred message.call) (taking_call message now call)
+
+-- the call that a message names takes it, and it leaves the mail
+abbrev pub taken_object : Object → (place : ℕ) → Message → (now : ℕ) → Object
+taken_object object place message now =
+    record object {
+      calls = taken_calls object.calls message now (slice_get object.calls (pred message.call));
+      mail = remove object.mail place;
+    }
+
+abbrev pub taken_by : Object → (place : ℕ) → Message → Body → (now : ℕ) → Object
+taken_by object place message (body.Request asked) now = object
+taken_by object place message (body.Reply kind made) now = taken_object object place message now
+
+-- the message at this place is lost
+abbrev pub lost_object : Object → (place : ℕ) → Object
+lost_object object place = record object { mail = remove object.mail place }
+
+-- one more copy of a message waits
+abbrev pub repeated_object : Object → Message → Object
+repeated_object object message = record object { mail = object.mail ++ message ∷ [] }
+
+-- a message of this phase to or from the member is waiting
+abbrev pub waits : List Message → (call phase member : ℕ) → Bool
+waits [] call phase member = false
+waits (message ∷ mail) call phase member = (message.call == call && (message.phase == phase && message.member == member)) || waits mail call phase member
+
+-- of these requests, those to members without a recorded reply and without a waiting message
+abbrev pub missing : (mail : List Message) → (replied : List ℕ) → List Message → List Message
+missing mail replied [] = []
+missing mail replied (message ∷ messages) =
+    if has replied message.member || waits mail message.call message.phase message.member
+    then missing mail replied messages
+    else message ∷ missing mail replied messages
+
+-- the requests of a phase that are missing
+abbrev pub missing_requests : Object → Phase → (ℕ → Piece) → List Message
+missing_requests object phase piece =
+    missing object.mail (members_of phase.replies)
+    (requests phase.call phase.number phase.kind phase.position (layout_at object phase.position).members 0 piece)
+
+-- the call's current phase asks again
+abbrev pub asked_again : Code → Object → Call → Option Phase → Object
+asked_again fragment object call None = object
+asked_again fragment object call (Some phase) =
+    record object { mail = object.mail ++ missing_requests object phase (sent_pieces fragment object call phase.position) }
+
+-- the pieces of a call begin the phase that is due, or go out again where that phase has begun
+abbrev pub supplied_by : Code → Object → (index : ℕ) → Call → (now : ℕ) → Option Phase → Object
+supplied_by fragment object index call now None = object
+supplied_by fragment object index call now (Some phase) =
+    if is_some phase.end then advanced_object fragment object index call now else asked_again fragment object call (Some phase)
+
+abbrev pub supplied_object : Code → Object → (index : ℕ) → Call → (now : ℕ) → Object
+supplied_object fragment object index call now = supplied_by fragment object index call now (current_phase call.phases)
+
+-- Steps
+
+-- what may happen to an object; a call is named by its place, a message by its place in the mail
+pub data Step : Type 0 where
+  CallRead : Step
+  CallWrite : List ℕ → Step
+  CallMove : Layout → Step
+  Advance : (index : ℕ) → Step
+  Supply : (index : ℕ) → Step
+  Post : (index : ℕ) → Step
+  Settle : (index : ℕ) → List ℕ → Step
+  AnswerCall : (index : ℕ) → Step
+  Serve : (place : ℕ) → Step
+  Take : (place : ℕ) → Step
+  Lose : (place : ℕ) → Step
+  Repeat : (place : ℕ) → Step
+
+abbrev pub on_call : Object → Option Call → (Call → Object) → Object
+on_call object None change = object
+on_call object (Some call) change = change call
+
+abbrev pub on_message : Object → Option Message → (Message → Object) → Object
+on_message object None change = object
+on_message object (Some message) change = change message
+
+-- the record after a step
+abbrev pub stepped : Code → Step → ℕ → Object → Object
+stepped fragment Step.CallRead now object = called_object object Read now
+stepped fragment (Step.CallWrite value) now object = called_object object (Write value) now
+stepped fragment (Step.CallMove layout) now object = moving_object object layout now
+stepped fragment (Step.Advance index) now object = on_call object (slice_get object.calls index) (λ call. advanced_object fragment object index call now)
+stepped fragment (Step.Supply index) now object = on_call object (slice_get object.calls index) (λ call. supplied_object fragment object index call now)
+stepped fragment (Step.Post index) now object =
+    on_call object (slice_get object.calls index) (λ call. asked_again fragment object call (current_phase call.phases))
+stepped fragment (Step.Settle index value) now object = on_call object (slice_get object.calls index) (λ call. settled_object object index call value)
+stepped fragment (Step.AnswerCall index) now object = on_call object (slice_get object.calls index) (λ call. answered_object object index call now)
+stepped fragment (Step.Serve place) now object = on_message object (slice_get object.mail place) (λ message. served_by object place message message.body now)
+stepped fragment (Step.Take place) now object = on_message object (slice_get object.mail place) (λ message. taken_by object place message message.body now)
+stepped fragment (Step.Lose place) now object = lost_object object place
+stepped fragment (Step.Repeat place) now object = on_message object (slice_get object.mail place) (λ message. repeated_object object message)
+
+-- the record after these steps, the first one with number now
+abbrev pub run : Code → List Step → (now : ℕ) → Object → Object
+run fragment [] now object = object
+run fragment (step ∷ steps) now object = run fragment steps (suc now) (stepped fragment step now object)

@@ -1,0 +1,64 @@
+-- What a call wants next.
+use Rattle.std.specs.Prelude.{◌≡◌, ℕ, Bool, true, false, is_some, if◌then◌else◌, List, [], ◌∷◌, length, Option, Some, None, slice_get}
+use Rattle.layout.specs.Layout.{Layout}
+use Rattle.encoder.specs.declared.fragment.Piece.{Piece}
+use Rattle.bank.specs.declared.kind.Kind.{Kind}
+use Rattle.bank.specs.declared.kind.Kind.TheVariants.{PreWrite, Fetch}
+use Rattle.phase.specs.declared.phase.Taken.{Taken}
+use Rattle.phase.specs.Phase.{Phase}
+use Rattle.record.specs.declared.stage.Want.{Want}
+use Rattle.record.specs.declared.stage.Want.TheVariants as want
+use Rattle.record.specs.Records.{Call, Object, layout_at}
+use Rattle.record.specs.Courses.{due}
+use Rattle.record.specs.Legal.{stage_of}
+use Rattle.record.specs.Fragments.{answer_piece}
+
+-- the last phase that began
+abbrev pub current_phase : List Phase → Option Phase
+current_phase [] = None
+current_phase (phase ∷ []) = Some phase
+current_phase (phase ∷ next ∷ later) = current_phase (next ∷ later)
+
+-- whether a phase of this kind is a fetch
+abbrev pub is_fetch : Kind → Bool
+is_fetch (Fetch tag) = true
+is_fetch _ = false
+
+-- the value's length that a piece names, or else this one
+abbrev pub len_or : Option Piece → ℕ → ℕ
+len_or None other = other
+len_or (Some piece) other = piece.len
+
+-- the value's length that the first piece of these replies names; 0 where there is no piece
+abbrev pub value_len : List Taken → ℕ
+value_len [] = 0
+value_len (taken ∷ replies) = len_or (answer_piece taken.reply.answer) (value_len replies)
+
+-- to begin a phase of this kind takes the pieces of the value, where it sends them
+abbrev pub want_to_begin : Kind → Layout → Want
+want_to_begin (PreWrite tag) layout = want.Supply layout.k (length layout.members)
+want_to_begin _ layout = want.Advance
+
+-- what is wanted where the current phase is done: to begin the phase that is due, or to be answered
+abbrev pub want_for : Object → Option (Kind × ℕ) → Want
+want_for object None = want.Answer
+want_for object (Some next) = want_to_begin next.0 (layout_at object next.1)
+
+-- what is wanted by the current phase: replies until it is complete, and after a fetch the value
+abbrev pub want_after : Object → Option (Kind × ℕ) → (settled : Option (List ℕ)) → Option Phase → Want
+want_after object next settled None = want.Replies
+want_after object next settled (Some phase) =
+    if is_some phase.end
+    then (if is_fetch phase.kind
+    then (if is_some settled then want_for object next else want.Settle (layout_at object phase.position).k (value_len phase.replies))
+    else want_for object next)
+    else want.Replies
+
+-- what the call at this place wants
+abbrev pub want_of : Object → (index : ℕ) → Call → Want
+want_of object index call =
+    if is_some call.answered then want.Done else want_after object (due (stage_of object index call)) call.settled (current_phase call.phases)
+
+-- the call is there, and wants this
+abbrev pub Wants : Object → (index : ℕ) → Call → Want → Type 0
+Wants object index call wanted = (slice_get object.calls index ≡ Some call) × (want_of object index call ≡ wanted)

@@ -1,0 +1,31 @@
+//! The record of a coded atomic object: what a reader has to believe, and the laws of it.
+//!
+//! The definitions stand in `specs/`; each law is the contract of a function with an empty body. The protocol is Coded
+//! Atomic Storage (Cadambe, Lynch, Médard and Musial, 2014), its layouts change after ARES (Nicolaou, Cadambe, Prakash,
+//! Trigeorgi, Konwar, Médard and Lynch, 2019), and atomicity is that of Lynch's Distributed Algorithms (1996).
+#![tactic(auto)]
+
+pub use accounts::{mailed_bytes_come_and_go, stored_bytes_grow_by_new_pieces};
+pub use atomicity::{
+    journaled_values_are_unique, reads_return_journaled_values, runs_are_atomic,
+    settled_values_are_journaled, sound_records_are_atomic, tag_sequences_are_sequences,
+};
+pub use call::{CallKind, Entry, Operation};
+pub use shape::{
+    answered_calls_are_whole, courses_are_beginnings, due_positions_are_there,
+    finished_calls_are_whole, readings_come_before_tags,
+};
+pub use soundness::{
+    complete_fetches_have_enough, opened_objects_are_sound, runs_are_sound, runs_keep_soundness,
+    sent_values_are_there, steps_keep_soundness, tags_are_past, wanted_pieces_fit_the_layout,
+};
+pub use stage::{Stage, Want};
+pub use worked::{a_stale_read_is_not_atomic, a_write_a_move_and_a_read, a_write_and_a_read};
+
+mod accounts;
+mod atomicity;
+mod call;
+mod shape;
+mod soundness;
+mod stage;
+mod worked;

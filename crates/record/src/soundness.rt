@@ -1,0 +1,71 @@
+//! Every step that may be made keeps a record sound.
+ghost use Rattle.std.specs.Prelude.{◌≡◌, ◌<◌, ◌≤◌, ◌+◌, ◌⊎◌, ℕ, suc, true, List, length, Some, IsSome, slice_get};
+ghost use Rattle.tag.specs.declared.tag.Tag.{Tag};
+ghost use Rattle.layout.specs.Layout.{IsLawful, Layout};
+ghost use Rattle.bank.specs.Bank.{knows};
+ghost use Rattle.bank.specs.declared.kind.Kind.TheVariants.{PreWrite};
+ghost use Rattle.phase.specs.Phase.{Phase};
+ghost use Rattle.record.specs.Courses.{due};
+ghost use Rattle.record.specs.Fragments.{Code, HasEnough, IsCode, IsFetch};
+ghost use Rattle.record.specs.Legal.{stage_of};
+ghost use Rattle.record.specs.May.{AwaitsPieces, MayRun, MayStep, WantsPieces};
+ghost use Rattle.record.specs.Records.{bank_at, Call, layout_at, Object};
+ghost use Rattle.record.specs.Sound.{IsSound};
+ghost use Rattle.record.specs.Steps.{opened_object, run, sent_value, Step, stepped};
+ghost use Rattle.record.specs.Wants.{want_of};
+ghost use Rattle.record.specs.declared.stage.Want.TheVariants as wants;
+
+/// An object that was just opened is sound.
+pub fn opened_objects_are_sound()
+    ensures { (fragment : Code) (layout : Layout) (now : ℕ) → IsCode fragment → IsLawful layout
+        → IsSound fragment (opened_object layout now) now }
+{}
+
+/// Every step that may be made keeps a record sound.
+pub fn steps_keep_soundness()
+    ensures { (fragment : Code) (object : Object) (last now : ℕ) (step : Step) → IsCode fragment → last < now
+        → IsSound fragment object last → MayStep fragment object step
+        → IsSound fragment (stepped fragment step now object) now }
+{}
+
+/// Every list of steps that may be made, one after another, keeps a record sound.
+pub fn runs_keep_soundness()
+    ensures { (fragment : Code) (object : Object) (last : ℕ) (steps : List Step) → IsCode fragment
+        → IsSound fragment object last → MayRun fragment steps (suc last) object
+        → IsSound fragment (run fragment steps (suc last) object) (last + length steps) }
+{}
+
+/// So whatever steps are made, an object that began with a lawful layout is sound.
+pub fn runs_are_sound()
+    ensures { (fragment : Code) (layout : Layout) (start : ℕ) (steps : List Step) → IsCode fragment → IsLawful layout
+        → MayRun fragment steps (suc start) (opened_object layout start)
+        → IsSound fragment (run fragment steps (suc start) (opened_object layout start)) (start + length steps) }
+{}
+
+/// In a sound record each complete fetch has pieces of at least k distinct members.
+pub fn complete_fetches_have_enough()
+    ensures { (fragment : Code) (object : Object) (last index place end : ℕ) (call : Call) (phase : Phase)
+        → IsSound fragment object last → slice_get object.calls index ≡ Some call
+        → slice_get call.phases place ≡ Some phase → IsFetch phase.kind → phase.end ≡ Some end
+        → HasEnough object phase }
+{}
+
+/// In a sound record the number of a tag that a bank knows is at most that of the last step.
+pub fn tags_are_past()
+    ensures { (fragment : Code) (object : Object) (last position member : ℕ) (tag : Tag)
+        → IsSound fragment object last → knows (bank_at object position member) tag ≡ true → tag.number ≤ last }
+{}
+
+/// In a sound record a call that wants the pieces of its value, or sends them, has the value.
+pub fn sent_values_are_there()
+    ensures { (fragment : Code) (object : Object) (last index : ℕ) (call : Call) → IsSound fragment object last
+        → slice_get object.calls index ≡ Some call → WantsPieces object index call ⊎ AwaitsPieces object index call
+        → IsSome (sent_value call.kind call.settled) }
+{}
+
+/// The pieces that a call wants are for the threshold and the members of the layout where they are due.
+pub fn wanted_pieces_fit_the_layout()
+    ensures { (object : Object) (index k n : ℕ) (call : Call) → want_of object index call ≡ wants.Supply k n
+        → (tag : Tag) × (position : ℕ) × (due (stage_of object index call) ≡ Some (PreWrite tag, position))
+        × (k ≡ (layout_at object position).k) × (n ≡ length (layout_at object position).members) }
+{}
