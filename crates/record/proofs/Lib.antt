@@ -7,6 +7,7 @@ pub mod Calling
 pub mod Calls
 pub mod Closing
 pub mod Counting
+pub mod Determined
 pub mod Due
 pub mod Enough
 pub mod Examples

@@ -11,6 +11,7 @@ pub use atomicity::{
     settled_values_are_journaled, sound_records_are_atomic, tag_sequences_are_sequences,
 };
 pub use call::{CallKind, Entry, Operation};
+pub use code::fragments_are_a_code;
 pub use shape::{
     answered_calls_are_whole, courses_are_beginnings, due_positions_are_there,
     finished_calls_are_whole, readings_come_before_tags,
@@ -25,6 +26,7 @@ pub use worked::{a_stale_read_is_not_atomic, a_write_a_move_and_a_read, a_write_
 mod accounts;
 mod atomicity;
 mod call;
+mod code;
 mod shape;
 mod soundness;
 mod stage;
