@@ -11,10 +11,11 @@ use Rattle.record.specs.Steps.Step.{CallRead, CallWrite, CallMove, Advance, Supp
 abbrev pub whole : Code
 whole value k point = value
 
--- a layout of server 0, and one of server 1
+-- a layout of one server
 abbrev pub one_member : Layout
 one_member = record { k = 1; members = 0 ∷ [] }
 
+-- a layout of one other server
 abbrev pub other_member : Layout
 other_member = record { k = 1; members = 1 ∷ [] }
 
@@ -42,6 +43,7 @@ move_script =
     ∷ CallRead ∷ Serve 0 ∷ Take 0 ∷ Advance 2 ∷ Serve 0 ∷ Take 0 ∷ Advance 2 ∷ Serve 0 ∷ Take 0 ∷ Advance 2 ∷ Serve 0 ∷ Take 0
     ∷ Advance 2 ∷ Serve 0 ∷ Take 0 ∷ Settle 2 (65 ∷ []) ∷ Advance 2 ∷ Serve 0 ∷ Take 0 ∷ AnswerCall 2 ∷ []
 
+-- the steps of the three calls
 abbrev pub move_entries : List Entry
 move_entries =
     record { call = 1; operation = operation.Write; called = 3; answered = Some 18; value = Some (65 ∷ []) }

@@ -16,6 +16,7 @@ use Rattle.record.specs.Records.{Call, Object}
 use Rattle.record.specs.Legal.{first_stage, source_of, IsLegal}
 use Rattle.record.specs.Journals.{stage_tag, tag_of}
 
+-- a phase asks this of the members of a position
 abbrev pub Asks : Phase → Kind → (position : ℕ) → Type 0
 Asks phase kind position = (phase.kind ≡ kind) × (phase.position ≡ position)
 
@@ -79,10 +80,12 @@ pub record Round : Type 0 where
   pub reading : List Phase
   pub last : ℕ
 
+-- the phases of rounds, one after another
 abbrev pub round_phases : List Round → List Phase
 round_phases [] = []
 round_phases (round ∷ later) = round.pre_write ∷ round.finalize ∷ (round.reading ++ round_phases later)
 
+-- a round puts the tag into a position, and reads the sequence from there
 abbrev pub IsRound : Tag → (position : ℕ) → Round → Type 0
 IsRound tag position round =
     Asks round.pre_write (PreWrite tag) position × Asks round.finalize (Finalize tag) position × IsReadingTo position round.reading round.last
@@ -174,6 +177,7 @@ pub record IsAnsweredWhole (object : Object) (index : ℕ) (call : Call) : Type 
   pub in_turn : AreInTurn call.phases
   pub whole : IsSentence call.kind (suc index) (source_of object index) call.phases tag
 
+-- each answered call of a legal record has the phases of a whole call
 abbrev pub AnsweredAreWhole : Type 0
 AnsweredAreWhole =
     (object : Object) (index : ℕ) (call : Call) (step : ℕ) → IsLegal object → slice_get object.calls index ≡ Some call → call.answered ≡ Some step →

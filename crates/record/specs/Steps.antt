@@ -34,6 +34,7 @@ sent_value Read settled = settled
 sent_value (Write value) settled = Some value
 sent_value Move settled = settled
 
+-- the value, or the empty one where there is none
 abbrev pub value_or_empty : Option (List ℕ) → List ℕ
 value_or_empty None = []
 value_or_empty (Some value) = value
@@ -150,6 +151,7 @@ handled_object object place message asked now =
       mail = slice_set object.mail place (answered message (reply_to bank asked now));
     }
 
+-- a request is served; a reply stays as it is
 abbrev pub served_by : Object → (place : ℕ) → Message → Body → (now : ℕ) → Object
 served_by object place message (body.Request asked) now = handled_object object place message asked now
 served_by object place message (body.Reply kind made) now = object
@@ -164,6 +166,7 @@ taking_phases (phase ∷ next ∷ later) message now = phase ∷ taking_phases (
 abbrev pub taking_call : Message → (now : ℕ) → Call → Call
 taking_call message now call = record call { phases = taking_phases call.phases message now }
 
+-- the calls once the one that a message names took it
 abbrev pub taken_calls : List Call → Message → (now : ℕ) → Option Call → List Call
 taken_calls calls message now None = calls
 taken_calls calls message now (Some call) = slice_set calls (pred message.call) (taking_call message now call)
@@ -176,6 +179,7 @@ taken_object object place message now =
       mail = remove object.mail place;
     }
 
+-- a reply is taken; a request stays as it is
 abbrev pub taken_by : Object → (place : ℕ) → Message → Body → (now : ℕ) → Object
 taken_by object place message (body.Request asked) now = object
 taken_by object place message (body.Reply kind made) now = taken_object object place message now
@@ -219,6 +223,7 @@ supplied_by fragment object index call now None = object
 supplied_by fragment object index call now (Some phase) =
     if is_some phase.end then advanced_object fragment object index call now else asked_again fragment object call (Some phase)
 
+-- the call at this place is supplied with the pieces of its value
 abbrev pub supplied_object : Code → Object → (index : ℕ) → Call → (now : ℕ) → Object
 supplied_object fragment object index call now = supplied_by fragment object index call now (current_phase call.phases)
 
@@ -239,10 +244,12 @@ pub data Step : Type 0 where
   Lose : (place : ℕ) → Step
   Repeat : (place : ℕ) → Step
 
+-- a change by a call, where it is there
 abbrev pub on_call : Object → Option Call → (Call → Object) → Object
 on_call object None change = object
 on_call object (Some call) change = change call
 
+-- a change by a message, where it is there
 abbrev pub on_message : Object → Option Message → (Message → Object) → Object
 on_message object None change = object
 on_message object (Some message) change = change message
