@@ -1,0 +1,9 @@
+pub mod Bridge
+pub mod Counting
+pub mod Lawful
+pub mod Made
+pub mod Pairs
+pub mod Placed
+pub mod Ranked
+pub mod Registers
+pub mod Seen

@@ -1,0 +1,7 @@
+use Rattle.record.proofs.Values.{reads_journaled}
+use Rattle.history.proofs.Lawful.{lawful_entries}
+use Rattle.history.proofs.laws.entries_are_lawful.Goals as goal
+
+pub returns : goal.returns
+returns c = λ fragment object last code sound.
+    lawful_entries object (reads_journaled fragment object code.determines sound.legal sound.values sound.coded sound.settled)

@@ -1,0 +1,223 @@
+//! Whether a list of calls is a sequence of the entries.
+ghost use Rattle.std.specs.Prelude.{◌≡◌, ℕ, ◌<◌, ◌≤◌, ◌≢◌, ◌↔◌, [], length, slice_index, count_by, Some, IsSome, IsTrue, nat_eq};
+ghost use Rattle.std.specs.List.{IsDistinct};
+ghost use Rattle.layout.specs.Quorum.{has};
+ghost use Rattle.record.specs.declared.call.Operation.TheVariants as operation;
+ghost use Rattle.record.specs.Atomic.{IsSequence, IsRegister, KeepsOrder, MayStand, entry_at};
+ghost use Rattle.history.specs.Check.{AreLawful, MayAllStand, must_stand, named};
+
+use record::{Entry, Operation};
+use tag::Stamp;
+
+/// Whether the entries are lawful and `order` is a sequence of them. Nothing is assumed of either, and no memory is taken.
+///
+/// The work grows with the length of the list times the calls that overlap one call: beyond a few passes it is the search
+/// for repeats, which looks back from each call over those that it overlaps.
+pub fn check(entries: &[Entry], order: &[u64]) -> bool
+    ensures { IsTrue result ↔ (AreLawful entries.now × IsSequence entries.now order.now) }
+{
+    are_lawful(entries) && is_sequence(entries, order)
+}
+
+fn is_sequence(entries: &[Entry], order: &[u64]) -> bool
+    requires { AreLawful entries.now }
+    ensures { IsTrue result ↔ IsSequence entries.now order.now }
+{
+    may_all_stand(entries, order)
+        && keeps_order(entries, order)
+        && has_no_repeat(entries, order)
+        && holds_answered(entries, order)
+        && is_register(entries, order)
+}
+
+/// Whether entry i, counted from 1, has call i, and no value is missing.
+fn are_lawful(entries: &[Entry]) -> bool
+    ensures { IsTrue result ↔ AreLawful entries.now }
+{
+    for (place, entry) in entries.iter().enumerate() {
+        if !is_lawful_as(entry, place as u64 + 1) {
+            return false;
+        }
+    }
+    true
+}
+
+fn is_lawful_as(entry: &Entry, call: u64) -> bool
+    ensures { IsTrue result ↔ ((entry.now.call ≡ call) × (MayStand entry.now → IsSome entry.now.value)) }
+{
+    entry.call == call && (!may_stand(entry) || entry.value.is_some())
+}
+
+/// Whether only answered reads, answered writes and unanswered writes are named.
+fn may_all_stand(entries: &[Entry], order: &[u64]) -> bool
+    ensures { IsTrue result ↔ MayAllStand entries.now order.now }
+{
+    order.iter().all(|call| may_stand_at(entries, *call))
+}
+
+fn may_stand_at(entries: &[Entry], call: u64) -> bool
+    ensures { IsTrue result ↔ MayStand (entry_at entries.now call) }
+{
+    call > 0 && call <= entries.len() as u64 && may_stand(entry_at(entries, call))
+}
+
+/// Whether what was answered before another was called stands before it: no answer lies before the greatest step at
+/// which an earlier element was called.
+fn keeps_order(entries: &[Entry], order: &[u64]) -> bool
+    requires { MayAllStand entries.now order.now }
+    ensures { IsTrue result ↔ KeepsOrder (named entries.now order.now) }
+{
+    let mut latest = 0;
+    for call in order {
+        let entry = entry_at(entries, *call);
+        if is_before(entry.answered, latest) {
+            return false;
+        }
+        latest = latest.max(entry.called);
+    }
+    true
+}
+
+fn has_no_repeat(entries: &[Entry], order: &[u64]) -> bool
+    requires standing { MayAllStand entries.now order.now }
+    requires in_order { KeepsOrder (named entries.now order.now) }
+    ensures { IsTrue result ↔ IsDistinct nat_eq order.now }
+{
+    for place in 0..order.len() {
+        if !is_new(entries, order, place) {
+            return false;
+        }
+    }
+    true
+}
+
+/// Whether the call at this place stands at no earlier one. The search goes back to the first element that was answered
+/// before this call: the same call before that element would break the order.
+fn is_new(entries: &[Entry], order: &[u64], place: usize) -> bool
+    requires standing { MayAllStand entries.now order.now }
+    requires in_order { KeepsOrder (named entries.now order.now) }
+    requires within { place < length order.now }
+    ensures { IsTrue result ↔ ((earlier : ℕ) → earlier < place → slice_index order.now earlier ≢ slice_index order.now place) }
+{
+    let call = order[place];
+    let called = entry_at(entries, call).called;
+    let mut rest = place;
+    while rest > 0 {
+        rest -= 1;
+        let other = order[rest];
+        if other == call {
+            return false;
+        }
+        if is_before(entry_at(entries, other).answered, called) {
+            return true;
+        }
+    }
+    true
+}
+
+/// Whether no answered read or write is left out: with no repeat, counting shows it.
+fn holds_answered(entries: &[Entry], order: &[u64]) -> bool
+    requires standing { MayAllStand entries.now order.now }
+    requires distinct { IsDistinct nat_eq order.now }
+    ensures { IsTrue result ↔ ((call : ℕ) → (entry_at entries.now call).operation ≢ operation.Move →
+        IsSome (entry_at entries.now call).answered → IsTrue (has order.now call)) }
+{
+    answered_among(entries) == answered_in(entries, order)
+}
+
+/// The number of answered reads and writes.
+fn answered_among(entries: &[Entry]) -> usize
+    ensures { result ≡ count_by must_stand entries.now }
+{
+    entries.iter().filter(|entry| must_stand(entry)).count()
+}
+
+/// The number of answered reads and writes of the list.
+fn answered_in(entries: &[Entry], order: &[u64]) -> usize
+    requires { MayAllStand entries.now order.now }
+    ensures { result ≡ count_by must_stand (named entries.now order.now) }
+{
+    let mut count = 0;
+    for call in order {
+        if must_stand(entry_at(entries, *call)) {
+            count += 1;
+        }
+    }
+    count
+}
+
+/// Whether each read of the list has the value of the nearest write before it, or the empty value.
+fn is_register(entries: &[Entry], order: &[u64]) -> bool
+    requires lawful { AreLawful entries.now }
+    requires standing { MayAllStand entries.now order.now }
+    ensures { IsTrue result ↔ IsRegister [] (named entries.now order.now) }
+{
+    let mut current: &[u8] = &[];
+    for call in order {
+        let entry = entry_at(entries, *call);
+        let value = value_of(entry);
+        match entry.operation {
+            Operation::Write => current = value,
+            Operation::Read => {
+                if !are_same(value, current) {
+                    return false;
+                }
+            }
+            Operation::Move => return false,
+        }
+    }
+    true
+}
+
+/// The entry of a call.
+fn entry_at(entries: &[Entry], call: u64) -> &Entry
+    requires some { 0 < call }
+    requires within { call ≤ length entries.now }
+    ensures { result.now ≡ entry_at entries.now call }
+{
+    &entries[(call - 1) as usize]
+}
+
+/// Whether the call may stand in a sequence: a write, or an answered read.
+fn may_stand(entry: &Entry) -> bool
+    ensures { IsTrue result ↔ MayStand entry.now }
+{
+    match entry.operation {
+        Operation::Read => entry.answered.is_some(),
+        Operation::Write => true,
+        Operation::Move => false,
+    }
+}
+
+/// Whether no sequence may leave out the call: an answered read or write.
+fn must_stand(entry: &Entry) -> bool
+    ensures { result ≡ must_stand entry.now }
+{
+    entry.operation != Operation::Move && entry.answered.is_some()
+}
+
+fn is_before(answered: Option<Stamp>, step: Stamp) -> bool
+    ensures { IsTrue result ↔ ((stamp : ℕ) × (answered ≡ Some stamp) × (stamp < step)) }
+{
+    match answered {
+        Some(answered) => answered < step,
+        None => false,
+    }
+}
+
+/// The entry's value.
+fn value_of(entry: &Entry) -> &[u8]
+    requires { IsSome entry.now.value }
+    ensures { entry.now.value ≡ Some result.now }
+{
+    match &entry.value {
+        Some(value) => value.as_slice(),
+        None => unreachable!(),
+    }
+}
+
+fn are_same(left: &[u8], right: &[u8]) -> bool
+    ensures { IsTrue result ↔ (left.now ≡ right.now) }
+{
+    left == right
+}

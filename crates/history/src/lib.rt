@@ -1,0 +1,13 @@
+//! Certificates of one object's history: whether a list of calls is a sequence of its entries, and the list that the tags
+//! of its calls give.
+#![tactic(auto)]
+
+pub use certificate::check;
+pub use laws::{calls_are_in_turn, entries_are_lawful, tag_orders_are_sequences};
+pub use order::{TaggedCall, order_by_tags};
+
+mod certificate;
+mod laws;
+mod order;
+#[cfg(test)]
+mod tests;
