@@ -1,0 +1,42 @@
+-- Readings of the sequence driven by phases, and the record's words for the same.
+use Rattle.std.specs.Prelude.{◌≡◌, ℕ, ◌↔◌, List, [], ◌∷◌, Some, IsSome}
+use Rattle.std.specs.List.{AllByRecursion}
+use Rattle.tag.specs.declared.tag.Tag.{Tag}
+use Rattle.bank.specs.declared.status.Status.{Status}
+use Rattle.phase.specs.Phase.{Phase}
+use Rattle.record.specs.declared.call.CallKind.{CallKind}
+use Rattle.record.specs.Courses.{greatest_status, stage_after}
+use Rattle.record.specs.Grammar.{IsReading}
+use Rattle.successor.specs.declared.reading.Reading.{Reading}
+use Rattle.successor.specs.declared.reading.Reading.TheVariants.{Next, Spread, Ended}
+use Rattle.successor.specs.Reading.{next_of, found_by, spread_by, first_of, again_of}
+
+-- the reading after the phase that was next, whose replies show this greatest status
+abbrev pub led_on : Reading → Status → Reading
+led_on (Next position finalized) status = found_by (Next position finalized) status
+led_on (Spread position finalized found) status = spread_by (Spread position finalized found)
+led_on (Ended last finalized) status = Ended last finalized
+
+-- each phase is the one that was next, and together they lead to this reading
+abbrev pub Leads : Reading → List Phase → (to : Reading) → Type 0
+Leads reading [] to = reading ≡ to
+Leads reading (phase ∷ phases) to =
+    (next_of reading ≡ Some (phase.kind, phase.position)) × Leads (led_on reading (greatest_status phase.replies)) phases to
+
+-- each phase is complete
+abbrev pub AreComplete : List Phase → Type 0
+AreComplete phases = AllByRecursion (λ (phase : Phase). IsSome phase.end) phases
+
+-- the record's readings are the phases that lead a reading to its end
+abbrev pub ReadingsLeadToTheEnd : Type 0
+ReadingsLeadToTheEnd =
+    (position finalized last to : ℕ) (phases : List Phase)
+    → IsReading position finalized phases last to ↔ Leads (Next position finalized) phases (Ended last to)
+
+-- complete phases lead a call where they lead its reading, the first one or a later one
+abbrev pub ReadingsAreStages : Type 0
+ReadingsAreStages =
+    (kind : CallKind) (number : ℕ) (reading to : Reading) (phases : List Phase)
+    → Leads reading phases to → AreComplete phases
+    → (stage_after kind number (first_of reading) phases ≡ first_of to)
+    × ((last : ℕ) (tag : Tag) → stage_after kind number (again_of last tag reading) phases ≡ again_of last tag to)

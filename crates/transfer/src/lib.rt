@@ -1,0 +1,18 @@
+//! The order of a call's phases, and of a move's alone: which phase is due at each stage, and where its replies lead.
+#![tactic(auto)]
+
+ghost use Rattle.transfer.specs.Moves.{MovesAreInOrder};
+
+pub use course::{due, first_stage, passed, stage_tag};
+pub use order::next_phase;
+
+mod course;
+mod order;
+#[cfg(test)]
+mod tests;
+
+/// A move that may be answered has made six phases: it spread that the next position is pending, asked for the greatest
+/// tag, fetched it, pre-wrote and finalized it at the next position, and spread that this is final.
+pub fn moves_are_in_order()
+    ensures { MovesAreInOrder }
+{}
