@@ -38,6 +38,13 @@ impl Decoded {
         &self.value
     }
 
+    /// The value, and its pieces are given up.
+    pub fn into_value(self) -> Bytes
+        ensures { result ≡ self.value }
+    {
+        self.value
+    }
+
     /// The `k` pieces, in the order in which they were given.
     pub fn pieces(&self) -> &[Piece]
         ensures pieces { result.now ≡ self.now.pieces }

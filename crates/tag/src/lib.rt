@@ -1,7 +1,10 @@
 //! The words that every layer shares: tags of versions, numbers of steps, refusals, and written limits.
 #![tactic(auto)]
 
-pub use limits::{LONGEST_VALUE, MOST_BYTES, MOST_MEMBERS, MOST_MESSAGES, MOST_PHASES};
+pub use limits::{
+    LONGEST_VALUE, MOST_BYTES, MOST_CALLS, MOST_MEMBERS, MOST_MESSAGES, MOST_PHASES,
+    MOST_POSITIONS, MOST_STEPS, MOST_WORKERS,
+};
 pub use refusal::Refusal;
 pub use stamp::Stamp;
 pub use tag::Tag;

@@ -14,3 +14,15 @@ pub const MOST_BYTES: u64 = 1 << 62;
 
 /// The most phases of one call.
 pub const MOST_PHASES: usize = 1_048_576;
+
+/// The most positions of one object.
+pub const MOST_POSITIONS: usize = 4096;
+
+/// The most calls of one object.
+pub const MOST_CALLS: usize = 4_294_967_295;
+
+/// The most steps of a cluster.
+pub const MOST_STEPS: u64 = 1 << 62;
+
+/// The most workers that code one value.
+pub const MOST_WORKERS: usize = 64;
