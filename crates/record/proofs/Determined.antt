@@ -1,11 +1,14 @@
 -- The encoder's fragments are a code.
-use Rattle.std.proofs.Common.{◌≡◌, ◌≢◌, ℕ, zero, suc, ◌+◌, ◌<◌, ◌≤◌, nat_eq, Bool, false, List, [], ◌∷◌, length, take, refl, arith, All}
+use Rattle.std.proofs.Common.{◌≡◌, ◌≢◌, ℕ, zero, suc, ◌+◌, ◌<◌, ◌≤◌, nat_eq, Bool, false, List, [], ◌∷◌, length, take, min, refl, ap₂, ◌∙◌, arith, All}
 use Rattle.std.specs.List.{AllByRecursion, IsDistinct}
 use Rattle.std.proofs.lemmas.Bool.Decides.{Decides-eqb}
 use Rattle.std.proofs.lemmas.List.Elements.{All-from_recursion}
+use Rattle.std.proofs.lemmas.List.{nil_from_length}
 use Rattle.std.proofs.lemmas.Map.Made.{AllPairs-from_IsDistinct}
+use Rattle.std.proofs.Math.Nat.{zero-div, zero-mod}
 use Rattle.tag.specs.declared.limits.TheConstants.{MOST_MEMBERS}
-use Rattle.encoder.specs.Fragment.{fragment}
+use Rattle.encoder.specs.Fragment.{fragment, fragment_len}
+use Rattle.encoder.proofs.Columns.{length-fragment}
 use Rattle.decoder.proofs.Determined.{determined}
 use Rattle.decoder.proofs.Cut.{IsInterpolated-pieces_of}
 use Rattle.record.specs.Fragments.{AreBytes, Determines, IsCode, IsValue}
@@ -33,3 +36,12 @@ fragments_determine k points v w some few enough distinct below first second sam
     (All-from_recursion (λ x. x < 256) (take k points) (all_take (λ x. x < 256) k points below))
     (All-from_recursion (λ x. x < 256) v first.0) (All-from_recursion (λ x. x < 256) w second.0) first.1 same
     (All-from_recursion (λ x. fragment v k x ≡ fragment w k x) (take k points) (all_take (λ x. fragment v k x ≡ fragment w k x) k points agree))
+
+no_len : (k : ℕ) → fragment_len k 0 ≡ 0
+no_len k = ap₂ (λ a b. a + min 1 b) (zero-div k) (zero-mod k)
+
+pub fragments_are_code : IsCode fragment
+fragments_are_code = record {
+  determines = fragments_determine;
+  empty = λ k x. nil_from_length (fragment [] k x) (length-fragment [] k x ∙ no_len k);
+}

@@ -1,16 +1,5 @@
-use Rattle.std.proofs.Common.{◌≡◌, ℕ, ◌+◌, min, List, [], length, ap₂, ◌∙◌}
-use Rattle.std.proofs.Math.Nat.{zero-div, zero-mod}
-use Rattle.std.proofs.lemmas.List.{nil_from_length}
-use Rattle.encoder.specs.Fragment.{fragment, fragment_len}
-use Rattle.encoder.proofs.Columns.{length-fragment}
-use Rattle.record.proofs.Determined.{fragments_determine}
+use Rattle.record.proofs.Determined.{fragments_are_code}
 use Rattle.record.proofs.code.fragments_are_a_code.Goals as goal
 
-no_len : (k : ℕ) → fragment_len k 0 ≡ 0
-no_len k = ap₂ (λ a b. a + min 1 b) (zero-div k) (zero-mod k)
-
 pub returns : goal.returns
-returns c = record {
-  determines = fragments_determine;
-  empty = λ k x. nil_from_length (fragment [] k x) (length-fragment [] k x ∙ no_len k);
-}
+returns c = fragments_are_code
