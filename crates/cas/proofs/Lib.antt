@@ -1,6 +1,5 @@
 pub mod CommandLineLemmas
 pub mod FragmentsLemmas
-pub mod HexadecimalLemmas
 pub mod ProgramLemmas
 pub mod ReadingLemmas
 pub mod RequestLemmas

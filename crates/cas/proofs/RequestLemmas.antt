@@ -4,7 +4,7 @@ use Rattle.std.proofs.Common.{sym, ◌∙◌, arith, subst, Bor, inl, inr, codes
 use Rattle.std.proofs.lemmas.List.{take_more, map-append}
 use Rattle.std.specs.Prelude.{Result, Ok, Err, IsErrAnd, MatchResult}
 use Rattle.tag.specs.declared.refusal.Refusal.TheVariants.{NoMemory}
-use Rattle.cas.specs.Hexadecimal.{IsHexadecimal}
+use Rattle.words.specs.Hexadecimal.{IsHexadecimal}
 use Rattle.encoder.specs.declared.fragment.Piece.{Piece}
 use Rattle.cas.specs.declared.request.Request.{Request}
 use Rattle.cas.specs.declared.request.Request.TheVariants as of

@@ -5,7 +5,7 @@ use Rattle.std.specs.List.{join_with_byte, range_with_len}
 use Rattle.encoder.specs.declared.fragment.Piece.{Piece}
 use Rattle.encoder.specs.Fragment.{piece_of}
 use Rattle.encoder.specs.Coded.{Coding}
-use Rattle.cas.specs.Hexadecimal.{hexadecimal_text}
+use Rattle.words.specs.Hexadecimal.{hexadecimal_text}
 
 -- the point, a colon and the bytes
 abbrev pub piece_text : Piece → List ℕ

@@ -2,8 +2,6 @@ pub mod Answer
 pub mod CommandLine
 pub mod Fault
 pub mod Fragments
-pub mod Hexadecimal
-pub mod Number
 pub mod Output
 pub mod Program
 pub mod Request

@@ -3,7 +3,7 @@ use Rattle.std.specs.Prelude.{ℕ, List}
 use Rattle.cas.specs.declared.output.Output.{Output}
 use Rattle.cas.specs.declared.output.Output.TheVariants as of
 use Rattle.cas.specs.Fragments.{fragments_text}
-use Rattle.cas.specs.Hexadecimal.{hexadecimal_text}
+use Rattle.words.specs.Hexadecimal.{hexadecimal_text}
 
 -- the line of an output, without its line feed
 abbrev pub output_text : Output → List ℕ

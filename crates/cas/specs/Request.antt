@@ -4,8 +4,8 @@ use Rattle.std.specs.Prelude.{MatchResult}
 use Rattle.std.specs.List.{position_or_len, before_first, after_first}
 use Rattle.encoder.specs.declared.fragment.Piece.{Piece}
 use Rattle.tag.specs.declared.refusal.Refusal.TheVariants.{NoMemory}
-use Rattle.cas.specs.Number.{IsNumber}
-use Rattle.cas.specs.Hexadecimal.{IsHexadecimal}
+use Rattle.words.specs.Number.{IsNumber}
+use Rattle.words.specs.Hexadecimal.{IsHexadecimal}
 use Rattle.cas.specs.declared.request.Request.{Request}
 use Rattle.cas.specs.declared.request.Request.TheVariants as of
 use Rattle.cas.specs.declared.fault.Fault.{Fault}

@@ -4,12 +4,12 @@ ghost use Rattle.tag.specs.Refusal.{IsByCause};
 ghost use Rattle.encoder.specs.Coded.{encode_cause};
 ghost use Rattle.cas.specs.Fragments.{fragments_text};
 
-use crate::hexadecimal::Hexadecimal;
 use bytes::Bytes;
 use encoder::{Coded, encode};
 use std::alloc::Global;
 use std::fmt;
 use tag::Refusal;
+use words::hexadecimal::Hexadecimal;
 
 /// The fragments of `value` at the points from 0 to `n - 1`, cut into `k` blocks. A `k` or `n` above its limit is
 /// refused as a bad layout, however large it is.

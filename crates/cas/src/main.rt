@@ -4,8 +4,6 @@
 mod arguments;
 mod fault;
 mod fragments;
-mod hexadecimal;
-mod number;
 mod output;
 mod program;
 mod request;

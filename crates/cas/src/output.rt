@@ -3,10 +3,10 @@ ghost use Rattle.std.specs.Prelude.{Some};
 ghost use Rattle.cas.specs.Output.{output_text};
 
 use crate::fragments::FragmentsLine;
-use crate::hexadecimal::Hexadecimal;
 use decoder::Decoded;
 use encoder::Coded;
 use std::fmt;
+use words::hexadecimal::Hexadecimal;
 
 /// The output of a command. It prints as its line, without the line feed.
 #[derive(Drop)]

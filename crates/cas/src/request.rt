@@ -2,17 +2,17 @@
 ghost use Rattle.std.specs.Prelude.{◌≡◌, ◌⊎◌, [], ◌∷◌, ℕ, List, MatchResult, codes, map};
 ghost use Rattle.encoder.specs.declared.fragment.Piece.{Piece};
 ghost use Rattle.tag.specs.declared.refusal.Refusal.TheVariants.{NoMemory};
-ghost use Rattle.cas.specs.Hexadecimal.{IsHexadecimal};
-ghost use Rattle.cas.specs.Number.{IsNumber};
+ghost use Rattle.words.specs.Hexadecimal.{IsHexadecimal};
+ghost use Rattle.words.specs.Number.{IsNumber};
 ghost use Rattle.cas.specs.Request.{ArePieces, IsPiece, IsReading};
 ghost use Rattle.cas.specs.declared.fault.Fault.TheVariants.{BadArgument, Refused};
 
 use crate::fault::Fault;
-use crate::hexadecimal::parse_bytes;
-use crate::number::parse_number;
 use bytes::Bytes;
 use encoder::Piece;
 use std::alloc::Global;
+use words::hexadecimal::parse_bytes;
+use words::number::parse_number;
 
 /// What a command line asks for. The numbers are as they were written, also above their limits.
 #[derive(Debug, Drop)]

@@ -1,7 +1,7 @@
 use Rattle.std.proofs.Common.{◌≡◌, ℕ, List, inl, inr, rules, sym, subst}
 use Rattle.std.specs.List.{after_first, before_first}
-use Rattle.cas.specs.Hexadecimal.{IsHexadecimal}
-use Rattle.cas.specs.Number.{IsNumber}
+use Rattle.words.specs.Hexadecimal.{IsHexadecimal}
+use Rattle.words.specs.Number.{IsNumber}
 use Rattle.cas.specs.Request.{is_colon}
 use Rattle.cas.proofs.RequestLemmas.{err_of}
 use Rattle.cas.proofs.request.parse_piece.Goals as goal

@@ -1,7 +1,7 @@
 //! Bytes as hexadecimal digits, with `.` for no bytes.
 ghost use Rattle.std.specs.Prelude.{◌≡◌, ◌≤◌, ◌*◌, ℕ, List, IfOk, MatchOption, Some, length};
 ghost use Rattle.hex.specs.Hex.{encode_lower};
-ghost use Rattle.cas.specs.Hexadecimal.{IsHexadecimal, hexadecimal_text};
+ghost use Rattle.words.specs.Hexadecimal.{IsHexadecimal, hexadecimal_text};
 
 use bytes::Bytes;
 use hex::FromHexError;

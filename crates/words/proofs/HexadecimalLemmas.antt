@@ -8,7 +8,7 @@ use Rattle.std.proofs.lemmas.List.Elements.{All-head, All-tail}
 use Rattle.std.proofs.lemmas.List.Sums.{AllPass-from_list_all}
 use Rattle.std.proofs.lemmas.Str.Ascii.{IsAscii-nil, IsAscii-cons}
 use Rattle.hex.specs.Hex.{encode_lower, encode_with, lower_digits}
-use Rattle.cas.specs.Hexadecimal.{hexadecimal_text}
+use Rattle.words.specs.Hexadecimal.{hexadecimal_text}
 
 -- no bytes have no digits
 pub encode_lower-nil : encode_lower [] ≡ []

@@ -1,8 +1,8 @@
 use Rattle.std.proofs.lemmas.Str.{IsUtf8-from_ascii}
 use Rattle.hex.specs.Hex.{encode_lower, lower_digits}
 use Rattle.hex.proofs.HexLemmas.{IsAscii-encode_with}
-use Rattle.cas.proofs.HexadecimalLemmas.{IsAscii-lower_digits}
-use Rattle.cas.proofs.hexadecimal.digits_of.Goals as goal
+use Rattle.words.proofs.HexadecimalLemmas.{IsAscii-lower_digits}
+use Rattle.words.proofs.hexadecimal.digits_of.Goals as goal
 
 pub unreachable-requires-in_default-from_utf8 : goal.unreachable-requires-in_default-from_utf8
 unreachable-requires-in_default-from_utf8 c =

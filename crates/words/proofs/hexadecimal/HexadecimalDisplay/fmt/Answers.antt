@@ -3,8 +3,8 @@ use Rattle.std.proofs.Output.{has_written_append, has_written_of_eq}
 use Rattle.std.proofs.lemmas.List.{nil_from_length}
 use Rattle.std.specs.Slice.Iter.{chunks_rest}
 use Rattle.hex.specs.Hex.{encode_lower}
-use Rattle.cas.proofs.HexadecimalLemmas.{encode_lower-append, encode_lower-nil, hexadecimal_text-some}
-use Rattle.cas.proofs.hexadecimal.HexadecimalDisplay.fmt.Goals as goal
+use Rattle.words.proofs.HexadecimalLemmas.{encode_lower-append, encode_lower-nil, hexadecimal_text-some}
+use Rattle.words.proofs.hexadecimal.HexadecimalDisplay.fmt.Goals as goal
 
 pub loop-chunk-init : goal.loop-chunk-init
 loop-chunk-init g c = (search rules, tt, search rules, λ plain. ([], search rules, search rules))

@@ -2,7 +2,7 @@ use Rattle.std.proofs.Common.{◌≡◌, ℕ, List, ◌++◌}
 use Rattle.std.specs.Fmt.{HasWritten, IsPlainFormatter}
 use Rattle.std.specs.Slice.Iter.{chunks_rest, chunks_size}
 use Rattle.hex.specs.Hex.{encode_lower}
-use Rattle.cas.proofs.hexadecimal.HexadecimalDisplay.fmt.Given as goal
+use Rattle.words.proofs.hexadecimal.HexadecimalDisplay.fmt.Given as goal
 
 abbrev pub invariant-loop-chunk : goal.invariant-loop-chunk
 invariant-loop-chunk g l =

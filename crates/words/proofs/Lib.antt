@@ -1,0 +1,2 @@
+pub mod HexadecimalLemmas
+pub mod NumberLemmas

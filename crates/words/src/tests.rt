@@ -1,0 +1,55 @@
+//! Words that are on the edge of being numbers or bytes.
+use crate::hexadecimal::{Hexadecimal, parse_bytes};
+use crate::number::{parse_number, parse_saturating};
+use std::test::Fail;
+
+#[test]
+fn numbers(rt: HostRuntime) -> Result<(), Fail> {
+    let rows = [
+        ("0", Some(0), Some(0)),
+        ("0007", Some(7), Some(7)),
+        ("18446744073709551615", Some(u64::MAX), Some(u64::MAX)),
+        ("18446744073709551616", None, Some(u64::MAX)),
+        ("99999999999999999999999999", None, Some(u64::MAX)),
+        ("99999999999999999999999999x", None, None),
+        ("00000000000000000000000002", Some(2), Some(2)),
+        ("", None, None),
+        ("+1", None, None),
+        ("-1", None, None),
+        ("1_0", None, None),
+        ("0x1", None, None),
+        ("1 ", None, None),
+        ("٣", None, None),
+    ];
+    for (word, number, saturated) in rows {
+        assert_eq!(rt; parse_number(word), number, "at {word}");
+        assert_eq!(rt; parse_saturating(word), saturated, "at {word}");
+    }
+    Ok(())
+}
+
+#[test]
+fn bytes_of_words(rt: HostRuntime) -> Result<(), Fail> {
+    let rows = [
+        (".", Some(".")),
+        ("00ff", Some("00ff")),
+        ("0aBC", Some("0abc")),
+        ("", None),
+        ("0", None),
+        ("0g", None),
+        ("..", None),
+        ("-", None),
+    ];
+    for (word, printed) in rows {
+        let found = parse_bytes(rt.alloc(), word)?;
+        match (found, printed) {
+            (Some(bytes), Some(text)) => {
+                let back = format!(in rt.alloc(); "{}", Hexadecimal(bytes.as_slice()))?;
+                assert_eq!(rt; back.as_str(), text, "at {word}");
+            }
+            (None, None) => {}
+            _ => return Err(Fail::from("another answer")),
+        }
+    }
+    Ok(())
+}
