@@ -1,0 +1,4 @@
+pub mod ArgumentsLemmas
+pub mod CommandLemmas
+pub mod LineLemmas
+pub mod LinesLemmas

@@ -1,0 +1,7 @@
+use Rattle.std.proofs.Common.{◌∷◌, codes, map}
+use Rattle.script.proofs.CommandLemmas.{fails_or, none-Check}
+use Rattle.script.proofs.object_commands.check.Goals as goal
+
+pub returns-in_err-name : goal.returns-in_err-name
+returns-in_err-name c =
+    fails_or (codes "check" ∷ map (λ w. w.now) c.args.words.now) _ _ _ c.from_residual.ensures.1 c.in_err-name.ensures.err (none-Check _)

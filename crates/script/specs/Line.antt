@@ -1,0 +1,39 @@
+-- The words of a line, and what the line says.
+use Rattle.std.specs.Prelude.{◌≡◌, ◌==◌, ℕ, List, [], ◌∷◌, ⊤, Bool, filter, length, nat_lt, slice_index, Result}
+use Rattle.std.specs.Prelude.{MatchResult}
+use Rattle.std.specs.List.{slice_split}
+use Rattle.std.specs.Str.{IsAscii}
+use Rattle.script.specs.Arguments.{Word}
+use Rattle.script.specs.Command.{Spells}
+use Rattle.script.specs.declared.command.Command.{Command}
+use Rattle.script.specs.declared.line.Line.{Line}
+use Rattle.script.specs.declared.line.Line.TheVariants as of
+use Rattle.script.specs.declared.error.LineError.{LineError}
+use Rattle.script.specs.declared.error.LineError.TheVariants.{Bad, NoMemory}
+
+-- the byte is a space
+abbrev pub is_space : ℕ → Bool
+is_space byte = byte == 32
+
+-- the words of a line: its parts between spaces, without the empty ones
+abbrev pub words_of : List ℕ → List Word
+words_of line = filter (λ part. nat_lt 0 (length part)) (slice_split is_space line)
+
+-- there is no word, or the first word begins with `#`
+abbrev pub IsSkipped : List Word → Type 0
+IsSkipped [] = ⊤
+IsSkipped (first ∷ rest) = slice_index first 0 ≡ 35
+
+-- what the line says: it is skipped, or it is ASCII and its words spell the command
+abbrev pub IsLine : List ℕ → Line → Type 0
+IsLine line of.Skipped = IsSkipped (words_of line)
+IsLine line (of.Command command) = ¬ (IsSkipped (words_of line)) × IsAscii line × Spells (words_of line) command
+
+-- why the line says nothing: it is bad, since it is not ASCII or its words spell no command, or memory is wanting
+abbrev pub IsErrorOfLine : List ℕ → LineError → Type 0
+IsErrorOfLine line Bad = ¬ (IsSkipped (words_of line)) × (IsAscii line → (c : Command) → ¬ (Spells (words_of line) c))
+IsErrorOfLine line NoMemory = ¬ (IsSkipped (words_of line))
+
+-- what the line says, or why it says nothing
+abbrev pub IsReadingOfLine : List ℕ → Result Line LineError → Type 0
+IsReadingOfLine line result = MatchResult result (IsLine line) (IsErrorOfLine line)

@@ -1,0 +1,94 @@
+//! Commands that call, or take one step of a call. Each function reads the words after
+//! those that name its command.
+ghost use Rattle.std.specs.Prelude.{◌∷◌, codes, map};
+ghost use Rattle.script.specs.Command.{IsReading};
+
+use crate::arguments::{name_and_bytes, name_and_number, name_number_and_bytes, one_name};
+use crate::command::Command;
+use crate::error::LineError;
+use std::alloc::Global;
+
+/// `call read`, `call write` or `call move`, from the words after `call`.
+pub fn call<'a>(alloc: Global, words: &[&'a str]) -> Result<Command<'a>, LineError>
+    ensures { IsReading (codes "call" ∷ map (λ w. w.now) words.now) result }
+{
+    let Some((kind, rest)) = words.split_first() else {
+        return Err(LineError::Bad);
+    };
+    match *kind {
+        "read" => call_read(rest),
+        "write" => call_write(alloc, rest),
+        "move" => call_move(rest),
+        _ => Err(LineError::Bad),
+    }
+}
+
+fn call_read<'a>(words: &[&'a str]) -> Result<Command<'a>, LineError>
+    ensures { IsReading (codes "call" ∷ codes "read" ∷ map (λ w. w.now) words.now) result }
+{
+    let name = one_name(words)?;
+    Ok(Command::CallRead { name })
+}
+
+fn call_write<'a>(alloc: Global, words: &[&'a str]) -> Result<Command<'a>, LineError>
+    ensures { IsReading (codes "call" ∷ codes "write" ∷ map (λ w. w.now) words.now) result }
+{
+    let (name, value) = name_and_bytes(alloc, words)?;
+    Ok(Command::CallWrite { name, value })
+}
+
+fn call_move<'a>(words: &[&'a str]) -> Result<Command<'a>, LineError>
+    ensures { IsReading (codes "call" ∷ codes "move" ∷ map (λ w. w.now) words.now) result }
+{
+    let (name, layout) = name_and_number(words)?;
+    Ok(Command::CallMove { name, layout })
+}
+
+pub fn advance<'a>(words: &[&'a str]) -> Result<Command<'a>, LineError>
+    ensures { IsReading (codes "advance" ∷ map (λ w. w.now) words.now) result }
+{
+    let (name, call) = name_and_number(words)?;
+    Ok(Command::Advance { name, call })
+}
+
+pub fn supply<'a>(words: &[&'a str]) -> Result<Command<'a>, LineError>
+    ensures { IsReading (codes "supply" ∷ map (λ w. w.now) words.now) result }
+{
+    let (name, call) = name_and_number(words)?;
+    Ok(Command::Supply { name, call })
+}
+
+pub fn supply_as<'a>(alloc: Global, words: &[&'a str]) -> Result<Command<'a>, LineError>
+    ensures { IsReading (codes "supply-as" ∷ map (λ w. w.now) words.now) result }
+{
+    let (name, call, value) = name_number_and_bytes(alloc, words)?;
+    Ok(Command::SupplyAs { name, call, value })
+}
+
+pub fn settle<'a>(words: &[&'a str]) -> Result<Command<'a>, LineError>
+    ensures { IsReading (codes "settle" ∷ map (λ w. w.now) words.now) result }
+{
+    let (name, call) = name_and_number(words)?;
+    Ok(Command::Settle { name, call })
+}
+
+pub fn post<'a>(words: &[&'a str]) -> Result<Command<'a>, LineError>
+    ensures { IsReading (codes "post" ∷ map (λ w. w.now) words.now) result }
+{
+    let (name, call) = name_and_number(words)?;
+    Ok(Command::Post { name, call })
+}
+
+pub fn answer<'a>(words: &[&'a str]) -> Result<Command<'a>, LineError>
+    ensures { IsReading (codes "answer" ∷ map (λ w. w.now) words.now) result }
+{
+    let (name, call) = name_and_number(words)?;
+    Ok(Command::Answer { name, call })
+}
+
+pub fn show<'a>(words: &[&'a str]) -> Result<Command<'a>, LineError>
+    ensures { IsReading (codes "show" ∷ map (λ w. w.now) words.now) result }
+{
+    let (name, call) = name_and_number(words)?;
+    Ok(Command::Show { name, call })
+}

@@ -1,0 +1,51 @@
+//! Commands about the cluster as a whole. Each function reads the words after
+//! those that name its command.
+ghost use Rattle.std.specs.Prelude.{◌∷◌, codes, map};
+ghost use Rattle.script.specs.Command.{IsReading};
+
+use crate::arguments::{name_and_number, no_words, number_and_members, one_number, servers_count};
+use crate::command::Command;
+use crate::error::LineError;
+use std::alloc::Global;
+
+pub fn servers(words: &[&str]) -> Result<Command<'static>, LineError>
+    ensures { IsReading (codes "servers" ∷ map (λ w. w.now) words.now) result }
+{
+    let count = servers_count(words)?;
+    Ok(Command::Servers { count })
+}
+
+pub fn layout(alloc: Global, words: &[&str]) -> Result<Command<'static>, LineError>
+    ensures { IsReading (codes "layout" ∷ map (λ w. w.now) words.now) result }
+{
+    let (k, members) = number_and_members(alloc, words)?;
+    Ok(Command::Layout { k, members })
+}
+
+pub fn object<'a>(words: &[&'a str]) -> Result<Command<'a>, LineError>
+    ensures { IsReading (codes "object" ∷ map (λ w. w.now) words.now) result }
+{
+    let (name, layout) = name_and_number(words)?;
+    Ok(Command::Object { name, layout })
+}
+
+pub fn down(words: &[&str]) -> Result<Command<'static>, LineError>
+    ensures { IsReading (codes "down" ∷ map (λ w. w.now) words.now) result }
+{
+    let server = one_number(words)?;
+    Ok(Command::Down { server })
+}
+
+pub fn up(words: &[&str]) -> Result<Command<'static>, LineError>
+    ensures { IsReading (codes "up" ∷ map (λ w. w.now) words.now) result }
+{
+    let server = one_number(words)?;
+    Ok(Command::Up { server })
+}
+
+pub fn account(words: &[&str]) -> Result<Command<'static>, LineError>
+    ensures { IsReading (codes "account" ∷ map (λ w. w.now) words.now) result }
+{
+    no_words(words)?;
+    Ok(Command::Account)
+}

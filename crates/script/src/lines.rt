@@ -1,0 +1,50 @@
+//! The lines of a script.
+ghost use Rattle.std.specs.Prelude.{◌≡◌, ◌==◌, ◌<◌, ◌∷◌, [], if◌then◌else◌, IfNone, IfOk, IfSome, length, map};
+ghost use Rattle.std.specs.Prelude.{position};
+ghost use Rattle.std.specs.Str.Lines.{lines, strip_carriage_return};
+
+use std::alloc::{AllocError, Global};
+
+/// The lines of a script, without their ends: line n, counted from 1, is at index n - 1. A line ends with a line feed,
+/// with or without a carriage return before it. The last line may lack its end, and then keeps a carriage return. It
+/// fails where the list of lines finds no memory.
+pub fn split_lines(alloc: Global, script: &[u8]) -> Result<Vec<&[u8]>, AllocError>
+    ensures { IfOk result (λ all. map (λ l. l.now) all.items ≡ lines script.now) }
+{
+    let mut lines = Vec::new(alloc);
+    let mut rest = script;
+    while let Some((line, more)) = first_line(rest) {
+        lines.push(line)?;
+        rest = more;
+    }
+    if !rest.is_empty() {
+        lines.push(rest)?;
+    }
+    Ok(lines)
+}
+
+/// The first line that has an end, and what follows it.
+fn first_line(script: &[u8]) -> Option<(&[u8], &[u8])>
+    ensures shorter { IfSome result (λ p. length p.1.now < length script.now) }
+    ensures cut { IfSome result (λ p. lines script.now ≡ p.0.now ∷ lines p.1.now) }
+    ensures last { IfNone result (lines script.now
+        ≡ (if length script.now == 0 then [] else script.now ∷ [])) }
+{
+    let end = line_feed(script)?;
+    Some((without_carriage_return(&script[..end]), &script[end + 1..]))
+}
+
+fn line_feed(script: &[u8]) -> Option<usize>
+    ensures { result ≡ position (λ b. b == 10) script.now }
+{
+    script.iter().position(|byte| *byte == b'\n')
+}
+
+fn without_carriage_return(line: &[u8]) -> &[u8]
+    ensures { result.now ≡ strip_carriage_return line.now }
+{
+    match line.split_last() {
+        Some((b'\r', front)) => front,
+        _ => line,
+    }
+}
