@@ -1,0 +1,42 @@
+-- The rule of the queue of jobs. A job's number is the point of the piece that it makes.
+use Rattle.std.specs.Prelude.{◌≡◌, ℕ, ◌+◌, ◌≤◌, ◌==◌, nat_lt, List, [], ◌∷◌, length, sum_by, count_by, if◌then◌else◌}
+use Rattle.coding_pool.specs.declared.jobs.Known.{Known}
+
+abbrev pub known : ℕ → ℕ → List ℕ → Known
+known parts pushed popped = record { parts = parts; pushed = pushed; popped = popped }
+
+-- the parts of the right to know the whole: one for each worker, and one for the caller
+abbrev pub PARTS : ℕ
+PARTS = 65
+
+-- how often the job stands in the list
+abbrev pub times : ℕ → List ℕ → ℕ
+times job jobs = count_by (λ j. j == job) jobs
+
+-- 1 for a job below n, and else 0
+abbrev pub once_below : ℕ → ℕ → ℕ
+once_below n job = if nat_lt job n then 1 else 0
+
+-- whoever has no part has pushed and popped nothing
+abbrev pub IsIdle : Known → Type 0
+IsIdle v = v.parts ≡ 0 → (v.pushed ≡ 0) × (v.popped ≡ [])
+
+-- the same of each view
+abbrev pub AreIdle : List Known → Type 0
+AreIdle [] = Unit {0}
+AreIdle (v ∷ vs) = IsIdle v × AreIdle vs
+
+-- the jobs in the queue and in all views together are those below the number pushed, each once
+pub record AreOnce (items : List ℕ) (views : List Known) : Type 0 where
+  pub parts : sum_by (λ v. v.parts) views ≡ PARTS
+  pub each : (job : ℕ) → times job items + sum_by (λ v. times job v.popped) views ≡ once_below (sum_by (λ v. v.pushed) views) job
+  pub count : length items + sum_by (λ v. length v.popped) views ≡ sum_by (λ v. v.pushed) views
+  pub idle : AreIdle views
+
+-- what a push learns: the queue has no more jobs than the pass with every part has pushed
+abbrev pub HasNoMore : Known → List ℕ → Type 0
+HasNoMore v items = v.parts ≡ PARTS → length items ≤ v.pushed
+
+-- what a pop learns: with every part, the jobs popped and those in the queue are those below the number pushed, each once
+abbrev pub IsWhole : Known → List ℕ → Type 0
+IsWhole v items = v.parts ≡ PARTS → (job : ℕ) → times job v.popped + times job items ≡ once_below v.pushed job

@@ -1,0 +1,42 @@
+-- What a worker has done.
+use Rattle.std.specs.Prelude.{◌≡◌, ℕ, ◌≤◌, List, length, map, All, MatchResult}
+use Rattle.std.specs.Prelude.{Result}
+use Rattle.crossbeam_queue.specs.Passes.{view, IsPassOf}
+use Rattle.tag.specs.declared.limits.TheConstants.{LONGEST_VALUE}
+use Rattle.tag.specs.declared.refusal.Refusal.{Refusal}
+use Rattle.tag.specs.declared.refusal.Refusal.TheVariants.{NoMemory}
+use Rattle.encoder.specs.Fragment.{piece_of}
+use Rattle.encoder.specs.declared.fragment.Piece.{Piece}
+use Rattle.coding_pool.specs.declared.worker.Errand.{Errand}
+use Rattle.coding_pool.specs.declared.worker.Worker.{Worker}
+use Rattle.coding_pool.specs.Jobs.{times, once_below}
+
+-- the point of a piece, which is the number of its job
+abbrev pub point_of : Piece → ℕ
+point_of p = p.point
+
+-- the pieces are at the points below n, each once
+abbrev pub IsEach : ℕ → List Piece → Type 0
+IsEach n pieces = (job : ℕ) → times job (map point_of pieces) ≡ once_below n job
+
+-- a value that may be coded
+pub record IsErrand (errand : Errand) : Type 0 where
+  pub some : 1 ≤ errand.k
+  pub longest : length errand.value.now ≤ LONGEST_VALUE
+
+-- a worker of the errand: its pass is one of the queue's, the jobs that it popped are those of its pieces, in that order,
+-- and each is the value's piece at its point
+pub record IsWorker (errand : Errand) (w : Worker) : Type 0 where
+  pub pass : IsPassOf errand.jobs.now w.pass
+  pub popped : (view w.pass).popped ≡ map point_of w.pieces.items
+  pub made : All (λ p. p ≡ piece_of errand.value.now errand.k p.point) w.pieces.items
+
+-- a worker with one part, which pushed no job
+pub record IsHand (errand : Errand) (w : Worker) : Type 0 where
+  pub worker : IsWorker errand w
+  pub parts : (view w.pass).parts ≡ 1
+  pub pushed : (view w.pass).pushed ≡ 0
+
+-- what a thread may hand back
+abbrev pub IsAnswer : Errand → Result Worker Refusal → Type 0
+IsAnswer errand answer = MatchResult answer (IsHand errand) (λ r. r ≡ NoMemory)

@@ -1,0 +1,129 @@
+//! The threads in which workers work.
+ghost use Rattle.std.specs.Prelude.{◌≡◌, ◌+◌, ◌<◌, ◌≤◌, [], All, IfOk, IfErr, vec_len};
+ghost use Rattle.tag.specs.declared.refusal.Refusal.TheVariants.{NoMemory};
+ghost use Rattle.coding_pool.specs.Worker.{IsHand, IsErrand, IsAnswer};
+
+use crate::gate::Gate;
+use crate::worker::{Answer, Errand, Worker};
+use std::sync::Wait;
+use std::sync::atomic::{AtomicUsize, Ordering};
+use std::thread;
+use std::thread::{PromisedHandle, Scope, Threads};
+use tag::Refusal;
+
+/// Lets each worker work in a thread of its own, and gives their answers, in some order, after all threads have ended.
+/// A worker for which no thread can be started takes no job. `NoMemory` is the only refusal.
+pub fn work_all<G: Gate, R: Threads + Wait + Sync>(
+    rt: &R,
+    errand: Errand,
+    gate: &G,
+    crew: Vec<Worker>,
+) -> Result<Vec<Answer>, Refusal>
+    requires errand { IsErrand errand }
+    requires crew { All (λ w. IsHand errand w) crew.items }
+    ensures count { IfOk result (λ v. vec_len v ≡ vec_len crew) }
+    ensures answers { IfOk result (λ v. All (λ a. IsAnswer errand.entry a) v.items) }
+    ensures refused { IfErr result (λ r. r ≡ NoMemory) }
+{
+    let unstarted = AtomicUsize::new(usize::MAX);
+    let Errand {
+        alloc,
+        jobs,
+        k,
+        value,
+    } = errand;
+    thread::scope(
+        thread::scope_env(),
+        rt,
+        |scope| -> Result<Vec<Answer>, Refusal>
+            requires errand { IsErrand (record { alloc = alloc; jobs = jobs; k = k; value = value }) }
+            requires crew { All (λ w. IsHand (record { alloc = alloc; jobs = jobs; k = k; value = value }) w) crew.items }
+            ensures count { IfOk result (λ v. vec_len v ≡ vec_len crew) }
+            ensures answers { IfOk result (λ v. All (λ a. IsAnswer (record { alloc = alloc; jobs = jobs.entry; k = k; value = value.entry }) a) v.items) }
+            ensures refused { IfErr result (λ r. r ≡ NoMemory) }
+        {
+            let errand = Errand {
+                alloc,
+                jobs,
+                k,
+                value,
+            };
+            work_in(scope, rt, errand, gate, &unstarted, crew)
+        },
+    )
+}
+
+/// Starts the workers, and waits for those that were started.
+fn work_in<'s, E, G: Gate, R: Threads + Wait + Sync>(
+    scope: &Scope<'s, E>,
+    rt: &'s R,
+    errand: Errand<'s>,
+    gate: &'s G,
+    unstarted: &'s AtomicUsize,
+    mut crew: Vec<Worker>,
+) -> Result<Vec<Answer>, Refusal>
+    requires errand { IsErrand errand }
+    requires crew { All (λ w. IsHand errand w) crew.items }
+    ensures count { IfOk result (λ v. vec_len v ≡ vec_len crew) }
+    ensures answers { IfOk result (λ v. All (λ a. IsAnswer errand.entry a) v.items) }
+    ensures refused { IfErr result (λ r. r ≡ NoMemory) }
+{
+    let mut answers = Vec::with_capacity(errand.alloc, crew.len())?;
+    let mut started = Vec::with_capacity(errand.alloc, crew.len())?;
+    while let Some(worker) = crew.pop() {
+        match start(scope, errand, gate, rt, unstarted, crew.len(), worker) {
+            Ok(handle) => started.push(handle)?,
+            Err(answer) => answers.push(answer)?,
+        }
+    }
+    while let Some(handle) = started.pop() {
+        answers.push(handle.join(rt))?;
+    }
+    Ok(answers)
+}
+
+/// Starts a thread for the worker at this place of the crew. At `Err` none could be started.
+fn start<'s, E, G: Gate, R: Wait + Sync>(
+    scope: &Scope<'s, E>,
+    errand: Errand<'s>,
+    gate: &'s G,
+    rt: &'s R,
+    unstarted: &'s AtomicUsize,
+    place: usize,
+    worker: Worker,
+) -> Result<PromisedHandle<Answer, Errand<'s>>, Answer>
+    requires errand { IsErrand errand }
+    requires worker { IsHand errand worker }
+    ensures started { IfOk result (λ handle. handle.promise ≡ errand.entry) }
+    ensures refused { IfErr result (λ answer. IsAnswer errand.entry answer) }
+{
+    let Errand {
+        alloc,
+        jobs,
+        k,
+        value,
+    } = errand;
+    let task = move || -> Answer
+        requires errand { IsErrand (record { alloc = alloc; jobs = jobs; k = k; value = value }) }
+        requires worker { IsHand (record { alloc = alloc; jobs = jobs; k = k; value = value }) worker }
+        ensures { IsAnswer (record { alloc = alloc; jobs = jobs.entry; k = k; value = value.entry }) result }
+    {
+        if unstarted.load(Ordering::SeqCst) == place {
+            return Ok(worker);
+        }
+        let errand = Errand {
+            alloc,
+            jobs,
+            k,
+            value,
+        };
+        worker.work(rt, errand, gate)
+    };
+    match scope.spawn_with(errand, task) {
+        Ok(handle) => Ok(handle),
+        Err(refused) => {
+            unstarted.store(place, Ordering::SeqCst);
+            Err((refused.value)())
+        }
+    }
+}

@@ -1,0 +1,122 @@
+//! The pieces of a value by many workers.
+ghost use Rattle.std.specs.Prelude.{◌≡◌, ◌≤◌, ◌<◌, ◌+◌, ◌-◌, All, IfOk, IfErr, length, vec_len};
+ghost use Rattle.crossbeam_queue.specs.Passes.{view, IsPassOf};
+ghost use Rattle.tag.specs.declared.limits.TheConstants.{MOST_WORKERS};
+ghost use Rattle.tag.specs.declared.refusal.Refusal.TheVariants.{NoMemory};
+ghost use Rattle.tag.specs.Refusal.{IsByCause};
+ghost use Rattle.encoder.specs.Coded.{IsLawful, ArePieces};
+ghost use Rattle.coding_pool.specs.Jobs.{known, PARTS};
+ghost use Rattle.coding_pool.specs.Pool.{encode_all_cause};
+ghost use Rattle.coding_pool.specs.Worker.{IsWorker, IsHand, IsErrand, IsAnswer};
+
+use crate::crew::work_all;
+use crate::gate::{Gate, NoGate};
+use crate::jobs::{Cut, JobPass, Jobs, push_all};
+use crate::worker::{Answer, Errand, Worker};
+use bytes::Bytes;
+use encoder::{Coded, Piece, assemble};
+use std::alloc::Global;
+use std::sync::Wait;
+use std::thread::Threads;
+use tag::{LONGEST_VALUE, MOST_MEMBERS, MOST_WORKERS, Refusal};
+
+/// Codes `value` as `encode` does, with that many workers, each in a thread of its own. The caller's thread waits for
+/// them, and then makes the pieces that are left with no gate: all of them where there is no worker. A thread that
+/// cannot be started is no refusal.
+///
+/// Refused with `BadLayout` where `k` is 0 or above `n`, or `n` is above `MOST_MEMBERS`; else with `TooLong` where the
+/// value is longer than `LONGEST_VALUE`; else with `Full` where there are more than `MOST_WORKERS` workers; else with
+/// `NoMemory` where memory is refused, once all threads have ended.
+pub fn encode_all<G: Gate, R: Threads + Wait + Sync>(
+    rt: &R,
+    alloc: Global,
+    workers: usize,
+    gate: &G,
+    k: u8,
+    n: u8,
+    value: Bytes,
+) -> Result<Coded, Refusal>
+    ensures coded { IfOk result (λ c. c ≡ record { k = k; n = n; value = value }) }
+    ensures refused { IsByCause (encode_all_cause workers k n (length value)) result }
+{
+    if k == 0 || k > n || n as usize > MOST_MEMBERS {
+        return Err(Refusal::BadLayout);
+    }
+    if value.len() > LONGEST_VALUE {
+        return Err(Refusal::TooLong);
+    }
+    if workers > MOST_WORKERS {
+        return Err(Refusal::Full);
+    }
+    let pieces = all_pieces(rt, alloc, workers, gate, k, n, value.as_slice())?;
+    Ok(assemble(k, n, value, pieces))
+}
+
+/// The pieces of `value` at the points below `n`, in that order. `NoMemory` is the only refusal.
+fn all_pieces<G: Gate, R: Threads + Wait + Sync>(
+    rt: &R,
+    alloc: Global,
+    workers: usize,
+    gate: &G,
+    k: u8,
+    n: u8,
+    value: &[u8],
+) -> Result<Vec<Piece>, Refusal>
+    requires lawful { IsLawful k n value.now }
+    requires workers { workers ≤ MOST_WORKERS }
+    ensures count { IfOk result (λ v. length v.items ≡ n) }
+    ensures pieces { IfOk result (λ v. ArePieces value.now k v.items) }
+    ensures refused { IfErr result (λ r. r ≡ NoMemory) }
+{
+    let (jobs, mut pass) = Jobs::ruled(alloc, n as usize)?;
+    push_all(rt, &jobs, &mut pass, n);
+    let errand = Errand {
+        alloc,
+        jobs: &jobs,
+        k,
+        value,
+    };
+    let crew = hire(errand, &mut pass, workers)?;
+    let answers = work_all(rt, errand, gate, crew)?;
+    let caller = gather(errand, Worker::new(errand, pass), answers)?;
+    let Worker {
+        pass: _,
+        mut pieces,
+    } = caller.work(rt, errand, &NoGate)?;
+    pieces.sort_unstable_by_key(|piece| piece.point);
+    Ok(pieces)
+}
+
+/// That many new workers, with a part of `pass` each. `NoMemory` is the only refusal.
+fn hire(errand: Errand, pass: &mut JobPass, workers: usize) -> Result<Vec<Worker>, Refusal>
+    requires pass { IsPassOf errand.jobs.now pass.old }
+    requires workers { workers ≤ MOST_WORKERS }
+    requires first { view pass.old ≡ known PARTS (view pass.old).pushed (view pass.old).popped }
+    ensures pass { IsPassOf errand.entry.jobs.now pass.new }
+    ensures view { IfOk result (λ _. view pass.new ≡ known (PARTS - workers) (view pass.old).pushed (view pass.old).popped) }
+    ensures count { IfOk result (λ crew. vec_len crew ≡ workers) }
+    ensures crew { IfOk result (λ crew. All (λ w. IsHand errand.entry w) crew.items) }
+    ensures refused { IfErr result (λ r. r ≡ NoMemory) }
+{
+    let mut crew = Vec::with_capacity(errand.alloc, workers)?;
+    for _worker in 0..workers {
+        crew.push(Worker::new(errand, errand.jobs.another::<Cut>(pass)))?;
+    }
+    Ok(crew)
+}
+
+/// Takes over from each worker of the crew. `NoMemory` is the only refusal: that of a worker, or the caller's own.
+fn gather(errand: Errand, mut caller: Worker, mut answers: Vec<Answer>) -> Answer
+    requires caller { IsWorker errand caller }
+    requires part { 0 < (view caller.pass).parts }
+    requires answers { All (λ a. IsAnswer errand a) answers.items }
+    ensures caller { IfOk result (λ w. IsWorker errand.entry w) }
+    ensures parts { IfOk result (λ w. (view w.pass).parts ≡ (view caller.pass).parts + vec_len answers) }
+    ensures pushed { IfOk result (λ w. (view w.pass).pushed ≡ (view caller.pass).pushed) }
+    ensures refused { IfErr result (λ r. r ≡ NoMemory) }
+{
+    while let Some(answer) = answers.pop() {
+        caller = caller.take_over(errand, answer?)?;
+    }
+    Ok(caller)
+}
