@@ -1,0 +1,225 @@
+-- What the call of a move makes of a register.
+use Rattle.std.proofs.Common.{get_or, ◌≡◌, ℕ, zero, suc, pred, ◌-◌, ◌<◌, ◌≤◌, ◌⊎◌, Bool, true, false, ◌&&◌, ◌||◌, not, is_some, cond, List, [], ◌∷◌, ◌++◌, length, set, take, Option, Some, None, IsSome, refl, sym, subst, ap, ◌∙◌, inl, inr, arith, slice_get}
+use Rattle.std.specs.List.{AllByRecursion}
+use Rattle.std.proofs.lemmas.List.Sums.{sum_by-cons}
+use Rattle.std.proofs.lemmas.Option.{slice_get_read, slice_get_within, get_or_from_slice_get}
+use Rattle.tag.specs.declared.limits.TheConstants.{MOST_BYTES, MOST_CALLS, MOST_PHASES, MOST_POSITIONS}
+use Rattle.layout.specs.Layout.{Layout, IsLawful}
+use Rattle.encoder.specs.Fragment.{fragment}
+use Rattle.bank.specs.Bank.{Bank, empty_piece}
+use Rattle.bank.specs.declared.kind.Kind.TheVariants.{Spread}
+use Rattle.bank.specs.declared.status.Status.TheVariants.{Pending}
+use Rattle.mail.specs.declared.message.Message.{Message}
+use Rattle.record.proofs.Beginning.{get_pushed}
+use Rattle.record.proofs.Keeping.{all_get, get_push}
+use Rattle.record.specs.declared.call.CallKind.TheVariants.{Move}
+use Rattle.record.specs.declared.stage.Stage.TheVariants.{MoveSpread}
+use Rattle.record.specs.Courses.{stage_after}
+use Rattle.record.specs.Legal.{is_move, moves_in, first_stage, source_of, stage_of}
+use Rattle.record.specs.May.{NoOpenMove}
+use Rattle.record.specs.Records.{Call, Object, no_layout}
+use Rattle.record.specs.Sound.{IsSound}
+use Rattle.record.specs.Steps.{Step, new_call, requests, opened_banks, moving_object}
+use Rattle.register.specs.Kept.{is_open_move, has_open_move, IsKept}
+use Rattle.register.specs.Position.{Position, layouts_of, banks_of, banks_bytes, all_bytes}
+use Rattle.register.specs.State.{Contents, state_of}
+use Rattle.register.specs.Tracked.{Tracked, calls_of, with_begun}
+use Rattle.register.proofs.Lists.{found_map, map_push, set_push, length_map, length_push, all_pushed}
+use Rattle.register.proofs.Keeps.{steps_on}
+use Rattle.register.proofs.Calling.{any_push, none_any}
+use Rattle.register.proofs.Opened.{opened_banks_bytes}
+use Rattle.register.proofs.Reading.{moves_push, some_position}
+
+-- a move before its first phase, and with it
+abbrev pub fresh_move : (from now : ℕ) → Tracked
+fresh_move from now = record { call = new_call Move now; stage = MoveSpread from }
+
+abbrev pub mover : (number from : ℕ) → Layout → (now : ℕ) → Tracked
+mover number from source now = with_begun (fresh_move from now) number (Spread Pending) from source now
+
+abbrev pub next_position : Layout → (now : ℕ) → Position
+next_position layout now = record { layout = layout; banks = opened_banks layout.members 0 now }
+
+abbrev pub moving_mail : Contents → (number from : ℕ) → Layout → List Message
+moving_mail c number from source = c.mail ++ requests number 1 (Spread Pending) from source.members 0 empty_piece
+
+-- `source` is the layout of the last position
+abbrev pub with_moving : Contents → (number from : ℕ) → (source layout : Layout) → (now : ℕ) → Contents
+with_moving c number from source layout now = record {
+  positions = c.positions ++ next_position layout now ∷ [];
+  mail = moving_mail c number from source;
+  calls = c.calls ++ mover number from source now ∷ [];
+  is_moving = true;
+  stored = c.stored;
+  last = now;
+}
+
+-- a register with these parts, where a move is open
+abbrev moved_parts : Contents → (now : ℕ) → List Position → List Message → List Tracked → Contents
+moved_parts c now positions mail calls = record { positions = positions; mail = mail; calls = calls; is_moving = true; stored = c.stored; last = now }
+
+pub with_moving_is : (c : Contents) (number from : ℕ) (source layout : Layout) (now : ℕ) (next : Position) (begun : Tracked) (positions : List Position) (mail : List Message)
+    (calls : List Tracked) → next ≡ next_position layout now → begun ≡ mover number from source now → positions ≡ c.positions ++ next ∷ [] →
+    mail ≡ moving_mail c number from source → calls ≡ c.calls ++ begun ∷ [] →
+    record { positions = positions; mail = mail; calls = calls; is_moving = true; stored = c.stored; last = now } ≡ with_moving c number from source layout now
+with_moving_is c number from source layout now next begun positions mail calls is_next is_begun is_positions is_mail is_calls =
+    ap (λ ps. moved_parts c now ps mail calls) (is_positions ∙ ap (λ p. c.positions ++ p ∷ []) is_next)
+    ∙ ap (λ ms. moved_parts c now (c.positions ++ next_position layout now ∷ []) ms calls) is_mail
+    ∙ ap (λ cs. moved_parts c now (c.positions ++ next_position layout now ∷ []) (moving_mail c number from source) cs) (is_calls ∙ ap (λ u. c.calls ++ u ∷ []) is_begun)
+
+-- the last position of a register
+pub record IsLast (c : Contents) (from : ℕ) (source : Layout) : Type 0 where
+  pub position : Position
+  pub at : slice_get c.positions from ≡ Some position
+  pub last : suc from ≡ length c.positions
+  pub same : source ≡ position.layout
+
+-- the last of so many positions, as it was read
+pub last_of : (c : Contents) (count : ℕ) (p : Position) (source : Layout) → IsKept c → count ≡ length c.positions → p ≡ get_or c.positions (count - 1) p →
+    source ≡ p.layout → IsLast c (count - 1) source
+last_of c count p source kept all read same =
+    let some = some_position c kept in
+    record { position = p; at = slice_get_read c.positions count (count - 1) p all (omega (arith, all, some)) read; last = omega (arith, all, some); same = same }
+
+pub last_lawful : (c : Contents) (from : ℕ) (source : Layout) → IsKept c → IsLast c from source → IsLawful source
+last_lawful c from source kept is_last =
+    subst IsLawful (sym is_last.same)
+    (all_get IsLawful (layouts_of c.positions) from is_last.position.layout kept.sound.legal.layouts
+    (found_map (λ (p : Position). p.layout) c.positions from is_last.position is_last.at))
+
+pred_is : (n from : ℕ) → suc from ≡ n → pred n ≡ from
+pred_is zero from e = absurd (cc)
+pred_is (suc n) from e = omega (arith, e)
+
+-- the record with a move numbered `number` from position `from`, whose layout is `source`
+abbrev built : Contents → (layout : Layout) → (now from : ℕ) → (source : Layout) → (number : ℕ) → Object
+built c layout now from source number = record {
+  layouts = layouts_of c.positions ++ layout ∷ [];
+  banks = banks_of c.positions ++ opened_banks layout.members 0 now ∷ [];
+  mail = moving_mail c number from source;
+  calls = set (calls_of c.calls ++ new_call Move now ∷ []) (length (calls_of c.calls)) (mover number from source now).call;
+}
+
+pub moved_is : (c : Contents) (now number from : ℕ) (source layout : Layout) → IsLast c from source → number ≡ suc (length c.calls) →
+    moving_object (state_of c).object layout now ≡ (state_of (with_moving c number from source layout now)).object
+moved_is c now number from source layout is_last is =
+    ap (λ p. built c layout now p (get_or (layouts_of c.positions ++ layout ∷ []) p no_layout) (suc (length (calls_of c.calls)))) from_is
+    ∙ ap (λ l. built c layout now from l (suc (length (calls_of c.calls)))) source_is
+    ∙ ap (λ n. built c layout now from source n) (ap suc (length_map (λ (u : Tracked). u.call) c.calls) ∙ sym is)
+    ∙ ap (λ cs. record {
+      layouts = layouts_of c.positions ++ layout ∷ [];
+      banks = banks_of c.positions ++ opened_banks layout.members 0 now ∷ [];
+      mail = moving_mail c number from source;
+      calls = cs;
+    }) (set_push (calls_of c.calls) (new_call Move now) (mover number from source now).call
+    ∙ sym (map_push (λ (u : Tracked). u.call) c.calls (mover number from source now)))
+    ∙ ap (λ ls. record {
+      layouts = ls;
+      banks = banks_of c.positions ++ opened_banks layout.members 0 now ∷ [];
+      mail = moving_mail c number from source;
+      calls = calls_of (c.calls ++ mover number from source now ∷ []);
+    }) (sym (map_push (λ (p : Position). p.layout) c.positions (next_position layout now)))
+    ∙ ap (λ bs. record {
+      layouts = layouts_of (c.positions ++ next_position layout now ∷ []);
+      banks = bs;
+      mail = moving_mail c number from source;
+      calls = calls_of (c.calls ++ mover number from source now ∷ []);
+    }) (sym (map_push (λ (p : Position). p.banks) c.positions (next_position layout now)))
+  where
+    from_is : pred (length (layouts_of c.positions)) ≡ from
+    from_is = pred_is (length (layouts_of c.positions)) from (is_last.last ∙ sym (length_map (λ (p : Position). p.layout) c.positions))
+
+    source_is : get_or (layouts_of c.positions ++ layout ∷ []) from no_layout ≡ source
+    source_is =
+        get_or_from_slice_get (layouts_of c.positions ++ layout ∷ []) from is_last.position.layout no_layout
+        (get_push (layouts_of c.positions) layout is_last.position.layout from
+        (found_map (λ (p : Position). p.layout) c.positions from is_last.position is_last.at)) ∙ sym is_last.same
+
+-- where no move is open
+no_open : (c : Contents) → IsKept c → c.is_moving ≡ false → NoOpenMove (state_of c).object
+no_open c kept none index call at kind = go call.answered refl
+  where
+    closed : is_open_move call ≡ false
+    closed = none_any is_open_move (state_of c).object.calls index call (sym kept.moving ∙ none) at
+
+    go : (o : Option ℕ) → call.answered ≡ o → IsSome call.answered
+    go None e = true_false (sym (ap (λ k. is_move k && not (is_some call.answered)) kind ∙ ap (λ (o : Option ℕ). not (is_some o)) e) ∙ closed)
+      where
+        true_false : true ≡ false → IsSome call.answered
+        true_false e = absurd (cc)
+    go (Some step) e = ap (λ (o : Option ℕ). is_some o) e
+
+take_all : (calls : List Call) → moves_in (take (length calls) calls) ≡ moves_in calls
+take_all [] = refl
+take_all (c ∷ calls) = ap (λ m. cond (is_move c.kind) (suc m) m) (take_all calls)
+
+bytes_push : (banks : List (List Bank)) (more : List Bank) → banks_bytes more ≡ 0 → all_bytes (banks ++ more ∷ []) ≡ all_bytes banks
+bytes_push [] more none = let first = sum_by-cons banks_bytes more [] in omega (arith, none, first)
+bytes_push (b ∷ banks) more none =
+    let rest = bytes_push banks more none in
+    let x = sum_by-cons banks_bytes b (banks ++ more ∷ []) in
+    let y = sum_by-cons banks_bytes b banks in
+    omega (arith, rest, x, y)
+
+module _ (c : Contents) (now number from : ℕ) (source layout : Layout) (kept : IsKept c) (is_last : IsLast c from source) (is : number ≡ suc (length c.calls))
+    (after : c.last < now) (lawful : IsLawful layout) (none : c.is_moving ≡ false) where
+  pub moved_sound : IsSound fragment (state_of (with_moving c number from source layout now)).object now
+  moved_sound =
+      subst (λ o. IsSound fragment o now) (moved_is c now number from source layout is_last is)
+      (steps_on c now (Step.CallMove layout) after kept (lawful, no_open c kept none))
+
+  abbrev new : Tracked
+  new = mover number from source now
+
+  abbrev later : Object
+  later = (state_of (with_moving c number from source layout now)).object
+
+  pushed : calls_of (c.calls ++ new ∷ []) ≡ calls_of c.calls ++ new.call ∷ []
+  pushed = map_push (λ (u : Tracked). u.call) c.calls new
+
+  count : length (calls_of c.calls) ≡ length c.calls
+  count = length_map (λ (u : Tracked). u.call) c.calls
+
+  same_source : (i : ℕ) → i ≤ length c.calls → source_of later i ≡ source_of (state_of c).object i
+  same_source i within =
+      ap (λ cs. moves_in (take i cs)) pushed ∙ moves_push (calls_of c.calls) new.call i (subst (λ n. i ≤ n) (sym count) within)
+
+  from_moves : (i : ℕ) → i ≡ length c.calls → from ≡ source_of later i
+  from_moves i e =
+      let moves = kept.sound.shape.positions in
+      let layouts = length_map (λ (p : Position). p.layout) c.positions in
+      let last = is_last.last in
+      let all = take_all (calls_of c.calls) in
+      let here : from ≡ moves_in (calls_of c.calls) = omega (arith, moves, layouts, last) in
+      here ∙ sym all ∙ ap (λ n. moves_in (take n (calls_of c.calls))) (count ∙ sym e) ∙ sym (same_source i (omega (arith, e)))
+
+  staged : (i : ℕ) (u : Tracked) → (slice_get c.calls i ≡ Some u) ⊎ ((i ≡ length c.calls) × (new ≡ u)) → u.stage ≡ stage_of later i u.call
+  staged i u (inl found) =
+      let within = slice_get_within c.calls i u found in
+      kept.staged i u found ∙ ap (λ m. stage_after u.call.kind (suc i) (first_stage u.call.kind m) u.call.phases) (sym (same_source i (omega (arith, within))))
+  staged i u (inr here) = subst (λ (u : Tracked). u.stage ≡ stage_of later i u.call) here.1 (ap MoveSpread (from_moves i here.0))
+
+  stored_same : all_bytes later.banks ≡ all_bytes (state_of c).object.banks
+  stored_same =
+      ap all_bytes (map_push (λ (p : Position). p.banks) c.positions (next_position layout now))
+      ∙ bytes_push (banks_of c.positions) (opened_banks layout.members 0 now) (opened_banks_bytes layout.members 0 now)
+
+  pub moved_kept : length c.positions < MOST_POSITIONS → length c.calls < MOST_CALLS → IsKept (with_moving c number from source layout now)
+  moved_kept few_positions few = record {
+    sound = moved_sound;
+    limits = record {
+      positions = subst (λ n. n ≤ MOST_POSITIONS) (sym (length_map (λ (p : Position). p.layout) (c.positions ++ next_position layout now ∷ [])
+          ∙ length_push c.positions (next_position layout now))) (omega (arith, few_positions));
+      calls = subst (λ n. n ≤ MOST_CALLS) (sym (length_map (λ (u : Tracked). u.call) (c.calls ++ new ∷ []) ∙ length_push c.calls new)) (omega (arith, few));
+      phases = subst (λ cs. AllByRecursion (λ (call : Call). length call.phases ≤ MOST_PHASES) cs) (sym pushed)
+          (all_pushed (λ (call : Call). length call.phases ≤ MOST_PHASES) (calls_of c.calls) new.call kept.limits.phases (omega arith));
+      stored = subst (λ n. n ≤ MOST_BYTES) (sym stored_same) kept.limits.stored;
+    };
+    staged = λ i u e. staged i u (get_pushed c.calls new u i e);
+    moving = sym (ap has_open_move pushed ∙ any_push is_open_move (calls_of c.calls) new.call ∙ or_true (has_open_move (calls_of c.calls)));
+    stored = kept.stored ∙ sym stored_same;
+  }
+    where
+      or_true : (b : Bool) → (b || true) ≡ true
+      or_true true = refl
+      or_true false = refl

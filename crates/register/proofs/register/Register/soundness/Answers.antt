@@ -1,0 +1,12 @@
+use Rattle.std.proofs.Common.{subst}
+use Rattle.encoder.specs.Fragment.{fragment}
+use Rattle.record.specs.Sound.{IsSound}
+use Rattle.register.specs.State.{State}
+use Rattle.register.specs.Kept.{IsWithinLimits}
+use Rattle.register.proofs.register.Register.soundness.Goals as goal
+
+pub returns-clause-sound : goal.returns-clause-sound
+returns-clause-sound c = subst (λ (s : State). IsSound fragment s.object s.last) c.self.view_is c.self.invariant.sound
+
+pub returns-clause-limits : goal.returns-clause-limits
+returns-clause-limits c = subst (λ (s : State). IsWithinLimits s.object) c.self.view_is c.self.invariant.limits

@@ -1,0 +1,18 @@
+use Rattle.std.proofs.Common.{◌+◌, ◌||◌, drop, sym, ap, ◌∙◌}
+use Rattle.record.specs.Steps.{waits}
+use Rattle.register.proofs.Asks.{waits_here}
+use Rattle.register.proofs.requests.waits.Goals as goal
+
+pub returns-then-is_of : goal.returns-then-is_of
+returns-then-is_of c =
+    let a = c.args in
+    let rest = waits (drop (c.loop-place.place + 1) a.mail.now) a.call a.phase a.member in
+    sym (c.loop-place.invariant ∙ waits_here a.mail.now a.call a.phase a.member c.loop-place.place c.at.result.now c.at.ensures
+    ∙ ap (λ b. b || rest) (sym c.is_of.ensures ∙ c.if-is_of.true))
+
+pub loop-place-preserved : goal.loop-place-preserved
+loop-place-preserved c =
+    let a = c.args in
+    let rest = waits (drop (c.loop-place.place + 1) a.mail.now) a.call a.phase a.member in
+    c.loop-place.invariant ∙ waits_here a.mail.now a.call a.phase a.member c.loop-place.place c.at.result.now c.at.ensures
+    ∙ ap (λ b. b || rest) (sym c.is_of.ensures ∙ c.if-is_of.false)

@@ -1,0 +1,174 @@
+-- Why each step is refused: of all that hold, the first by the order of refusals. `NoMemory` comes after these.
+use Rattle.std.specs.Prelude.{ℕ, zero, suc, ◌+◌, Bool, true, false, not, nat_le, nat_lt, is_some, if◌then◌else◌, List, length, Option, Some, None, slice_get, pred}
+use Rattle.tag.specs.declared.limits.TheConstants.{LONGEST_VALUE, MOST_BYTES, MOST_CALLS, MOST_PHASES, MOST_POSITIONS, MOST_STEPS}
+use Rattle.tag.specs.declared.refusal.Refusal.{Refusal}
+use Rattle.tag.specs.declared.refusal.Refusal.TheVariants.{TooLong, NoCall, NotNow, NoMessage, WrongCode, MovePending, Full}
+use Rattle.layout.specs.Layout.{Layout}
+use Rattle.encoder.specs.Fragment.{fragment}
+use Rattle.encoder.specs.Coded.{Coding}
+use Rattle.decoder.specs.Decoded.{Decoding}
+use Rattle.mail.specs.declared.message.Message.{Message}
+use Rattle.mail.specs.declared.message.Body.{Body}
+use Rattle.mail.specs.declared.message.Body.TheVariants as body
+use Rattle.mail.specs.Message.{request_bytes}
+use Rattle.mail.specs.Mail.{mail_cause, repeated}
+use Rattle.phase.specs.Phase.{Phase}
+use Rattle.record.specs.declared.stage.Want.{Want}
+use Rattle.record.specs.declared.stage.Want.TheVariants as want
+use Rattle.record.specs.Records.{Call, Object, layout_at}
+use Rattle.record.specs.Wants.{current_phase, want_of}
+use Rattle.record.specs.Steps.{Step, stepped, sent_value, value_or_empty}
+use Rattle.register.specs.Position.{all_bytes}
+use Rattle.register.specs.Kept.{has_open_move}
+use Rattle.register.specs.Coding.{is_pre_write, pieces_due, is_coded_for, is_decoded_from}
+
+-- this refusal unless it is so, and then what comes after it
+abbrev pub unless : Bool → Refusal → Option Refusal → Option Refusal
+unless holds refusal later = if holds then later else Some refusal
+
+-- the step of this number is within the limit of steps, and then what comes after it
+abbrev pub if_step : (now : ℕ) → Option Refusal → Option Refusal
+if_step now later = unless (nat_le now MOST_STEPS) Full later
+
+-- the call of this number, counted from 1
+abbrev pub call_at : Object → (number : ℕ) → Option Call
+call_at object zero = None
+call_at object (suc index) = slice_get object.calls index
+
+abbrev pub if_call : Option Call → (Call → Option Refusal) → Option Refusal
+if_call None cause = Some NoCall
+if_call (Some call) cause = cause call
+
+abbrev pub if_message : Option Message → (Message → Option Refusal) → Option Refusal
+if_message None cause = Some NoMessage
+if_message (Some message) cause = cause message
+
+-- Messages
+
+-- a request is served where the piece that it brings has room beside all that is stored
+abbrev pub served_cause : (now : ℕ) → Object → Body → Option Refusal
+served_cause now object (body.Request asked) = if_step now (unless (nat_le (all_bytes object.banks + request_bytes asked) MOST_BYTES) Full None)
+served_cause now object (body.Reply kind made) = Some NotNow
+
+abbrev pub serve_cause : (now : ℕ) → Object → (place : ℕ) → Option Refusal
+serve_cause now object place = if_message (slice_get object.mail place) (λ message. served_cause now object message.body)
+
+abbrev pub taken_cause : (now : ℕ) → Body → Option Refusal
+taken_cause now (body.Request asked) = Some NotNow
+taken_cause now (body.Reply kind made) = if_step now None
+
+abbrev pub take_cause : (now : ℕ) → Object → (place : ℕ) → Option Refusal
+take_cause now object place = if_message (slice_get object.mail place) (λ message. taken_cause now message.body)
+
+abbrev pub lose_cause : (now : ℕ) → Object → (place : ℕ) → Option Refusal
+lose_cause now object place = if_message (slice_get object.mail place) (λ message. if_step now None)
+
+abbrev pub repeat_cause : (now : ℕ) → Object → (place : ℕ) → Option Refusal
+repeat_cause now object place = if_message (slice_get object.mail place) (λ message. if_step now (mail_cause (repeated object.mail place)))
+
+-- New calls
+
+-- one more step, and one more call, has room, with the messages that this step posts
+abbrev pub new_call_cause : Step → (now : ℕ) → Object → Option Refusal
+new_call_cause step now object =
+    if_step now (unless (nat_lt (length object.calls) MOST_CALLS) Full (mail_cause (stepped fragment step now object).mail))
+
+abbrev pub read_cause : (now : ℕ) → Object → Option Refusal
+read_cause now object = new_call_cause Step.CallRead now object
+
+abbrev pub write_cause : List ℕ → (now : ℕ) → Object → Option Refusal
+write_cause value now object = unless (nat_le (length value) LONGEST_VALUE) TooLong (new_call_cause (Step.CallWrite value) now object)
+
+abbrev pub move_cause : Layout → (now : ℕ) → Object → Option Refusal
+move_cause layout now object =
+    unless (not (has_open_move object.calls)) MovePending
+    (unless (nat_lt (length object.layouts) MOST_POSITIONS) Full (new_call_cause (Step.CallMove layout) now object))
+
+-- Calls that go on
+
+abbrev pub is_advance : Want → Bool
+is_advance want.Advance = true
+is_advance _ = false
+
+abbrev pub is_settle : Want → Bool
+is_settle (want.Settle k len) = true
+is_settle _ = false
+
+abbrev pub is_answer : Want → Bool
+is_answer want.Answer = true
+is_answer _ = false
+
+abbrev pub is_replies : Want → Bool
+is_replies want.Replies = true
+is_replies _ = false
+
+-- one more step, and one more phase of the call, has room, with the messages that this step posts
+abbrev pub new_phase_cause : Step → (now : ℕ) → Object → Call → Option Refusal
+new_phase_cause step now object call =
+    if_step now (unless (nat_lt (length call.phases) MOST_PHASES) Full (mail_cause (stepped fragment step now object).mail))
+
+-- there is such a call
+abbrev pub number_cause : Object → (number : ℕ) → Option Refusal
+number_cause object number = if_call (call_at object number) (λ call. None)
+
+abbrev pub advance_cause : (now : ℕ) → Object → (number : ℕ) → Option Refusal
+advance_cause now object number =
+    if_call (call_at object number) (λ call. unless (is_advance (want_of object (pred number) call)) NotNow
+    (new_phase_cause (Step.Advance (pred number)) now object call))
+
+-- whether the phase sends no pieces
+abbrev pub is_plain : Option Phase → Bool
+is_plain None = false
+is_plain (Some phase) = not (is_pre_write phase.kind)
+
+-- whether a call that wants this may ask again in its current phase
+abbrev pub may_post : Want → Option Phase → Bool
+may_post wanted phase = if is_replies wanted then is_plain phase else false
+
+abbrev pub post_cause : (now : ℕ) → Object → (number : ℕ) → Option Refusal
+post_cause now object number =
+    if_call (call_at object number) (λ call. unless (may_post (want_of object (pred number) call) (current_phase call.phases)) NotNow
+    (if_step now (mail_cause (stepped fragment (Step.Post (pred number)) now object).mail)))
+
+-- whether a call wants to begin a phase, and not to ask again in its current one
+abbrev pub is_replied : Option Phase → Bool
+is_replied None = false
+is_replied (Some phase) = is_some phase.end
+
+abbrev pub supply_room_cause : (now : ℕ) → Object → (index : ℕ) → Call → Option Refusal
+supply_room_cause now object index call =
+    if is_replied (current_phase call.phases) then new_phase_cause (Step.Supply index) now object call
+    else if_step now (mail_cause (stepped fragment (Step.Supply index) now object).mail)
+
+-- pieces for a position are those of the value that the call sends, coded for the position's layout
+abbrev pub supplied_cause : (now : ℕ) → Object → (index : ℕ) → Call → Coding → Option ℕ → Option Refusal
+supplied_cause now object index call coded None = Some NotNow
+supplied_cause now object index call coded (Some position) =
+    unless (is_coded_for (layout_at object position) (value_or_empty (sent_value call.kind call.settled)) coded) WrongCode
+    (supply_room_cause now object index call)
+
+abbrev pub supply_cause : (now : ℕ) → Object → (number : ℕ) → Coding → Option Refusal
+supply_cause now object number coded =
+    if_call (call_at object number) (λ call. supplied_cause now object (pred number) call coded (pieces_due object (pred number) call))
+
+-- there are pieces to send
+abbrev pub value_cause : Object → (number : ℕ) → Option Refusal
+value_cause object number = if_call (call_at object number) (λ call. unless (is_some (pieces_due object (pred number) call)) NotNow None)
+
+-- there are pieces to decode
+abbrev pub pieces_cause : Object → (number : ℕ) → Option Refusal
+pieces_cause object number = if_call (call_at object number) (λ call. unless (is_settle (want_of object (pred number) call)) NotNow None)
+
+-- whether a decoded value is of pieces of this phase
+abbrev pub is_decoded_in : Object → Option Phase → Decoding → Bool
+is_decoded_in object None decoded = false
+is_decoded_in object (Some phase) decoded = is_decoded_from (layout_at object phase.position).k phase.replies decoded
+
+abbrev pub settle_cause : (now : ℕ) → Object → (number : ℕ) → Decoding → Option Refusal
+settle_cause now object number decoded =
+    if_call (call_at object number) (λ call. unless (is_settle (want_of object (pred number) call)) NotNow
+    (unless (is_decoded_in object (current_phase call.phases) decoded) WrongCode (if_step now None)))
+
+abbrev pub answer_cause : (now : ℕ) → Object → (number : ℕ) → Option Refusal
+answer_cause now object number =
+    if_call (call_at object number) (λ call. unless (is_answer (want_of object (pred number) call)) NotNow (if_step now None))

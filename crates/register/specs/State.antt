@@ -1,0 +1,46 @@
+-- One object with the number of its last step, and what each step makes of it.
+use Rattle.std.specs.Prelude.{ℕ, Bool, List, refl}
+use Rattle.std.specs.Coded.{Coded, code_by, coded×, coded_list, coded_ℕ}
+use Rattle.layout.specs.Layout.{Layout}
+use Rattle.encoder.specs.Fragment.{fragment}
+use Rattle.bank.specs.Bank.{Bank}
+use Rattle.mail.specs.declared.message.Message.{Message}
+use Rattle.record.specs.Records.{Call, Object}
+use Rattle.record.specs.Steps.{Step, stepped}
+use Rattle.register.specs.Position.{Position, layouts_of, banks_of}
+use Rattle.register.specs.Tracked.{Tracked, calls_of}
+
+-- the record of an object, and the number of the step that made it what it is
+pub record State : Type 0 where
+  pub object : Object
+  pub last : ℕ
+
+-- an object is stored as the tuple of its parts
+abbrev pub state_code : Coded Layout → Coded Bank → Coded Message → Coded Call → Coded State
+state_code layout bank message call =
+    code_by (List Layout × (List (List Bank) × (List Message × (List Call × ℕ))))
+    (coded× (coded_list layout) (coded× (coded_list (coded_list bank)) (coded× (coded_list message) (coded× (coded_list call) coded_ℕ))))
+    (λ s. (s.object.layouts, (s.object.banks, (s.object.mail, (s.object.calls, s.last)))))
+    (λ p. record { object = record { layouts = p.0; banks = p.1.0; mail = p.1.1.0; calls = p.1.1.1.0 }; last = p.1.1.1.1 }) (λ _. refl)
+
+-- the state that step number `now` makes of a state
+abbrev pub made : Step → (now : ℕ) → State → State
+made step now state = record { object = stepped fragment step now state.object; last = now }
+
+-- what a register holds: the parts of the record, the stage of each call, whether a move is open, the bytes that all
+-- banks store, and the number of the last step
+pub record Contents : Type 0 where
+  pub positions : List Position
+  pub mail : List Message
+  pub calls : List Tracked
+  pub is_moving : Bool
+  pub stored : ℕ
+  pub last : ℕ
+
+-- the record of what a register holds
+abbrev pub object_of : List Position → List Message → List Tracked → Object
+object_of positions mail calls =
+    record { layouts = layouts_of positions; banks = banks_of positions; mail = mail; calls = calls_of calls }
+
+abbrev pub state_of : Contents → State
+state_of c = record { object = object_of c.positions c.mail c.calls; last = c.last }

@@ -1,0 +1,72 @@
+-- A call, and the stage that is kept beside its phases.
+use Rattle.std.specs.Prelude.{◌≡◌, ℕ, suc, ◌<◌, is_some, if◌then◌else◌, List, [], ◌∷◌, ◌++◌, length, map, Option, Some, None, IfSome}
+use Rattle.layout.specs.Layout.{Layout}
+use Rattle.encoder.specs.declared.fragment.Piece.{Piece}
+use Rattle.bank.specs.declared.kind.Kind.{Kind}
+use Rattle.mail.specs.declared.message.Message.{Message}
+use Rattle.phase.specs.declared.phase.Took.{Took}
+use Rattle.phase.specs.declared.phase.Took.TheVariants as took
+use Rattle.phase.specs.Phase.{Phase, after_take, took_by, members_of}
+use Rattle.record.specs.declared.call.CallKind.{CallKind}
+use Rattle.record.specs.declared.stage.Stage.{Stage}
+use Rattle.record.specs.declared.stage.Want.{Want}
+use Rattle.record.specs.declared.stage.Want.TheVariants as want
+use Rattle.record.specs.Records.{Call, Object}
+use Rattle.record.specs.Courses.{due, passed}
+use Rattle.record.specs.Steps.{taking_call, new_phase, missing, requests}
+use Rattle.record.specs.Wants.{current_phase, want_after}
+
+-- a call of the record, with the stage that its phases lead to
+pub record Tracked : Type 0 where
+  pub call : Call
+  pub stage : Stage
+
+-- the calls of the record
+abbrev pub calls_of : List Tracked → List Call
+calls_of calls = map (λ t. t.call) calls
+
+-- what a call wants, by the stage that is kept
+abbrev pub tracked_want : Object → Tracked → Want
+tracked_want object t =
+    if is_some t.call.answered then want.Done else want_after object (due t.stage) t.call.settled (current_phase t.call.phases)
+
+-- the call of this number with one more phase
+abbrev pub with_begun : Tracked → (number : ℕ) → Kind → (position : ℕ) → Layout → (now : ℕ) → Tracked
+with_begun t number kind position layout now = record {
+  call = record t.call { phases = t.call.phases ++ new_phase number (suc (length t.call.phases)) kind position layout now ∷ [] };
+  stage = t.stage;
+}
+
+-- the stage once the current phase took a message: it moves on where that take completed the phase
+abbrev pub stage_taken : CallKind → Stage → Option Phase → Message → (now : ℕ) → Stage
+stage_taken kind stage None message now = stage
+stage_taken kind stage (Some phase) message now =
+    if is_some phase.end then stage
+    else passed kind message.call stage (after_take phase message now).end (after_take phase message now).replies
+
+-- a call once its current phase took a message
+abbrev pub taken_tracked : Message → (now : ℕ) → Tracked → Tracked
+taken_tracked message now t = record {
+  call = taking_call message now t.call;
+  stage = stage_taken t.call.kind t.stage (current_phase t.call.phases) message now;
+}
+
+-- what the take of a message by a current phase does
+abbrev pub took_current : Message → Option Phase → Took
+took_current message None = took.Stale
+took_current message (Some phase) = took_by phase message
+
+-- what the take of a message by the call that it names does
+abbrev pub took_call : Message → Option Call → Took
+took_call message None = took.Stale
+took_call message (Some call) = took_current message (current_phase call.phases)
+
+-- the requests of a phase that go out again, where these are the members
+abbrev pub asked_again : (number : ℕ) → Phase → (members : List ℕ) → List Message → (ℕ → Piece) → List Message
+asked_again number phase members mail piece =
+    missing mail (members_of phase.replies) (requests number phase.number phase.kind phase.position members 0 piece)
+
+-- the positions of the current phase and of the phase that is due are below this one
+pub record IsBelow (count : ℕ) (t : Tracked) : Type 0 where
+  pub current : (phase : Phase) → current_phase t.call.phases ≡ Some phase → phase.position < count
+  pub due : IfSome (due t.stage) (λ asked. asked.1 < count)

@@ -1,0 +1,106 @@
+-- What is read of an object without a step.
+use Rattle.std.specs.Prelude.{ℕ, pred, List, [], length, Option, Some, None, option_map, get_or, slice_get}
+use Rattle.tag.specs.declared.tag.Tag.{Tag}
+use Rattle.encoder.specs.declared.fragment.Piece.{Piece}
+use Rattle.bank.specs.Bank.{Bank}
+use Rattle.mail.specs.declared.message.Message.{Message}
+use Rattle.phase.specs.declared.phase.Took.{Took}
+use Rattle.phase.specs.declared.phase.Took.TheVariants as took
+use Rattle.phase.specs.Phase.{Phase}
+use Rattle.record.specs.declared.stage.Want.{Want}
+use Rattle.record.specs.Records.{Call, Object, layout_at}
+use Rattle.record.specs.Journals.{tag_of, operation_of, entry_value}
+use Rattle.record.specs.Wants.{current_phase, want_of}
+use Rattle.record.specs.Steps.{sent_value, value_or_empty}
+use Rattle.register.specs.declared.receipt.Receipt.{Receipt}
+use Rattle.register.specs.declared.receipt.CallView.{CallView}
+use Rattle.register.specs.Tracked.{took_call}
+use Rattle.register.specs.Coding.{pieces_due, least_of}
+use Rattle.register.specs.Causes.{call_at}
+
+-- what a take of this message does
+abbrev pub took_message : Object → Option Message → Took
+took_message object None = took.Stale
+took_message object (Some message) = took_call message (slice_get object.calls (pred message.call))
+
+-- what a take of the message at a place does
+abbrev pub took_at : Object → (place : ℕ) → Took
+took_at object place = took_message object (slice_get object.mail place)
+
+-- what the call of this number wants
+abbrev pub want_at : Object → (number : ℕ) → Option Want
+want_at object number = option_map (λ call. want_of object (pred number) call) (call_at object number)
+
+-- a value with the k and the n of a position's layout
+abbrev pub to_code : Object → Call → (position : ℕ) → List ℕ × ℕ × ℕ
+to_code object call position =
+    (value_or_empty (sent_value call.kind call.settled), (layout_at object position).k, length (layout_at object position).members)
+
+abbrev pub coding_of : Object → (number : ℕ) → Option Call → Option (List ℕ × ℕ × ℕ)
+coding_of object number None = None
+coding_of object number (Some call) = option_map (to_code object call) (pieces_due object (pred number) call)
+
+-- the value whose pieces the call of this number is to send, with k and n
+abbrev pub coding_at : Object → (number : ℕ) → Option (List ℕ × ℕ × ℕ)
+coding_at object number = coding_of object number (call_at object number)
+
+abbrev pub pieces_of : Object → Option Call → List Piece
+pieces_of object None = []
+pieces_of object (Some call) = least_of object (current_phase call.phases)
+
+-- the pieces that give the value that the call of this number is to settle
+abbrev pub pieces_at : Object → (number : ℕ) → List Piece
+pieces_at object number = pieces_of object (call_at object number)
+
+-- the receipt of a call that is answered at a step
+abbrev pub receipt_of : (place number : ℕ) → (now : ℕ) → Call → Receipt
+receipt_of place number now call = record {
+  object = place;
+  operation = operation_of call.kind;
+  call = number;
+  called = call.called;
+  answered = now;
+  value = entry_value call.kind (Some now) call.settled;
+}
+
+abbrev pub receipt_at : Object → (place number now : ℕ) → Option Receipt
+receipt_at object place number now = option_map (receipt_of place number now) (call_at object number)
+
+abbrev pub phase_view : Object → (number : ℕ) → Call → Phase → CallView
+phase_view object number call phase = record {
+  kind = operation_of call.kind;
+  number = phase.number;
+  phase = phase.kind;
+  position = phase.position;
+  replies = length phase.replies;
+  quorum = phase.quorum;
+  tag = tag_of object (pred number) call;
+  want = want_of object (pred number) call;
+}
+
+abbrev pub viewed : Object → (number : ℕ) → Option Call → Option CallView
+viewed object number None = None
+viewed object number (Some call) = option_map (phase_view object number call) (current_phase call.phases)
+
+-- what is shown of the call of this number
+abbrev pub view_at : Object → (number : ℕ) → Option CallView
+view_at object number = viewed object number (call_at object number)
+
+abbrev pub value_of : Option Call → Option (List ℕ)
+value_of None = None
+value_of (Some call) = sent_value call.kind call.settled
+
+-- the value that the call of this number writes, or has settled so far
+abbrev pub value_at : Object → (number : ℕ) → Option (List ℕ)
+value_at object number = value_of (call_at object number)
+
+abbrev pub bank_there : Object → (position member : ℕ) → Option Bank
+bank_there object position member = slice_get (get_or object.banks position []) member
+
+abbrev pub tag_in : Object → (number : ℕ) → Option Call → Option Tag
+tag_in object number None = None
+tag_in object number (Some call) = tag_of object (pred number) call
+
+-- the tag of the call of this number, once it has one
+abbrev pub tag_at : Object → (number : ℕ) → Option Tag
+tag_at object number = tag_in object number (call_at object number)

@@ -1,0 +1,281 @@
+ghost use Rattle.std.specs.Prelude.{◌≡◌, ℕ, ◌++◌, suc, nat_lt, List, length, is_some, IsSome, Option, option_copied, Some, IfOk, IfErr, OnOk, OnErr};
+ghost use Rattle.tag.specs.declared.limits.TheConstants.{MOST_PHASES};
+ghost use Rattle.tag.specs.declared.refusal.Refusal.TheVariants.{Full, NoMemory};
+ghost use Rattle.tag.specs.Refusal.{IsByCause};
+ghost use Rattle.mail.specs.Mail.{mail_cause};
+ghost use Rattle.phase.specs.Phase.{Phase as Asking, after_take};
+ghost use Rattle.record.specs.Journals.{operation_of, entry_of, entry_value};
+ghost use Rattle.record.specs.Steps.{new_call, requests, sent_value};
+ghost use Rattle.record.specs.Wants.{current_phase};
+ghost use Rattle.register.specs.Causes.{unless};
+ghost use Rattle.register.specs.Kept.{HasRoomIfFew};
+ghost use Rattle.register.specs.Coding.{HavePieces, piece_from};
+ghost use Rattle.transfer.specs.Limits.{IsBelowLimit, HasNextTag};
+ghost use Rattle.register.specs.Tracked.{with_begun, asked_again, taken_tracked, took_current};
+
+use crate::requests::{has_room, missing, missing_count, requests};
+use bank::Kind;
+use bytes::Bytes;
+use encoder::Coded;
+use layout::Layout;
+use mail::{Mail, Message};
+use phase::{Ask, Phase, Took};
+use record::{CallKind, Entry, Operation, Stage};
+use std::alloc::Global;
+use std::marker::Model;
+use tag::{MOST_PHASES, Refusal, Stamp};
+use transfer::passed;
+
+/// A call of an object, with its phases.
+#[derive(Debug, Drop)]
+pub struct Call {
+    kind: CallKind,
+    called: Stamp,
+    answered: Option<Stamp>,
+    settled: Option<Bytes>,
+    phases: Vec<Phase>,
+    // Where the phases lead.
+    stage: Stage,
+}
+
+impl Model for Call {
+    ghost use Rattle.register.specs.Tracked.{Tracked};
+
+    ghost Value = { Tracked };
+
+    ghost view = { λ c. record {
+      call = record { kind = c.kind; called = c.called; answered = c.answered; settled = c.settled; phases = c.phases.items };
+      stage = c.stage;
+    } };
+}
+
+impl Call {
+    /// A call that begins at a stage, without its first phase. It takes no memory.
+    pub fn new(alloc: Global, kind: CallKind, stage: Stage, now: Stamp) -> Call
+        ensures { result ≡ record { call = new_call kind now; stage = stage } }
+    {
+        Call {
+            kind,
+            called: now,
+            answered: None,
+            settled: None,
+            phases: Vec::new(alloc),
+            stage,
+        }
+    }
+
+    /// The call, whose number this is, begins a phase at a position with this layout: its requests are posted, and the
+    /// call has the phase. Either both or, where it is refused, neither.
+    pub fn begin(
+        &mut self,
+        number: u64,
+        kind: Kind,
+        position: u32,
+        layout: &Layout,
+        coded: Option<&Coded>,
+        mail: &mut Mail,
+        now: Stamp,
+    ) -> Result<(), Refusal>
+        requires pieces { HavePieces kind (length layout.now.members) (option_copied coded) }
+        requires room { HasRoomIfFew (mail.old ++ requests number (suc (length self.old.call.phases)) kind position
+            layout.now.members 0 (piece_from (option_copied coded))) }
+
+        ensures call { OnOk result (self.new ≡ with_begun self.old number kind position layout.now now) }
+        ensures mail { OnOk result (mail.new ≡ mail.old ++ requests number (suc (length self.old.call.phases)) kind position
+            layout.now.members 0 (piece_from (option_copied coded.entry))) }
+
+        ensures cause { IsByCause (unless (nat_lt (length self.old.call.phases) MOST_PHASES) Full
+            (mail_cause (mail.old ++ requests number (suc (length self.old.call.phases)) kind position
+            layout.now.members 0 (piece_from (option_copied coded.entry))))) result }
+
+        ensures unchanged { OnErr result (self.new ≡ self.old) }
+        ensures kept { OnErr result (mail.new ≡ mail.old) }
+    {
+        if self.phases.len() >= MOST_PHASES {
+            return Err(Refusal::Full);
+        }
+        if !has_room(mail, usize::from(layout.n())) {
+            return Err(Refusal::Full);
+        }
+        let alloc = *self.phases.allocator();
+        let ask = Ask {
+            call: number,
+            number: self.phases.len() as u32 + 1,
+            kind,
+            position,
+        };
+        let messages = requests(alloc, ask, layout.n(), coded)?;
+        let phase = Phase::new(alloc, ask, layout.n(), layout.quorum(), now)?;
+        self.phases.reserve(1)?;
+        mail.post_all(messages)?;
+        self.phases.push_reserved(phase);
+        Ok(())
+    }
+
+    /// The current phase of the call, whose number this is, asks again: a request goes to each member without a recorded
+    /// reply and without a waiting message of the phase.
+    pub fn ask_again(
+        &self,
+        number: u64,
+        coded: Option<&Coded>,
+        mail: &mut Mail,
+    ) -> Result<(), Refusal>
+        requires begun { IsSome (current_phase self.now.call.phases) }
+        requires pieces { (p : Asking) → current_phase self.now.call.phases ≡ Some p
+            → HavePieces p.kind p.members (option_copied coded) }
+        requires room { (p : Asking) (servers : List ℕ) → current_phase self.now.call.phases ≡ Some p → length servers ≡ p.members
+            → HasRoomIfFew (mail.old ++ asked_again number p servers mail.old (piece_from (option_copied coded))) }
+
+        ensures mail { OnOk result ((p : Asking) (servers : List ℕ) → current_phase self.now.call.phases ≡ Some p → length servers ≡ p.members
+            → mail.new ≡ mail.old ++ asked_again number p servers mail.old (piece_from (option_copied coded.entry))) }
+
+        ensures cause { (p : Asking) (servers : List ℕ) → current_phase self.now.call.phases ≡ Some p → length servers ≡ p.members
+            → IsByCause (mail_cause (mail.old ++ asked_again number p servers mail.old (piece_from (option_copied coded.entry)))) result }
+
+        ensures kept { OnErr result (mail.new ≡ mail.old) }
+    {
+        let Some(phase) = self.phases.last() else {
+            unreachable!();
+        };
+        let ask = Ask {
+            call: number,
+            number: phase.number(),
+            kind: phase.kind(),
+            position: phase.position(),
+        };
+        if !has_room(mail, missing_count(ask, phase, mail)) {
+            return Err(Refusal::Full);
+        }
+        let messages = missing(*self.phases.allocator(), ask, phase, mail, coded)?;
+        mail.post_all(messages)
+    }
+
+    /// The current phase takes a message at step `now`, and the stage moves on where that completes the phase. It takes
+    /// no memory.
+    pub fn take(&mut self, message: Message, now: Stamp) -> Took
+        requires near { IsBelowLimit self.old.stage }
+        requires tags { (p : Asking) → current_phase self.old.call.phases ≡ Some p
+            → HasNextTag self.old.call.kind self.old.stage (after_take p message now).replies }
+
+        ensures call { self.new ≡ taken_tracked message now self.old }
+        ensures took { result ≡ took_current message (current_phase self.old.call.phases) }
+    {
+        let count = self.phases.len();
+        if count == 0 {
+            return Took::Stale;
+        }
+        if self.phases[count - 1].complete() {
+            return Took::Stale;
+        }
+        let number = message.call;
+        let took = self.phases[count - 1].take(message, now);
+        self.stage = passed(&self.kind, number, self.stage, &self.phases[count - 1]);
+        took
+    }
+
+    /// The call settles a value.
+    pub fn settle(&mut self, value: Bytes)
+        ensures { self.new ≡ record { call = record self.old.call { settled = Some value }; stage = self.old.stage } }
+    {
+        self.settled = Some(value);
+    }
+
+    /// The call is answered at step `now`.
+    pub fn answer(&mut self, now: Stamp)
+        ensures { self.new ≡ record { call = record self.old.call { answered = Some now }; stage = self.old.stage } }
+    {
+        self.answered = Some(now);
+    }
+
+    /// What the call does.
+    pub fn operation(&self) -> Operation
+        ensures { result ≡ operation_of self.now.call.kind }
+    {
+        match &self.kind {
+            CallKind::Read => Operation::Read,
+            CallKind::Write(_) => Operation::Write,
+            CallKind::Move => Operation::Move,
+        }
+    }
+
+    /// The step of the call.
+    pub fn called(&self) -> Stamp
+        ensures { result ≡ self.now.call.called }
+    {
+        self.called
+    }
+
+    /// Whether the call is answered.
+    pub fn is_answered(&self) -> bool
+        ensures { result ≡ is_some self.now.call.answered }
+    {
+        self.answered.is_some()
+    }
+
+    /// Whether the call has settled a value.
+    pub fn is_settled(&self) -> bool
+        ensures { result ≡ is_some self.now.call.settled }
+    {
+        self.settled.is_some()
+    }
+
+    /// The value that the call writes, or has settled so far.
+    pub fn value(&self) -> Option<&Bytes>
+        ensures { option_copied result ≡ sent_value self.now.call.kind self.now.call.settled }
+    {
+        match &self.kind {
+            CallKind::Write(value) => Some(value),
+            CallKind::Read | CallKind::Move => self.settled.as_ref(),
+        }
+    }
+
+    /// A copy, which shares its bytes, of the value that the call writes, or that a read returns once it is answered.
+    pub fn returned(&self, is_answered: bool) -> Result<Option<Bytes>, Refusal>
+        ensures value { (answered : Option ℕ) → is_answered ≡ is_some answered
+            → IfOk result (λ v. v ≡ entry_value self.now.call.kind answered self.now.call.settled) }
+        ensures refused { IfErr result (λ e. e ≡ NoMemory) }
+    {
+        match &self.kind {
+            CallKind::Write(value) => Ok(Some(value.clone()?)),
+            CallKind::Read => {
+                if !is_answered {
+                    return Ok(None);
+                }
+                match &self.settled {
+                    Some(value) => Ok(Some(value.clone()?)),
+                    None => Ok(None),
+                }
+            }
+            CallKind::Move => Ok(None),
+        }
+    }
+
+    /// The entry of the call, whose number this is, in the object's history.
+    pub fn entry(&self, number: u64) -> Result<Entry, Refusal>
+        ensures entry { IfOk result (λ e. e ≡ entry_of number self.now.call) }
+        ensures refused { IfErr result (λ e. e ≡ NoMemory) }
+    {
+        let value = self.returned(self.answered.is_some())?;
+        Ok(Entry {
+            call: number,
+            operation: self.operation(),
+            called: self.called,
+            answered: self.answered,
+            value,
+        })
+    }
+
+    /// The phase that began last.
+    pub fn current(&self) -> Option<&Phase>
+        ensures { option_copied result ≡ current_phase self.now.call.phases }
+    {
+        self.phases.last()
+    }
+
+    /// Where the phases lead.
+    pub fn stage(&self) -> Stage
+        ensures { result ≡ self.now.stage }
+    {
+        self.stage
+    }
+}

@@ -1,0 +1,14 @@
+//! One object: its positions with their banks, its mail and its calls, and the steps that change them.
+//! The type of a register keeps its record sound, so that what `record` proves of sound records holds of each register.
+#![tactic(auto)]
+
+pub use receipt::{CallView, Receipt};
+pub use register::Register;
+
+mod call;
+mod position;
+mod receipt;
+mod register;
+mod requests;
+#[cfg(test)]
+mod tests;

@@ -1,0 +1,104 @@
+ghost use Rattle.std.specs.Prelude.{◌≡◌, ◌<◌, ◌^◌, length, slice_get, slice_set, slice_index, option_copied, Some, IfOk, IfErr, OnOk, OnErr, IfSome};
+ghost use Rattle.tag.specs.declared.refusal.Refusal.TheVariants.{NoMemory};
+
+use bank::{Bank, Reply, Request};
+use layout::Layout;
+use std::alloc::Global;
+use std::marker::Model;
+use tag::{Refusal, Stamp};
+
+/// A position of an object: its layout, and a bank for each member.
+#[derive(Debug, Drop)]
+pub struct Position {
+    layout: Layout,
+    banks: Vec<Bank>,
+}
+
+impl Model for Position {
+    ghost use Rattle.layout.specs.contracts.layout.Layout as arrangement;
+    ghost use Rattle.bank.specs.contracts.bank.Bank as table;
+    ghost use Rattle.register.specs.Position.{Position as Place, position_code};
+
+    ghost Value = { Place };
+
+    ghost coded = { position_code arrangement.the_row.coded table.the_row.coded };
+
+    ghost view = { λ p. record { layout = p.layout; banks = p.banks.items } };
+}
+
+impl Position {
+    ghost use Rattle.layout.specs.Layout.{IsLawful};
+    ghost use Rattle.bank.specs.Bank.{Bank as Table};
+    ghost use Rattle.bank.specs.Bytes.{bank_bytes};
+    ghost use Rattle.bank.specs.Serve.{served_bank, reply_to};
+    ghost use Rattle.record.specs.Accounts.{position_bytes};
+    ghost use Rattle.record.specs.Steps.{opened_banks};
+
+    /// A position whose banks are opened at step `now`. `NoMemory` is the only refusal.
+    pub fn new(alloc: Global, layout: Layout, now: Stamp) -> Result<Position, Refusal>
+        ensures opened { IfOk result (λ p. p ≡ record { layout = layout; banks = opened_banks layout.members 0 now }) }
+        ensures lawful { IfOk result (λ p. IsLawful p.layout) }
+        ensures refused { IfErr result (λ e. e ≡ NoMemory) }
+    {
+        let mut banks = Vec::with_capacity(alloc, usize::from(layout.n()))?;
+        for member in 0..layout.n() {
+            banks.push(Bank::new(alloc, member, now)?)?;
+        }
+        Ok(Position { layout, banks })
+    }
+
+    /// The layout.
+    pub fn layout(&self) -> &Layout
+        ensures { result.now ≡ self.now.layout }
+    {
+        &self.layout
+    }
+
+    /// The bank of a member.
+    pub fn bank(&self, member: u8) -> Option<&Bank>
+        ensures { option_copied result ≡ slice_get self.now.banks member }
+    {
+        self.banks.get(usize::from(member))
+    }
+
+    /// How many bytes a member's bank stores.
+    pub fn bytes(&self, member: u8) -> u64
+        requires there { member < length self.now.banks }
+        requires room { (b : Table) → slice_get self.now.banks member ≡ Some b → bank_bytes b < 2 ^ 64 }
+        ensures { (b : Table) → slice_get self.now.banks member ≡ Some b → result ≡ bank_bytes b }
+    {
+        self.banks[usize::from(member)].bytes()
+    }
+
+    /// A member's bank serves a request at step `now`.
+    pub fn serve(&mut self, member: u8, request: &Request, now: Stamp) -> Result<Reply, Refusal>
+        requires { member < length self.old.banks }
+        ensures layout { self.new.layout ≡ self.old.layout }
+        ensures bank { OnOk result ((b : Table) → slice_get self.old.banks member ≡ Some b
+            → self.new.banks ≡ slice_set self.old.banks member (served_bank b request.now now)) }
+
+        ensures reply { IfOk result (λ r. (b : Table) → slice_get self.old.banks member ≡ Some b
+            → r ≡ reply_to b request.now now) }
+
+        ensures refused { IfErr result (λ e. e ≡ NoMemory) }
+        ensures unchanged { OnErr result (self.new ≡ self.old) }
+    {
+        self.banks[usize::from(member)].serve(request, now)
+    }
+
+    /// How many bytes the banks store whose member is this server.
+    pub fn stored(&self, server: u8) -> u64
+        requires lawful { IsLawful self.now.layout }
+        requires room { position_bytes server self.now.layout.members self.now.banks < 2 ^ 64 }
+        ensures { result ≡ position_bytes server self.now.layout.members self.now.banks }
+    {
+        // No server is named twice.
+        match self.layout.point_of(server) {
+            Some(member) => match self.bank(member) {
+                Some(bank) => bank.bytes(),
+                None => 0,
+            },
+            None => 0,
+        }
+    }
+}

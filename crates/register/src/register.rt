@@ -1,0 +1,93 @@
+ghost use Rattle.std.specs.Prelude.{◌≡◌, IfOk, IfErr};
+ghost use Rattle.tag.specs.declared.refusal.Refusal.TheVariants.{NoMemory};
+
+use crate::call::Call;
+use crate::position::Position;
+use layout::Layout;
+use mail::Mail;
+use std::alloc::Global;
+use std::marker::Model;
+use tag::{Refusal, Stamp};
+
+mod calls;
+mod coding;
+mod messages;
+mod phases;
+mod views;
+
+/// One object, with the number of the step that made it what it is.
+///
+/// Each call that changes it takes the number `now` of the step that it makes, which is after all steps before. A call
+/// that is refused changes nothing, and is refused for the first cause that holds by the order of refusals, or else
+/// for want of memory.
+#[derive(Debug, Drop)]
+pub struct Register {
+    positions: Vec<Position>,
+    mail: Mail,
+    // By their numbers, from 1.
+    calls: Vec<Call>,
+    // Whether a move is not answered.
+    is_moving: bool,
+    // The bytes of all pieces in all banks.
+    stored: u64,
+    last: Stamp,
+}
+
+impl Model for Register {
+    ghost use Rattle.std.specs.Coded.{codes};
+    ghost use Rattle.layout.specs.contracts.layout.Layout as arrangement;
+    ghost use Rattle.bank.specs.contracts.bank.Bank as table;
+    ghost use Rattle.register.specs.State.{State, state_code, state_of};
+    ghost use Rattle.register.specs.Kept.{IsKept};
+
+    ghost Value = { State };
+
+    ghost coded = { state_code arrangement.the_row.coded table.the_row.coded (Prim.hlevel codes) (Prim.hlevel codes) };
+
+    ghost view = { λ r. state_of (record {
+      positions = r.positions.items;
+      mail = r.mail;
+      calls = r.calls.items;
+      is_moving = r.is_moving;
+      stored = r.stored;
+      last = r.last;
+    }) };
+
+    ghost invariant = { λ r. IsKept (record {
+      positions = r.positions.items;
+      mail = r.mail;
+      calls = r.calls.items;
+      is_moving = r.is_moving;
+      stored = r.stored;
+      last = r.last;
+    }) };
+}
+
+impl Register {
+    ghost use Rattle.record.specs.Steps.{opened_object};
+
+    /// An object with one position, whose banks are opened at step `now`, and no calls. `NoMemory` is the only refusal.
+    pub fn new(alloc: Global, layout: Layout, now: Stamp) -> Result<Register, Refusal>
+        ensures made { IfOk result (λ r. r ≡ record { object = opened_object layout now; last = now }) }
+        ensures refused { IfErr result (λ e. e ≡ NoMemory) }
+    {
+        let position = Position::new(alloc, layout, now)?;
+        let mut positions = Vec::new(alloc);
+        positions.push(position)?;
+        Ok(Register {
+            positions,
+            mail: Mail::new(alloc),
+            calls: Vec::new(alloc),
+            is_moving: false,
+            stored: 0,
+            last: now,
+        })
+    }
+
+    /// The number of the step that made the object what it is.
+    pub fn last(&self) -> Stamp
+        ensures { result ≡ self.now.last }
+    {
+        self.last
+    }
+}

@@ -1,0 +1,219 @@
+//! How calls begin and end.
+
+ghost use Rattle.std.specs.Prelude.{◌≡◌, ◌⊎◌, ℕ, ◌<◌, nat_le, nat_lt, suc, pred, false, List, length, OnOk, OnErr, IfOk, Some};
+ghost use Rattle.tag.specs.Refusal.{IsByCause};
+ghost use Rattle.tag.specs.declared.refusal.Refusal.TheVariants.{Full};
+ghost use Rattle.mail.specs.Mail.{mail_cause};
+ghost use Rattle.record.specs.declared.call.CallKind.TheVariants.{Read, Write};
+ghost use Rattle.record.specs.declared.call.Operation.TheVariants as operations;
+ghost use Rattle.record.specs.Fragments.{AreBytes, IsValue};
+ghost use Rattle.tag.specs.declared.limits.TheConstants.{LONGEST_VALUE, MOST_CALLS};
+ghost use Rattle.record.specs.Steps.{Step, called_object};
+ghost use Rattle.register.specs.State.{made};
+ghost use Rattle.register.specs.Causes.{unless, if_step, read_cause, write_cause, move_cause, answer_cause};
+ghost use Rattle.register.specs.View.{receipt_at};
+
+use crate::call::Call;
+use crate::position::Position;
+use crate::receipt::Receipt;
+use crate::register::Register;
+use crate::register::phases::{index_of, want_of};
+use crate::requests::has_room;
+use bank::{Kind, Status};
+use bytes::Bytes;
+use layout::Layout;
+use record::{CallKind, Operation, Want};
+use tag::{LONGEST_VALUE, MOST_CALLS, MOST_POSITIONS, MOST_STEPS, Refusal, Stamp};
+use transfer::first_stage;
+
+impl Register {
+    /// A read begins, with its first phase. It answers the call's number.
+    ///
+    /// `Full` where a limit of the steps, of the calls or of the messages is met.
+    pub fn call_read(&mut self, now: Stamp) -> Result<u64, Refusal>
+        requires after { self.old.last < now }
+        ensures step { OnOk result (self.new ≡ made Step.CallRead now self.old) }
+        ensures number { IfOk result (λ n. n ≡ suc (length self.old.object.calls)) }
+        ensures cause { IsByCause (read_cause now self.old.object) result }
+        ensures unchanged { OnErr result (self.new ≡ self.old) }
+    {
+        self.begin_reading(CallKind::Read, now)
+    }
+
+    /// A write of a value begins, with its first phase. It answers the call's number.
+    ///
+    /// `TooLong` where the value is longer than `LONGEST_VALUE`, and `Full` as for a read.
+    pub fn call_write(&mut self, value: Bytes, now: Stamp) -> Result<u64, Refusal>
+        requires after { self.old.last < now }
+        ensures step { OnOk result (self.new ≡ made (Step.CallWrite value) now self.old) }
+        ensures number { IfOk result (λ n. n ≡ suc (length self.old.object.calls)) }
+        ensures cause { IsByCause (write_cause value now self.old.object) result }
+        ensures unchanged { OnErr result (self.new ≡ self.old) }
+    {
+        if !is_short(value.as_slice()) {
+            return Err(Refusal::TooLong);
+        }
+        self.begin_reading(CallKind::Write(value), now)
+    }
+
+    // A call that reads the sequence of layouts begins.
+    fn begin_reading(&mut self, kind: CallKind, now: Stamp) -> Result<u64, Refusal>
+        requires after { self.old.last < now }
+        requires kind { (kind ≡ Read) ⊎ ((value : List ℕ) × (kind ≡ Write value) × IsValue value) }
+        ensures step { OnOk result (self.new ≡ record { object = called_object self.old.object kind now; last = now }) }
+        ensures number { IfOk result (λ n. n ≡ suc (length self.old.object.calls)) }
+        ensures cause { IsByCause (if_step now (unless (nat_lt (length self.old.object.calls) MOST_CALLS) Full
+            (mail_cause (called_object self.old.object kind now).mail))) result }
+        ensures unchanged { OnErr result (self.new ≡ self.old) }
+    {
+        let members = usize::from(self.positions[0].layout().n());
+        if now > MOST_STEPS {
+            return Err(Refusal::Full);
+        }
+        if self.calls.len() >= MOST_CALLS {
+            return Err(Refusal::Full);
+        }
+        if !has_room(&self.mail, members) {
+            return Err(Refusal::Full);
+        }
+        let stage = first_stage(&kind, 0);
+        let number = self.calls.len() as u64 + 1;
+        let mut call = Call::new(*self.calls.allocator(), kind, stage, now);
+        self.calls.reserve(1)?;
+        match call.begin(
+            number,
+            Kind::Next,
+            0,
+            self.positions[0].layout(),
+            None,
+            &mut self.mail,
+            now,
+        ) {
+            Ok(()) => {
+                self.calls.push_reserved(call);
+                self.last = now;
+                Ok(number)
+            }
+            Err(refusal) => Err(refusal),
+        }
+    }
+
+    /// A move to a layout begins, with its first phase: the next position is there from now on, with its banks. It answers
+    /// the call's number.
+    ///
+    /// `MovePending` where a move is not answered, and `Full` where a limit of the steps, of the positions, of the calls or
+    /// of the messages is met.
+    pub fn call_move(&mut self, layout: Layout, now: Stamp) -> Result<u64, Refusal>
+        requires after { self.old.last < now }
+        ensures step { OnOk result (self.new ≡ made (Step.CallMove layout) now self.old) }
+        ensures number { IfOk result (λ n. n ≡ suc (length self.old.object.calls)) }
+        ensures cause { IsByCause (move_cause layout now self.old.object) result }
+        ensures unchanged { OnErr result (self.new ≡ self.old) }
+    {
+        if self.is_moving {
+            return Err(Refusal::MovePending);
+        }
+        let positions = self.positions.len();
+        let calls = self.calls.len();
+        let last = positions - 1;
+        let members = usize::from(self.positions[last].layout().n());
+        if now > MOST_STEPS {
+            return Err(Refusal::Full);
+        }
+        if positions >= MOST_POSITIONS {
+            return Err(Refusal::Full);
+        }
+        if calls >= MOST_CALLS {
+            return Err(Refusal::Full);
+        }
+        if !has_room(&self.mail, members) {
+            return Err(Refusal::Full);
+        }
+        let alloc = *self.calls.allocator();
+        let next = Position::new(alloc, layout, now)?;
+        let position = last as u32;
+        let number = calls as u64 + 1;
+        let mut call = Call::new(
+            alloc,
+            CallKind::Move,
+            first_stage(&CallKind::Move, position),
+            now,
+        );
+        self.positions.reserve(1)?;
+        self.calls.reserve(1)?;
+        match call.begin(
+            number,
+            Kind::Spread(Status::Pending),
+            position,
+            self.positions[last].layout(),
+            None,
+            &mut self.mail,
+            now,
+        ) {
+            Ok(()) => {
+                self.positions.push_reserved(next);
+                self.calls.push_reserved(call);
+                self.is_moving = true;
+                self.last = now;
+                Ok(number)
+            }
+            Err(refusal) => Err(refusal),
+        }
+    }
+
+    /// The call of this number is answered. `object` is the object's place for the receipt.
+    ///
+    /// `NoCall` where there is no such call, `NotNow` unless it wants to be answered, and `Full` where the limit of steps is
+    /// met.
+    pub fn answer(&mut self, call: u64, object: u32, now: Stamp) -> Result<Receipt, Refusal>
+        requires after { self.old.last < now }
+        ensures step { OnOk result (self.new ≡ made (Step.AnswerCall (pred call)) now self.old) }
+        ensures receipt { IfOk result (λ r. receipt_at self.old.object object call now ≡ Some r) }
+        ensures cause { IsByCause (answer_cause now self.old.object call) result }
+        ensures unchanged { OnErr result (self.new ≡ self.old) }
+    {
+        let index = index_of(&self.calls, call)?;
+        let Want::Answer = want_of(&self.positions, &self.calls[index]) else {
+            return Err(Refusal::NotNow);
+        };
+        if now > MOST_STEPS {
+            return Err(Refusal::Full);
+        }
+        let value = match self.calls[index].returned(true) {
+            Ok(value) => value,
+            Err(refusal) => return Err(refusal),
+        };
+        let operation = self.calls[index].operation();
+        let called = self.calls[index].called();
+        self.calls[index].answer(now);
+        self.is_moving = is_still_moving(self.is_moving, operation);
+        self.last = now;
+        Ok(Receipt {
+            object,
+            operation,
+            call,
+            called,
+            answered: now,
+            value,
+        })
+    }
+}
+
+// Whether a move is open once a call that did this is answered.
+fn is_still_moving(is_moving: bool, operation: Operation) -> bool
+    ensures ended { operation ≡ operations.Move → result ≡ false }
+    ensures same { (operation ≡ operations.Move → ⊥) → result ≡ is_moving }
+{
+    match operation {
+        Operation::Move => false,
+        Operation::Read | Operation::Write => is_moving,
+    }
+}
+
+// Whether these bytes are not too many for a value.
+fn is_short(value: &[u8]) -> bool
+    ensures short { result ≡ nat_le (length value.now) LONGEST_VALUE }
+    ensures bytes { AreBytes value.now }
+{
+    value.len() <= LONGEST_VALUE
+}

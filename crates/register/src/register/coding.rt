@@ -1,0 +1,273 @@
+//! The values that calls code, and those that they settle.
+
+ghost use Rattle.std.specs.Prelude.{◌≡◌, ◌≤◌, ◌<◌, pred, [], length, option_copied, OnOk, OnErr, IfOk, Some};
+ghost use Rattle.std.specs.List.{list_all};
+ghost use Rattle.tag.specs.Refusal.{IsByCause, IsExactlyByCause};
+ghost use Rattle.record.specs.Steps.{Step};
+ghost use Rattle.record.specs.Courses.{due};
+ghost use Rattle.record.specs.Wants.{current_phase};
+ghost use Rattle.register.specs.State.{made, object_of};
+ghost use Rattle.tag.specs.declared.limits.TheConstants.{MOST_POSITIONS};
+ghost use Rattle.register.specs.Tracked.{IsBelow, tracked_want};
+ghost use Rattle.register.specs.Coding.{pieces_position, sending_position, bytes_eq, is_coded_for, same_piece, is_recorded, piece_by};
+ghost use Rattle.register.specs.Causes.{value_cause, supply_cause, pieces_cause, settle_cause, is_replied};
+ghost use Rattle.register.specs.View.{coding_at, pieces_at};
+
+use crate::call::Call;
+use crate::position::Position;
+use crate::register::Register;
+use crate::register::phases::{index_of, is_pre_write, want_of};
+use bank::Answer;
+use bytes::Bytes;
+use decoder::Decoded;
+use encoder::{Coded, Piece};
+use lane_kernel::same;
+use layout::Layout;
+use phase::{Phase, Taken};
+use record::Want;
+use tag::{MOST_STEPS, Refusal, Stamp};
+use transfer::due;
+
+impl Register {
+    /// A copy, which shares its bytes, of the value whose pieces the call of this number is to send, with the k and the n of
+    /// the layout that they are for.
+    ///
+    /// `NoCall` where there is no such call, and `NotNow` unless its due phase sends pieces, or its current one sends them
+    /// and lacks a quorum.
+    pub fn value_to_code(&self, call: u64) -> Result<(Bytes, u8, u8), Refusal>
+        ensures value { IfOk result (λ r. coding_at self.now.object call ≡ Some r) }
+        ensures cause { IsByCause (value_cause self.now.object call) result }
+    {
+        let index = index_of(&self.calls, call)?;
+        let tracked = &self.calls[index];
+        let Some(position) = pieces_position(&self.positions, tracked) else {
+            return Err(Refusal::NotNow);
+        };
+        let Some(value) = tracked.value() else {
+            unreachable!();
+        };
+        let layout = self.positions[position as usize].layout();
+        Ok((value.clone()?, layout.k(), layout.n()))
+    }
+
+    /// The coded value of the call of this number: its pieces begin the phase that is due, or, where that phase has begun,
+    /// they go again to each member without a recorded reply and without a waiting message of the phase.
+    ///
+    /// `NoCall` and `NotNow` as for `value_to_code`, `WrongCode` unless the value is that one, coded for that k and n, and
+    /// `Full` where a limit of the steps, of the call's phases or of the messages is met.
+    pub fn supply(&mut self, call: u64, coded: Coded, now: Stamp) -> Result<(), Refusal>
+        requires after { self.old.last < now }
+        ensures step { OnOk result (self.new ≡ made (Step.Supply (pred call)) now self.old) }
+        ensures cause { IsByCause (supply_cause now self.old.object call coded) result }
+        ensures unchanged { OnErr result (self.new ≡ self.old) }
+    {
+        let index = index_of(&self.calls, call)?;
+        let tracked = &self.calls[index];
+        let Some(position) = pieces_position(&self.positions, tracked) else {
+            return Err(Refusal::NotNow);
+        };
+        let Some(value) = tracked.value() else {
+            unreachable!();
+        };
+        let layout = self.positions[position as usize].layout();
+        if !is_coded_for(layout, value, &coded) {
+            return Err(Refusal::WrongCode);
+        }
+        if now > MOST_STEPS {
+            return Err(Refusal::Full);
+        }
+        if is_replied(tracked.current()) {
+            let Some((kind, position)) = due(tracked.stage()) else {
+                unreachable!();
+            };
+            match self.calls[index].begin(
+                call,
+                kind,
+                position,
+                layout,
+                Some(&coded),
+                &mut self.mail,
+                now,
+            ) {
+                Ok(()) => {
+                    self.last = now;
+                    Ok(())
+                }
+                Err(refusal) => Err(refusal),
+            }
+        } else {
+            match self.calls[index].ask_again(call, Some(&coded), &mut self.mail) {
+                Ok(()) => {
+                    self.last = now;
+                    Ok(())
+                }
+                Err(refusal) => Err(refusal),
+            }
+        }
+    }
+
+    /// Of the pieces that the call's current phase took, the k of least points.
+    ///
+    /// `NoCall` where there is no such call, and `NotNow` unless it wants to settle a value.
+    pub fn pieces(&self, call: u64) -> Result<Vec<Piece>, Refusal>
+        ensures pieces { IfOk result (λ ps. ps.items ≡ pieces_at self.now.object call) }
+        ensures cause { IsByCause (pieces_cause self.now.object call) result }
+    {
+        let index = index_of(&self.calls, call)?;
+        let Want::Settle { k, len: _ } = want_of(&self.positions, &self.calls[index]) else {
+            return Err(Refusal::NotNow);
+        };
+        let Some(phase) = self.calls[index].current() else {
+            unreachable!();
+        };
+        let mut pieces = Vec::with_capacity(*self.calls.allocator(), usize::from(k))?;
+        for member in 0..phase.members() {
+            let Some(piece) = piece_by(phase.replies(), member) else {
+                continue;
+            };
+            if pieces.len() < usize::from(k) {
+                pieces.push(piece.clone()?)?;
+            }
+        }
+        Ok(pieces)
+    }
+
+    /// The call of this number settles the value that was decoded from pieces of its current phase.
+    ///
+    /// `NoCall` where there is no such call, `NotNow` unless it wants to settle a value, `WrongCode` unless the value was
+    /// decoded from k pieces that were all recorded in that phase, and `Full` where the limit of steps is met. It takes no
+    /// memory.
+    pub fn settle(&mut self, call: u64, decoded: Decoded, now: Stamp) -> Result<(), Refusal>
+        requires after { self.old.last < now }
+        ensures step { OnOk result (self.new ≡ made (Step.Settle (pred call) decoded.value) now self.old) }
+        ensures cause { IsExactlyByCause (settle_cause now self.old.object call decoded) result }
+        ensures unchanged { OnErr result (self.new ≡ self.old) }
+    {
+        let index = match index_of(&self.calls, call) {
+            Ok(index) => index,
+            Err(refusal) => return Err(refusal),
+        };
+        let Want::Settle { k, len: _ } = want_of(&self.positions, &self.calls[index]) else {
+            return Err(Refusal::NotNow);
+        };
+        let Some(phase) = self.calls[index].current() else {
+            unreachable!();
+        };
+        if decoded.k() != k || !are_recorded(phase.replies(), decoded.pieces()) {
+            return Err(Refusal::WrongCode);
+        }
+        if now > MOST_STEPS {
+            return Err(Refusal::Full);
+        }
+        self.calls[index].settle(decoded.into_value());
+        self.last = now;
+        Ok(())
+    }
+}
+
+// The position whose members are to get the pieces of a call.
+fn pieces_position(positions: &[Position], call: &Call) -> Option<u32>
+    requires count { length positions.now ≤ MOST_POSITIONS }
+    requires below { IsBelow (length positions.now) call.now }
+    ensures { result ≡ pieces_position (tracked_want (object_of positions.now [] []) call.now) (due call.now.stage)
+        (current_phase call.now.call.phases) }
+{
+    match want_of(positions, call) {
+        Want::Supply { k: _, n: _ } => match due(call.stage()) {
+            Some((_, position)) => Some(position),
+            None => None,
+        },
+        Want::Replies => sending_position(call.current()),
+        _ => None,
+    }
+}
+
+// The position of a phase that sends pieces.
+fn sending_position(phase: Option<&Phase>) -> Option<u32>
+    ensures { result ≡ sending_position (option_copied phase.entry) }
+{
+    match phase {
+        Some(phase) => {
+            if is_pre_write(phase.kind()) {
+                Some(phase.position())
+            } else {
+                None
+            }
+        }
+        None => None,
+    }
+}
+
+// Whether there is a phase, and a quorum has replied to it.
+fn is_replied(phase: Option<&Phase>) -> bool
+    ensures { result ≡ is_replied (option_copied phase.entry) }
+{
+    match phase {
+        Some(phase) => phase.complete(),
+        None => false,
+    }
+}
+
+// Whether two slices hold the same bytes.
+fn are_same(a: &[u8], b: &[u8]) -> bool
+    ensures { result ≡ bytes_eq a.now b.now }
+{
+    a.len() == b.len() && same(a, b)
+}
+
+// Whether a coded value is this value, coded for a layout.
+fn is_coded_for(layout: &Layout, value: &Bytes, coded: &Coded) -> bool
+    ensures { result ≡ is_coded_for layout.now value.now coded.now }
+{
+    are_same(coded.value().as_slice(), value.as_slice())
+        && coded.k() == layout.k()
+        && coded.n() == layout.n()
+}
+
+// Whether the first piece is the second.
+fn is_same(a: &Piece, b: &Piece) -> bool
+    ensures { result ≡ same_piece a.now b.now }
+{
+    a.point == b.point && a.len == b.len && are_same(a.bytes.as_slice(), b.bytes.as_slice())
+}
+
+// Whether a reply with this piece was recorded.
+fn is_recorded(replies: &[Taken], piece: &Piece) -> bool
+    ensures { result ≡ is_recorded replies.now piece.now }
+{
+    for taken in replies {
+        if let Answer::Piece(Some(other)) = &taken.reply.answer
+            && is_same(piece, other)
+        {
+            return true;
+        }
+    }
+    false
+}
+
+// Whether each piece was recorded.
+fn are_recorded(replies: &[Taken], pieces: &[Piece]) -> bool
+    ensures { result ≡ list_all (is_recorded replies.now) pieces.now }
+{
+    for piece in pieces {
+        if !is_recorded(replies, piece) {
+            return false;
+        }
+    }
+    true
+}
+
+// The piece that a member replied.
+fn piece_by(replies: &[Taken], member: u8) -> Option<&Piece>
+    ensures { option_copied result ≡ piece_by replies.now member }
+{
+    for taken in replies {
+        if taken.member == member {
+            return match &taken.reply.answer {
+                Answer::Piece(Some(piece)) => Some(piece),
+                _ => None,
+            };
+        }
+    }
+    None
+}

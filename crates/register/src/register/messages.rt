@@ -1,0 +1,122 @@
+//! Steps of messages.
+
+ghost use Rattle.std.specs.Prelude.{◌≡◌, ◌<◌, OnOk, OnErr, IfOk};
+ghost use Rattle.tag.specs.Refusal.{IsByCause, IsExactlyByCause};
+ghost use Rattle.record.specs.Steps.{Step};
+ghost use Rattle.register.specs.State.{made};
+ghost use Rattle.register.specs.Causes.{serve_cause, take_cause, lose_cause, repeat_cause};
+ghost use Rattle.register.specs.View.{took_at};
+
+use crate::register::Register;
+use mail::Body;
+use phase::Took;
+use tag::{MOST_BYTES, MOST_STEPS, Refusal, Stamp};
+
+impl Register {
+    /// The member to whom the request at a place goes serves it, and its reply stands in the request's place.
+    ///
+    /// `NoMessage` where there is none, `NotNow` where it is a reply, and `Full` where the limit of steps is met or the
+    /// request's piece has no room beside all that the object stores.
+    pub fn serve(&mut self, place: usize, now: Stamp) -> Result<(), Refusal>
+        requires after { self.old.last < now }
+        ensures step { OnOk result (self.new ≡ made (Step.Serve place) now self.old) }
+        ensures cause { IsByCause (serve_cause now self.old.object place) result }
+        ensures unchanged { OnErr result (self.new ≡ self.old) }
+    {
+        if self.mail.len() <= place {
+            return Err(Refusal::NoMessage);
+        }
+        let message = self.mail.at(place);
+        let Body::Request(request) = &message.body else {
+            return Err(Refusal::NotNow);
+        };
+        if now > MOST_STEPS {
+            return Err(Refusal::Full);
+        }
+        if message.bytes() > MOST_BYTES - self.stored {
+            return Err(Refusal::Full);
+        }
+        let member = message.member;
+        let position = &mut self.positions[message.position as usize];
+        let before = position.bytes(member);
+        let reply = match position.serve(member, request, now) {
+            Ok(reply) => reply,
+            Err(refusal) => return Err(refusal),
+        };
+        self.stored = self.stored - before + position.bytes(member);
+        self.mail.reply_in_place(place, reply);
+        self.last = now;
+        Ok(())
+    }
+
+    /// The call that the reply at a place names takes it.
+    ///
+    /// `NoMessage` where there is none, `NotNow` where it is a request, and `Full` where the limit of steps is met. It takes
+    /// no memory.
+    pub fn take(&mut self, place: usize, now: Stamp) -> Result<Took, Refusal>
+        requires after { self.old.last < now }
+        ensures step { OnOk result (self.new ≡ made (Step.Take place) now self.old) }
+        ensures took { IfOk result (λ t. t ≡ took_at self.old.object place) }
+        ensures cause { IsExactlyByCause (take_cause now self.old.object place) result }
+        ensures unchanged { OnErr result (self.new ≡ self.old) }
+    {
+        if self.mail.len() <= place {
+            return Err(Refusal::NoMessage);
+        }
+        let Body::Reply { kind: _, reply: _ } = &self.mail.at(place).body else {
+            return Err(Refusal::NotNow);
+        };
+        if now > MOST_STEPS {
+            return Err(Refusal::Full);
+        }
+        let message = self.mail.take_out(place);
+        let index = (message.call - 1) as usize;
+        let took = self.calls[index].take(message, now);
+        self.last = now;
+        Ok(took)
+    }
+
+    /// The message at a place is lost.
+    ///
+    /// `NoMessage` where there is none, and `Full` where the limit of steps is met. It takes no memory.
+    pub fn lose(&mut self, place: usize, now: Stamp) -> Result<(), Refusal>
+        requires after { self.old.last < now }
+        ensures step { OnOk result (self.new ≡ made (Step.Lose place) now self.old) }
+        ensures cause { IsExactlyByCause (lose_cause now self.old.object place) result }
+        ensures unchanged { OnErr result (self.new ≡ self.old) }
+    {
+        if self.mail.len() <= place {
+            return Err(Refusal::NoMessage);
+        }
+        if now > MOST_STEPS {
+            return Err(Refusal::Full);
+        }
+        self.mail.lose(place);
+        self.last = now;
+        Ok(())
+    }
+
+    /// A copy of the message at a place is posted behind those that wait.
+    ///
+    /// `NoMessage` where there is none, and `Full` where the limit of steps is met or one more has no room.
+    pub fn repeat(&mut self, place: usize, now: Stamp) -> Result<(), Refusal>
+        requires after { self.old.last < now }
+        ensures step { OnOk result (self.new ≡ made (Step.Repeat place) now self.old) }
+        ensures cause { IsByCause (repeat_cause now self.old.object place) result }
+        ensures unchanged { OnErr result (self.new ≡ self.old) }
+    {
+        if self.mail.len() <= place {
+            return Err(Refusal::NoMessage);
+        }
+        if now > MOST_STEPS {
+            return Err(Refusal::Full);
+        }
+        match self.mail.repeat(place) {
+            Ok(()) => {
+                self.last = now;
+                Ok(())
+            }
+            Err(refusal) => Err(refusal),
+        }
+    }
+}

@@ -1,0 +1,189 @@
+//! What calls want, and how they go on.
+
+ghost use Rattle.std.specs.Prelude.{◌≡◌, ◌≤◌, ◌⊎◌, ◌<◌, suc, pred, [], length, option_copied, OnOk, OnErr, IfOk, IfErr, Some};
+ghost use Rattle.tag.specs.Refusal.{IsByCause, IsExactlyByCause};
+ghost use Rattle.tag.specs.declared.refusal.Refusal.TheVariants.{NoCall};
+ghost use Rattle.record.specs.Steps.{Step};
+ghost use Rattle.record.specs.Wants.{is_fetch, value_len};
+ghost use Rattle.register.specs.Coding.{is_pre_write};
+ghost use Rattle.tag.specs.declared.limits.TheConstants.{MOST_POSITIONS};
+ghost use Rattle.register.specs.Tracked.{IsBelow, tracked_want};
+ghost use Rattle.register.specs.State.{made, object_of};
+ghost use Rattle.register.specs.Causes.{number_cause, advance_cause, post_cause, is_plain};
+ghost use Rattle.register.specs.View.{want_at};
+
+use crate::call::Call;
+use crate::position::Position;
+use crate::register::Register;
+use bank::{Answer, Kind};
+use phase::{Phase, Taken};
+use record::Want;
+use tag::{MOST_STEPS, Refusal, Stamp};
+use transfer::due;
+
+impl Register {
+    /// What the call of this number wants. `NoCall` where there is no such call.
+    pub fn want(&self, call: u64) -> Result<Want, Refusal>
+        ensures want { IfOk result (λ w. want_at self.now.object call ≡ Some w) }
+        ensures cause { IsExactlyByCause (number_cause self.now.object call) result }
+    {
+        match index_of(&self.calls, call) {
+            Ok(index) => Ok(want_of(&self.positions, &self.calls[index])),
+            Err(refusal) => Err(refusal),
+        }
+    }
+
+    /// The call of this number begins the phase that is due, where that sends no pieces.
+    ///
+    /// `NoCall` where there is no such call, `NotNow` unless it wants to advance, and `Full` where a limit of the steps,
+    /// of its phases or of the messages is met.
+    pub fn advance(&mut self, call: u64, now: Stamp) -> Result<(), Refusal>
+        requires after { self.old.last < now }
+        ensures step { OnOk result (self.new ≡ made (Step.Advance (pred call)) now self.old) }
+        ensures cause { IsByCause (advance_cause now self.old.object call) result }
+        ensures unchanged { OnErr result (self.new ≡ self.old) }
+    {
+        let index = index_of(&self.calls, call)?;
+        let Want::Advance = want_of(&self.positions, &self.calls[index]) else {
+            return Err(Refusal::NotNow);
+        };
+        if now > MOST_STEPS {
+            return Err(Refusal::Full);
+        }
+        let Some((kind, position)) = due(self.calls[index].stage()) else {
+            unreachable!();
+        };
+        match self.calls[index].begin(
+            call,
+            kind,
+            position,
+            self.positions[position as usize].layout(),
+            None,
+            &mut self.mail,
+            now,
+        ) {
+            Ok(()) => {
+                self.last = now;
+                Ok(())
+            }
+            Err(refusal) => Err(refusal),
+        }
+    }
+
+    /// The current phase of the call of this number asks again: a request goes to each member without a recorded reply and
+    /// without a waiting message of the phase.
+    ///
+    /// `NoCall` where there is no such call, `NotNow` unless its current phase lacks a quorum and sends no pieces, and
+    /// `Full` where the limit of steps is met or the messages have no room.
+    pub fn post(&mut self, call: u64, now: Stamp) -> Result<(), Refusal>
+        requires after { self.old.last < now }
+        ensures step { OnOk result (self.new ≡ made (Step.Post (pred call)) now self.old) }
+        ensures cause { IsByCause (post_cause now self.old.object call) result }
+        ensures unchanged { OnErr result (self.new ≡ self.old) }
+    {
+        let index = index_of(&self.calls, call)?;
+        let Want::Replies = want_of(&self.positions, &self.calls[index]) else {
+            return Err(Refusal::NotNow);
+        };
+        if !is_plain(self.calls[index].current()) {
+            return Err(Refusal::NotNow);
+        }
+        if now > MOST_STEPS {
+            return Err(Refusal::Full);
+        }
+        match self.calls[index].ask_again(call, None, &mut self.mail) {
+            Ok(()) => {
+                self.last = now;
+                Ok(())
+            }
+            Err(refusal) => Err(refusal),
+        }
+    }
+}
+
+// The place of the call of this number.
+pub fn index_of(calls: &[Call], call: u64) -> Result<usize, Refusal>
+    ensures place { IfOk result (λ index. (suc index ≡ call) × (index < length calls.now)) }
+    ensures refused { IfErr result (λ e. (e ≡ NoCall) × ((call ≡ 0) ⊎ (length calls.now < call))) }
+{
+    if call == 0 || call > calls.len() as u64 {
+        return Err(Refusal::NoCall);
+    }
+    Ok((call - 1) as usize)
+}
+
+// What a call wants, where these are the object's positions.
+pub fn want_of(positions: &[Position], call: &Call) -> Want
+    requires count { length positions.now ≤ MOST_POSITIONS }
+    requires below { IsBelow (length positions.now) call.now }
+    ensures { result ≡ tracked_want (object_of positions.now [] []) call.now }
+{
+    if call.is_answered() {
+        return Want::Done;
+    }
+    let Some(phase) = call.current() else {
+        return Want::Replies;
+    };
+    if !phase.complete() {
+        return Want::Replies;
+    }
+    if is_fetch(phase.kind()) && !call.is_settled() {
+        return Want::Settle {
+            k: positions[phase.position() as usize].layout().k(),
+            len: value_len(phase.replies()),
+        };
+    }
+    match due(call.stage()) {
+        Some((Kind::PreWrite(_), position)) => {
+            let layout = positions[position as usize].layout();
+            Want::Supply {
+                k: layout.k(),
+                n: layout.n(),
+            }
+        }
+        Some(_) => Want::Advance,
+        None => Want::Answer,
+    }
+}
+
+// The value's length that the first piece of these replies names; 0 where there is no piece.
+fn value_len(replies: &[Taken]) -> u32
+    ensures { result ≡ value_len replies.now }
+{
+    for taken in replies {
+        if let Answer::Piece(Some(piece)) = &taken.reply.answer {
+            return piece.len;
+        }
+    }
+    0
+}
+
+// Whether a phase of this kind is a fetch.
+fn is_fetch(kind: Kind) -> bool
+    ensures { result ≡ is_fetch kind }
+{
+    match kind {
+        Kind::Fetch(_) => true,
+        _ => false,
+    }
+}
+
+// Whether a phase of this kind sends pieces.
+pub fn is_pre_write(kind: Kind) -> bool
+    ensures { result ≡ is_pre_write kind }
+{
+    match kind {
+        Kind::PreWrite(_) => true,
+        _ => false,
+    }
+}
+
+// Whether there is a phase, and it sends no pieces.
+fn is_plain(phase: Option<&Phase>) -> bool
+    ensures { result ≡ is_plain (option_copied phase.entry) }
+{
+    match phase {
+        Some(phase) => !is_pre_write(phase.kind()),
+        None => false,
+    }
+}

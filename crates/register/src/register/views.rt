@@ -1,0 +1,158 @@
+//! What is read of an object without a step.
+
+ghost use Rattle.std.specs.Prelude.{◌≡◌, ◌≤◌, option_copied, slice_get, IfOk, IfErr, Some};
+ghost use Rattle.tag.specs.declared.limits.TheConstants.{MOST_BYTES};
+ghost use Rattle.tag.specs.declared.refusal.Refusal.TheVariants.{NoMemory};
+ghost use Rattle.tag.specs.Refusal.{IsExactlyByCause};
+ghost use Rattle.record.specs.Accounts.{stored, mailed};
+ghost use Rattle.record.specs.Journals.{entries};
+ghost use Rattle.record.specs.Records.{layout_at};
+ghost use Rattle.encoder.specs.Fragment.{fragment};
+ghost use Rattle.record.specs.Sound.{IsSound};
+ghost use Rattle.register.specs.Kept.{IsWithinLimits, has_open_move};
+ghost use Rattle.register.specs.Causes.{number_cause};
+ghost use Rattle.register.specs.Position.{all_bytes};
+ghost use Rattle.register.specs.View.{view_at, value_at, tag_at, bank_there};
+
+use crate::receipt::CallView;
+use crate::register::Register;
+use crate::register::phases::{index_of, want_of};
+use bank::Bank;
+use bytes::Bytes;
+use mail::Mail;
+use record::Entry;
+use tag::{Refusal, Tag};
+use transfer::stage_tag;
+
+impl Register {
+    /// What every step keeps: the record is sound, and within the written limits. It does nothing, and takes no memory.
+    pub fn soundness(&self)
+        ensures sound { IsSound fragment self.now.object self.now.last }
+        ensures limits { IsWithinLimits self.now.object }
+    {
+        // What a register keeps is known where a field is read.
+        let _ = &self.positions;
+    }
+
+    /// Whether a move is not answered.
+    pub fn is_moving(&self) -> bool
+        ensures { result ≡ has_open_move self.now.object.calls }
+    {
+        self.is_moving
+    }
+
+    /// One entry for each call. `NoMemory` is the only refusal.
+    pub fn entries(&self) -> Result<Vec<Entry>, Refusal>
+        ensures entries { IfOk result (λ es. es.items ≡ entries self.now.object) }
+        ensures refused { IfErr result (λ e. e ≡ NoMemory) }
+    {
+        let mut entries = Vec::with_capacity(*self.calls.allocator(), self.calls.len())?;
+        for (index, call) in self.calls.iter().enumerate() {
+            entries.push(call.entry(index as u64 + 1)?)?;
+        }
+        Ok(entries)
+    }
+
+    /// How many bytes of pieces the banks store whose member is this server.
+    pub fn stored(&self, server: u8) -> u64
+        ensures value { result ≡ stored self.now.object server }
+        ensures within { result ≤ MOST_BYTES }
+    {
+        let mut total = 0;
+        for position in &self.positions {
+            total += position.stored(server);
+        }
+        total
+    }
+
+    /// How many bytes of pieces all banks store.
+    pub fn stored_in_all(&self) -> u64
+        ensures value { result ≡ all_bytes self.now.object.banks }
+        ensures within { result ≤ MOST_BYTES }
+    {
+        self.stored
+    }
+
+    /// How many bytes of pieces wait in messages.
+    pub fn mailed(&self) -> u64
+        ensures value { result ≡ mailed self.now.object }
+        ensures within { result ≤ MOST_BYTES }
+    {
+        self.mail.bytes()
+    }
+
+    /// How far the call of this number has come. `NoCall` where there is no such call.
+    pub fn call_view(&self, call: u64) -> Result<CallView, Refusal>
+        ensures view { IfOk result (λ v. view_at self.now.object call ≡ Some v) }
+        ensures cause { IsExactlyByCause (number_cause self.now.object call) result }
+    {
+        let index = match index_of(&self.calls, call) {
+            Ok(index) => index,
+            Err(refusal) => return Err(refusal),
+        };
+        let tracked = &self.calls[index];
+        let Some(phase) = tracked.current() else {
+            unreachable!();
+        };
+        Ok(CallView {
+            kind: tracked.operation(),
+            number: phase.number(),
+            phase: phase.kind(),
+            position: phase.position(),
+            replies: phase.replies().len() as u8,
+            quorum: phase.quorum(),
+            tag: stage_tag(tracked.stage()),
+            want: want_of(&self.positions, tracked),
+        })
+    }
+
+    /// The messages that wait.
+    pub fn mail_view(&self) -> &Mail
+        ensures { result.now ≡ self.now.object.mail }
+    {
+        &self.mail
+    }
+
+    /// The bank of a member of a position.
+    pub fn bank_view(&self, position: u32, member: u8) -> Option<&Bank>
+        ensures { option_copied result ≡ bank_there self.now.object position member }
+    {
+        match self.positions.get(position as usize) {
+            Some(position) => position.bank(member),
+            None => None,
+        }
+    }
+
+    /// The tag of the call of this number, once it has one.
+    pub fn tag_view(&self, call: u64) -> Option<Tag>
+        ensures { result ≡ tag_at self.now.object call }
+    {
+        match index_of(&self.calls, call) {
+            Ok(index) => stage_tag(self.calls[index].stage()),
+            Err(_) => None,
+        }
+    }
+
+    /// The server that is a member of a position.
+    pub fn server(&self, position: u32, member: u8) -> Option<u8>
+        ensures { result ≡ slice_get (layout_at self.now.object position).members member }
+    {
+        let position = self.positions.get(position as usize)?;
+        let layout = position.layout();
+        if member < layout.n() {
+            Some(layout.member(member))
+        } else {
+            None
+        }
+    }
+
+    /// The value that the call of this number writes, or has settled so far.
+    pub fn value_view(&self, call: u64) -> Option<&Bytes>
+        ensures { option_copied result ≡ value_at self.now.object call }
+    {
+        match index_of(&self.calls, call) {
+            Ok(index) => self.calls[index].value(),
+            Err(_) => None,
+        }
+    }
+}

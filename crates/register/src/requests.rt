@@ -1,0 +1,149 @@
+//! The requests of a phase.
+
+ghost use Rattle.std.specs.Prelude.{◌≡◌, ◌+◌, ◌==◌, ◌&&◌, ◌||◌, nat_le, ℕ, List, length, IfOk, IfErr, option_copied};
+ghost use Rattle.tag.specs.declared.limits.TheConstants.{MOST_MESSAGES};
+ghost use Rattle.tag.specs.declared.refusal.Refusal.TheVariants.{NoMemory};
+ghost use Rattle.encoder.specs.declared.fragment.Piece.{Piece};
+ghost use Rattle.mail.specs.declared.message.Body.TheVariants as body;
+ghost use Rattle.phase.specs.Phase.{has_taken, members_of};
+ghost use Rattle.record.specs.Steps.{request_to, requests, missing, waits};
+ghost use Rattle.register.specs.Coding.{piece_from, HavePieces, HavePieceOf};
+
+use bank::{Kind, Request};
+use encoder::Coded;
+use mail::{Body, Mail, Message};
+use phase::{Ask, Phase};
+use std::alloc::Global;
+use tag::{MOST_MESSAGES, Refusal};
+
+/// The requests of a phase to the members, member 0 first. A phase that sends pieces has the coded value.
+pub fn requests(
+    alloc: Global,
+    ask: Ask,
+    members: u8,
+    coded: Option<&Coded>,
+) -> Result<Vec<Message>, Refusal>
+    requires { HavePieces ask.kind members (option_copied coded) }
+    ensures requests { (servers : List ℕ) → length servers ≡ members
+        → IfOk result (λ ms. ms.items ≡ requests ask.call ask.number ask.kind ask.position servers 0 (piece_from (option_copied coded.entry))) }
+
+    ensures refused { IfErr result (λ e. e ≡ NoMemory) }
+{
+    let mut messages = Vec::with_capacity(alloc, usize::from(members))?;
+    for member in 0..members {
+        messages.push(request_to(ask, member, coded)?)?;
+    }
+    Ok(messages)
+}
+
+/// The requests of a phase that go out again: to the members without a recorded reply and without a waiting message.
+pub fn missing(
+    alloc: Global,
+    ask: Ask,
+    phase: &Phase,
+    mail: &Mail,
+    coded: Option<&Coded>,
+) -> Result<Vec<Message>, Refusal>
+    requires { HavePieces ask.kind phase.now.members (option_copied coded) }
+    ensures requests { (servers : List ℕ) → length servers ≡ phase.now.members
+        → IfOk result (λ ms. ms.items ≡ missing mail.now (members_of phase.now.replies)
+        (requests ask.call ask.number ask.kind ask.position servers 0 (piece_from (option_copied coded.entry)))) }
+
+    ensures refused { IfErr result (λ e. e ≡ NoMemory) }
+{
+    let mut messages = Vec::with_capacity(alloc, usize::from(phase.members()))?;
+    for member in 0..phase.members() {
+        if !is_there(ask, phase, mail, member) {
+            messages.push(request_to(ask, member, coded)?)?;
+        }
+    }
+    Ok(messages)
+}
+
+/// How many requests of a phase go out again.
+pub fn missing_count(ask: Ask, phase: &Phase, mail: &Mail) -> usize
+    ensures { (servers : List ℕ) (piece : ℕ → Piece) → length servers ≡ phase.now.members
+        → result ≡ length (missing mail.now (members_of phase.now.replies) (requests ask.call ask.number ask.kind ask.position servers 0 piece)) }
+{
+    let mut count = 0;
+    for member in 0..phase.members() {
+        if !is_there(ask, phase, mail, member) {
+            count += 1;
+        }
+    }
+    count
+}
+
+/// Whether so many more messages may wait.
+pub fn has_room(mail: &Mail, count: usize) -> bool
+    ensures { result ≡ nat_le (length mail.now + count) MOST_MESSAGES }
+{
+    count <= MOST_MESSAGES - mail.len()
+}
+
+// Whether a reply of the member is recorded, or a message of this phase to or from it waits.
+fn is_there(ask: Ask, phase: &Phase, mail: &Mail, member: u8) -> bool
+    ensures { result ≡ (has_taken phase.now.replies member || waits mail.now ask.call ask.number member) }
+{
+    phase.has_taken(member) || waits(mail, ask.call, ask.number, member)
+}
+
+// Whether a message of this phase to or from the member waits.
+fn waits(mail: &Mail, call: u64, phase: u32, member: u8) -> bool
+    ensures { result ≡ waits mail.now call phase member }
+{
+    for place in 0..mail.len() {
+        if is_of(mail.at(place), call, phase, member) {
+            return true;
+        }
+    }
+    false
+}
+
+// Whether a message is of this phase, to or from the member.
+fn is_of(message: &Message, call: u64, phase: u32, member: u8) -> bool
+    ensures { result ≡ (message.now.call == call && (message.now.phase == phase && message.now.member == member)) }
+{
+    message.call == call && message.phase == phase && message.member == member
+}
+
+// The request of a phase to a member.
+fn request_to(ask: Ask, member: u8, coded: Option<&Coded>) -> Result<Message, Refusal>
+    requires { HavePieceOf ask.kind member (option_copied coded) }
+    ensures request { IfOk result (λ m. m ≡ record {
+      call = ask.call;
+      phase = ask.number;
+      position = ask.position;
+      member = member;
+      body = body.Request (request_to ask.kind (piece_from (option_copied coded.entry) member));
+    }) }
+
+    ensures refused { IfErr result (λ e. e ≡ NoMemory) }
+{
+    Ok(Message {
+        call: ask.call,
+        phase: ask.number,
+        position: ask.position,
+        member,
+        body: Body::Request(request_of(ask.kind, member, coded)?),
+    })
+}
+
+// What a phase of this kind asks of a member.
+fn request_of(kind: Kind, member: u8, coded: Option<&Coded>) -> Result<Request, Refusal>
+    requires { HavePieceOf kind member (option_copied coded) }
+    ensures request { IfOk result (λ q. q ≡ request_to kind (piece_from (option_copied coded.entry) member)) }
+    ensures refused { IfErr result (λ e. e ≡ NoMemory) }
+{
+    Ok(match kind {
+        Kind::Next => Request::Next,
+        Kind::Spread(status) => Request::Spread(status),
+        Kind::Query => Request::Query,
+        Kind::PreWrite(tag) => match coded {
+            Some(coded) => Request::PreWrite(tag, coded.piece_at(member).clone()?),
+            None => unreachable!(),
+        },
+        Kind::Finalize(tag) => Request::Finalize(tag),
+        Kind::Fetch(tag) => Request::Fetch(tag),
+    })
+}
