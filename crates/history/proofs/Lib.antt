@@ -1,5 +1,6 @@
 pub mod Bridge
 pub mod Counting
+pub mod Entered
 pub mod Lawful
 pub mod Made
 pub mod Pairs

@@ -4,10 +4,12 @@
 
 pub use certificate::check;
 pub use laws::{calls_are_in_turn, entries_are_lawful, tag_orders_are_sequences};
+pub use object::{atomic, sequence};
 pub use order::{TaggedCall, order_by_tags};
 
 mod certificate;
 mod laws;
+mod object;
 mod order;
 #[cfg(test)]
 mod tests;

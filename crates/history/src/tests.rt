@@ -2,7 +2,9 @@ ghost use Rattle.std.specs.Prelude.{◌≡◌};
 
 use super::*;
 use bytes::Bytes;
+use layout::Layout;
 use record::{Entry, Operation};
+use register::Register;
 use std::alloc::{AllocError, Global};
 use std::test::Fail;
 use tag::{Stamp, Tag};
@@ -203,5 +205,17 @@ fn orders_by_tags(rt: HostRuntime) -> Result<(), Fail> {
     ];
     let order = order_by_tags(rt.alloc(), &calls)?;
     assert_eq!(rt; order.as_slice(), [2, 1, 3, 7].as_slice());
+    Ok(())
+}
+
+#[test]
+fn leaves_out_an_open_read(rt: HostRuntime) -> Result<(), Fail> {
+    let alloc = rt.alloc();
+    let mut object = Register::new(alloc, Layout::new(1, &[0])?, 1)?;
+    object.call_read(2)?;
+    atomic(&object);
+    let order = sequence(alloc, &object)?;
+    assert!(rt; order.is_empty());
+    assert!(rt; check(&object.entries()?, &order));
     Ok(())
 }

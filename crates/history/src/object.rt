@@ -1,0 +1,71 @@
+//! What holds of each object: its history is atomic, and the tags of its calls give a sequence of it.
+//!
+//! Atomicity is that of Lynch's Distributed Algorithms (1996), chapter 13: the answered reads and writes, with some of the
+//! unanswered writes, follow one register in an order that keeps answer before call.
+ghost use Rattle.std.specs.Prelude.{◌≡◌, IfOk, IfErr, map};
+ghost use Rattle.tag.specs.declared.refusal.Refusal.TheVariants.{NoMemory};
+ghost use Rattle.record.specs.Atomic.{IsAtomic, IsSequence};
+ghost use Rattle.record.specs.Journals.{entries};
+ghost use Rattle.record.specs.Sequence.{IsTagSequence};
+ghost use Rattle.history.specs.Calls.{AreCallsOf, tagged_entry};
+
+use crate::order::{TaggedCall, order_by_tags};
+use record::Entry;
+use register::Register;
+use std::alloc::{AllocError, Global};
+use tag::Refusal;
+
+/// The history of each object is atomic, whatever steps made the object. It does nothing, and takes no memory.
+pub fn atomic(register: &Register)
+    ensures { IsAtomic (entries register.now.object) }
+{
+    register.soundness();
+}
+
+/// The sequence that the tags give: the answered reads and writes, and the unanswered writes whose tag an answered read
+/// has, by tag, writes before reads, then by the step of the call. `check` accepts it.
+///
+/// `NoMemory` is the only refusal. Of n calls it takes some n log n comparisons, and room for n.
+pub fn sequence(alloc: Global, register: &Register) -> Result<Vec<u64>, Refusal>
+    ensures listed { IfOk result (λ order. IsTagSequence register.now.object order.items) }
+    ensures sequence { IfOk result (λ order. IsSequence (entries register.now.object) order.items) }
+    ensures refused { IfErr result (λ e. e ≡ NoMemory) }
+{
+    let calls = tagged_calls(alloc, register)?;
+    register.soundness();
+    order_by_tags(alloc, &calls)
+}
+
+/// What the order needs of each call, in turn.
+fn tagged_calls(alloc: Global, register: &Register) -> Result<Vec<TaggedCall>, Refusal>
+    ensures calls { IfOk result (λ calls. AreCallsOf register.now.object calls.items) }
+    ensures refused { IfErr result (λ e. e ≡ NoMemory) }
+{
+    let entries = register.entries()?;
+    Ok(tagged_entries(alloc, register, &entries)?)
+}
+
+fn tagged_entries(
+    alloc: Global,
+    register: &Register,
+    entries: &[Entry],
+) -> Result<Vec<TaggedCall>, AllocError>
+    ensures { IfOk result (λ calls. calls.items ≡ map (λ entry. tagged_entry register.now.object entry) entries.now) }
+{
+    entries
+        .iter()
+        .map(|entry| tagged_entry(register, entry))
+        .collect(alloc)
+}
+
+fn tagged_entry(register: &Register, entry: &Entry) -> TaggedCall
+    ensures { result ≡ tagged_entry register.now.object entry.now }
+{
+    TaggedCall {
+        call: entry.call,
+        operation: entry.operation,
+        tag: register.tag_view(entry.call),
+        called: entry.called,
+        is_answered: entry.answered.is_some(),
+    }
+}
