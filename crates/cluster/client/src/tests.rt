@@ -1,0 +1,24 @@
+use super::*;
+use bytes::Bytes;
+use cluster::Cluster;
+use layout::Layout;
+use std::alloc::Global;
+use std::test::Fail;
+use tag::Refusal;
+
+/// Row 19: one server, one layout, one object; a write and a read of one byte.
+#[test]
+fn a_write_and_a_read(rt: HostRuntime) -> Result<(), Fail> {
+    let alloc = rt.alloc();
+    let mut cluster = Cluster::new(alloc, 1);
+    let layout = cluster.add_layout(Layout::new(1, &[0])?)?;
+    cluster.create(alloc, "a", layout)?;
+    let write = cluster.call_write("a", Bytes::from_static(b"A"))?;
+    let written = finish(alloc, &mut cluster, "a", write, false, &mut First, 100_000)?;
+    assert_eq!(rt; (written.called, written.answered), (3, 18));
+    let read = cluster.call_read("a")?;
+    let answered = finish(alloc, &mut cluster, "a", read, false, &mut First, 100_000)?;
+    assert_eq!(rt; (answered.called, answered.answered), (19, 32));
+    assert_eq!(rt; answered.value, Some(Bytes::from_static(b"A")));
+    Ok(())
+}
