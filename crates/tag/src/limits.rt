@@ -21,6 +21,15 @@ pub const MOST_POSITIONS: usize = 4096;
 /// The most calls of one object.
 pub const MOST_CALLS: usize = 4_294_967_295;
 
+/// The most layouts of a cluster.
+pub const MOST_LAYOUTS: usize = 1024;
+
+/// The most objects of a cluster.
+pub const MOST_OBJECTS: usize = 65_536;
+
+/// The longest name of an object, in bytes.
+pub const LONGEST_NAME: usize = 255;
+
 /// The most steps of a cluster.
 pub const MOST_STEPS: u64 = 1 << 62;
 
