@@ -1,5 +1,5 @@
 -- The messages that wait, in the order of their places, and what each call makes of them.
-use Rattle.std.specs.Prelude.{ℕ, nat_le, ◌&&◌, Bool, if◌then◌else◌, Option, Some, None}
+use Rattle.std.specs.Prelude.{◌≡◌, ℕ, nat_le, ◌&&◌, Bool, true, if◌then◌else◌, Option, Some, None}
 use Rattle.std.specs.Prelude.{List, [], ◌∷◌, ◌++◌, length, sum_by, slice_get, slice_set}
 use Rattle.tag.specs.declared.limits.TheConstants.{MOST_BYTES, MOST_MESSAGES}
 use Rattle.tag.specs.declared.refusal.Refusal.{Refusal}
@@ -15,6 +15,11 @@ mail_bytes messages = sum_by message_bytes messages
 -- whether so many messages, with so many bytes, may wait together
 abbrev pub is_within : List Message → Bool
 is_within messages = nat_le (length messages) MOST_MESSAGES && nat_le (mail_bytes messages) MOST_BYTES
+
+-- the messages may wait together, and their pieces have so many bytes
+pub record IsKept (messages : List Message) (bytes : ℕ) : Type 0 where
+  pub within : is_within messages ≡ true
+  pub sum : bytes ≡ mail_bytes messages
 
 -- why these messages may not wait together, if they may not
 abbrev pub mail_cause : List Message → Option Refusal

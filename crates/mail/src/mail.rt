@@ -16,18 +16,20 @@ use tag::{MOST_BYTES, MOST_MESSAGES, Refusal};
 #[derive(Debug, Drop)]
 pub struct Mail {
     messages: Vec<Message>,
+    // The bytes of the pieces in all messages.
+    bytes: u64,
 }
 
 impl Model for Mail {
-    ghost use Rattle.std.specs.Prelude.{List, IsTrue};
+    ghost use Rattle.std.specs.Prelude.{List};
     ghost use Rattle.mail.specs.declared.message.Message.{Message};
-    ghost use Rattle.mail.specs.Mail.{is_within};
+    ghost use Rattle.mail.specs.Mail.{IsKept};
 
     ghost Value = { List Message };
 
     ghost view = { λ m. m.messages.items };
 
-    ghost invariant = { λ m. IsTrue (is_within m.messages.items) };
+    ghost invariant = { λ m. IsKept m.messages.items m.bytes };
 }
 
 impl Mail {
@@ -37,6 +39,7 @@ impl Mail {
     {
         Mail {
             messages: Vec::new(alloc),
+            bytes: 0,
         }
     }
 
@@ -68,7 +71,7 @@ impl Mail {
         ensures value { result ≡ mail_bytes self.now }
         ensures within { result ≤ MOST_BYTES }
     {
-        bytes_of(&self.messages)
+        self.bytes
     }
 
     /// Posts all messages behind those that wait, or none. `Full` where they would be more than `MOST_MESSAGES`,
@@ -81,8 +84,10 @@ impl Mail {
         if !self.has_room(&messages) {
             return Err(Refusal::Full);
         }
+        let bytes = bytes_of(&messages);
         let mut messages = messages;
         self.messages.append(&mut messages)?;
+        self.bytes += bytes;
         Ok(())
     }
 
@@ -91,7 +96,7 @@ impl Mail {
         ensures { result ≡ is_within (self.now ++ messages.now) }
     {
         messages.len() <= MOST_MESSAGES - self.messages.len()
-            && are_within(messages, MOST_BYTES - self.bytes())
+            && are_within(messages, MOST_BYTES - self.bytes)
     }
 
     /// Puts the reply in the place of the request there. It takes no memory, and asks that there is room for the
@@ -101,7 +106,10 @@ impl Mail {
         requires room { mail_bytes self.old + answer_bytes reply.answer ≤ MOST_BYTES }
         ensures { self.new ≡ replied self.old place reply }
     {
-        self.messages[place].answer(reply);
+        let message = &mut self.messages[place];
+        self.bytes -= message.bytes();
+        message.answer(reply);
+        self.bytes += message.bytes();
     }
 
     /// Removes the message at a place. Those behind it move down by one.
@@ -110,7 +118,9 @@ impl Mail {
         ensures message { slice_get self.old place ≡ Some result }
         ensures rest { self.new ≡ remove self.old place }
     {
-        self.messages.remove(place)
+        let message = self.messages.remove(place);
+        self.bytes -= message.bytes();
+        message
     }
 
     /// Loses the message at a place. Those behind it move down by one.
@@ -134,7 +144,9 @@ impl Mail {
             return Err(Refusal::Full);
         }
         let copy = message.clone()?;
+        let bytes = copy.bytes();
         self.messages.push(copy)?;
+        self.bytes += bytes;
         Ok(())
     }
 }
