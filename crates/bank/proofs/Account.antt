@@ -18,9 +18,8 @@ use Rattle.bank.specs.declared.request.Request.TheVariants as request
 use Rattle.bank.specs.Bank.{Bank, opening_row, opened_bank, filled_arrival, row_after_pre_write, row_after_finalize, piece_of_row}
 use Rattle.bank.specs.Bytes.{arrival_bytes, row_bytes, entry_bytes, bank_bytes, added_bytes}
 use Rattle.bank.specs.Serve.{served_bank}
-use Rattle.bank.proofs.Places.{Rows}
 use Rattle.bank.proofs.Changes.{with_row}
-use Rattle.bank.proofs.Entries.{t_true, is_lt-tag}
+use Rattle.bank.proofs.Entries.{Rows, t_true, is_lt-tag}
 
 -- the bytes of a row, where there is one
 abbrev there_bytes : Option Row → ℕ

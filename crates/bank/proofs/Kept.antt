@@ -1,118 +1,113 @@
--- What a write over a row or a new row makes of a list of rows that stands for a bank.
-use Rattle.std.proofs.Common.{◌≡◌, ℕ, ◌+◌, Bool, true, false, cond, [], ◌∷◌, ◌++◌, length, get_or, set, Option, Some, None, is_some, position, sym, ap, ◌∙◌}
-use Rattle.std.proofs.Common.{refl}
+-- What a request makes of what a bank keeps.
+use Rattle.std.proofs.Common.{◌≡◌, ℕ, ◌+◌, ◌-◌, ◌^◌, min, false, cond, List, [], length, Option, Some, None, is_some, sym, ap, ◌∙◌, arith}
 use Rattle.std.specs.FinMap as map
-use Rattle.std.specs.Ordering.{eq_by_cmp}
-use Rattle.std.proofs.lemmas.List.{length-set, length_push}
+use Rattle.std.specs.Map.{lookup}
+use Rattle.std.specs.BTreeMap.{is_at}
 use Rattle.tag.specs.declared.tag.Tag.{Tag}
-use Rattle.tag.specs.Tag.{tag_cmp, opening_tag}
-use Rattle.tag.proofs.Tags.{tag_cmp_total, eq_by_cmp-tag, tag_eq-true, tag_eq-same}
-use Rattle.bank.specs.declared.row.Row.{Row}
+use Rattle.tag.specs.Tag.{tag_cmp, later_tag, opening_tag}
 use Rattle.encoder.specs.declared.fragment.Piece.{Piece}
-use Rattle.bank.specs.declared.row.Label.{Label}
-use Rattle.bank.specs.declared.row.Label.TheVariants.{PreWritten, Finalized}
+use Rattle.bank.specs.declared.row.Row.{Row}
+use Rattle.bank.specs.declared.request.Request.TheVariants as request
 use Rattle.bank.specs.declared.status.Pointer.{Pointer}
-use Rattle.std.proofs.lemmas.Bool.{false≢true}
-use Rattle.bank.specs.Bank.{Bank, finalized_label, row_after_pre_write, row_after_finalize}
-use Rattle.bank.specs.Knowledge.{is_finalized}
-use Rattle.bank.specs.Kept.{IsKept}
-use Rattle.bank.proofs.Places.{Rows, is_final_row, has, get_at, tag_at, write_at, get_absent, push_absent}
+use Rattle.bank.specs.declared.row.Label.TheVariants.{Finalized}
+use Rattle.bank.specs.declared.status.Pointer.TheVariants.{Unset}
+use Rattle.bank.specs.Bank.{Bank, opened_bank, pre_written, finalized, knows, row_after_pre_write, row_after_finalize, piece_of_row}
+use Rattle.bank.specs.Bytes.{bank_bytes, added_bytes}
+use Rattle.bank.specs.Serve.{greatest_final}
+use Rattle.bank.specs.Kept.{bank_of, IsKept}
+use Rattle.bank.proofs.Entries.{Rows, is_final, Rise, entries-rise, get-rise, insert-rise}
+use Rattle.bank.proofs.Account.{served_bytes, opened_bytes}
+use Rattle.bank.proofs.Query.{greatest-finalized, greatest-pre_written, opening-finalized, opening-pre_written, greatest-opened, opening-opened}
 
--- a row that is final where the old one was keeps the opening tag final
-still_final : (b : Bool) (r : Row) (o : Option Row) → (b ≡ true → is_final_row o ≡ true → is_finalized r.label ≡ true) → is_final_row o ≡ true
-    → is_final_row (cond b (Some r) o) ≡ true
-still_final true r o keeps final = keeps refl final
-still_final false r o keeps final = final
+-- a bank with what f makes of a tag's row
+abbrev changed : Bank → Tag → (Option Row → Row) → Bank
+changed b tag f = record { rows = map.insert b.rows tag (f (map.get b.rows tag)); pointer = b.pointer }
 
--- the rows by their tags
-abbrev pub table : Rows → map.FinMap tag_cmp Row
-table rows = map.from_entries rows
+-- what a search among entries finds
+abbrev pub found : Rows → Tag → Option Row
+found es tag = lookup (is_at (tag_cmp tag)) es
 
--- f keeps final what is final
-abbrev pub KeepsFinal : (Option Row → Row) → Type 0
-KeepsFinal f = (o : Option Row) → is_final_row o ≡ true → is_finalized (f o).label ≡ true
+-- the bank of the entries after the row of a tag changes
+bank_of-changed : (es fs : Rows) (p : Pointer) (tag : Tag) (f : Option Row → Row) → Rise es → Rise fs
+    → ((q : Tag) → found fs q ≡ cond (is_at (tag_cmp tag) q) (Some (f (found es tag))) (found es q))
+    → bank_of fs p ≡ changed (bank_of es p) tag f
+bank_of-changed es fs p tag f rise risen updates =
+    ap (λ m. let b : Bank = record { rows = m; pointer = p } in b) (insert-rise es fs rise risen tag (f (found es tag)) updates
+    ∙ ap (λ r. map.insert (map.from_sorted es) tag (f r)) (sym (get-rise es rise tag)))
 
-module _ (rows : Rows) (tag : Tag) (f : Option Row → Row) where
-  -- the rows by their tags, with what f makes of the tag's row
-  abbrev pub with_row : map.FinMap tag_cmp Row
-  with_row = map.insert (table rows) tag (f (map.get (table rows) tag))
+counted_more : (n new total added : ℕ) → n ≡ min total (2 ^ 64 - 1) → new ≡ min (n + added) (2 ^ 64 - 1) → new ≡ min (total + added) (2 ^ 64 - 1)
+counted_more n new total added is more = omega (arith, is, more)
 
-  opening_stays : KeepsFinal f → is_final_row (map.get (table rows) opening_tag) ≡ true → is_final_row (map.get with_row opening_tag) ≡ true
-  opening_stays keeps final =
-      ap is_final_row (map.get-insert tag_cmp_total (table rows) tag (f (map.get (table rows) tag)) opening_tag)
-      ∙ still_final (eq_by_cmp tag_cmp opening_tag tag) (f (map.get (table rows) tag)) (map.get (table rows) opening_tag)
-      (λ same _. keeps (map.get (table rows) tag) (ap is_final_row (tied same) ∙ final)) final
-    where
-      tied : eq_by_cmp tag_cmp opening_tag tag ≡ true → map.get (table rows) tag ≡ map.get (table rows) opening_tag
-      tied same = ap (map.get (table rows)) (sym (tag_eq-true opening_tag tag (sym (eq_by_cmp-tag opening_tag tag) ∙ same)))
+-- a tag that no search finds is not known
+pub not_known : (es : Rows) (p : Pointer) (tag : Tag) → Rise es → found es tag ≡ None → (b : Bank) → bank_of es p ≡ b → knows b tag ≡ false
+not_known es p tag rise none b view = ap (λ b. knows b tag) (sym view) ∙ ap is_some (get-rise es rise tag ∙ none)
 
-  len-with_row : (o : Option Row) → map.get (table rows) tag ≡ o
-      → map.len with_row ≡ cond (is_some o) (map.len (table rows)) (map.len (table rows) + 1)
-  len-with_row o is = map.len-insert tag_cmp_total (table rows) tag (f (map.get (table rows) tag))
-      ∙ ap (λ o. cond (is_some o) (map.len (table rows)) (map.len (table rows) + 1)) is
+module _ (es fs : Rows) (p : Pointer) (g : Tag) (n : ℕ) (kept : IsKept es p g n) (risen : Rise fs) (tag : Tag) (now : ℕ) where
+  -- after a request to pre-write a tag
+  module _ (piece : Piece) (updates : (q : Tag) → found fs q ≡ cond (is_at (tag_cmp tag) q)
+      (Some (row_after_pre_write (found es tag) piece now)) (found es q)) where
+    pub bank_pre_written : bank_of fs p ≡ pre_written (bank_of es p) tag piece now
+    bank_pre_written = bank_of-changed es fs p tag (λ o. row_after_pre_write o piece now) kept.sorted risen updates
 
-  kept_from : (items : Rows) → table items ≡ with_row → KeepsFinal f → IsKept rows → map.len with_row ≡ length items → IsKept items
-  kept_from items is keeps kept len = record {
-    opening = ap (λ m. is_final_row (map.get {R = tag_cmp} m opening_tag)) is ∙ opening_stays keeps kept.opening;
-    apart = ap map.len is ∙ len;
-  }
+    pub kept_pre_written : (added new : ℕ) → added ≡ cond (is_some (piece_of_row (found es tag))) 0 (length piece.bytes)
+        → new ≡ min (n + added) (2 ^ 64 - 1) → IsKept fs p g new
+    kept_pre_written added new adds more =
+        let is = bank_pre_written in
+        let brought : added ≡ added_bytes (bank_of es p) (request.PreWrite tag piece) = adds
+        ∙ ap (λ o. cond (is_some (piece_of_row o)) 0 (length piece.bytes)) (sym (get-rise es kept.sorted tag)) in
+        record {
+          sorted = risen;
+          opening = ap (λ b. is_final b opening_tag) is ∙ opening-pre_written (bank_of es p) tag now kept.opening piece;
+          greatest = kept.greatest ∙ sym (ap greatest_final is ∙ greatest-pre_written (bank_of es p) tag now kept.opening piece);
+          bytes =
+              counted_more n new (bank_bytes (bank_of es p)) added kept.bytes more
+              ∙ ap (λ m. min (bank_bytes (bank_of es p) + m) (2 ^ 64 - 1)) brought
+              ∙ ap (λ m. min m (2 ^ 64 - 1)) (sym (ap bank_bytes is ∙ served_bytes (bank_of es p) (request.PreWrite tag piece) now));
+        }
 
-  -- after a write over the tag's row x
-  module _ (i : ℕ) (at : position (has tag) rows ≡ Some i) (x : Tag × Row) (new : Row) (read : x ≡ get_or rows i x) (made : new ≡ f (Some x.1)) where
-    pub table_over : table (set rows i (x.0, new)) ≡ with_row
-    table_over =
-        let found = get_at rows tag i at x ∙ ap (λ (e : Tag × Row). Some e.1) (sym read) in
-        ap (λ t. table (set rows i (t, new))) (ap (λ (e : Tag × Row). e.0) read ∙ tag_at rows tag i at x)
-        ∙ write_at rows tag i at x new
-        ∙ ap (λ r. map.insert (table rows) tag r) (made ∙ ap f (sym found))
+  -- after a request to finalize a tag
+  module _ (updates : (q : Tag) → found fs q ≡ cond (is_at (tag_cmp tag) q) (Some (row_after_finalize (found es tag) now)) (found es q)) where
+    pub bank_finalized : bank_of fs p ≡ finalized (bank_of es p) tag now
+    bank_finalized = bank_of-changed es fs p tag (λ o. row_after_finalize o now) kept.sorted risen updates
 
-    pub kept_over : KeepsFinal f → IsKept rows → IsKept (set rows i (x.0, new))
-    kept_over keeps kept =
-        kept_from (set rows i (x.0, new)) table_over keeps kept
-        (len-with_row (Some (get_or rows i x).1) (get_at rows tag i at x) ∙ kept.apart ∙ sym (length-set rows i (x.0, new)))
+    pub kept_finalized : (new : Tag) → new ≡ later_tag g tag → IsKept fs p new n
+    kept_finalized new later =
+        let is = bank_finalized in
+        let same : bank_bytes (bank_of fs p) ≡ bank_bytes (bank_of es p) + 0 = ap bank_bytes is
+        ∙ served_bytes (bank_of es p) (request.Finalize tag) now in
+        record {
+          sorted = risen;
+          opening = ap (λ b. is_final b opening_tag) is ∙ opening-finalized (bank_of es p) tag now kept.opening;
+          greatest = later ∙ ap (λ g. later_tag g tag) kept.greatest
+              ∙ sym (ap greatest_final is ∙ greatest-finalized (bank_of es p) tag now kept.opening);
+          bytes = omega (arith, kept.bytes, same);
+        }
 
-  -- after a push of a new row
-  module _ (none : position (has tag) rows ≡ None) (items : Rows) (new : Row) (pushed : items ≡ rows ++ (tag, new) ∷ []) (made : new ≡ f None) where
-    pub table_more : table items ≡ with_row
-    table_more =
-        ap table pushed
-        ∙ push_absent rows tag none new
-        ∙ ap (λ r. map.insert (table rows) tag r) (made ∙ ap f (sym (get_absent rows tag none)))
-
-    pub kept_more : KeepsFinal f → IsKept rows → IsKept items
-    kept_more keeps kept =
-        kept_from items table_more keeps kept
-        (len-with_row None (get_absent rows tag none) ∙ ap (λ n. n + 1) kept.apart ∙ sym (ap length pushed ∙ length_push rows (tag, new)))
-
--- a request keeps final what is final
-pub pre_write_keeps : (p : Piece) (now : ℕ) → KeepsFinal (λ o. row_after_pre_write o p now)
-pre_write_keeps p now None final = absurd (false≢true final)
-pre_write_keeps p now (Some r) final = final
-
-pub finalize_keeps : (now : ℕ) → KeepsFinal (λ o. row_after_finalize o now)
-finalize_keeps now None final = refl
-finalize_keeps now (Some r) final = final_stays r.label
-  where
-    final_stays : (l : Label) → is_finalized (finalized_label l now) ≡ true
-    final_stays (PreWritten since) = refl
-    final_stays (Finalized since) = refl
-
--- the bank that has these rows in place of old ones
-pub with_rows : (rows items : Rows) (tag : Tag) (f : Option Row → Row) {b : Bank} {pointer : Pointer}
-    → record { rows = table rows; pointer = pointer } ≡ b → table items ≡ with_row rows tag f
-    → ◌≡◌ {A = Bank} (record { rows = table items; pointer = pointer })
-    (record { rows = map.insert b.rows tag (f (map.get b.rows tag)); pointer = b.pointer })
-with_rows rows items tag f {b} {pointer} view is = ap (λ m. record { rows = m; pointer = pointer }) is
-    ∙ ap (λ (b : Bank). record { rows = map.insert b.rows tag (f (map.get b.rows tag)); pointer = b.pointer }) view
-
--- a single final row of the opening tag
-pub kept_opening : (r : Row) → is_finalized r.label ≡ true → IsKept ((opening_tag, r) ∷ [])
-kept_opening r final = record {
-  opening = ap is_final_row (map.get-from_entries tag_cmp_total ((opening_tag, r) ∷ []) opening_tag
-      ∙ ap (λ b. cond b (Some r) None) (eq_by_cmp-tag opening_tag opening_tag ∙ tag_eq-same opening_tag)) ∙ final;
-  apart =
-      map.len-insert tag_cmp_total map.empty opening_tag r
-      ∙ ap (λ o. cond (is_some o) (map.len (map.empty {X = Row} {R = tag_cmp})) (map.len (map.empty {X = Row} {R = tag_cmp}) + 1))
-      (map.get-empty tag_cmp opening_tag)
-      ∙ ap (λ n. n + 1) (map.len-empty tag_cmp Row);
+-- the row of the opening tag with these bytes
+abbrev first_row : ℕ → ℕ → List ℕ → Row
+first_row point now bytes = record {
+  label = Finalized now;
+  arrival = Some (record { piece = record { point = point; len = 0; bytes = bytes }; step = now });
 }
+
+-- a bank that is just opened has one row, of no bytes
+module _ (es fs : Rows) (point now : ℕ) (bytes : List ℕ) (none : es ≡ []) (rise : Rise es) (risen : Rise fs) (empty : bytes ≡ [])
+    (updates : (q : Tag) → found fs q ≡ cond (is_at (tag_cmp opening_tag) q) (Some (first_row point now bytes)) (found es q)) where
+  first : map.from_sorted {R = tag_cmp} es ≡ map.empty
+  first = map.empty_of_len (map.from_sorted es)
+      (map.len-entries (map.from_sorted {R = tag_cmp} es) ∙ ap length (entries-rise es rise ∙ none))
+
+  pub bank_opened : bank_of fs Unset ≡ opened_bank point now
+  bank_opened =
+      ap (λ m. let b : Bank = record { rows = m; pointer = Unset } in b)
+      (insert-rise es fs rise risen opening_tag (first_row point now bytes) updates
+      ∙ ap (λ m. map.insert m opening_tag (first_row point now bytes)) first
+      ∙ ap (λ bs. map.insert map.empty opening_tag (first_row point now bs)) empty)
+
+  pub kept_opened : IsKept fs Unset opening_tag 0
+  kept_opened = record {
+    sorted = risen;
+    opening = ap (λ b. is_final b opening_tag) bank_opened ∙ opening-opened point now;
+    greatest = sym (ap greatest_final bank_opened ∙ greatest-opened point now);
+    bytes = let none = ap bank_bytes bank_opened ∙ opened_bytes point now in omega (arith, none);
+  }

@@ -1,18 +1,19 @@
 -- The greatest finalized tag of a bank.
-use Rattle.std.proofs.Common.{◌≡◌, ℕ, suc, ◌<◌, Bool, true, false, cond, [], ◌∷◌, length, get_or, Option, Some, None, IsSome, sym, ap, ◌∙◌, refl, arith}
+use Rattle.std.proofs.Common.{◌≡◌, ℕ, suc, ◌<◌, Bool, true, false, cond, [], ◌∷◌, length, get_or, Option, Some, None, IsSome, is_some, sym, ap, ◌∙◌, refl, arith}
 use Rattle.std.specs.FinMap as map
 use Rattle.std.specs.Ordering.{eq_by_cmp}
 use Rattle.tag.specs.declared.tag.Tag.{Tag}
-use Rattle.tag.specs.Tag.{tag_cmp, tag_lt, opening_tag}
-use Rattle.tag.proofs.Tags.{same_tag, opening_least, later-above, later-second, tag_eq-true, eq_by_cmp-tag}
+use Rattle.tag.specs.Tag.{tag_cmp, tag_lt, tag_eq, opening_tag, later_tag}
+use Rattle.tag.proofs.Tags.{same_tag, opening_least, later-above, later-second, tag_eq-true, tag_eq-same, eq_by_cmp-tag}
 use Rattle.bank.specs.declared.row.Label.TheVariants.{PreWritten}
 use Rattle.bank.specs.declared.row.Row.{Row}
-use Rattle.bank.specs.Bank.{Bank}
+use Rattle.encoder.specs.declared.fragment.Piece.{Piece}
+use Rattle.bank.specs.Bank.{Bank, opening_row, opened_bank, pre_written, finalized}
 use Rattle.bank.specs.Serve.{greatest_among, greatest_final}
-use Rattle.bank.specs.Knowledge.{is_finalized, finalized_at}
+use Rattle.bank.specs.Knowledge.{since, is_finalized, finalized_at}
 use Rattle.bank.specs.Facts.{IsGreatest}
-use Rattle.bank.proofs.Entries.{find_sorted, t_true}
-use Rattle.bank.proofs.Places.{Rows, is_final_row}
+use Rattle.bank.proofs.Entries.{Rows, is_final_row, is_final, find_sorted, t_true}
+use Rattle.bank.proofs.Changes.{get-with_row, finalized_at-finalized, finalized_at-pre_written}
 
 -- no finalized entry is above the greatest among them
 among_above : (es : Rows) (tag : Tag) (r : Row) → map.find tag_cmp tag es ≡ Some r → is_finalized r.label ≡ true
@@ -96,3 +97,73 @@ greatest_final_is b opening = record {
         no h = cc
     row other (Some r) got final = among_above (map.entries b.rows) other r (sym (map.get-entries b.rows other) ∙ got) (sym (ap is_final_row got)
         ∙ final)
+
+module _ (b : Bank) (tag : Tag) (now : ℕ) (opening : IsSome (finalized_at b opening_tag)) where
+  stays_final : (t : Tag) → is_final b t ≡ true → is_final (finalized b tag now) t ≡ true
+  stays_final t final = ap is_some (finalized_at-finalized b tag now t) ∙ pick (tag_eq t tag) (finalized_at b t) final
+    where
+      pick : (c : Bool) (o : Option ℕ) → is_some o ≡ true → is_some (cond c (since o now) o) ≡ true
+      pick true None final = refl
+      pick true (Some step) final = refl
+      pick false o final = final
+
+  is_final-finalized : is_final (finalized b tag now) tag ≡ true
+  is_final-finalized =
+      ap is_some (finalized_at-finalized b tag now tag
+      ∙ ap (λ c. cond c (since (finalized_at b tag) now) (finalized_at b tag)) (tag_eq-same tag)) ∙ there (finalized_at b tag)
+    where
+      there : (o : Option ℕ) → is_some (since o now) ≡ true
+      there None = refl
+      there (Some step) = refl
+
+  none_above : (t : Tag) → is_final (finalized b tag now) t ≡ true → tag_lt (later_tag (greatest_final b) tag) t ≡ false
+  none_above t final = elim (tag_eq t tag) as (λ c. tag_eq t tag ≡ c → is_some (cond c (since (finalized_at b t) now) (finalized_at b t)) ≡ true
+      → tag_lt (later_tag (greatest_final b) tag) t ≡ false) [
+        | true ↦ λ same _. ap (tag_lt (later_tag (greatest_final b) tag)) (tag_eq-true t tag same) ∙ later-second (greatest_final b) tag
+        | false ↦ λ _ before. later-above (greatest_final b) tag t ((greatest_final_is b opening).greatest t before)
+      ] refl (sym (ap is_some (finalized_at-finalized b tag now t)) ∙ final)
+
+  -- a tag that is finalized is the greatest, or the greatest stays
+  pub greatest-finalized : greatest_final (finalized b tag now) ≡ later_tag (greatest_final b) tag
+  greatest-finalized = greatest_is (finalized b tag now) (later_tag (greatest_final b) tag) (record {
+    final = either (tag_lt (greatest_final b) tag);
+    greatest = none_above;
+  })
+    where
+      either : (later : Bool) → is_final (finalized b tag now) (cond later tag (greatest_final b)) ≡ true
+      either true = is_final-finalized
+      either false = stays_final (greatest_final b) (greatest_final_is b opening).final
+
+  -- a tag that is pre-written changes no greatest
+  pub greatest-pre_written : (p : Piece) → greatest_final (pre_written b tag p now) ≡ greatest_final b
+  greatest-pre_written p = greatest_is (pre_written b tag p now) (greatest_final b) (record {
+    final = ap is_some (finalized_at-pre_written b tag now (greatest_final b) p) ∙ (greatest_final_is b opening).final;
+    greatest = λ other final. (greatest_final_is b opening).greatest other
+        (sym (ap is_some (finalized_at-pre_written b tag now other p)) ∙ final);
+  })
+
+  -- the opening tag stays finalized
+  pub opening-finalized : IsSome (finalized_at (finalized b tag now) opening_tag)
+  opening-finalized = stays_final opening_tag opening
+
+  pub opening-pre_written : (p : Piece) → IsSome (finalized_at (pre_written b tag p now) opening_tag)
+  opening-pre_written p = ap is_some (finalized_at-pre_written b tag now opening_tag p) ∙ opening
+
+module _ (point now : ℕ) where
+  finalized_at-opened : (t : Tag) → is_final (opened_bank point now) t ≡ tag_eq t opening_tag
+  finalized_at-opened t = ap is_final_row (get-with_row map.empty opening_tag (λ o. opening_row point now) t) ∙ pick (tag_eq t opening_tag)
+    where
+      pick : (c : Bool) → is_final_row (cond c (Some (opening_row point now)) (map.get (map.empty {X = Row} {R = tag_cmp}) t)) ≡ c
+      pick true = refl
+      pick false = ap is_final_row (map.get-empty tag_cmp t)
+
+  pub opening-opened : IsSome (finalized_at (opened_bank point now) opening_tag)
+  opening-opened = finalized_at-opened opening_tag ∙ tag_eq-same opening_tag
+
+  -- a bank that was just opened has finalized the opening tag alone
+  pub greatest-opened : greatest_final (opened_bank point now) ≡ opening_tag
+  greatest-opened = greatest_is (opened_bank point now) opening_tag (record {
+    final = opening-opened;
+    greatest = λ other final.
+        ap (tag_lt opening_tag) (tag_eq-true other opening_tag (sym (finalized_at-opened other) ∙ final)) ∙ opening_least opening_tag;
+  })

@@ -2,11 +2,11 @@ ghost use Rattle.std.specs.Prelude.{◌≡◌, ℕ, ◌<◌, ◌^◌, IsTrue, So
 ghost use Rattle.std.specs.Prelude.{IfOk, IfErr, OnOk, OnErr, IsOk, IsNone};
 ghost use Rattle.tag.specs.declared.refusal.Refusal.TheVariants.{NoMemory};
 
-use crate::rows::{bytes_of, place_of, rank_of};
-use crate::{Answer, Arrival, Label, Pointer, Reply, Row, Status};
+use crate::{Answer, Arrival, Label, Pointer, Reply, Row, Status, rows};
 use bytes::Bytes;
 use encoder::Piece;
 use std::alloc::Global;
+use std::collections::BTreeMap;
 use std::marker::Model;
 use tag::{Refusal, Stamp, Tag};
 
@@ -15,26 +15,30 @@ use tag::{Refusal, Stamp, Tag};
 /// Each request takes the number `now` of the step that serves it, and its reply keeps it. Where `now` is after all
 /// that the bank keeps, the clause `served` says that the past stays as it was and that the reply is true.
 /// A refusal is `NoMemory`: there was no room for a new tag, or for one more owner of a piece.
+///
+/// A request takes time in the logarithm of the number of tags, and those that name no tag take the same time always.
 #[derive(Debug, Drop)]
 pub struct Bank {
-    // In the order in which the tags came.
-    rows: Vec<(Tag, Row)>,
+    rows: BTreeMap<Tag, Row>,
+    // The greatest finalized tag.
+    greatest: Tag,
+    // How many bytes all the pieces have, or the greatest number where they have more.
+    bytes: u64,
     pointer: Pointer,
 }
 
 impl Model for Bank {
-    ghost use Rattle.std.specs.FinMap as map;
     ghost use Rattle.std.specs.Coded.{codes};
     ghost use Rattle.bank.specs.Bank.{Bank as Table, bank_code};
-    ghost use Rattle.bank.specs.Kept.{IsKept};
+    ghost use Rattle.bank.specs.Kept.{bank_of, IsKept};
 
     ghost Value = { Table };
 
     ghost coded = { bank_code (Prim.hlevel codes) (Prim.hlevel codes) (Prim.hlevel codes) };
 
-    ghost view = { λ b. record { rows = map.from_entries b.rows.items; pointer = b.pointer } };
+    ghost view = { λ b. bank_of b.rows.entries b.pointer };
 
-    ghost invariant = { λ b. IsKept b.rows.items };
+    ghost invariant = { λ b. IsKept b.rows.entries b.pointer b.greatest b.bytes };
 }
 
 impl Bank {
@@ -63,10 +67,12 @@ impl Bank {
             label: Label::Finalized { since: now },
             arrival: Some(Arrival { piece, step: now }),
         };
-        let mut rows = Vec::new(alloc);
-        rows.push((Tag::OPENING, row))?;
+        let mut rows = BTreeMap::new(alloc);
+        rows::put(&mut rows, Tag::OPENING, row)?;
         Ok(Bank {
             rows,
+            greatest: Tag::OPENING,
+            bytes: 0,
             pointer: Pointer::Unset,
         })
     }
@@ -85,17 +91,15 @@ impl Bank {
         self.rows.len()
     }
 
-    /// The tag that has `i` others below it, with what is kept for it.
+    /// The tag that has `i` others below it, with what is kept for it. It is found by a walk over those.
     pub fn kept(&self, i: usize) -> (Tag, &Row)
         requires { i < map.len self.now.rows }
         ensures { slice_get (map.entries self.now.rows) i ≡ Some (result.0, result.1.now) }
     {
-        for (tag, row) in &self.rows {
-            if rank_of(&self.rows, *tag) == i {
-                return (*tag, row);
-            }
+        match self.rows.iter().nth(i) {
+            Some((tag, row)) => (*tag, row),
+            None => unreachable!(),
         }
-        unreachable!()
     }
 
     /// How many bytes all the pieces have.
@@ -103,7 +107,7 @@ impl Bank {
         requires { bank_bytes self.now < 2 ^ 64 }
         ensures { result ≡ bank_bytes self.now }
     {
-        bytes_of(&self.rows)
+        self.bytes
     }
 
     /// Answers the status of the pointer.
@@ -136,15 +140,9 @@ impl Bank {
         ensures greatest { IsGreatest self.now (greatest_final self.now) }
         ensures served { IsBefore self.now now → IsServed self.now self.now now kind.Query result.answer }
     {
-        let mut greatest = Tag::OPENING;
-        for (tag, row) in &self.rows {
-            if row.is_finalized() {
-                greatest = greatest.later(*tag);
-            }
-        }
         Reply {
             step: now,
-            answer: Answer::Greatest(greatest),
+            answer: Answer::Greatest(self.greatest),
         }
     }
 
@@ -159,16 +157,8 @@ impl Bank {
         ensures unchanged { OnErr result (self.new ≡ self.old) }
         ensures known { IsTrue (knows self.old tag) → IsOk result }
     {
-        match place_of(&self.rows, tag) {
-            Some(place) => self.rows[place].1.fill(piece, now),
-            None => {
-                let row = Row {
-                    label: Label::PreWritten { since: now },
-                    arrival: Some(Arrival { piece, step: now }),
-                };
-                self.rows.push((tag, row))?;
-            }
-        }
+        let added = rows::fill(&mut self.rows, tag, piece, now)?;
+        self.bytes = self.bytes.saturating_add(added);
         Ok(Reply {
             step: now,
             answer: Answer::Done,
@@ -186,16 +176,8 @@ impl Bank {
         ensures unchanged { OnErr result (self.new ≡ self.old) }
         ensures known { IsTrue (knows self.old tag) → IsOk result }
     {
-        match place_of(&self.rows, tag) {
-            Some(place) => self.rows[place].1.finalize(now),
-            None => {
-                let row = Row {
-                    label: Label::Finalized { since: now },
-                    arrival: None,
-                };
-                self.rows.push((tag, row))?;
-            }
-        }
+        rows::finalize(&mut self.rows, tag, now)?;
+        self.greatest = self.greatest.later(tag);
         Ok(Reply {
             step: now,
             answer: Answer::Done,
@@ -237,9 +219,6 @@ impl Bank {
     fn row_of(&self, tag: Tag) -> Option<&Row>
         ensures { option_copied result ≡ map.get self.now.rows tag }
     {
-        match place_of(&self.rows, tag) {
-            Some(place) => Some(&self.rows[place].1),
-            None => None,
-        }
+        self.rows.get(&tag)
     }
 }

@@ -1,4 +1,4 @@
-ghost use Rattle.std.specs.Prelude.{◌≡◌, ◌<◌, ◌^◌, Some, IfOk, IfErr, IsOk, IsNone};
+ghost use Rattle.std.specs.Prelude.{◌≡◌, ◌<◌, ◌^◌, length, is_some, if◌then◌else◌, Some, IfOk, IfErr, IsOk, IsNone};
 ghost use Rattle.tag.specs.declared.refusal.Refusal.TheVariants.{NoMemory};
 
 use encoder::Piece;
@@ -72,12 +72,16 @@ impl Row {
         }
     }
 
-    /// Keeps `piece`, which comes at step `now`, where no piece came before.
-    pub(crate) fn fill(&mut self, piece: Piece, now: Stamp)
-        ensures { self.new ≡ filled_row self.old piece now }
+    /// Keeps `piece`, which comes at step `now`, where no piece came before. Answers how many bytes it adds.
+    pub(crate) fn fill(&mut self, piece: Piece, now: Stamp) -> u64
+        ensures row { self.new ≡ filled_row self.old piece now }
+        ensures added { result ≡ (if is_some (piece_of_row (Some self.old)) then 0 else length piece.bytes) }
     {
-        if self.arrival.is_none() {
-            self.arrival = Some(Arrival { piece, step: now });
+        if self.arrival.is_some() {
+            return 0;
         }
+        let added = piece.bytes.len() as u64;
+        self.arrival = Some(Arrival { piece, step: now });
+        added
     }
 }

@@ -1,32 +1,68 @@
-ghost use Rattle.std.specs.Prelude.{◌≡◌, ◌<◌, ◌^◌, position, count_by, sum_by};
-ghost use Rattle.tag.specs.Tag.{tag_eq, tag_lt};
-ghost use Rattle.bank.specs.Bytes.{entry_bytes};
+ghost use Rattle.std.specs.Prelude.{◌≡◌, length, is_some, if◌then◌else◌, Some, None, IfOk, IfErr, OnOk, OnErr};
+ghost use Rattle.std.specs.BTreeMap.{get, Updates, IsOrdered, IsUnchanged};
+ghost use Rattle.tag.specs.Tag.{tag_cmp};
+ghost use Rattle.tag.specs.declared.refusal.Refusal.TheVariants.{NoMemory};
+ghost use Rattle.bank.specs.Bank.{row_after_pre_write, row_after_finalize, piece_of_row};
 
-use crate::Row;
-use tag::Tag;
+use crate::{Arrival, Label, Row};
+use encoder::Piece;
+use std::collections::BTreeMap;
+use tag::{Refusal, Stamp, Tag};
 
-// Where the tag stands among the rows.
-pub fn place_of(rows: &[(Tag, Row)], tag: Tag) -> Option<usize>
-    ensures { result ≡ position (λ e. tag_eq e.0 tag) rows.now }
+// Keeps `row` for `tag`.
+pub fn put(rows: &mut BTreeMap<Tag, Row>, tag: Tag, row: Row) -> Result<(), Refusal>
+    ensures rows { OnOk result (Updates tag_cmp rows.old rows.new tag (Some row)) }
+    ensures refused { IfErr result (λ e. e ≡ NoMemory) }
+    ensures unchanged { OnErr result (IsUnchanged rows.old rows.new) }
+    ensures absent { OnErr result (get tag_cmp rows.old tag ≡ None) }
+    ensures ordered { IsOrdered tag_cmp rows.new }
 {
-    rows.iter().position(|(kept, _)| kept.is(tag))
+    rows.insert(tag, row)?;
+    Ok(())
 }
 
-// How many tags are below `tag`.
-pub fn rank_of(rows: &[(Tag, Row)], tag: Tag) -> usize
-    ensures { result ≡ count_by (λ e. tag_lt e.0 tag) rows.now }
+// Keeps `piece` for `tag`, unless a piece came before. Answers how many bytes that adds.
+pub fn fill(
+    rows: &mut BTreeMap<Tag, Row>,
+    tag: Tag,
+    piece: Piece,
+    now: Stamp,
+) -> Result<u64, Refusal>
+    ensures rows { OnOk result (Updates tag_cmp rows.old rows.new tag (Some (row_after_pre_write (get tag_cmp rows.old tag) piece now))) }
+    ensures added { IfOk result (λ n. n ≡ (if is_some (piece_of_row (get tag_cmp rows.old tag)) then 0 else length piece.bytes)) }
+    ensures refused { IfErr result (λ e. e ≡ NoMemory) }
+    ensures unchanged { OnErr result (IsUnchanged rows.old rows.new) }
+    ensures absent { OnErr result (get tag_cmp rows.old tag ≡ None) }
+    ensures ordered { IsOrdered tag_cmp rows.new }
 {
-    rows.iter().filter(|(kept, _)| kept.is_below(tag)).count()
-}
-
-// How many bytes the pieces of the rows have.
-pub fn bytes_of(rows: &[(Tag, Row)]) -> u64
-    requires { sum_by entry_bytes rows.now < 2 ^ 64 }
-    ensures { result ≡ sum_by entry_bytes rows.now }
-{
-    let mut total = 0;
-    for (_, row) in rows {
-        total += row.bytes();
+    if let Some(row) = rows.get_mut(&tag) {
+        return Ok(row.fill(piece, now));
     }
-    total
+    let added = piece.bytes.len() as u64;
+    let row = Row {
+        label: Label::PreWritten { since: now },
+        arrival: Some(Arrival { piece, step: now }),
+    };
+    put(rows, tag, row)?;
+    Ok(added)
+}
+
+// Makes `tag` final. A new tag is finalized without a piece.
+pub fn finalize(rows: &mut BTreeMap<Tag, Row>, tag: Tag, now: Stamp) -> Result<(), Refusal>
+    ensures rows { OnOk result (Updates tag_cmp rows.old rows.new tag (Some (row_after_finalize (get tag_cmp rows.old tag) now))) }
+    ensures refused { IfErr result (λ e. e ≡ NoMemory) }
+    ensures unchanged { OnErr result (IsUnchanged rows.old rows.new) }
+    ensures absent { OnErr result (get tag_cmp rows.old tag ≡ None) }
+    ensures ordered { IsOrdered tag_cmp rows.new }
+{
+    if let Some(row) = rows.get_mut(&tag) {
+        row.finalize(now);
+        return Ok(());
+    }
+    let row = Row {
+        label: Label::Finalized { since: now },
+        arrival: None,
+    };
+    put(rows, tag, row)?;
+    Ok(())
 }

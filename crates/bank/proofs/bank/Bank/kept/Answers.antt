@@ -1,35 +1,29 @@
-use Rattle.std.proofs.Common.{◌≡◌, ◌<◌, count_by, slice_get, get_or, length, sym, ap, ◌∙◌, subst, arith}
+use Rattle.std.proofs.Common.{◌<◌, length, sym, ap, ◌∙◌, slice_get, option_map, arith}
 use Rattle.std.specs.FinMap as map
-use Rattle.tag.specs.declared.tag.Tag.{Tag}
-use Rattle.tag.specs.Tag.{tag_lt}
-use Rattle.bank.specs.declared.row.Row.{Row}
+use Rattle.std.specs.Map.Iter.{deref_pair}
+use Rattle.std.proofs.lemmas.Iterator.Consumers.{nth_from_yields_List, YieldsList-from_rest}
+use Rattle.tag.specs.Tag.{tag_cmp}
 use Rattle.bank.specs.Bank.{Bank}
-use Rattle.bank.proofs.Entries.{entry_at_rank, none_ranked_more, rank_taken, NoneRanked}
+use Rattle.bank.proofs.Entries.{entries-rise, there}
 use Rattle.bank.proofs.bank.Bank.kept.Goals as goal
-
-pub returns-then-rank_of-i : goal.returns-then-rank_of-i
-returns-then-rank_of-i c =
-    let rows = c.self.inside.rows.items in
-    let x = c.loop-tag-item.result in
-    let k = c.loop-tag.tag-index in
-    let within : k < length rows = omega (arith, c.loop-tag-test.true, ap length c.deref-tag-items.ensures.value) in
-    let read : x ≡ get_or rows k x = c.loop-tag-item.is ∙ ap (λ xs. get_or xs k x) c.deref-tag-items.ensures.value in
-    let rank : count_by (λ (e : Tag × Row). tag_lt e.0 x.0) rows ≡ c.args.i =
-    ap (count_by (λ (e : Tag × Row). tag_lt e.0 x.0)) (sym c.deref.ensures.value) ∙ sym c.rank_of.ensures ∙ c.if-rank_of-i.true in
-    ap (λ (b : Bank). slice_get (map.entries b.rows) c.args.i) (sym c.self.view_is)
-    ∙ entry_at_rank rows c.self.invariant.apart k c.args.i x within read rank
-
-pub loop-tag-preserved : goal.loop-tag-preserved
-loop-tag-preserved c =
-    let items = c.deref-tag-items.result.now in
-    let x = c.loop-tag-item.result in
-    none_ranked_more items c.args.i c.loop-tag.tag-index x c.loop-tag-test.true c.loop-tag-item.is c.loop-tag.invariant
-    (λ rank. c.if-rank_of-i.false (c.rank_of.ensures ∙ ap (count_by (λ (e : Tag × Row). tag_lt e.0 x.0)) (c.deref.ensures.value
-    ∙ sym c.deref-tag-items.ensures.value) ∙ rank))
 
 pub unreachable-requires : goal.unreachable-requires
 unreachable-requires c =
-    let rows = c.self.inside.rows.items in
-    rank_taken rows c.args.i c.self.invariant.apart (subst (λ (b : Bank). c.args.i < map.len b.rows) (sym c.self.view_is) c.requires)
-    (subst (λ xs. NoneRanked xs c.args.i (length xs)) c.deref-tag-items.ensures.value
-    (λ k below. c.loop-tag.invariant k (omega (arith, below, c.loop-tag-test.false))))
+    let es = c.self.inside.rows.entries in
+    let nth = nth_from_yields_List c.nth.result c.nth.new.self c.args.i c.nth.ensures.ran (YieldsList-from_rest es c.iter.ensures.rest) in
+    let within : c.args.i < length es = omega (
+      arith,
+      c.requires,
+      ap (λ (b : Bank). map.len b.rows) c.self.view_is,
+      map.len-entries (map.from_sorted {R = tag_cmp} es),
+      ap length (entries-rise es c.self.invariant.sorted),
+    ) in
+    there es c.args.i within (sym nth ∙ ap (option_map deref_pair) c.in-None.is)
+
+pub returns : goal.returns
+returns c =
+    let es = c.self.inside.rows.entries in
+    let nth = nth_from_yields_List c.nth.result c.nth.new.self c.args.i c.nth.ensures.ran (YieldsList-from_rest es c.iter.ensures.rest) in
+    ap (λ (b : Bank). slice_get (map.entries b.rows) c.args.i) (sym c.self.view_is)
+    ∙ ap (λ xs. slice_get xs c.args.i) (entries-rise es c.self.invariant.sorted)
+    ∙ sym nth ∙ ap (option_map deref_pair) c.in-Some.is ∙ search

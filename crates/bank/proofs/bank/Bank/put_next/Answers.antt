@@ -1,18 +1,13 @@
 use Rattle.std.proofs.Common.{ap, ◌∙◌, refl}
 use Rattle.bank.specs.Bank.{Bank, with_pointer}
 use Rattle.bank.specs.Pointer.{raised}
-use Rattle.bank.specs.declared.status.Pointer.{Pointer}
+use Rattle.bank.specs.Kept.{bank_of}
 use Rattle.bank.specs.declared.reply.Answer.TheVariants as answer
 use Rattle.bank.specs.declared.request.Request.TheVariants as request
-use Rattle.bank.proofs.Kept.{table}
 use Rattle.bank.proofs.Truth.{served_as}
 use Rattle.bank.proofs.bank.Bank.put_next.Goals as goal
 
-pub returns-clause-bank : goal.returns-clause-bank
-returns-clause-bank c =
-    ap (λ (q : Pointer). let b : Bank = record { rows = table c.self.inside.rows.items; pointer = q } in b) c.raised-self-inside.ensures
-    ∙ ap (λ (b : Bank). with_pointer b (raised b.pointer c.args.status c.args.now)) c.self.view_is
-
 pub returns-clause-served : goal.returns-clause-served
-returns-clause-served c = served_as c.args.self.now _ (request.Spread c.args.status) c.args.now answer.Done (returns-clause-bank c) refl
-    (λ is. absurd (cc))
+returns-clause-served c = served_as c.args.self.now _ (request.Spread c.args.status) c.args.now answer.Done
+    (ap (bank_of c.self.inside.rows.entries) c.raised-self-inside.ensures
+    ∙ ap (λ (b : Bank). with_pointer b (raised b.pointer c.args.status c.args.now)) c.self.view_is) refl (λ is. absurd (cc))
