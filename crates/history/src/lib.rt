@@ -11,5 +11,3 @@ mod certificate;
 mod laws;
 mod object;
 mod order;
-#[cfg(test)]
-mod tests;

@@ -51,7 +51,7 @@ impl Model for Call {
 
 impl Call {
     /// A call that begins at a stage, without its first phase. It takes no memory.
-    pub fn new(alloc: Global, kind: CallKind, stage: Stage, now: Stamp) -> Call
+    pub(crate) fn new(alloc: Global, kind: CallKind, stage: Stage, now: Stamp) -> Call
         ensures { result ≡ record { call = new_call kind now; stage = stage } }
     {
         Call {
@@ -66,7 +66,7 @@ impl Call {
 
     /// The call, whose number this is, begins a phase at a position with this layout: its requests are posted, and the
     /// call has the phase. Either both or, where it is refused, neither.
-    pub fn begin(
+    pub(crate) fn begin(
         &mut self,
         number: u64,
         kind: Kind,
@@ -114,7 +114,7 @@ impl Call {
 
     /// The current phase of the call, whose number this is, asks again: a request goes to each member without a recorded
     /// reply and without a waiting message of the phase.
-    pub fn ask_again(
+    pub(crate) fn ask_again(
         &self,
         number: u64,
         coded: Option<&Coded>,
@@ -152,7 +152,7 @@ impl Call {
 
     /// The current phase takes a message at step `now`, and the stage moves on where that completes the phase. It takes
     /// no memory.
-    pub fn take(&mut self, message: Message, now: Stamp) -> Took
+    pub(crate) fn take(&mut self, message: Message, now: Stamp) -> Took
         requires near { IsBelowLimit self.old.stage }
         requires tags { (p : Asking) → current_phase self.old.call.phases ≡ Some p
             → HasNextTag self.old.call.kind self.old.stage (after_take p message now).replies }
@@ -174,21 +174,21 @@ impl Call {
     }
 
     /// The call settles a value.
-    pub fn settle(&mut self, value: Bytes)
+    pub(crate) fn settle(&mut self, value: Bytes)
         ensures { self.new ≡ record { call = record self.old.call { settled = Some value }; stage = self.old.stage } }
     {
         self.settled = Some(value);
     }
 
     /// The call is answered at step `now`.
-    pub fn answer(&mut self, now: Stamp)
+    pub(crate) fn answer(&mut self, now: Stamp)
         ensures { self.new ≡ record { call = record self.old.call { answered = Some now }; stage = self.old.stage } }
     {
         self.answered = Some(now);
     }
 
     /// What the call does.
-    pub fn operation(&self) -> Operation
+    pub(crate) fn operation(&self) -> Operation
         ensures { result ≡ operation_of self.now.call.kind }
     {
         match &self.kind {
@@ -199,28 +199,28 @@ impl Call {
     }
 
     /// The step of the call.
-    pub fn called(&self) -> Stamp
+    pub(crate) fn called(&self) -> Stamp
         ensures { result ≡ self.now.call.called }
     {
         self.called
     }
 
     /// Whether the call is answered.
-    pub fn is_answered(&self) -> bool
+    pub(crate) fn is_answered(&self) -> bool
         ensures { result ≡ is_some self.now.call.answered }
     {
         self.answered.is_some()
     }
 
     /// Whether the call has settled a value.
-    pub fn is_settled(&self) -> bool
+    pub(crate) fn is_settled(&self) -> bool
         ensures { result ≡ is_some self.now.call.settled }
     {
         self.settled.is_some()
     }
 
     /// The value that the call writes, or has settled so far.
-    pub fn value(&self) -> Option<&Bytes>
+    pub(crate) fn value(&self) -> Option<&Bytes>
         ensures { option_copied result ≡ sent_value self.now.call.kind self.now.call.settled }
     {
         match &self.kind {
@@ -230,7 +230,7 @@ impl Call {
     }
 
     /// A copy, which shares its bytes, of the value that the call writes, or that a read returns once it is answered.
-    pub fn returned(&self, is_answered: bool) -> Result<Option<Bytes>, Refusal>
+    pub(crate) fn returned(&self, is_answered: bool) -> Result<Option<Bytes>, Refusal>
         ensures value { (answered : Option ℕ) → is_answered ≡ is_some answered
             → IfOk result (λ v. v ≡ entry_value self.now.call.kind answered self.now.call.settled) }
         ensures refused { IfErr result (λ e. e ≡ NoMemory) }
@@ -251,7 +251,7 @@ impl Call {
     }
 
     /// The entry of the call, whose number this is, in the object's history.
-    pub fn entry(&self, number: u64) -> Result<Entry, Refusal>
+    pub(crate) fn entry(&self, number: u64) -> Result<Entry, Refusal>
         ensures entry { IfOk result (λ e. e ≡ entry_of number self.now.call) }
         ensures refused { IfErr result (λ e. e ≡ NoMemory) }
     {
@@ -266,14 +266,14 @@ impl Call {
     }
 
     /// The phase that began last.
-    pub fn current(&self) -> Option<&Phase>
+    pub(crate) fn current(&self) -> Option<&Phase>
         ensures { option_copied result ≡ current_phase self.now.call.phases }
     {
         self.phases.last()
     }
 
     /// Where the phases lead.
-    pub fn stage(&self) -> Stage
+    pub(crate) fn stage(&self) -> Stage
         ensures { result ≡ self.now.stage }
     {
         self.stage

@@ -10,5 +10,3 @@ mod position;
 mod receipt;
 mod register;
 mod requests;
-#[cfg(test)]
-mod tests;

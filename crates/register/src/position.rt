@@ -35,7 +35,7 @@ impl Position {
     ghost use Rattle.record.specs.Steps.{opened_banks};
 
     /// A position whose banks are opened at step `now`. `NoMemory` is the only refusal.
-    pub fn new(alloc: Global, layout: Layout, now: Stamp) -> Result<Position, Refusal>
+    pub(crate) fn new(alloc: Global, layout: Layout, now: Stamp) -> Result<Position, Refusal>
         ensures opened { IfOk result (λ p. p ≡ record { layout = layout; banks = opened_banks layout.members 0 now }) }
         ensures lawful { IfOk result (λ p. IsLawful p.layout) }
         ensures refused { IfErr result (λ e. e ≡ NoMemory) }
@@ -48,21 +48,21 @@ impl Position {
     }
 
     /// The layout.
-    pub fn layout(&self) -> &Layout
+    pub(crate) fn layout(&self) -> &Layout
         ensures { result.now ≡ self.now.layout }
     {
         &self.layout
     }
 
     /// The bank of a member.
-    pub fn bank(&self, member: u8) -> Option<&Bank>
+    pub(crate) fn bank(&self, member: u8) -> Option<&Bank>
         ensures { option_copied result ≡ slice_get self.now.banks member }
     {
         self.banks.get(usize::from(member))
     }
 
     /// How many bytes a member's bank stores.
-    pub fn bytes(&self, member: u8) -> u64
+    pub(crate) fn bytes(&self, member: u8) -> u64
         requires there { member < length self.now.banks }
         requires room { (b : Table) → slice_get self.now.banks member ≡ Some b → bank_bytes b < 2 ^ 64 }
         ensures { (b : Table) → slice_get self.now.banks member ≡ Some b → result ≡ bank_bytes b }
@@ -71,7 +71,12 @@ impl Position {
     }
 
     /// A member's bank serves a request at step `now`.
-    pub fn serve(&mut self, member: u8, request: &Request, now: Stamp) -> Result<Reply, Refusal>
+    pub(crate) fn serve(
+        &mut self,
+        member: u8,
+        request: &Request,
+        now: Stamp,
+    ) -> Result<Reply, Refusal>
         requires { member < length self.old.banks }
         ensures layout { self.new.layout ≡ self.old.layout }
         ensures bank { OnOk result ((b : Table) → slice_get self.old.banks member ≡ Some b
@@ -87,7 +92,7 @@ impl Position {
     }
 
     /// How many bytes the banks store whose member is this server.
-    pub fn stored(&self, server: u8) -> u64
+    pub(crate) fn stored(&self, server: u8) -> u64
         requires lawful { IsLawful self.now.layout }
         requires room { position_bytes server self.now.layout.members self.now.banks < 2 ^ 64 }
         ensures { result ≡ position_bytes server self.now.layout.members self.now.banks }

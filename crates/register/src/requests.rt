@@ -17,7 +17,7 @@ use std::alloc::Global;
 use tag::{MOST_MESSAGES, Refusal};
 
 /// The requests of a phase to the members, member 0 first. A phase that sends pieces has the coded value.
-pub fn requests(
+pub(crate) fn requests(
     alloc: Global,
     ask: Ask,
     members: u8,
@@ -37,7 +37,7 @@ pub fn requests(
 }
 
 /// The requests of a phase that go out again: to the members without a recorded reply and without a waiting message.
-pub fn missing(
+pub(crate) fn missing(
     alloc: Global,
     ask: Ask,
     phase: &Phase,
@@ -61,7 +61,7 @@ pub fn missing(
 }
 
 /// How many requests of a phase go out again.
-pub fn missing_count(ask: Ask, phase: &Phase, mail: &Mail) -> usize
+pub(crate) fn missing_count(ask: Ask, phase: &Phase, mail: &Mail) -> usize
     ensures { (servers : List ℕ) (piece : ℕ → Piece) → length servers ≡ phase.now.members
         → result ≡ length (missing mail.now (members_of phase.now.replies) (requests ask.call ask.number ask.kind ask.position servers 0 piece)) }
 {
@@ -75,7 +75,7 @@ pub fn missing_count(ask: Ask, phase: &Phase, mail: &Mail) -> usize
 }
 
 /// Whether so many more messages may wait.
-pub fn has_room(mail: &Mail, count: usize) -> bool
+pub(crate) fn has_room(mail: &Mail, count: usize) -> bool
     ensures { result ≡ nat_le (length mail.now + count) MOST_MESSAGES }
 {
     count <= MOST_MESSAGES - mail.len()

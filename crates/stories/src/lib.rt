@@ -1,0 +1,10 @@
+//! Objects and clusters played by hand, and histories made by hand: tests alone. They stand in a crate of their own, so
+//! that the crates which they play are proved once and not twice.
+#![tactic(auto)]
+
+#[cfg(test)]
+mod certificates;
+#[cfg(test)]
+mod many_objects;
+#[cfg(test)]
+mod one_object;
