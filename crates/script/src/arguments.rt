@@ -18,7 +18,7 @@ use words::number::parse_saturating;
 /// The turns of a whole call where a line names none.
 const TURNS: u64 = 100_000;
 
-pub fn no_words(words: &[&str]) -> Result<(), LineError>
+pub(crate) fn no_words(words: &[&str]) -> Result<(), LineError>
     ensures ok { IfOk result (λ r. AreNone (map (λ w. w.now) words.now)) }
     ensures err { IfErr result (λ e. (e ≡ Bad)
         × (¬ (AreNone (map (λ w. w.now) words.now)))) }
@@ -30,7 +30,7 @@ pub fn no_words(words: &[&str]) -> Result<(), LineError>
     }
 }
 
-pub fn one_number(words: &[&str]) -> Result<u64, LineError>
+pub(crate) fn one_number(words: &[&str]) -> Result<u64, LineError>
     ensures ok { IfOk result (λ r. AreNumber r (map (λ w. w.now) words.now)) }
     ensures err { IfErr result (λ e. (e ≡ Bad)
         × ((n : ℕ) → ¬ (AreNumber n (map (λ w. w.now) words.now)))) }
@@ -41,7 +41,7 @@ pub fn one_number(words: &[&str]) -> Result<u64, LineError>
     }
 }
 
-pub fn servers_count(words: &[&str]) -> Result<u8, LineError>
+pub(crate) fn servers_count(words: &[&str]) -> Result<u8, LineError>
     ensures ok { IfOk result (λ r. AreServers r (map (λ w. w.now) words.now)) }
     ensures err { IfErr result (λ e. (e ≡ Bad)
         × ((n : ℕ) → ¬ (AreServers n (map (λ w. w.now) words.now)))) }
@@ -55,7 +55,10 @@ pub fn servers_count(words: &[&str]) -> Result<u8, LineError>
     }
 }
 
-pub fn number_and_members(alloc: Global, words: &[&str]) -> Result<(u64, Vec<u64>), LineError>
+pub(crate) fn number_and_members(
+    alloc: Global,
+    words: &[&str],
+) -> Result<(u64, Vec<u64>), LineError>
     ensures ok { IfOk result (λ r. AreNumberAndMembers r.0 r.1.items (map (λ w. w.now) words.now)) }
     ensures err { IfErr result (λ e. (e ≡ NoMemory) ⊎ ((e ≡ Bad)
         × ((n : ℕ) (ns : List ℕ) → ¬ (AreNumberAndMembers n ns (map (λ w. w.now) words.now))))) }
@@ -67,7 +70,7 @@ pub fn number_and_members(alloc: Global, words: &[&str]) -> Result<(u64, Vec<u64
     }
 }
 
-pub fn one_name<'a>(words: &[&'a str]) -> Result<&'a str, LineError>
+pub(crate) fn one_name<'a>(words: &[&'a str]) -> Result<&'a str, LineError>
     ensures ok { IfOk result (λ r. AreName r.now (map (λ w. w.now) words.now)) }
     ensures err { IfErr result (λ e. (e ≡ Bad)
         × ((name : Word) → ¬ (AreName name (map (λ w. w.now) words.now)))) }
@@ -78,7 +81,7 @@ pub fn one_name<'a>(words: &[&'a str]) -> Result<&'a str, LineError>
     }
 }
 
-pub fn name_and_number<'a>(words: &[&'a str]) -> Result<(&'a str, u64), LineError>
+pub(crate) fn name_and_number<'a>(words: &[&'a str]) -> Result<(&'a str, u64), LineError>
     ensures ok { IfOk result (λ r. AreNameAndNumber r.0.now r.1 (map (λ w. w.now) words.now)) }
     ensures err { IfErr result (λ e. (e ≡ Bad)
         × ((name : Word) (n : ℕ) → ¬ (AreNameAndNumber name n (map (λ w. w.now) words.now)))) }
@@ -89,7 +92,7 @@ pub fn name_and_number<'a>(words: &[&'a str]) -> Result<(&'a str, u64), LineErro
     }
 }
 
-pub fn name_and_two_numbers<'a>(words: &[&'a str]) -> Result<(&'a str, u64, u64), LineError>
+pub(crate) fn name_and_two_numbers<'a>(words: &[&'a str]) -> Result<(&'a str, u64, u64), LineError>
     ensures ok { IfOk result (λ r. AreNameAndTwoNumbers r.0.now r.1 r.2 (map (λ w. w.now) words.now)) }
     ensures err { IfErr result (λ e. (e ≡ Bad)
         × ((name : Word) (n m : ℕ) → ¬ (AreNameAndTwoNumbers name n m (map (λ w. w.now) words.now)))) }
@@ -100,7 +103,7 @@ pub fn name_and_two_numbers<'a>(words: &[&'a str]) -> Result<(&'a str, u64, u64)
     }
 }
 
-pub fn name_and_numbers<'a>(
+pub(crate) fn name_and_numbers<'a>(
     alloc: Global,
     words: &[&'a str],
 ) -> Result<(&'a str, Vec<u64>), LineError>
@@ -114,7 +117,10 @@ pub fn name_and_numbers<'a>(
     }
 }
 
-pub fn name_and_bytes<'a>(alloc: Global, words: &[&'a str]) -> Result<(&'a str, Bytes), LineError>
+pub(crate) fn name_and_bytes<'a>(
+    alloc: Global,
+    words: &[&'a str],
+) -> Result<(&'a str, Bytes), LineError>
     ensures ok { IfOk result (λ r. AreNameAndBytes r.0.now r.1 (map (λ w. w.now) words.now)) }
     ensures err { IfErr result (λ e. (e ≡ NoMemory) ⊎ ((e ≡ Bad)
         × ((name : Word) (bytes : List ℕ) → ¬ (AreNameAndBytes name bytes (map (λ w. w.now) words.now))))) }
@@ -125,7 +131,7 @@ pub fn name_and_bytes<'a>(alloc: Global, words: &[&'a str]) -> Result<(&'a str, 
     }
 }
 
-pub fn name_number_and_bytes<'a>(
+pub(crate) fn name_number_and_bytes<'a>(
     alloc: Global,
     words: &[&'a str],
 ) -> Result<(&'a str, u64, Bytes), LineError>
@@ -140,7 +146,7 @@ pub fn name_number_and_bytes<'a>(
     }
 }
 
-pub fn name_and_turns<'a>(words: &[&'a str]) -> Result<(&'a str, u64), LineError>
+pub(crate) fn name_and_turns<'a>(words: &[&'a str]) -> Result<(&'a str, u64), LineError>
     ensures ok { IfOk result (λ r. AreNameAndTurns r.0.now r.1 (map (λ w. w.now) words.now)) }
     ensures err { IfErr result (λ e. (e ≡ Bad)
         × ((name : Word) (n : ℕ) → ¬ (AreNameAndTurns name n (map (λ w. w.now) words.now)))) }
@@ -151,7 +157,7 @@ pub fn name_and_turns<'a>(words: &[&'a str]) -> Result<(&'a str, u64), LineError
     }
 }
 
-pub fn name_bytes_and_turns<'a>(
+pub(crate) fn name_bytes_and_turns<'a>(
     alloc: Global,
     words: &[&'a str],
 ) -> Result<(&'a str, Bytes, u64), LineError>
@@ -166,7 +172,7 @@ pub fn name_bytes_and_turns<'a>(
     }
 }
 
-pub fn name_number_and_turns<'a>(words: &[&'a str]) -> Result<(&'a str, u64, u64), LineError>
+pub(crate) fn name_number_and_turns<'a>(words: &[&'a str]) -> Result<(&'a str, u64, u64), LineError>
     ensures ok { IfOk result (λ r. AreNameNumberAndTurns r.0.now r.1 r.2 (map (λ w. w.now) words.now)) }
     ensures err { IfErr result (λ e. (e ≡ Bad)
         × ((name : Word) (n m : ℕ) → ¬ (AreNameNumberAndTurns name n m (map (λ w. w.now) words.now)))) }

@@ -9,7 +9,7 @@ use crate::error::LineError;
 use std::alloc::Global;
 
 /// `call read`, `call write` or `call move`, from the words after `call`.
-pub fn call<'a>(alloc: Global, words: &[&'a str]) -> Result<Command<'a>, LineError>
+pub(crate) fn call<'a>(alloc: Global, words: &[&'a str]) -> Result<Command<'a>, LineError>
     ensures { IsReading (codes "call" ∷ map (λ w. w.now) words.now) result }
 {
     let Some((kind, rest)) = words.split_first() else {
@@ -44,49 +44,49 @@ fn call_move<'a>(words: &[&'a str]) -> Result<Command<'a>, LineError>
     Ok(Command::CallMove { name, layout })
 }
 
-pub fn advance<'a>(words: &[&'a str]) -> Result<Command<'a>, LineError>
+pub(crate) fn advance<'a>(words: &[&'a str]) -> Result<Command<'a>, LineError>
     ensures { IsReading (codes "advance" ∷ map (λ w. w.now) words.now) result }
 {
     let (name, call) = name_and_number(words)?;
     Ok(Command::Advance { name, call })
 }
 
-pub fn supply<'a>(words: &[&'a str]) -> Result<Command<'a>, LineError>
+pub(crate) fn supply<'a>(words: &[&'a str]) -> Result<Command<'a>, LineError>
     ensures { IsReading (codes "supply" ∷ map (λ w. w.now) words.now) result }
 {
     let (name, call) = name_and_number(words)?;
     Ok(Command::Supply { name, call })
 }
 
-pub fn supply_as<'a>(alloc: Global, words: &[&'a str]) -> Result<Command<'a>, LineError>
+pub(crate) fn supply_as<'a>(alloc: Global, words: &[&'a str]) -> Result<Command<'a>, LineError>
     ensures { IsReading (codes "supply-as" ∷ map (λ w. w.now) words.now) result }
 {
     let (name, call, value) = name_number_and_bytes(alloc, words)?;
     Ok(Command::SupplyAs { name, call, value })
 }
 
-pub fn settle<'a>(words: &[&'a str]) -> Result<Command<'a>, LineError>
+pub(crate) fn settle<'a>(words: &[&'a str]) -> Result<Command<'a>, LineError>
     ensures { IsReading (codes "settle" ∷ map (λ w. w.now) words.now) result }
 {
     let (name, call) = name_and_number(words)?;
     Ok(Command::Settle { name, call })
 }
 
-pub fn post<'a>(words: &[&'a str]) -> Result<Command<'a>, LineError>
+pub(crate) fn post<'a>(words: &[&'a str]) -> Result<Command<'a>, LineError>
     ensures { IsReading (codes "post" ∷ map (λ w. w.now) words.now) result }
 {
     let (name, call) = name_and_number(words)?;
     Ok(Command::Post { name, call })
 }
 
-pub fn answer<'a>(words: &[&'a str]) -> Result<Command<'a>, LineError>
+pub(crate) fn answer<'a>(words: &[&'a str]) -> Result<Command<'a>, LineError>
     ensures { IsReading (codes "answer" ∷ map (λ w. w.now) words.now) result }
 {
     let (name, call) = name_and_number(words)?;
     Ok(Command::Answer { name, call })
 }
 
-pub fn show<'a>(words: &[&'a str]) -> Result<Command<'a>, LineError>
+pub(crate) fn show<'a>(words: &[&'a str]) -> Result<Command<'a>, LineError>
     ensures { IsReading (codes "show" ∷ map (λ w. w.now) words.now) result }
 {
     let (name, call) = name_and_number(words)?;

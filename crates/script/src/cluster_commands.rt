@@ -8,42 +8,42 @@ use crate::command::Command;
 use crate::error::LineError;
 use std::alloc::Global;
 
-pub fn servers(words: &[&str]) -> Result<Command<'static>, LineError>
+pub(crate) fn servers(words: &[&str]) -> Result<Command<'static>, LineError>
     ensures { IsReading (codes "servers" ∷ map (λ w. w.now) words.now) result }
 {
     let count = servers_count(words)?;
     Ok(Command::Servers { count })
 }
 
-pub fn layout(alloc: Global, words: &[&str]) -> Result<Command<'static>, LineError>
+pub(crate) fn layout(alloc: Global, words: &[&str]) -> Result<Command<'static>, LineError>
     ensures { IsReading (codes "layout" ∷ map (λ w. w.now) words.now) result }
 {
     let (k, members) = number_and_members(alloc, words)?;
     Ok(Command::Layout { k, members })
 }
 
-pub fn object<'a>(words: &[&'a str]) -> Result<Command<'a>, LineError>
+pub(crate) fn object<'a>(words: &[&'a str]) -> Result<Command<'a>, LineError>
     ensures { IsReading (codes "object" ∷ map (λ w. w.now) words.now) result }
 {
     let (name, layout) = name_and_number(words)?;
     Ok(Command::Object { name, layout })
 }
 
-pub fn down(words: &[&str]) -> Result<Command<'static>, LineError>
+pub(crate) fn down(words: &[&str]) -> Result<Command<'static>, LineError>
     ensures { IsReading (codes "down" ∷ map (λ w. w.now) words.now) result }
 {
     let server = one_number(words)?;
     Ok(Command::Down { server })
 }
 
-pub fn up(words: &[&str]) -> Result<Command<'static>, LineError>
+pub(crate) fn up(words: &[&str]) -> Result<Command<'static>, LineError>
     ensures { IsReading (codes "up" ∷ map (λ w. w.now) words.now) result }
 {
     let server = one_number(words)?;
     Ok(Command::Up { server })
 }
 
-pub fn account(words: &[&str]) -> Result<Command<'static>, LineError>
+pub(crate) fn account(words: &[&str]) -> Result<Command<'static>, LineError>
     ensures { IsReading (codes "account" ∷ map (λ w. w.now) words.now) result }
 {
     no_words(words)?;

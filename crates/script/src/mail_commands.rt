@@ -7,49 +7,49 @@ use crate::arguments::{name_and_number, name_and_two_numbers, one_name};
 use crate::command::Command;
 use crate::error::LineError;
 
-pub fn serve<'a>(words: &[&'a str]) -> Result<Command<'a>, LineError>
+pub(crate) fn serve<'a>(words: &[&'a str]) -> Result<Command<'a>, LineError>
     ensures { IsReading (codes "serve" ∷ map (λ w. w.now) words.now) result }
 {
     let (name, place) = name_and_number(words)?;
     Ok(Command::Serve { name, place })
 }
 
-pub fn take<'a>(words: &[&'a str]) -> Result<Command<'a>, LineError>
+pub(crate) fn take<'a>(words: &[&'a str]) -> Result<Command<'a>, LineError>
     ensures { IsReading (codes "take" ∷ map (λ w. w.now) words.now) result }
 {
     let (name, place) = name_and_number(words)?;
     Ok(Command::Take { name, place })
 }
 
-pub fn lose<'a>(words: &[&'a str]) -> Result<Command<'a>, LineError>
+pub(crate) fn lose<'a>(words: &[&'a str]) -> Result<Command<'a>, LineError>
     ensures { IsReading (codes "lose" ∷ map (λ w. w.now) words.now) result }
 {
     let (name, place) = name_and_number(words)?;
     Ok(Command::Lose { name, place })
 }
 
-pub fn repeat<'a>(words: &[&'a str]) -> Result<Command<'a>, LineError>
+pub(crate) fn repeat<'a>(words: &[&'a str]) -> Result<Command<'a>, LineError>
     ensures { IsReading (codes "repeat" ∷ map (λ w. w.now) words.now) result }
 {
     let (name, place) = name_and_number(words)?;
     Ok(Command::Repeat { name, place })
 }
 
-pub fn deliver<'a>(words: &[&'a str]) -> Result<Command<'a>, LineError>
+pub(crate) fn deliver<'a>(words: &[&'a str]) -> Result<Command<'a>, LineError>
     ensures { IsReading (codes "deliver" ∷ map (λ w. w.now) words.now) result }
 {
     let name = one_name(words)?;
     Ok(Command::Deliver { name })
 }
 
-pub fn mail<'a>(words: &[&'a str]) -> Result<Command<'a>, LineError>
+pub(crate) fn mail<'a>(words: &[&'a str]) -> Result<Command<'a>, LineError>
     ensures { IsReading (codes "mail" ∷ map (λ w. w.now) words.now) result }
 {
     let name = one_name(words)?;
     Ok(Command::Mail { name })
 }
 
-pub fn bank<'a>(words: &[&'a str]) -> Result<Command<'a>, LineError>
+pub(crate) fn bank<'a>(words: &[&'a str]) -> Result<Command<'a>, LineError>
     ensures { IsReading (codes "bank" ∷ map (λ w. w.now) words.now) result }
 {
     let (name, position, member) = name_and_two_numbers(words)?;

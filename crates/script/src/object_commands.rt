@@ -10,21 +10,21 @@ use crate::command::Command;
 use crate::error::LineError;
 use std::alloc::Global;
 
-pub fn read<'a>(words: &[&'a str]) -> Result<Command<'a>, LineError>
+pub(crate) fn read<'a>(words: &[&'a str]) -> Result<Command<'a>, LineError>
     ensures { IsReading (codes "read" ∷ map (λ w. w.now) words.now) result }
 {
     let (name, turns) = name_and_turns(words)?;
     Ok(Command::Read { name, turns })
 }
 
-pub fn write<'a>(alloc: Global, words: &[&'a str]) -> Result<Command<'a>, LineError>
+pub(crate) fn write<'a>(alloc: Global, words: &[&'a str]) -> Result<Command<'a>, LineError>
     ensures { IsReading (codes "write" ∷ map (λ w. w.now) words.now) result }
 {
     let (name, value, turns) = name_bytes_and_turns(alloc, words)?;
     Ok(Command::Write { name, value, turns })
 }
 
-pub fn move_to<'a>(words: &[&'a str]) -> Result<Command<'a>, LineError>
+pub(crate) fn move_to<'a>(words: &[&'a str]) -> Result<Command<'a>, LineError>
     ensures { IsReading (codes "move" ∷ map (λ w. w.now) words.now) result }
 {
     let (name, layout, turns) = name_number_and_turns(words)?;
@@ -35,28 +35,28 @@ pub fn move_to<'a>(words: &[&'a str]) -> Result<Command<'a>, LineError>
     })
 }
 
-pub fn resume<'a>(words: &[&'a str]) -> Result<Command<'a>, LineError>
+pub(crate) fn resume<'a>(words: &[&'a str]) -> Result<Command<'a>, LineError>
     ensures { IsReading (codes "resume" ∷ map (λ w. w.now) words.now) result }
 {
     let (name, call, turns) = name_number_and_turns(words)?;
     Ok(Command::Resume { name, call, turns })
 }
 
-pub fn history<'a>(words: &[&'a str]) -> Result<Command<'a>, LineError>
+pub(crate) fn history<'a>(words: &[&'a str]) -> Result<Command<'a>, LineError>
     ensures { IsReading (codes "history" ∷ map (λ w. w.now) words.now) result }
 {
     let name = one_name(words)?;
     Ok(Command::History { name })
 }
 
-pub fn sequence<'a>(words: &[&'a str]) -> Result<Command<'a>, LineError>
+pub(crate) fn sequence<'a>(words: &[&'a str]) -> Result<Command<'a>, LineError>
     ensures { IsReading (codes "sequence" ∷ map (λ w. w.now) words.now) result }
 {
     let name = one_name(words)?;
     Ok(Command::Sequence { name })
 }
 
-pub fn check<'a>(alloc: Global, words: &[&'a str]) -> Result<Command<'a>, LineError>
+pub(crate) fn check<'a>(alloc: Global, words: &[&'a str]) -> Result<Command<'a>, LineError>
     ensures { IsReading (codes "check" ∷ map (λ w. w.now) words.now) result }
 {
     let (name, calls) = name_and_numbers(alloc, words)?;
