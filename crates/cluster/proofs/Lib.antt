@@ -1,0 +1,15 @@
+pub mod Adding
+pub mod Allowed
+pub mod Growing
+pub mod Keeping
+pub mod Laws
+pub mod Moves
+pub mod Opening
+pub mod Parts
+pub mod Places
+pub mod Reading
+pub mod Serving
+pub mod Stepping
+pub mod Sums
+pub mod Totals
+pub mod Values

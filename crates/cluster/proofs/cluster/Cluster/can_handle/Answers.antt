@@ -1,0 +1,34 @@
+use Rattle.std.proofs.Common.{◌≡◌, ◌≤◌, length, slice_get, List, Some, ap, sym, ◌∙◌, arith}
+use Rattle.mail.specs.declared.message.Message.{Message}
+use Rattle.cluster.specs.Causes.{place_cause, handled_at}
+use Rattle.cluster.specs.Cluster.{Cluster}
+use Rattle.cluster.proofs.Reading.{named_found, read_found, cause_found, none_found}
+use Rattle.cluster.proofs.Serving.{handled_is, place_past, place_there}
+use Rattle.cluster.proofs.cluster.Cluster.can_handle.Goals as goal
+
+pub returns-in_default-clause-cause : goal.returns-in_default-clause-cause
+returns-in_default-clause-cause c = none_found c.self.inside.objects.entries c.args.name.now c.self.view_is c.in_default.ensures.value _
+
+pub returns-then-len-place-clause-cause : goal.returns-then-len-place-clause-cause
+returns-then-len-place-clause-cause c =
+    let found = named_found c.self.inside.objects.entries c.args.name.now c.in-Some.register.now c.self.view_is c.in-Some.ensures.value in
+    let mail = c.mail_view-mail.result.now in
+    let past : length mail ≤ c.args.place = omega (arith, c.len.ensures.value, c.if-len-place.true) in
+    cause_found found (place_cause c.args.place) ∙ place_past c.in-Some.register.now.object c.args.place mail c.mail_view-mail.ensures past
+
+pub returns-clause-value : goal.returns-clause-value
+returns-clause-value c =
+    let found = named_found c.self.inside.objects.entries c.args.name.now c.in-Some.register.now c.self.view_is c.in-Some.ensures.value in
+    let object = c.in-Some.register.now.object in
+    let m = c.at.result.now in
+    let waits : slice_get object.mail c.args.place ≡ Some m = ap (λ (ms : List Message). slice_get ms c.args.place) (sym c.mail_view-mail.ensures) ∙ c.at.ensures in
+    let is = c.is_handled.ensures c.args.self.now (sym (ap (λ (k : Cluster). k.servers) c.self.view_is)) in
+    read_found found (handled_at c.args.self.now c.args.place) ∙ handled_is c.args.self.now object c.args.place m c.is_handled.result waits is
+
+pub returns-clause-cause : goal.returns-clause-cause
+returns-clause-cause c =
+    let found = named_found c.self.inside.objects.entries c.args.name.now c.in-Some.register.now c.self.view_is c.in-Some.ensures.value in
+    let object = c.in-Some.register.now.object in
+    let m = c.at.result.now in
+    let waits : slice_get object.mail c.args.place ≡ Some m = ap (λ (ms : List Message). slice_get ms c.args.place) (sym c.mail_view-mail.ensures) ∙ c.at.ensures in
+    cause_found found (place_cause c.args.place) ∙ place_there object c.args.place m waits

@@ -1,0 +1,18 @@
+use Rattle.std.proofs.Common.{Some, None, inl, ap, sym, ◌∙◌}
+use Rattle.record.specs.Journals.{entries}
+use Rattle.cluster.proofs.Reading.{named_found, read_found, cause_found, none_found, if_ok}
+use Rattle.cluster.proofs.Serving.{only_memory}
+use Rattle.cluster.proofs.cluster.Cluster.entries.Goals as goal
+
+pub returns-in-Some-clause-entries : goal.returns-in-Some-clause-entries
+returns-in-Some-clause-entries c =
+    let found = named_found c.self.inside.objects.entries c.args.name.now c.in-Some.register.now c.self.view_is c.in-Some.ensures.value in
+    if_ok c.entries.result (λ x e. read_found found (λ object. Some (entries object)) ∙ ap Some (sym e)) c.entries.ensures.entries
+
+pub returns-in-Some-clause-cause : goal.returns-in-Some-clause-cause
+returns-in-Some-clause-cause c =
+    let found = named_found c.self.inside.objects.entries c.args.name.now c.in-Some.register.now c.self.view_is c.in-Some.ensures.value in
+    only_memory c.entries.result (cause_found found (λ object. None)) c.entries.ensures.refused
+
+pub returns-in-None-clause-cause : goal.returns-in-None-clause-cause
+returns-in-None-clause-cause c = inl (none_found c.self.inside.objects.entries c.args.name.now c.self.view_is c.in-None.ensures.value _)

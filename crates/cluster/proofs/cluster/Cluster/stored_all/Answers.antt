@@ -1,0 +1,12 @@
+use Rattle.std.proofs.Common.{length, sym, ap, ◌∙◌}
+use Rattle.cluster.specs.Accounts.{stored_all}
+use Rattle.cluster.specs.Cluster.{Cluster}
+use Rattle.cluster.proofs.Places.{objects_of}
+use Rattle.cluster.proofs.Totals.{objects_total}
+use Rattle.cluster.proofs.cluster.Cluster.stored_all.Goals as goal
+
+pub returns-clause-value : goal.returns-clause-value
+returns-clause-value c =
+    c.self.invariant.stored
+    ∙ sym (objects_total (length c.self.inside.servers) c.self.inside.counter (objects_of c.self.inside.objects.entries) c.self.invariant.objects)
+    ∙ ap (λ (k : Cluster). stored_all k) c.self.view_is

@@ -1,0 +1,34 @@
+-- What each step makes of a cluster. Each raises the counter by one.
+use Rattle.std.specs.Prelude.{ℕ, suc, Bool, List, [], ◌∷◌, ◌++◌, slice_set}
+use Rattle.layout.specs.Layout.{Layout}
+use Rattle.record.specs.Steps.{Step, opened_object}
+use Rattle.register.specs.State.{made}
+use Rattle.cluster.specs.Cluster.{Cluster, changed, layout_of}
+
+-- a step of the object of this name
+abbrev pub stepped : Cluster → (name : List ℕ) → Step → Cluster
+stepped cluster name step =
+    record cluster { objects = changed cluster.objects name (made step (suc cluster.counter)); counter = suc cluster.counter }
+
+-- one more layout
+abbrev pub with_layout : Cluster → Layout → Cluster
+with_layout cluster layout = record cluster { layouts = cluster.layouts ++ layout ∷ []; counter = suc cluster.counter }
+
+-- one more object, opened with this layout
+abbrev pub with_object : Cluster → (name : List ℕ) → Layout → Cluster
+with_object cluster name layout = record cluster {
+  objects = cluster.objects ++ record { name = name; state = record { object = opened_object layout (suc cluster.counter); last = suc cluster.counter } } ∷ [];
+  counter = suc cluster.counter;
+}
+
+-- a server goes up or down
+abbrev pub with_server : Cluster → (server : ℕ) → (up : Bool) → Cluster
+with_server cluster server up = record cluster { servers = slice_set cluster.servers server up; counter = suc cluster.counter }
+
+-- a move of the object of this name to the layout of this number
+abbrev pub moved : Cluster → (name : List ℕ) → (id : ℕ) → Cluster
+moved cluster name id = stepped cluster name (Step.CallMove (layout_of cluster id))
+
+-- an object of this name with the layout of this number
+abbrev pub created : Cluster → (name : List ℕ) → (id : ℕ) → Cluster
+created cluster name id = with_object cluster name (layout_of cluster id)

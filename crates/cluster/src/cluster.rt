@@ -1,0 +1,94 @@
+ghost use Rattle.std.specs.Prelude.{◌≡◌, ◌≤◌, [], length};
+ghost use Rattle.tag.specs.declared.limits.TheConstants.{MOST_STEPS};
+ghost use Rattle.cluster.specs.Cluster.{all_up};
+
+use crate::servers::Servers;
+use indexmap::IndexMap;
+use layout::Layout;
+use register::Register;
+use std::alloc::Global;
+use std::marker::Model;
+use tag::{Refusal, Stamp};
+
+mod accounts;
+mod calls;
+mod laws;
+mod messages;
+mod phases;
+mod setup;
+
+/// The number of a layout of a cluster, from 0 in the order in which they were added.
+pub type LayoutId = u32;
+
+/// All objects by name, in order of creation, with the layouts and the servers.
+///
+/// Each call that is a step raises the counter by one. A call that is refused changes nothing, and is refused for the
+/// first cause that holds by the order of refusals, or else for want of memory.
+#[derive(Debug, Drop)]
+pub struct Cluster {
+    servers: Servers,
+    layouts: Vec<Layout>,
+    objects: IndexMap<String, Register>,
+    counter: Stamp,
+    // The bytes of all pieces in all banks.
+    stored: u64,
+    // How many calls all objects have.
+    called: u64,
+}
+
+impl Model for Cluster {
+    ghost use Rattle.std.specs.Prelude.{map, string_bytes};
+    ghost use Rattle.layout.specs.contracts.layout.Layout as arrangement;
+    ghost use Rattle.register.specs.contracts.register.Register as object;
+    ghost use Rattle.cluster.specs.Cluster.{Cluster as Store, cluster_code};
+    ghost use Rattle.cluster.specs.Kept.{IsKept};
+
+    ghost Value = { Store };
+
+    ghost coded = { cluster_code arrangement.the_row.coded object.the_row.coded };
+
+    ghost view = { λ c. record {
+      servers = c.servers;
+      layouts = c.layouts.items;
+      objects = map (λ e. record { name = string_bytes e.0; state = e.1 }) c.objects.entries;
+      counter = c.counter;
+    } };
+
+    ghost invariant = { λ c. IsKept (record {
+      servers = c.servers;
+      layouts = c.layouts.items;
+      objects = map (λ e. record { name = string_bytes e.0; state = e.1 }) c.objects.entries;
+      counter = c.counter;
+    }) c.stored c.called };
+}
+
+impl Cluster {
+    /// A cluster of so many servers, all up, with no layouts and no objects. It takes no memory.
+    pub fn new(alloc: Global, servers: u8) -> Cluster
+        ensures { result ≡ record { servers = all_up servers; layouts = []; objects = []; counter = 0 } }
+    {
+        Cluster {
+            servers: Servers::new(servers),
+            layouts: Vec::new(alloc),
+            objects: IndexMap::new(alloc),
+            counter: 0,
+            stored: 0,
+            called: 0,
+        }
+    }
+
+    /// The number of steps that were made.
+    pub fn counter(&self) -> Stamp
+        ensures counter { result ≡ self.now.counter }
+        ensures within { result ≤ MOST_STEPS }
+    {
+        self.counter
+    }
+
+    /// How many servers there are.
+    pub fn servers(&self) -> u8
+        ensures { result ≡ length self.now.servers }
+    {
+        self.servers.count()
+    }
+}

@@ -1,0 +1,120 @@
+//! How calls begin and end.
+
+ghost use Rattle.std.specs.Prelude.{◌≡◌, suc, pred, length, Some, IfOk, OnOk, OnErr};
+ghost use Rattle.tag.specs.Refusal.{IsByCause};
+ghost use Rattle.record.specs.Steps.{Step};
+ghost use Rattle.register.specs.Causes.{read_cause, write_cause, answer_cause};
+ghost use Rattle.register.specs.View.{receipt_at};
+ghost use Rattle.cluster.specs.Cluster.{if_named, place_of};
+ghost use Rattle.cluster.specs.Steps.{stepped, moved};
+ghost use Rattle.cluster.specs.Causes.{next, object_cause, moving_cause};
+
+use crate::cluster::{Cluster, LayoutId};
+use bytes::Bytes;
+use register::Receipt;
+use tag::Refusal;
+
+impl Cluster {
+    /// A read of an object begins, with its first phase. It answers the call's number.
+    ///
+    /// `NoObject` where there is none, and `Full` where a limit of the steps, of the calls or of the messages is met.
+    pub fn call_read(&mut self, name: &str) -> Result<u64, Refusal>
+        ensures step { OnOk result (self.new ≡ stepped self.old name.entry.now (Step.CallRead)) }
+        ensures number { IfOk result (λ n. if_named self.old name.entry.now (λ object. Some (suc (length object.calls))) ≡ Some n) }
+        ensures cause { IsByCause (object_cause self.old name.entry.now (λ object. read_cause (next self.old) object)) result }
+        ensures unchanged { OnErr result (self.new ≡ self.old) }
+    {
+        let Some(place) = self.objects.get_index_of(name) else {
+            return Err(Refusal::NoObject);
+        };
+        let now = self.counter + 1;
+        match self.objects[place].call_read(now) {
+            Ok(number) => {
+                self.counter = now;
+                self.called += 1;
+                Ok(number)
+            }
+            Err(refusal) => Err(refusal),
+        }
+    }
+
+    /// A write of a value to an object begins, with its first phase. It answers the call's number.
+    ///
+    /// `NoObject` where there is none, `TooLong` where the value is longer than `LONGEST_VALUE`, and `Full` as for a read.
+    pub fn call_write(&mut self, name: &str, value: Bytes) -> Result<u64, Refusal>
+        ensures step { OnOk result (self.new ≡ stepped self.old name.entry.now (Step.CallWrite value)) }
+        ensures number { IfOk result (λ n. if_named self.old name.entry.now (λ object. Some (suc (length object.calls))) ≡ Some n) }
+        ensures cause { IsByCause (object_cause self.old name.entry.now (λ object. write_cause value (next self.old) object)) result }
+        ensures unchanged { OnErr result (self.new ≡ self.old) }
+    {
+        let Some(place) = self.objects.get_index_of(name) else {
+            return Err(Refusal::NoObject);
+        };
+        let now = self.counter + 1;
+        match self.objects[place].call_write(value, now) {
+            Ok(number) => {
+                self.counter = now;
+                self.called += 1;
+                Ok(number)
+            }
+            Err(refusal) => Err(refusal),
+        }
+    }
+
+    /// A move of an object to a layout begins, with its first phase: the next position is there from now on, with its
+    /// banks. It answers the call's number.
+    ///
+    /// `NoObject` where there is none, `MovePending` where a move is not answered, `BadLayout` where there is no such
+    /// layout, and `Full` where a limit of the steps, of the positions, of the calls or of the messages is met.
+    pub fn call_move(&mut self, name: &str, id: LayoutId) -> Result<u64, Refusal>
+        ensures step { OnOk result (self.new ≡ moved self.old name.entry.now id) }
+        ensures number { IfOk result (λ n. if_named self.old name.entry.now (λ object. Some (suc (length object.calls))) ≡ Some n) }
+        ensures cause { IsByCause (object_cause self.old name.entry.now (moving_cause self.old id)) result }
+        ensures unchanged { OnErr result (self.new ≡ self.old) }
+    {
+        let Some(place) = self.objects.get_index_of(name) else {
+            return Err(Refusal::NoObject);
+        };
+        if self.objects[place].is_moving() {
+            return Err(Refusal::MovePending);
+        }
+        let Some(layout) = self.layouts.get(id as usize) else {
+            return Err(Refusal::BadLayout);
+        };
+        let layout = layout.clone()?;
+        let now = self.counter + 1;
+        match self.objects[place].call_move(layout, now) {
+            Ok(number) => {
+                self.counter = now;
+                self.called += 1;
+                Ok(number)
+            }
+            Err(refusal) => Err(refusal),
+        }
+    }
+
+    /// The call of this number is answered. The receipt names the object by its place in order of creation.
+    ///
+    /// `NoObject` or `NoCall` where there is none, `NotNow` unless it wants to be answered, and `Full` where the limit of
+    /// steps is met.
+    pub fn answer(&mut self, name: &str, call: u64) -> Result<Receipt, Refusal>
+        ensures step { OnOk result (self.new ≡ stepped self.old name.entry.now (Step.AnswerCall (pred call))) }
+        ensures receipt { IfOk result (λ r. if_named self.old name.entry.now (λ object.
+            receipt_at object (place_of self.old.objects name.entry.now) call (next self.old)) ≡ Some r) }
+
+        ensures cause { IsByCause (object_cause self.old name.entry.now (λ object. answer_cause (next self.old) object call)) result }
+        ensures unchanged { OnErr result (self.new ≡ self.old) }
+    {
+        let Some(place) = self.objects.get_index_of(name) else {
+            return Err(Refusal::NoObject);
+        };
+        let now = self.counter + 1;
+        match self.objects[place].answer(call, place as u32, now) {
+            Ok(receipt) => {
+                self.counter = now;
+                Ok(receipt)
+            }
+            Err(refusal) => Err(refusal),
+        }
+    }
+}

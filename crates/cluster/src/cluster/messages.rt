@@ -1,0 +1,191 @@
+//! What happens to messages.
+
+ghost use Rattle.std.specs.Prelude.{◌≡◌, ◌≤◌, Some, IfOk, OnOk, OnErr};
+ghost use Rattle.tag.specs.Refusal.{IsByCause, IsExactlyByCause};
+ghost use Rattle.tag.specs.declared.limits.TheConstants.{MOST_BYTES};
+ghost use Rattle.record.specs.Steps.{Step};
+ghost use Rattle.register.specs.Causes.{take_cause, lose_cause, repeat_cause};
+ghost use Rattle.register.specs.Position.{all_bytes};
+ghost use Rattle.register.specs.View.{took_at};
+ghost use Rattle.cluster.specs.Cluster.{Cluster as Store, if_named, is_reached};
+ghost use Rattle.cluster.specs.Steps.{stepped};
+ghost use Rattle.cluster.specs.Serving.{IsOf};
+ghost use Rattle.cluster.specs.Causes.{next, object_cause, serving_cause, can_handle, handled_at, place_cause};
+
+use crate::cluster::Cluster;
+use crate::servers::Servers;
+use mail::{Body, Message};
+use phase::Took;
+use register::Register;
+use tag::{MOST_BYTES, MOST_STEPS, Refusal, Stamp};
+
+impl Cluster {
+    /// The server of the request at a place serves it, and its reply stands in the request's place.
+    ///
+    /// `NoObject` or `NoMessage` where there is none, `Down` where the server is down, `NotNow` where the message is a
+    /// reply, and `Full` where the limit of steps is met or the request's piece has no room beside all that is stored.
+    pub fn serve(&mut self, name: &str, place: usize) -> Result<(), Refusal>
+        ensures step { OnOk result (self.new ≡ stepped self.old name.entry.now (Step.Serve place)) }
+        ensures cause { IsByCause (object_cause self.old name.entry.now (serving_cause self.old place)) result }
+        ensures unchanged { OnErr result (self.new ≡ self.old) }
+    {
+        let Some(index) = self.objects.get_index_of(name) else {
+            return Err(Refusal::NoObject);
+        };
+        let register = &mut self.objects[index];
+        let before = match room_to_serve(
+            &self.servers,
+            register,
+            place,
+            self.counter,
+            self.stored,
+        ) {
+            Ok(before) => before,
+            Err(refusal) => return Err(refusal),
+        };
+        let now = self.counter + 1;
+        match register.serve(place, now) {
+            Ok(()) => {
+                self.stored = self.stored - before + register.stored_in_all();
+                self.counter = now;
+                Ok(())
+            }
+            Err(refusal) => Err(refusal),
+        }
+    }
+
+    /// The call that the reply at a place names takes it.
+    ///
+    /// `NoObject` or `NoMessage` where there is none, `NotNow` where it is a request, and `Full` where the limit of steps is
+    /// met. It takes no memory.
+    pub fn take(&mut self, name: &str, place: usize) -> Result<Took, Refusal>
+        ensures step { OnOk result (self.new ≡ stepped self.old name.entry.now (Step.Take place)) }
+        ensures took { IfOk result (λ t. if_named self.old name.entry.now (λ object. Some (took_at object place)) ≡ Some t) }
+        ensures cause { IsExactlyByCause (object_cause self.old name.entry.now (λ object. take_cause (next self.old) object place)) result }
+        ensures unchanged { OnErr result (self.new ≡ self.old) }
+    {
+        let Some(index) = self.objects.get_index_of(name) else {
+            return Err(Refusal::NoObject);
+        };
+        let now = self.counter + 1;
+        match self.objects[index].take(place, now) {
+            Ok(took) => {
+                self.counter = now;
+                Ok(took)
+            }
+            Err(refusal) => Err(refusal),
+        }
+    }
+
+    /// The message at a place is lost.
+    ///
+    /// `NoObject` or `NoMessage` where there is none, and `Full` where the limit of steps is met. It takes no memory.
+    pub fn lose(&mut self, name: &str, place: usize) -> Result<(), Refusal>
+        ensures step { OnOk result (self.new ≡ stepped self.old name.entry.now (Step.Lose place)) }
+        ensures cause { IsExactlyByCause (object_cause self.old name.entry.now (λ object. lose_cause (next self.old) object place)) result }
+        ensures unchanged { OnErr result (self.new ≡ self.old) }
+    {
+        let Some(index) = self.objects.get_index_of(name) else {
+            return Err(Refusal::NoObject);
+        };
+        let now = self.counter + 1;
+        match self.objects[index].lose(place, now) {
+            Ok(()) => {
+                self.counter = now;
+                Ok(())
+            }
+            Err(refusal) => Err(refusal),
+        }
+    }
+
+    /// A copy of the message at a place is posted behind those that wait.
+    ///
+    /// `NoObject` or `NoMessage` where there is none, and `Full` where the limit of steps is met or one more message has no
+    /// room.
+    pub fn repeat(&mut self, name: &str, place: usize) -> Result<(), Refusal>
+        ensures step { OnOk result (self.new ≡ stepped self.old name.entry.now (Step.Repeat place)) }
+        ensures cause { IsByCause (object_cause self.old name.entry.now (λ object. repeat_cause (next self.old) object place)) result }
+        ensures unchanged { OnErr result (self.new ≡ self.old) }
+    {
+        let Some(index) = self.objects.get_index_of(name) else {
+            return Err(Refusal::NoObject);
+        };
+        let now = self.counter + 1;
+        match self.objects[index].repeat(place, now) {
+            Ok(()) => {
+                self.counter = now;
+                Ok(())
+            }
+            Err(refusal) => Err(refusal),
+        }
+    }
+
+    /// Whether the message at a place is a reply, or a request to a server that is up. It is no step.
+    ///
+    /// `NoObject` or `NoMessage` where there is none.
+    pub fn can_handle(&self, name: &str, place: usize) -> Result<bool, Refusal>
+        ensures value { IfOk result (λ b. if_named self.now name.now (handled_at self.now place) ≡ Some b) }
+        ensures cause { IsExactlyByCause (object_cause self.now name.now (place_cause place)) result }
+    {
+        let Some(register) = self.objects.get(name) else {
+            return Err(Refusal::NoObject);
+        };
+        let mail = register.mail_view();
+        if mail.len() <= place {
+            return Err(Refusal::NoMessage);
+        }
+        Ok(is_handled(&self.servers, register, mail.at(place)))
+    }
+}
+
+// What an object stores, where the request at a place may be served.
+fn room_to_serve(
+    servers: &Servers,
+    register: &Register,
+    place: usize,
+    counter: Stamp,
+    stored: u64,
+) -> Result<u64, Refusal>
+    requires { stored ≤ MOST_BYTES }
+    ensures before { IfOk result (λ before. before ≡ all_bytes register.now.object.banks) }
+    ensures cause { (cluster : Store) → IsOf cluster servers.now counter stored → IsExactlyByCause (serving_cause cluster place register.now.object) result }
+{
+    let mail = register.mail_view();
+    if mail.len() <= place {
+        return Err(Refusal::NoMessage);
+    }
+    let message = mail.at(place);
+    let Body::Request(_) = &message.body else {
+        return Err(Refusal::NotNow);
+    };
+    if !is_reached(servers, register, message) {
+        return Err(Refusal::Down);
+    }
+    if counter >= MOST_STEPS {
+        return Err(Refusal::Full);
+    }
+    if message.bytes() > MOST_BYTES - stored {
+        return Err(Refusal::Full);
+    }
+    Ok(register.stored_in_all())
+}
+
+// Whether a message is a reply, or a request to a server that is up.
+fn is_handled(servers: &Servers, register: &Register, message: &Message) -> bool
+    ensures { (cluster : Store) → cluster.servers ≡ servers.now → result ≡ can_handle cluster register.now.object message.now message.now.body }
+{
+    match &message.body {
+        Body::Request(_) => is_reached(servers, register, message),
+        Body::Reply { kind: _, reply: _ } => true,
+    }
+}
+
+// Whether the server of the member that a message names is up.
+fn is_reached(servers: &Servers, register: &Register, message: &Message) -> bool
+    ensures { (cluster : Store) → cluster.servers ≡ servers.now → result ≡ is_reached cluster register.now.object message.now }
+{
+    match register.server(message.position, message.member) {
+        Some(server) => servers.is_up(server),
+        None => false,
+    }
+}

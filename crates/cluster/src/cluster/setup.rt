@@ -1,0 +1,95 @@
+//! Layouts, objects and servers.
+
+ghost use Rattle.std.specs.Prelude.{◌≡◌, nat_lt, length, IfOk, OnOk, OnErr};
+ghost use Rattle.std.specs.List.{list_all};
+ghost use Rattle.tag.specs.Refusal.{IsByCause, IsExactlyByCause};
+ghost use Rattle.cluster.specs.Steps.{with_layout, with_server, created};
+ghost use Rattle.cluster.specs.Causes.{layout_cause, create_cause, server_cause};
+
+use crate::cluster::{Cluster, LayoutId};
+use layout::Layout;
+use register::Register;
+use std::alloc::Global;
+use tag::{LONGEST_NAME, MOST_LAYOUTS, MOST_OBJECTS, MOST_STEPS, Refusal};
+
+impl Cluster {
+    /// One more layout, which objects may have from now on. It answers the layout's number.
+    ///
+    /// `BadLayout` where a member is no server, and `Full` where the limit of steps or of layouts is met.
+    pub fn add_layout(&mut self, layout: Layout) -> Result<LayoutId, Refusal>
+        ensures step { OnOk result (self.new ≡ with_layout self.old layout) }
+        ensures id { IfOk result (λ id. id ≡ length self.old.layouts) }
+        ensures cause { IsByCause (layout_cause self.old layout) result }
+        ensures unchanged { OnErr result (self.new ≡ self.old) }
+    {
+        if !has_servers(&layout, self.servers.count()) {
+            return Err(Refusal::BadLayout);
+        }
+        if self.counter >= MOST_STEPS || self.layouts.len() >= MOST_LAYOUTS {
+            return Err(Refusal::Full);
+        }
+        let id = self.layouts.len() as u32;
+        self.layouts.push(layout)?;
+        self.counter += 1;
+        Ok(id)
+    }
+
+    /// One more object, with one position of this layout and no calls.
+    ///
+    /// `ObjectExists` where an object has this name, `BadLayout` where there is no such layout, `TooLong` where the name is
+    /// longer than `LONGEST_NAME` bytes, and `Full` where the limit of steps or of objects is met.
+    pub fn create(&mut self, alloc: Global, name: &str, id: LayoutId) -> Result<(), Refusal>
+        ensures step { OnOk result (self.new ≡ created self.old name.now id) }
+        ensures cause { IsByCause (create_cause self.old name.now id) result }
+        ensures unchanged { OnErr result (self.new ≡ self.old) }
+    {
+        if self.objects.get_index_of(name).is_some() {
+            return Err(Refusal::ObjectExists);
+        }
+        let Some(layout) = self.layouts.get(id as usize) else {
+            return Err(Refusal::BadLayout);
+        };
+        if name.len() > LONGEST_NAME {
+            return Err(Refusal::TooLong);
+        }
+        if self.counter >= MOST_STEPS || self.objects.len() >= MOST_OBJECTS {
+            return Err(Refusal::Full);
+        }
+        let now = self.counter + 1;
+        let register = Register::new(alloc, layout.clone()?, now)?;
+        let name = String::from_str(alloc, name)?;
+        self.objects.insert(name, register)?;
+        self.counter = now;
+        Ok(())
+    }
+
+    /// A server goes up or down. `BadLayout` where there is no such server, and `Full` where the limit of steps is met. It
+    /// takes no memory.
+    pub fn set_server(&mut self, server: u8, up: bool) -> Result<(), Refusal>
+        ensures step { OnOk result (self.new ≡ with_server self.old server up) }
+        ensures cause { IsExactlyByCause (server_cause self.old server) result }
+        ensures unchanged { OnErr result (self.new ≡ self.old) }
+    {
+        if server >= self.servers.count() {
+            return Err(Refusal::BadLayout);
+        }
+        if self.counter >= MOST_STEPS {
+            return Err(Refusal::Full);
+        }
+        self.servers.set(server, up);
+        self.counter += 1;
+        Ok(())
+    }
+}
+
+// Whether each member is one of so many servers.
+fn has_servers(layout: &Layout, servers: u8) -> bool
+    ensures { result ≡ list_all (λ member. nat_lt member servers) layout.now.members }
+{
+    for member in 0..layout.n() {
+        if layout.member(member) >= servers {
+            return false;
+        }
+    }
+    true
+}

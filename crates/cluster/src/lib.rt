@@ -1,0 +1,8 @@
+//! All objects of a store with their names, the layouts that they may have, and the servers.
+//! Each step is a step of one object or of the cluster itself, and raises one counter by one.
+#![tactic(auto)]
+
+pub use cluster::{Cluster, LayoutId};
+
+mod cluster;
+mod servers;

@@ -1,0 +1,61 @@
+//! The servers, and which of them are up.
+ghost use Rattle.std.specs.Prelude.{◌≡◌, ◌<◌, false, length, get_or, slice_set};
+ghost use Rattle.cluster.specs.Cluster.{all_up};
+
+use arrayvec::ArrayVec;
+use std::marker::Model;
+
+// As many as there are numbers for them.
+const MOST_SERVERS: usize = 255;
+
+/// Whether each server is up.
+#[derive(Debug, Drop)]
+pub struct Servers {
+    up: ArrayVec<bool, MOST_SERVERS>,
+}
+
+impl Model for Servers {
+    ghost use Rattle.std.specs.Prelude.{Bool, List};
+
+    ghost Value = { List Bool };
+
+    ghost view = { λ s. s.up.items };
+}
+
+impl Servers {
+    /// So many servers, all up. It takes no memory.
+    pub fn new(count: u8) -> Servers
+        ensures { result ≡ all_up count }
+    {
+        let mut up = ArrayVec::new();
+        for _ in 0..count {
+            up.push(true);
+        }
+        Servers { up }
+    }
+
+    /// How many there are.
+    pub fn count(&self) -> u8
+        ensures { result ≡ length self.now }
+    {
+        self.up.len() as u8
+    }
+
+    /// Whether a server is there and up.
+    pub fn is_up(&self, server: u8) -> bool
+        ensures { result ≡ get_or self.now server false }
+    {
+        match self.up.get(usize::from(server)) {
+            Some(up) => *up,
+            None => false,
+        }
+    }
+
+    /// A server goes up or down.
+    pub fn set(&mut self, server: u8, up: bool)
+        requires { server < length self.old }
+        ensures { self.new ≡ slice_set self.old server up }
+    {
+        self.up[usize::from(server)] = up;
+    }
+}

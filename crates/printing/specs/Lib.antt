@@ -1,0 +1,10 @@
+pub mod Vocabulary
+pub mod Words
+pub mod CallLine
+pub mod MailLines
+pub mod BankLine
+pub mod AccountLine
+pub mod HistoryLines
+pub mod SequenceLine
+pub mod AnswerLine
+pub mod Outcome

@@ -1,0 +1,25 @@
+-- The line of what a command did.
+use Rattle.std.specs.Prelude.{ℕ, List, [], ◌∷◌, Bool, true, false, codes}
+use Rattle.std.specs.Fmt.{decimal}
+use Rattle.tag.specs.Refusal.{refusal_text}
+use Rattle.printing.specs.declared.outcome.Outcome.{Outcome}
+use Rattle.printing.specs.declared.outcome.Outcome.TheVariants as of
+use Rattle.printing.specs.Vocabulary.{word_of_took}
+use Rattle.printing.specs.Words.{in_words}
+
+-- whether a check holds
+abbrev pub word_of_check : Bool → List ℕ
+word_of_check true = codes "true"
+word_of_check false = codes "false"
+
+-- the line of each outcome
+abbrev pub outcome_text : Outcome → List ℕ
+outcome_text of.Done = codes "ok"
+outcome_text (of.Layout id) = in_words (codes "layout" ∷ decimal id ∷ [])
+outcome_text (of.Called call) = in_words (codes "call" ∷ decimal call ∷ [])
+outcome_text (of.Took took) = word_of_took took
+outcome_text (of.Handled steps) = in_words (codes "handled" ∷ decimal steps ∷ [])
+outcome_text (of.Refused refusal) = in_words (codes "refused" ∷ refusal_text refusal ∷ [])
+outcome_text (of.CallRefused call refusal) =
+    in_words (codes "call" ∷ decimal call ∷ codes "refused" ∷ refusal_text refusal ∷ [])
+outcome_text (of.Checked holds) = in_words (codes "check" ∷ word_of_check holds ∷ [])

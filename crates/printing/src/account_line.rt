@@ -1,0 +1,33 @@
+//! The accounts of a cluster.
+ghost use Rattle.std.specs.Prelude.{Some};
+ghost use Rattle.printing.specs.AccountLine.{account_text};
+
+use std::fmt;
+
+/// How many bytes of fragments are stored, and how many wait in messages.
+#[derive(Debug, PartialEq, Eq, Drop)]
+pub struct Account {
+    /// What all servers store.
+    pub stored: u64,
+    /// What waits in the messages of all objects.
+    pub mailed: u64,
+    /// What each server stores, from server 0 on.
+    pub servers: Vec<u64>,
+}
+
+/// The line of the accounts: `stored S mailed M`, and then ` SERVER:BYTES` for each server in rising order.
+#[derive(Clone, Copy)]
+pub struct AccountLine<'a>(pub &'a Account);
+
+impl fmt::Display for AccountLine<'_> {
+    ghost output = { λ line. Some (account_text line.0.now) };
+
+    fn fmt<W: fmt::Write>(&self, f: &mut fmt::Formatter<W>) -> fmt::Result {
+        let account = self.0;
+        write!(f, "stored {} mailed {}", account.stored, account.mailed)?;
+        for (server, bytes) in account.servers.iter().enumerate() {
+            write!(f, " {server}:{bytes}")?;
+        }
+        Ok(())
+    }
+}

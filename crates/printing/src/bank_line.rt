@@ -1,0 +1,53 @@
+//! What a bank keeps.
+ghost use Rattle.std.specs.Prelude.{Some};
+ghost use Rattle.printing.specs.BankLine.{bank_text, row_text};
+
+use crate::dash::NumberOrDash;
+use crate::vocabulary::{label_word, status_word};
+use bank::{Bank, Row};
+use std::fmt;
+use tag::Tag;
+
+/// The line of a bank: `next S`, and then `; NUMBER.CALL LABEL LEN` for each tag in rising order, where LEN is the number
+/// of bytes of the piece, or `-` for none.
+#[derive(Clone, Copy)]
+pub struct BankLine<'a>(pub &'a Bank);
+
+impl fmt::Display for BankLine<'_> {
+    ghost output = { λ line. Some (bank_text line.0.now) };
+
+    fn fmt<W: fmt::Write>(&self, f: &mut fmt::Formatter<W>) -> fmt::Result {
+        let bank = self.0;
+        write!(f, "next {}", status_word(bank.pointer().status()))?;
+        for i in 0..bank.count() {
+            let (tag, row) = bank.kept(i);
+            write!(f, "; {}", RowText { tag, row })?;
+        }
+        Ok(())
+    }
+}
+
+// What is kept for a tag.
+#[derive(Clone, Copy)]
+struct RowText<'a> {
+    tag: Tag,
+    row: &'a Row,
+}
+
+impl fmt::Display for RowText<'_> {
+    ghost output = { λ text. Some (row_text text.tag text.row.now) };
+
+    fn fmt<W: fmt::Write>(&self, f: &mut fmt::Formatter<W>) -> fmt::Result {
+        let bytes = match &self.row.arrival {
+            Some(arrival) => Some(arrival.piece.bytes.len() as u64),
+            None => None,
+        };
+        write!(
+            f,
+            "{} {} {}",
+            self.tag,
+            label_word(self.row.label),
+            NumberOrDash(bytes)
+        )
+    }
+}

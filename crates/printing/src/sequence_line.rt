@@ -1,0 +1,24 @@
+//! A sequence of calls.
+ghost use Rattle.std.specs.Prelude.{Some};
+ghost use Rattle.printing.specs.SequenceLine.{sequence_text};
+
+use std::fmt;
+
+/// The line of a sequence: the calls parted by one space, or `-` for none.
+#[derive(Clone, Copy)]
+pub struct SequenceLine<'a>(pub &'a [u64]);
+
+impl fmt::Display for SequenceLine<'_> {
+    ghost output = { λ line. Some (sequence_text line.0.now) };
+
+    fn fmt<W: fmt::Write>(&self, f: &mut fmt::Formatter<W>) -> fmt::Result {
+        let Some((first, rest)) = self.0.split_first() else {
+            return f.write_str("-");
+        };
+        write!(f, "{first}")?;
+        for call in rest {
+            write!(f, " {call}")?;
+        }
+        Ok(())
+    }
+}
