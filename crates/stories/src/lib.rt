@@ -8,3 +8,5 @@ mod certificates;
 mod many_objects;
 #[cfg(test)]
 mod one_object;
+#[cfg(test)]
+mod whole_calls;

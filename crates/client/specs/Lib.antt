@@ -1,0 +1,4 @@
+pub mod Choices
+pub mod Coding
+pub mod Driver
+pub mod Rounds
