@@ -2,3 +2,8 @@ pub mod Choices
 pub mod Coding
 pub mod Driver
 pub mod Rounds
+pub mod Calls
+pub mod Seats
+pub mod Closing
+pub mod Moves
+pub mod Sections

@@ -13,3 +13,4 @@ pub mod Stepping
 pub mod Sums
 pub mod Totals
 pub mod Values
+mod Room

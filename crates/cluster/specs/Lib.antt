@@ -5,3 +5,4 @@ pub mod Accounts
 pub mod Kept
 pub mod Serving
 pub mod Atomic
+pub mod Places

@@ -1,0 +1,6 @@
+mod Stepping
+mod Printing
+mod Delivering
+mod Reading
+mod Playing
+mod Running
