@@ -1,5 +1,4 @@
 pub mod CommandLineLemmas
-pub mod FormLemmas
 pub mod FragmentsLemmas
 pub mod ProgramLemmas
 pub mod ReadingLemmas

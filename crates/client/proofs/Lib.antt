@@ -8,10 +8,3 @@ pub mod Opened
 pub mod Refusing
 pub mod Turning
 pub mod Finishing
-pub mod Booking
-pub mod Rising
-pub mod Counted
-pub mod Going
-pub mod Stirring
-pub mod Accounts
-pub mod Closes

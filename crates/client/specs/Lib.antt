@@ -2,8 +2,3 @@ pub mod Choices
 pub mod Coding
 pub mod Driver
 pub mod Rounds
-pub mod Calls
-pub mod Seats
-pub mod Closing
-pub mod Moves
-pub mod Sections

@@ -13,4 +13,3 @@ pub mod Stepping
 pub mod Sums
 pub mod Totals
 pub mod Values
-mod Room

@@ -5,4 +5,3 @@ pub mod Accounts
 pub mod Kept
 pub mod Serving
 pub mod Atomic
-pub mod Places

@@ -15,7 +15,6 @@ mod calls;
 mod laws;
 mod messages;
 mod phases;
-mod room;
 mod setup;
 
 /// The number of a layout of a cluster, from 0 in the order in which they were added.

@@ -1,6 +1,0 @@
-mod Stepping
-mod Printing
-mod Delivering
-mod Reading
-mod Playing
-mod Running
