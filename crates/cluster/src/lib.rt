@@ -5,5 +5,4 @@
 pub use cluster::{Cluster, LayoutId};
 
 mod cluster;
-mod loads;
 mod servers;

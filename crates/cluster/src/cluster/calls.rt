@@ -9,7 +9,6 @@ ghost use Rattle.cluster.specs.Cluster.{if_named, place_of};
 ghost use Rattle.cluster.specs.Steps.{stepped, moved};
 ghost use Rattle.cluster.specs.Causes.{next, object_cause, moving_cause};
 
-use crate::cluster::mailing::{exchanged, waiting};
 use crate::cluster::{Cluster, LayoutId};
 use bytes::Bytes;
 use register::Receipt;
@@ -29,11 +28,8 @@ impl Cluster {
             return Err(Refusal::NoObject);
         };
         let now = self.counter + 1;
-        let register = &mut self.objects[place];
-        let waited = waiting(register);
-        match register.call_read(now) {
+        match self.objects[place].call_read(now) {
             Ok(number) => {
-                self.mailed = exchanged(self.mailed, waited, waiting(register));
                 self.counter = now;
                 self.called += 1;
                 Ok(number)
@@ -55,11 +51,8 @@ impl Cluster {
             return Err(Refusal::NoObject);
         };
         let now = self.counter + 1;
-        let register = &mut self.objects[place];
-        let waited = waiting(register);
-        match register.call_write(value, now) {
+        match self.objects[place].call_write(value, now) {
             Ok(number) => {
-                self.mailed = exchanged(self.mailed, waited, waiting(register));
                 self.counter = now;
                 self.called += 1;
                 Ok(number)
@@ -90,11 +83,8 @@ impl Cluster {
         };
         let layout = layout.clone()?;
         let now = self.counter + 1;
-        let register = &mut self.objects[place];
-        let waited = waiting(register);
-        match register.call_move(layout, now) {
+        match self.objects[place].call_move(layout, now) {
             Ok(number) => {
-                self.mailed = exchanged(self.mailed, waited, waiting(register));
                 self.counter = now;
                 self.called += 1;
                 Ok(number)
@@ -119,11 +109,8 @@ impl Cluster {
             return Err(Refusal::NoObject);
         };
         let now = self.counter + 1;
-        let register = &mut self.objects[place];
-        let waited = waiting(register);
-        match register.answer(call, place as u32, now) {
+        match self.objects[place].answer(call, place as u32, now) {
             Ok(receipt) => {
-                self.mailed = exchanged(self.mailed, waited, waiting(register));
                 self.counter = now;
                 Ok(receipt)
             }

@@ -10,7 +10,6 @@ ghost use Rattle.cluster.specs.Steps.{stepped};
 ghost use Rattle.cluster.specs.Causes.{next, object_cause};
 
 use crate::cluster::Cluster;
-use crate::cluster::mailing::{exchanged, waiting};
 use bytes::Bytes;
 use decoder::Decoded;
 use encoder::{Coded, Piece};
@@ -42,11 +41,8 @@ impl Cluster {
             return Err(Refusal::NoObject);
         };
         let now = self.counter + 1;
-        let register = &mut self.objects[place];
-        let waited = waiting(register);
-        match register.advance(call, now) {
+        match self.objects[place].advance(call, now) {
             Ok(()) => {
-                self.mailed = exchanged(self.mailed, waited, waiting(register));
                 self.counter = now;
                 Ok(())
             }
@@ -82,11 +78,8 @@ impl Cluster {
             return Err(Refusal::NoObject);
         };
         let now = self.counter + 1;
-        let register = &mut self.objects[place];
-        let waited = waiting(register);
-        match register.supply(call, coded, now) {
+        match self.objects[place].supply(call, coded, now) {
             Ok(()) => {
-                self.mailed = exchanged(self.mailed, waited, waiting(register));
                 self.counter = now;
                 Ok(())
             }
@@ -108,11 +101,8 @@ impl Cluster {
             return Err(Refusal::NoObject);
         };
         let now = self.counter + 1;
-        let register = &mut self.objects[place];
-        let waited = waiting(register);
-        match register.post(call, now) {
+        match self.objects[place].post(call, now) {
             Ok(()) => {
-                self.mailed = exchanged(self.mailed, waited, waiting(register));
                 self.counter = now;
                 Ok(())
             }
@@ -147,11 +137,8 @@ impl Cluster {
             return Err(Refusal::NoObject);
         };
         let now = self.counter + 1;
-        let register = &mut self.objects[place];
-        let waited = waiting(register);
-        match register.settle(call, decoded, now) {
+        match self.objects[place].settle(call, decoded, now) {
             Ok(()) => {
-                self.mailed = exchanged(self.mailed, waited, waiting(register));
                 self.counter = now;
                 Ok(())
             }

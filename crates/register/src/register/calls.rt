@@ -1,7 +1,7 @@
 //! How calls begin and end.
 
 ghost use Rattle.std.specs.Prelude.{◌≡◌, ◌⊎◌, ℕ, ◌<◌, nat_le, nat_lt, suc, pred, false, List, length, OnOk, OnErr, IfOk, Some};
-ghost use Rattle.tag.specs.Refusal.{IsByCause, IsExactlyByCause};
+ghost use Rattle.tag.specs.Refusal.{IsByCause};
 ghost use Rattle.tag.specs.declared.refusal.Refusal.TheVariants.{Full};
 ghost use Rattle.mail.specs.Mail.{mail_cause};
 ghost use Rattle.record.specs.declared.call.CallKind.TheVariants.{Read, Write};
@@ -96,26 +96,6 @@ impl Register {
             }
             Err(refusal) => Err(refusal),
         }
-    }
-
-    /// Whether a read may begin at step `now`, or a write of a value that is not too long. It takes no memory.
-    ///
-    /// `Full` where a limit of the steps, of the calls or of the messages is met.
-    pub fn may_call(&self, now: Stamp) -> Result<(), Refusal>
-        requires after { self.now.last < now }
-        ensures cause { IsExactlyByCause (read_cause now self.now.object) result }
-    {
-        let members = usize::from(self.positions[0].layout().n());
-        if now > MOST_STEPS {
-            return Err(Refusal::Full);
-        }
-        if self.calls.len() >= MOST_CALLS {
-            return Err(Refusal::Full);
-        }
-        if !has_room(&self.mail, members) {
-            return Err(Refusal::Full);
-        }
-        Ok(())
     }
 
     /// A move to a layout begins, with its first phase: the next position is there from now on, with its banks. It answers
