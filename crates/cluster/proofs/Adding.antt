@@ -54,7 +54,7 @@ module _ (cluster : Cluster) (bytes count : ℕ) (layout : Layout) (kept : IsKep
   }
 
 -- one more object in a sum over all
-sum_pushed : (f : Named → ℕ) (objects : List Named) (object : Named) → object_sum f (objects ++ object ∷ []) ≡ object_sum f objects + f object
+pub sum_pushed : (f : Named → ℕ) (objects : List Named) (object : Named) → object_sum f (objects ++ object ∷ []) ≡ object_sum f objects + f object
 sum_pushed f [] object = omega arith
 sum_pushed f (o ∷ objects) object = let rest = sum_pushed f objects object in omega (arith, rest)
 

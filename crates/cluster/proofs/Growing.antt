@@ -1,7 +1,6 @@
 -- How many bytes a served request adds to what all banks store.
-use Rattle.std.proofs.Common.{◌≡◌, ℕ, zero, suc, ◌+◌, ◌-◌, ◌≤◌, Bool, true, false, if◌then◌else◌, List, [], ◌∷◌, get_or, slice_set, Option, Some, bytes_eq, sum_by, sym, ap, subst, ◌∙◌, arith}
+use Rattle.std.proofs.Common.{◌≡◌, ℕ, zero, suc, ◌+◌, ◌≤◌, Bool, true, false, if◌then◌else◌, List, [], ◌∷◌, get_or, slice_set, Option, Some, bytes_eq, sum_by, sym, ap, subst, ◌∙◌, arith}
 use Rattle.std.proofs.lemmas.List.Sums.{sum_by-cons}
-use Rattle.tag.specs.declared.limits.TheConstants.{MOST_BYTES}
 use Rattle.layout.specs.Layout.{Layout}
 use Rattle.encoder.specs.Fragment.{fragment}
 use Rattle.bank.specs.Bytes.{bank_bytes}
@@ -11,10 +10,10 @@ use Rattle.mail.specs.Message.{request_bytes}
 use Rattle.record.specs.Records.{Object, bank_at, no_bank}
 use Rattle.record.specs.Steps.{Step, stepped, on_message, served_by}
 use Rattle.register.specs.Position.{banks_bytes, all_bytes}
-use Rattle.register.specs.State.{State, made}
+use Rattle.register.specs.State.{State}
 use Rattle.register.proofs.Lists.{same_some}
 use Rattle.register.proofs.Served.{served_few}
-use Rattle.cluster.specs.Accounts.{object_sum, banks_all}
+use Rattle.cluster.specs.Accounts.{object_sum}
 use Rattle.cluster.specs.Cluster.{Named, Cluster, named}
 use Rattle.cluster.specs.Kept.{IsKept}
 use Rattle.cluster.proofs.Places.{Entry, objects_of, IsAt, named_at}
@@ -59,13 +58,3 @@ part_at {entries = entries} {name = name} {old = old} kept at =
     let part = part_named (λ s. all_bytes s.object.banks) name old (objects_of entries) (named_at at) in
     let all = kept.stored in
     omega (arith, part, all)
-
--- the running sum stays within its limit
-pub served_within : {cluster : Cluster} {place : ℕ} (old new : State) → HasRoom cluster place old.object → (now : ℕ) → new ≡ made (Step.Serve place) now old
-    → (bytes before after : ℕ) → bytes ≡ banks_all cluster.objects → before ≡ all_bytes old.object.banks → before ≤ bytes → after ≡ all_bytes new.object.banks
-    → bytes - before + after ≤ MOST_BYTES
-served_within old new room now is bytes before after all part less more =
-    let most = served_most room now in
-    let same = more ∙ ap (λ (s : State). all_bytes s.object.banks) is in
-    let fits = room.fits in
-    omega (arith, most, same, fits, all, part, less)

@@ -3,6 +3,7 @@ pub mod Allowed
 pub mod Growing
 pub mod Keeping
 pub mod Laws
+pub mod Loading
 pub mod Moves
 pub mod Opening
 pub mod Parts
@@ -10,6 +11,8 @@ pub mod Places
 pub mod Reading
 pub mod Serving
 pub mod Stepping
+pub mod Summing
 pub mod Sums
 pub mod Totals
 pub mod Values
+mod Room

@@ -18,10 +18,12 @@ use Rattle.cluster.specs.Causes.{if_layout, layout_cause, create_cause}
 use Rattle.cluster.specs.Cluster.{Named, Cluster, named}
 use Rattle.cluster.specs.Kept.{HasMembersBelow, IsKept}
 use Rattle.cluster.specs.Steps.{with_object, created}
+use Rattle.cluster.specs.Summed.{IsCounted}
 use Rattle.cluster.proofs.Adding.{layout_kept, object_kept, inserted_last}
 use Rattle.cluster.proofs.Moves.{IsLayout, layout_found}
 use Rattle.cluster.proofs.Places.{Entry, object_of, objects_of, is_name, named_is, named_none}
 use Rattle.cluster.proofs.Stepping.{cluster_of}
+use Rattle.cluster.proofs.Summing.{object_summed}
 
 -- whether each member is one of this many servers
 abbrev pub are_servers : (servers : ℕ) → Layout → Bool
@@ -56,14 +58,16 @@ module _ {servers : List Bool} {layouts : List Layout} {objects : List Named} {c
       layout_by true is ∙ step_within (suc counter) _ (omega (arith, few)) ∙ ap (λ b. unless b Full None) (not_lt (length layouts) MOST_LAYOUTS many)
 
 -- what the cluster keeps once the layout is added
-pub added_kept : {servers : List Bool} {layouts later : List Layout} {objects : List Named} {counter bytes count : ℕ} (layout : Layout)
+pub added_counted : {servers : List Bool} {layouts later : List Layout} {objects : List Named} {counter bytes count waiting : ℕ} {loads : List ℕ} (layout : Layout)
     → later ≡ layouts ++ layout ∷ [] → are_servers (length servers) layout ≡ true → counter < MOST_STEPS
-    → IsKept (record { servers = servers; layouts = layouts; objects = objects; counter = counter }) bytes count
-    → IsKept (record { servers = servers; layouts = later; objects = objects; counter = counter + 1 }) bytes count
-added_kept {servers} {layouts} {later} {objects} {counter} {bytes} {count} layout is below few kept =
-    subst (λ (ls : List Layout). IsKept (record { servers = servers; layouts = ls; objects = objects; counter = counter + 1 }) bytes count) (sym is)
-    (subst (λ n. IsKept (record { servers = servers; layouts = layouts ++ layout ∷ []; objects = objects; counter = n }) bytes count) (sym (add-one counter))
-    (layout_kept (record { servers = servers; layouts = layouts; objects = objects; counter = counter }) bytes count layout kept below (omega (arith, few))))
+    → IsCounted (record { servers = servers; layouts = layouts; objects = objects; counter = counter }) bytes count waiting loads
+    → IsCounted (record { servers = servers; layouts = later; objects = objects; counter = counter + 1 }) bytes count waiting loads
+added_counted {servers} {layouts} {later} {objects} {counter} {bytes} {count} layout is below few counted = record {
+  kept = subst (λ (ls : List Layout). IsKept (record { servers = servers; layouts = ls; objects = objects; counter = counter + 1 }) bytes count) (sym is)
+      (subst (λ n. IsKept (record { servers = servers; layouts = layouts ++ layout ∷ []; objects = objects; counter = n }) bytes count) (sym (add-one counter))
+      (layout_kept (record { servers = servers; layouts = layouts; objects = objects; counter = counter }) bytes count layout counted.kept below (omega (arith, few))));
+  summed = let s = counted.summed in record { mailed = s.mailed; few = s.few; servers = s.servers; stored = s.stored };
+}
 
 -- An object
 
@@ -147,10 +151,14 @@ module _ {entries : List Entry} {counter : ℕ} {later : List Entry} {name : Lis
   created_is {servers} {layouts} {now} id same found =
       cluster_is servers layouts ∙ ap (λ (k : Cluster). with_object k name layout) same ∙ ap (λ (l : Layout). with_object now name l) (sym (layout_found same found))
 
-  pub created_kept : {servers : List Bool} {layouts : List Layout} {bytes count : ℕ} (id : ℕ) → IsLayout layouts id layout → counter < MOST_STEPS
-      → length (objects_of entries) < MOST_OBJECTS → IsKept (cluster_of servers layouts entries counter) bytes count
-      → IsKept (cluster_of servers layouts later (counter + 1)) bytes count
-  created_kept {servers} {layouts} {bytes} {count} id found few few_objects kept =
-      subst (λ (k : Cluster). IsKept k bytes count) (sym (cluster_is servers layouts))
-      (object_kept (cluster_of servers layouts entries counter) bytes count name layout kept
-      (all_found (HasMembersBelow (length servers)) layouts id layout kept.layouts found.here) no_object (omega (arith, few)) few_objects)
+  pub created_counted : {servers : List Bool} {layouts : List Layout} {bytes count waiting : ℕ} {loads : List ℕ} (id : ℕ) → IsLayout layouts id layout
+      → counter < MOST_STEPS
+      → length (objects_of entries) < MOST_OBJECTS → IsCounted (cluster_of servers layouts entries counter) bytes count waiting loads
+      → IsCounted (cluster_of servers layouts later (counter + 1)) bytes count waiting loads
+  created_counted {servers} {layouts} {bytes} {count} {waiting} {loads} id found few few_objects counted =
+      subst (λ (k : Cluster). IsCounted k bytes count waiting loads) (sym (cluster_is servers layouts))
+      (record {
+        kept = object_kept (cluster_of servers layouts entries counter) bytes count name layout counted.kept
+            (all_found (HasMembersBelow (length servers)) layouts id layout counted.kept.layouts found.here) no_object (omega (arith, few)) few_objects;
+        summed = object_summed (cluster_of servers layouts entries counter) waiting loads name layout counted.summed;
+      })

@@ -56,10 +56,6 @@ module _ {servers : List Bool} {layouts : List Layout} {counter : ℕ} {entries 
   unchanged_at at is =
       ap (λ s. cluster_of servers layouts (set_value_at entries place s) counter) is ∙ ap (λ es. cluster_of servers layouts es counter) (same_at at)
 
-  pub refused_kept : {bytes count : ℕ} {new : State} → IsKept (cluster_of servers layouts entries counter) bytes count → IsAt entries name place old → new ≡ old
-      → IsKept (cluster_of servers layouts (set_value_at entries place new) counter) bytes count
-  refused_kept {bytes} {count} kept at is = subst (λ k. IsKept k bytes count) (sym (unchanged_at at is)) kept
-
   -- the object's last step is before the next one
   pub last_before : {bytes count : ℕ} → IsKept (cluster_of servers layouts entries counter) bytes count → IsAt entries name place old → old.last < counter + 1
   last_before kept at = let p = placed name old kept (named_at at) in let past = p.1.past in omega (arith, past)

@@ -17,15 +17,20 @@ sum_none : (from count : ℕ) → member_sum (λ s. 0) from count ≡ 0
 sum_none from zero = refl
 sum_none from (suc count) = let rest = sum_none (suc from) count in omega (arith, rest)
 
-sum_added : (f g : ℕ → ℕ) (from count : ℕ) → member_sum (λ s. f s + g s) from count ≡ member_sum f from count + member_sum g from count
+-- the same, server by server
+pub sum_same : (f g : ℕ → ℕ) (from count : ℕ) → ((s : ℕ) → f s ≡ g s) → member_sum f from count ≡ member_sum g from count
+sum_same f g from zero same = refl
+sum_same f g from (suc count) same = let rest = sum_same f g (suc from) count same in let here = same from in omega (arith, rest, here)
+
+pub sum_added : (f g : ℕ → ℕ) (from count : ℕ) → member_sum (λ s. f s + g s) from count ≡ member_sum f from count + member_sum g from count
 sum_added f g from zero = refl
 sum_added f g from (suc count) = let rest = sum_added f g (suc from) count in omega (arith, rest)
 
-chosen : (b : Bool) (n : ℕ) → b ≡ true → (if b then n else 0) ≡ n
+pub chosen : (b : Bool) (n : ℕ) → b ≡ true → (if b then n else 0) ≡ n
 chosen true n e = refl
 chosen false n e = absurd (cc)
 
-passed : (b : Bool) (n : ℕ) → b ≡ false → (if b then n else 0) ≡ 0
+pub passed : (b : Bool) (n : ℕ) → b ≡ false → (if b then n else 0) ≡ 0
 passed true n e = absurd (cc)
 passed false n e = refl
 
@@ -38,7 +43,7 @@ sum_past k n from (suc count) before =
     omega (arith, rest, here)
 
 -- one server counts it
-sum_one : (k n from count : ℕ) → from ≤ k → k < from + count → member_sum (λ s. if k == s then n else 0) from count ≡ n
+pub sum_one : (k n from count : ℕ) → from ≤ k → k < from + count → member_sum (λ s. if k == s then n else 0) from count ≡ n
 sum_one k n from zero low high = absurd (omega (arith, low, high))
 sum_one k n from (suc count) low high = pick (k == from) refl (λ above. sum_one k n (suc from) count above (omega (arith, high)))
   where

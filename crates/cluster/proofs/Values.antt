@@ -1,9 +1,8 @@
--- Sums over the objects, as the values of the map give them, and how large they are.
-use Rattle.std.proofs.Common.{◌≡◌, ℕ, zero, suc, ◌+◌, ◌*◌, ◌≤◌, ◌<◌, List, [], ◌∷◌, length, sum_by, refl, ap, arith}
+-- How large a server's part of the objects' sums is, and what waits for one object.
+use Rattle.std.proofs.Common.{◌≡◌, ℕ, zero, suc, ◌+◌, ◌*◌, ◌≤◌, ◌<◌, List, [], ◌∷◌, length, ap, arith}
 use Rattle.std.specs.List.{AllByRecursion}
-use Rattle.std.specs.Map.{values_of}
 use Rattle.std.proofs.lemmas.List.Sums.{sum_by-cons}
-use Rattle.tag.specs.declared.limits.TheConstants.{LONGEST_VALUE, MOST_BYTES, MOST_MESSAGES}
+use Rattle.tag.specs.declared.limits.TheConstants.{LONGEST_VALUE, MOST_MESSAGES}
 use Rattle.encoder.specs.Fragment.{fragment}
 use Rattle.mail.specs.declared.message.Message.{Message}
 use Rattle.mail.specs.Message.{message_bytes}
@@ -12,33 +11,11 @@ use Rattle.record.specs.Accounts.{member_sum}
 use Rattle.record.specs.Accounts as of
 use Rattle.record.specs.Records.{Object}
 use Rattle.record.specs.Sound.{IsSound}
-use Rattle.register.specs.State.{State}
 use Rattle.register.proofs.Short.{mail_short}
 use Rattle.cluster.specs.Accounts.{object_sum}
 use Rattle.cluster.specs.Cluster.{Cluster}
 use Rattle.cluster.specs.Kept.{IsKept}
-use Rattle.cluster.proofs.Places.{Entry, objects_of}
 use Rattle.cluster.proofs.Totals.{objects_total}
-
--- the sum over the objects is the sum over the map's values
-pub sum_values : (g : State → ℕ) (entries : List Entry) → object_sum (λ o. g o.state) (objects_of entries) ≡ sum_by g (values_of entries)
-sum_values g [] = refl
-sum_values g (e ∷ es) = let rest = sum_values g es in omega (arith, rest, sum_by-cons g e.1 (values_of es))
-
--- a sum as far as it has come, with one value more, and at its end
-pub sum_next : (g : State → ℕ) (values initial left rest : List State) (value : State) (total : ℕ) → total + sum_by g left ≡ sum_by g initial → initial ≡ values
-    → left ≡ value ∷ rest → total + g value ≤ sum_by g values
-sum_next g values initial left rest value total so_far start step =
-    let all = ap (sum_by g) start in
-    let here = ap (sum_by g) step in
-    omega (arith, so_far, all, here, sum_by-cons g value rest)
-
-pub sum_done : (g : State → ℕ) (values initial left : List State) (total : ℕ) → total + sum_by g left ≡ sum_by g initial → initial ≡ values → left ≡ []
-    → total ≡ sum_by g values
-sum_done g values initial left total so_far start done =
-    let all = ap (sum_by g) start in
-    let none : sum_by g left ≡ 0 = ap (sum_by g) done in
-    omega (arith, so_far, all, none)
 
 -- one server's part of what all servers store
 member_past : (f : ℕ → ℕ) (from ahead count : ℕ) → ahead < count → f (from + ahead) ≤ member_sum f from count
@@ -55,14 +32,13 @@ member_part f member count high =
     let here : f (0 + member) ≡ f member = ap f (omega arith) in
     omega (arith, part, here)
 
-pub stored_fits : {cluster : Cluster} {bytes count : ℕ} → IsKept cluster bytes count → (server : ℕ) → server < length cluster.servers
-    → object_sum (λ o. of.stored o.state.object server) cluster.objects ≤ MOST_BYTES
-stored_fits {cluster} kept server there =
+pub stored_part : {cluster : Cluster} {bytes count : ℕ} → IsKept cluster bytes count → (server : ℕ) → server < length cluster.servers
+    → object_sum (λ o. of.stored o.state.object server) cluster.objects ≤ bytes
+stored_part {cluster} kept server there =
     let part = member_part (λ s. object_sum (λ o. of.stored o.state.object s) cluster.objects) server (length cluster.servers) there in
     let all = objects_total (length cluster.servers) cluster.counter cluster.objects kept.objects in
-    let within = kept.within in
     let total = kept.stored in
-    omega (arith, part, all, within, total)
+    omega (arith, part, all, total)
 
 -- what waits for one object
 bytes_few : (messages : List Message) → AllByRecursion (λ m. message_bytes m ≤ LONGEST_VALUE) messages → mail_bytes messages ≤ length messages * LONGEST_VALUE

@@ -4,4 +4,6 @@ pub mod Causes
 pub mod Accounts
 pub mod Kept
 pub mod Serving
+pub mod Summed
 pub mod Atomic
+pub mod Places

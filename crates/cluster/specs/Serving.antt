@@ -1,5 +1,7 @@
 -- What a served request asks of a cluster.
-use Rattle.std.specs.Prelude.{◌≡◌, ℕ, Bool, List}
+use Rattle.std.specs.Prelude.{◌≡◌, ℕ, Bool, List, Some, slice_get}
+use Rattle.mail.specs.declared.message.Message.{Message}
+use Rattle.record.specs.Records.{Object, layout_at}
 use Rattle.cluster.specs.Cluster.{Cluster}
 use Rattle.cluster.specs.Accounts.{banks_all}
 
@@ -8,3 +10,8 @@ pub record IsOf (cluster : Cluster) (up : List Bool) (last stored : ℕ) : Type 
   pub servers : cluster.servers ≡ up
   pub counter : cluster.counter ≡ last
   pub bytes : banks_all cluster.objects ≡ stored
+
+-- the message at this place goes to this server
+abbrev pub GoesTo : Object → (place server : ℕ) → Type 0
+GoesTo object place server =
+    (message : Message) → slice_get object.mail place ≡ Some message → slice_get (layout_at object message.position).members message.member ≡ Some server

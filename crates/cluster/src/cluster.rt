@@ -2,6 +2,7 @@ ghost use Rattle.std.specs.Prelude.{◌≡◌, ◌≤◌, [], length};
 ghost use Rattle.tag.specs.declared.limits.TheConstants.{MOST_STEPS};
 ghost use Rattle.cluster.specs.Cluster.{all_up};
 
+use crate::loads::Loads;
 use crate::servers::Servers;
 use indexmap::IndexMap;
 use layout::Layout;
@@ -13,8 +14,10 @@ use tag::{Refusal, Stamp};
 mod accounts;
 mod calls;
 mod laws;
+mod mailing;
 mod messages;
 mod phases;
+mod room;
 mod setup;
 
 /// The number of a layout of a cluster, from 0 in the order in which they were added.
@@ -32,6 +35,10 @@ pub struct Cluster {
     counter: Stamp,
     // The bytes of all pieces in all banks.
     stored: u64,
+    // The bytes of all pieces in the banks of each server.
+    loads: Loads,
+    // The bytes of all pieces in all messages.
+    mailed: u64,
     // How many calls all objects have.
     called: u64,
 }
@@ -41,7 +48,7 @@ impl Model for Cluster {
     ghost use Rattle.layout.specs.contracts.layout.Layout as arrangement;
     ghost use Rattle.register.specs.contracts.register.Register as object;
     ghost use Rattle.cluster.specs.Cluster.{Cluster as Store, cluster_code};
-    ghost use Rattle.cluster.specs.Kept.{IsKept};
+    ghost use Rattle.cluster.specs.Summed.{IsCounted};
 
     ghost Value = { Store };
 
@@ -54,12 +61,12 @@ impl Model for Cluster {
       counter = c.counter;
     } };
 
-    ghost invariant = { λ c. IsKept (record {
+    ghost invariant = { λ c. IsCounted (record {
       servers = c.servers;
       layouts = c.layouts.items;
       objects = map (λ e. record { name = string_bytes e.0; state = e.1 }) c.objects.entries;
       counter = c.counter;
-    }) c.stored c.called };
+    }) c.stored c.called c.mailed c.loads };
 }
 
 impl Cluster {
@@ -73,6 +80,8 @@ impl Cluster {
             objects: IndexMap::new(alloc),
             counter: 0,
             stored: 0,
+            loads: Loads::new(servers),
+            mailed: 0,
             called: 0,
         }
     }

@@ -5,4 +5,5 @@
 pub use cluster::{Cluster, LayoutId};
 
 mod cluster;
+mod loads;
 mod servers;

@@ -6,7 +6,7 @@ use arrayvec::ArrayVec;
 use std::marker::Model;
 
 // As many as there are numbers for them.
-const MOST_SERVERS: usize = 255;
+pub(crate) const MOST_SERVERS: usize = 255;
 
 /// Whether each server is up.
 #[derive(Debug, Drop)]

@@ -13,6 +13,7 @@ mod calls;
 mod coding;
 mod messages;
 mod phases;
+mod room;
 mod views;
 
 /// One object, with the number of the step that made it what it is.

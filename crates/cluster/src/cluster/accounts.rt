@@ -1,9 +1,8 @@
 //! What is read of a cluster without a step.
 
-ghost use Rattle.std.specs.Prelude.{◌≡◌, ◌*◌, ◌≤◌, ◌<◌, length, Some, None, IfOk};
+ghost use Rattle.std.specs.Prelude.{◌≡◌, ◌≤◌, ◌<◌, length, Some, None, IfOk};
 ghost use Rattle.tag.specs.Refusal.{IsByCause, IsExactlyByCause};
-ghost use Rattle.tag.specs.declared.limits.TheConstants.{LONGEST_VALUE, MOST_BYTES, MOST_MESSAGES};
-ghost use Rattle.record.specs.Accounts.{mailed as waiting_of};
+ghost use Rattle.tag.specs.declared.limits.TheConstants.{MOST_BYTES};
 ghost use Rattle.record.specs.Journals.{entries};
 ghost use Rattle.cluster.specs.Cluster.{if_named, named};
 ghost use Rattle.cluster.specs.Accounts.{stored, stored_all, mailed, calls};
@@ -20,11 +19,7 @@ impl Cluster {
         requires { server < length self.now.servers }
         ensures { result ≡ stored self.now server }
     {
-        let mut total = 0;
-        for register in self.objects.values() {
-            total += register.stored(server);
-        }
-        total
+        self.loads.at(server)
     }
 
     /// How many bytes of pieces all servers store.
@@ -40,11 +35,7 @@ impl Cluster {
         ensures value { result ≡ mailed self.now }
         ensures within { result ≤ MOST_BYTES }
     {
-        let mut total = 0;
-        for register in self.objects.values() {
-            total += waiting(register);
-        }
-        total
+        self.mailed
     }
 
     /// How many calls all objects have.
@@ -75,15 +66,4 @@ impl Cluster {
             None => Err(Refusal::NoObject),
         }
     }
-}
-
-// How many bytes of pieces wait in an object's messages.
-fn waiting(register: &Register) -> u64
-    ensures value { result ≡ waiting_of register.now.object }
-    ensures within { result ≤ MOST_MESSAGES * LONGEST_VALUE }
-{
-    // What a register keeps bounds its messages, and their pieces.
-    register.soundness();
-    let _few = register.mail_view().len();
-    register.mailed()
 }

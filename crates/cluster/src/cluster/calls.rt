@@ -9,6 +9,7 @@ ghost use Rattle.cluster.specs.Cluster.{if_named, place_of};
 ghost use Rattle.cluster.specs.Steps.{stepped, moved};
 ghost use Rattle.cluster.specs.Causes.{next, object_cause, moving_cause};
 
+use crate::cluster::mailing::{exchanged, waiting};
 use crate::cluster::{Cluster, LayoutId};
 use bytes::Bytes;
 use register::Receipt;
@@ -28,8 +29,11 @@ impl Cluster {
             return Err(Refusal::NoObject);
         };
         let now = self.counter + 1;
-        match self.objects[place].call_read(now) {
+        let register = &mut self.objects[place];
+        let waited = waiting(register);
+        match register.call_read(now) {
             Ok(number) => {
+                self.mailed = exchanged(self.mailed, waited, waiting(register));
                 self.counter = now;
                 self.called += 1;
                 Ok(number)
@@ -51,8 +55,11 @@ impl Cluster {
             return Err(Refusal::NoObject);
         };
         let now = self.counter + 1;
-        match self.objects[place].call_write(value, now) {
+        let register = &mut self.objects[place];
+        let waited = waiting(register);
+        match register.call_write(value, now) {
             Ok(number) => {
+                self.mailed = exchanged(self.mailed, waited, waiting(register));
                 self.counter = now;
                 self.called += 1;
                 Ok(number)
@@ -83,8 +90,11 @@ impl Cluster {
         };
         let layout = layout.clone()?;
         let now = self.counter + 1;
-        match self.objects[place].call_move(layout, now) {
+        let register = &mut self.objects[place];
+        let waited = waiting(register);
+        match register.call_move(layout, now) {
             Ok(number) => {
+                self.mailed = exchanged(self.mailed, waited, waiting(register));
                 self.counter = now;
                 self.called += 1;
                 Ok(number)
@@ -109,8 +119,11 @@ impl Cluster {
             return Err(Refusal::NoObject);
         };
         let now = self.counter + 1;
-        match self.objects[place].answer(call, place as u32, now) {
+        let register = &mut self.objects[place];
+        let waited = waiting(register);
+        match register.answer(call, place as u32, now) {
             Ok(receipt) => {
+                self.mailed = exchanged(self.mailed, waited, waiting(register));
                 self.counter = now;
                 Ok(receipt)
             }

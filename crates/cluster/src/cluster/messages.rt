@@ -5,14 +5,14 @@ ghost use Rattle.tag.specs.Refusal.{IsByCause, IsExactlyByCause};
 ghost use Rattle.tag.specs.declared.limits.TheConstants.{MOST_BYTES};
 ghost use Rattle.record.specs.Steps.{Step};
 ghost use Rattle.register.specs.Causes.{take_cause, lose_cause, repeat_cause};
-ghost use Rattle.register.specs.Position.{all_bytes};
 ghost use Rattle.register.specs.View.{took_at};
 ghost use Rattle.cluster.specs.Cluster.{Cluster as Store, if_named, is_reached};
 ghost use Rattle.cluster.specs.Steps.{stepped};
-ghost use Rattle.cluster.specs.Serving.{IsOf};
+ghost use Rattle.cluster.specs.Serving.{GoesTo, IsOf};
 ghost use Rattle.cluster.specs.Causes.{next, object_cause, serving_cause, can_handle, handled_at, place_cause};
 
 use crate::cluster::Cluster;
+use crate::cluster::mailing::{exchanged, waiting};
 use crate::servers::Servers;
 use mail::{Body, Message};
 use phase::Took;
@@ -33,20 +33,25 @@ impl Cluster {
             return Err(Refusal::NoObject);
         };
         let register = &mut self.objects[index];
-        let before = match room_to_serve(
+        let server = match room_to_serve(
             &self.servers,
             register,
             place,
             self.counter,
             self.stored,
         ) {
-            Ok(before) => before,
+            Ok(server) => server,
             Err(refusal) => return Err(refusal),
         };
         let now = self.counter + 1;
+        let before = register.stored_in_all();
+        let waited = waiting(register);
         match register.serve(place, now) {
             Ok(()) => {
-                self.stored = self.stored - before + register.stored_in_all();
+                let more = register.stored_in_all() - before;
+                self.stored += more;
+                self.loads.add(server, more);
+                self.mailed = exchanged(self.mailed, waited, waiting(register));
                 self.counter = now;
                 Ok(())
             }
@@ -68,8 +73,11 @@ impl Cluster {
             return Err(Refusal::NoObject);
         };
         let now = self.counter + 1;
-        match self.objects[index].take(place, now) {
+        let register = &mut self.objects[index];
+        let waited = waiting(register);
+        match register.take(place, now) {
             Ok(took) => {
+                self.mailed = exchanged(self.mailed, waited, waiting(register));
                 self.counter = now;
                 Ok(took)
             }
@@ -89,8 +97,12 @@ impl Cluster {
             return Err(Refusal::NoObject);
         };
         let now = self.counter + 1;
-        match self.objects[index].lose(place, now) {
+        let register = &mut self.objects[index];
+        let with_it = waiting(register);
+        match register.lose(place, now) {
             Ok(()) => {
+                let left = waiting(register);
+                self.mailed = exchanged(self.mailed, with_it, left);
                 self.counter = now;
                 Ok(())
             }
@@ -111,8 +123,11 @@ impl Cluster {
             return Err(Refusal::NoObject);
         };
         let now = self.counter + 1;
-        match self.objects[index].repeat(place, now) {
+        let register = &mut self.objects[index];
+        let waited = waiting(register);
+        match register.repeat(place, now) {
             Ok(()) => {
+                self.mailed = exchanged(self.mailed, waited, waiting(register));
                 self.counter = now;
                 Ok(())
             }
@@ -138,16 +153,16 @@ impl Cluster {
     }
 }
 
-// What an object stores, where the request at a place may be served.
+// The server that serves the request at a place, where it may be served.
 fn room_to_serve(
     servers: &Servers,
     register: &Register,
     place: usize,
     counter: Stamp,
     stored: u64,
-) -> Result<u64, Refusal>
+) -> Result<u8, Refusal>
     requires { stored ≤ MOST_BYTES }
-    ensures before { IfOk result (λ before. before ≡ all_bytes register.now.object.banks) }
+    ensures server { IfOk result (λ server. GoesTo register.now.object place server) }
     ensures cause { (cluster : Store) → IsOf cluster servers.now counter stored → IsExactlyByCause (serving_cause cluster place register.now.object) result }
 {
     let mail = register.mail_view();
@@ -158,7 +173,10 @@ fn room_to_serve(
     let Body::Request(_) = &message.body else {
         return Err(Refusal::NotNow);
     };
-    if !is_reached(servers, register, message) {
+    let Some(server) = register.server(message.position, message.member) else {
+        return Err(Refusal::Down);
+    };
+    if !servers.is_up(server) {
         return Err(Refusal::Down);
     }
     if counter >= MOST_STEPS {
@@ -167,7 +185,7 @@ fn room_to_serve(
     if message.bytes() > MOST_BYTES - stored {
         return Err(Refusal::Full);
     }
-    Ok(register.stored_in_all())
+    Ok(server)
 }
 
 // Whether a message is a reply, or a request to a server that is up.

@@ -10,6 +10,7 @@ ghost use Rattle.cluster.specs.Steps.{stepped};
 ghost use Rattle.cluster.specs.Causes.{next, object_cause};
 
 use crate::cluster::Cluster;
+use crate::cluster::mailing::{exchanged, waiting};
 use bytes::Bytes;
 use decoder::Decoded;
 use encoder::{Coded, Piece};
@@ -41,8 +42,11 @@ impl Cluster {
             return Err(Refusal::NoObject);
         };
         let now = self.counter + 1;
-        match self.objects[place].advance(call, now) {
+        let register = &mut self.objects[place];
+        let waited = waiting(register);
+        match register.advance(call, now) {
             Ok(()) => {
+                self.mailed = exchanged(self.mailed, waited, waiting(register));
                 self.counter = now;
                 Ok(())
             }
@@ -78,8 +82,11 @@ impl Cluster {
             return Err(Refusal::NoObject);
         };
         let now = self.counter + 1;
-        match self.objects[place].supply(call, coded, now) {
+        let register = &mut self.objects[place];
+        let waited = waiting(register);
+        match register.supply(call, coded, now) {
             Ok(()) => {
+                self.mailed = exchanged(self.mailed, waited, waiting(register));
                 self.counter = now;
                 Ok(())
             }
@@ -101,8 +108,11 @@ impl Cluster {
             return Err(Refusal::NoObject);
         };
         let now = self.counter + 1;
-        match self.objects[place].post(call, now) {
+        let register = &mut self.objects[place];
+        let waited = waiting(register);
+        match register.post(call, now) {
             Ok(()) => {
+                self.mailed = exchanged(self.mailed, waited, waiting(register));
                 self.counter = now;
                 Ok(())
             }
@@ -137,8 +147,11 @@ impl Cluster {
             return Err(Refusal::NoObject);
         };
         let now = self.counter + 1;
-        match self.objects[place].settle(call, decoded, now) {
+        let register = &mut self.objects[place];
+        let waited = waiting(register);
+        match register.settle(call, decoded, now) {
             Ok(()) => {
+                self.mailed = exchanged(self.mailed, waited, waiting(register));
                 self.counter = now;
                 Ok(())
             }

@@ -1,16 +1,16 @@
 //! What is read of an object without a step.
 
-ghost use Rattle.std.specs.Prelude.{◌≡◌, ◌≤◌, option_copied, slice_get, IfOk, IfErr, Some};
+ghost use Rattle.std.specs.Prelude.{◌≡◌, ◌≤◌, option_copied, option_map, slice_get, IfOk, IfErr, Some};
 ghost use Rattle.tag.specs.declared.limits.TheConstants.{MOST_BYTES};
 ghost use Rattle.tag.specs.declared.refusal.Refusal.TheVariants.{NoMemory};
-ghost use Rattle.tag.specs.Refusal.{IsExactlyByCause};
+ghost use Rattle.tag.specs.Refusal.{IsByCause, IsExactlyByCause};
 ghost use Rattle.record.specs.Accounts.{stored, mailed};
-ghost use Rattle.record.specs.Journals.{entries};
+ghost use Rattle.record.specs.Journals.{entries, entry_of};
 ghost use Rattle.record.specs.Records.{layout_at};
 ghost use Rattle.encoder.specs.Fragment.{fragment};
 ghost use Rattle.record.specs.Sound.{IsSound};
 ghost use Rattle.register.specs.Kept.{IsWithinLimits, has_open_move};
-ghost use Rattle.register.specs.Causes.{number_cause};
+ghost use Rattle.register.specs.Causes.{call_at, number_cause};
 ghost use Rattle.register.specs.Position.{all_bytes};
 ghost use Rattle.register.specs.View.{view_at, value_at, tag_at, bank_there};
 
@@ -51,6 +51,18 @@ impl Register {
             entries.push(call.entry(index as u64 + 1)?)?;
         }
         Ok(entries)
+    }
+
+    /// The entry of the call of this number. `NoCall` where there is no such call.
+    pub fn entry(&self, call: u64) -> Result<Entry, Refusal>
+        ensures entry { IfOk result (λ e. option_map (entry_of call) (call_at self.now.object call) ≡ Some e) }
+        ensures cause { IsByCause (number_cause self.now.object call) result }
+    {
+        let index = match index_of(&self.calls, call) {
+            Ok(index) => index,
+            Err(refusal) => return Err(refusal),
+        };
+        self.calls[index].entry(call)
     }
 
     /// How many bytes of pieces the banks store whose member is this server.

@@ -1,6 +1,6 @@
 use Rattle.std.proofs.Common.{nat_lt, inl, sym, ap, ◌∙◌, arith}
 use Rattle.std.specs.List.{list_all}
-use Rattle.cluster.proofs.Opening.{no_servers, no_step_for_layout, many_layouts, added_kept}
+use Rattle.cluster.proofs.Opening.{no_servers, no_step_for_layout, many_layouts, added_counted}
 use Rattle.cluster.proofs.cluster.Cluster.add_layout.Goals as goal
 use Rattle.cluster.proofs.cluster.Cluster.add_layout.Goals.{then-self-ge-MOST_STEPS-via-then-self-ge-MOST_STEPS, then-self-ge-MOST_STEPS-via-else-self-ge-MOST_STEPS+then-len-ge-MOST_LAYOUTS}
 
@@ -20,6 +20,6 @@ returns-then-self-ge-MOST_STEPS-clause-cause c =
 
 pub invariant_of-self-2 : goal.invariant_of-self-2
 invariant_of-self-2 c =
-    added_kept c.args.layout c.in_ok-push.ensures.items
+    added_counted c.args.layout c.in_ok-push.ensures.items
     (ap (λ n. list_all (λ m. nat_lt m n) c.args.layout.members) (sym c.count.ensures) ∙ sym c.has_servers.ensures ∙ c.if-not-has_servers.false)
     c.if-self-ge-MOST_STEPS.false c.self.invariant

@@ -32,5 +32,5 @@ returns-clause-fragments c =
 
 pub returns-clause-accounts : goal.returns-clause-accounts
 returns-clause-accounts c =
-    let total = objects_total (length c.self.inside.servers) c.self.inside.counter (objects_of c.self.inside.objects.entries) c.self.invariant.objects in
+    let total = objects_total (length c.self.inside.servers) c.self.inside.counter (objects_of c.self.inside.objects.entries) c.self.invariant.kept.objects in
     subst (λ (k : Cluster). stored_all k ≡ banks_all k.objects) c.self.view_is total

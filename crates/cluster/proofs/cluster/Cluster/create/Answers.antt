@@ -2,7 +2,7 @@ use Rattle.std.proofs.Common.{true, false, ◌≤◌, ◌<◌, length, inl, refl
 use Rattle.tag.specs.declared.limits.TheConstants.{MOST_OBJECTS}
 use Rattle.register.proofs.Rooms.{for_memory, handed_on}
 use Rattle.cluster.proofs.Moves.{is_layout}
-use Rattle.cluster.proofs.Opening.{is_named, length_objects, name_taken, no_layout_here, long_name, no_step_for_object, many_objects, may_create, created_is, created_kept}
+use Rattle.cluster.proofs.Opening.{is_named, length_objects, name_taken, no_layout_here, long_name, no_step_for_object, many_objects, may_create, created_is, created_counted}
 use Rattle.cluster.proofs.Places.{objects_of}
 use Rattle.cluster.proofs.cluster.Cluster.create.Goals as goal
 use Rattle.cluster.proofs.cluster.Cluster.create.Goals.{then-self-ge-MOST_STEPS-via-then-self-ge-MOST_STEPS, then-self-ge-MOST_STEPS-via-else-self-ge-MOST_STEPS+then-len-ge-MOST_OBJECTS}
@@ -78,7 +78,7 @@ invariant_of-self-2 c =
     let found = is_layout c.deref.ensures.value c.in-Some.ensures.lookup.3.0 c.in-Some.ensures.lookup.1 c.in_ok-clone.ensures.cases in
     let few_objects : length (objects_of c.self.inside.objects.entries) < MOST_OBJECTS =
     omega (arith, length_objects c.self.inside.objects.entries, c.len.ensures.len, c.if-len-ge-MOST_OBJECTS.false) in
-    created_kept (record {
+    created_counted (record {
       key = c.in_ok-name.name;
       value = c.in_ok-register.register;
       inserted = c.in_ok-insert.ensures.entries;

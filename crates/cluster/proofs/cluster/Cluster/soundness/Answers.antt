@@ -4,9 +4,13 @@ use Rattle.std.specs.Map.{values_of}
 use Rattle.encoder.specs.Fragment.{fragment}
 use Rattle.record.specs.Sound.{IsSound}
 use Rattle.register.specs.Kept.{IsWithinLimits}
+use Rattle.cluster.specs.Accounts.{banks_all, calls}
 use Rattle.cluster.specs.Atomic.{AreSound, AreWithinLimits}
+use Rattle.cluster.specs.Cluster.{Cluster}
+use Rattle.cluster.specs.Kept.{IsKept}
 use Rattle.cluster.proofs.Laws.{IsObjectSound, all_done, all_weaker}
 use Rattle.cluster.proofs.Places.{objects_of}
+use Rattle.cluster.proofs.Stepping.{cluster_of}
 use Rattle.cluster.proofs.cluster.Cluster.soundness.Goals as goal
 
 each : (c : goal.In-None) → AllByRecursion (λ o. IsObjectSound o.state) (objects_of c.self.inside.objects.entries)
@@ -25,3 +29,10 @@ pub returns-clause-limits : goal.returns-clause-limits
 returns-clause-limits c =
     subst AreWithinLimits c.self.view_is
     (all_weaker IsObjectSound (λ s. IsWithinLimits s.object) (λ s held. held.limits) (objects_of c.self.inside.objects.entries) (each c))
+
+pub returns-clause-kept : goal.returns-clause-kept
+returns-clause-kept c =
+    let kept = c.self.invariant.kept in
+    let now = cluster_of c.self.inside.servers c.self.inside.layouts.items c.self.inside.objects.entries c.self.inside.counter in
+    subst (λ (k : Cluster). IsKept k (banks_all k.objects) (calls k.objects)) c.self.view_is
+    (subst (λ n. IsKept now (banks_all now.objects) n) kept.called (subst (λ n. IsKept now n c.self.inside.called) kept.stored kept))

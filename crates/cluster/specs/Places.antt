@@ -1,0 +1,19 @@
+-- Objects by their places, in order of creation.
+use Rattle.std.specs.Prelude.{ℕ, List, Option, option_map, slice_get}
+use Rattle.tag.specs.declared.refusal.Refusal.{Refusal}
+use Rattle.record.specs.Records.{Object}
+use Rattle.register.specs.State.{State}
+use Rattle.cluster.specs.Cluster.{Named, Cluster, if_some}
+use Rattle.cluster.specs.Causes.{if_object}
+
+-- the object at a place
+abbrev pub object_at : List Named → (place : ℕ) → Option State
+object_at objects place = option_map (λ o. o.state) (slice_get objects place)
+
+-- what is read of the object at a place, where it is there
+abbrev pub if_placed : {X : Type 0} → Cluster → (place : ℕ) → (Object → Option X) → Option X
+if_placed cluster place read = if_some (object_at cluster.objects place) read
+
+-- there is an object at this place, and then its own cause
+abbrev pub placed_cause : Cluster → (place : ℕ) → (Object → Option Refusal) → Option Refusal
+placed_cause cluster place cause = if_object (object_at cluster.objects place) cause

@@ -1,0 +1,85 @@
+//! What a client asks of a cluster before a step, and of its calls.
+
+ghost use Rattle.std.specs.Prelude.{◌≡◌, ℕ, nat_le, option_map, Some, None, IfOk};
+ghost use Rattle.tag.specs.Refusal.{IsByCause, IsExactlyByCause};
+ghost use Rattle.tag.specs.declared.limits.TheConstants.{LONGEST_VALUE};
+ghost use Rattle.tag.specs.declared.refusal.Refusal.TheVariants.{TooLong};
+ghost use Rattle.record.specs.Journals.{entry_of};
+ghost use Rattle.register.specs.Causes.{unless, call_at, number_cause, read_cause};
+ghost use Rattle.cluster.specs.Cluster.{place_of};
+ghost use Rattle.cluster.specs.Places.{if_placed, placed_cause};
+ghost use Rattle.cluster.specs.Causes.{moving_cause, next, object_cause};
+ghost use Rattle.cluster.specs.Kept.{IsKept};
+
+use crate::cluster::{Cluster, LayoutId};
+use record::Entry;
+use tag::{LONGEST_VALUE, Refusal};
+
+impl Cluster {
+    /// What every step keeps: the limits, and that no name is given twice. It does nothing, and takes no memory.
+    pub fn keeping(&self)
+        ensures { (bytes : ℕ) × ((count : ℕ) × IsKept self.now bytes count) }
+    {
+        // What a cluster keeps is known where a field is read.
+        let _ = &self.layouts;
+    }
+
+    /// The place of an object in order of creation. `NoObject` where there is none.
+    pub fn place(&self, name: &str) -> Result<u32, Refusal>
+        ensures place { IfOk result (λ p. p ≡ place_of self.now.objects name.now) }
+        ensures cause { IsExactlyByCause (object_cause self.now name.now (λ object. None)) result }
+    {
+        match self.objects.get_index_of(name) {
+            Some(place) => Ok(place as u32),
+            None => Err(Refusal::NoObject),
+        }
+    }
+
+    /// The entry of the call of this number of the object at a place in order of creation. `NoObject` or `NoCall` where
+    /// there is none.
+    pub fn entry(&self, object: u32, call: u64) -> Result<Entry, Refusal>
+        ensures entry { IfOk result (λ e. if_placed self.now object (λ o. option_map (entry_of call) (call_at o call)) ≡ Some e) }
+        ensures cause { IsByCause (placed_cause self.now object (λ o. number_cause o call)) result }
+    {
+        match self.objects.get_index(object as usize) {
+            Some((_, register)) => register.entry(call),
+            None => Err(Refusal::NoObject),
+        }
+    }
+
+    /// Whether a read may begin, or a write of a value of this length. It is no step, and takes no memory.
+    ///
+    /// `NoObject` where there is none, `TooLong` where the length is above `LONGEST_VALUE`, and `Full` where a limit of the
+    /// steps, of the calls or of the messages is met.
+    pub fn may_call(&self, name: &str, len: usize) -> Result<(), Refusal>
+        ensures cause { IsExactlyByCause (object_cause self.now name.now (λ object.
+            unless (nat_le len LONGEST_VALUE) TooLong (read_cause (next self.now) object))) result }
+    {
+        let Some(register) = self.objects.get(name) else {
+            return Err(Refusal::NoObject);
+        };
+        if len > LONGEST_VALUE {
+            return Err(Refusal::TooLong);
+        }
+        register.may_call(self.counter + 1)
+    }
+
+    /// Whether a move to a layout may begin. It is no step, and takes no memory.
+    ///
+    /// `NoObject` where there is none, `MovePending` where a move is not answered, `BadLayout` where there is no such
+    /// layout, and `Full` where a limit of the steps, of the positions, of the calls or of the messages is met.
+    pub fn may_move(&self, name: &str, id: LayoutId) -> Result<(), Refusal>
+        ensures cause { IsExactlyByCause (object_cause self.now name.now (moving_cause self.now id)) result }
+    {
+        let Some(register) = self.objects.get(name) else {
+            return Err(Refusal::NoObject);
+        };
+        if register.is_moving() {
+            return Err(Refusal::MovePending);
+        }
+        if id as usize >= self.layouts.len() {
+            return Err(Refusal::BadLayout);
+        }
+        register.may_move(self.counter + 1)
+    }
+}

@@ -1,0 +1,52 @@
+//! What each server stores.
+ghost use Rattle.std.specs.Prelude.{◌≡◌, ◌+◌, ◌≤◌, ◌<◌, length, get_or, slice_set};
+ghost use Rattle.tag.specs.declared.limits.TheConstants.{MOST_BYTES};
+ghost use Rattle.cluster.specs.Summed.{all_none};
+
+use crate::servers::MOST_SERVERS;
+use arrayvec::ArrayVec;
+use std::marker::Model;
+
+/// How many bytes each server stores.
+#[derive(Debug, Drop)]
+pub struct Loads {
+    bytes: ArrayVec<u64, MOST_SERVERS>,
+}
+
+impl Model for Loads {
+    ghost use Rattle.std.specs.Prelude.{List, ℕ};
+
+    ghost Value = { List ℕ };
+
+    ghost view = { λ s. s.bytes.items };
+}
+
+impl Loads {
+    /// Nothing, for so many servers. It takes no memory.
+    pub fn new(count: u8) -> Loads
+        ensures { result ≡ all_none count }
+    {
+        let mut bytes = ArrayVec::new();
+        for _ in 0..count {
+            bytes.push(0);
+        }
+        Loads { bytes }
+    }
+
+    /// What a server stores.
+    pub fn at(&self, server: u8) -> u64
+        requires { server < length self.now }
+        ensures { result ≡ get_or self.now server 0 }
+    {
+        self.bytes[usize::from(server)]
+    }
+
+    /// A server stores so many bytes more.
+    pub fn add(&mut self, server: u8, more: u64)
+        requires there { server < length self.old }
+        requires within { get_or self.old server 0 + more ≤ MOST_BYTES }
+        ensures { self.new ≡ slice_set self.old server (get_or self.old server 0 + more) }
+    {
+        self.bytes[usize::from(server)] += more;
+    }
+}
