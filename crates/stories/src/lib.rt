@@ -1,5 +1,5 @@
-//! Objects and clusters played by hand, and histories made by hand: tests alone. They stand in a crate of their own, so
-//! that the crates which they play are proved once and not twice.
+//! Objects and clusters played by hand, and histories made by hand: tests alone. They
+//! stand in a crate of their own, so that the crates which they play are proved once and not twice.
 #![tactic(auto)]
 
 #[cfg(test)]

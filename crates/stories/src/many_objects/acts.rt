@@ -13,7 +13,12 @@ use std::test::Fail;
 use tag::Refusal;
 
 // So many servers, one layout of these members, and the objects a and b.
-pub fn two_objects(alloc: Global, servers: u8, k: u8, members: &[u8]) -> Result<Cluster, Fail> {
+pub(crate) fn two_objects(
+    alloc: Global,
+    servers: u8,
+    k: u8,
+    members: &[u8],
+) -> Result<Cluster, Fail> {
     let mut cluster = Cluster::new(alloc, servers);
     let layout = cluster.add_layout(Layout::new(k, members)?)?;
     cluster.create(alloc, "a", layout)?;
@@ -71,7 +76,7 @@ fn go_on(
 }
 
 // The steps of a call, up to its answer.
-pub fn finish(
+pub(crate) fn finish(
     alloc: Global,
     cluster: &mut Cluster,
     name: &str,
@@ -86,7 +91,7 @@ pub fn finish(
 }
 
 // A whole write.
-pub fn write(
+pub(crate) fn write(
     alloc: Global,
     cluster: &mut Cluster,
     name: &str,
@@ -97,13 +102,13 @@ pub fn write(
 }
 
 // A whole read.
-pub fn read(alloc: Global, cluster: &mut Cluster, name: &str) -> Result<Receipt, Refusal> {
+pub(crate) fn read(alloc: Global, cluster: &mut Cluster, name: &str) -> Result<Receipt, Refusal> {
     let call = cluster.call_read(name)?;
     finish(alloc, cluster, name, call)
 }
 
 // What each server stores.
-pub fn assert_stored(rt: &impl Abort, cluster: &Cluster, expected: &[u64]) {
+pub(crate) fn assert_stored(rt: &impl Abort, cluster: &Cluster, expected: &[u64]) {
     assert_eq!(rt; usize::from(cluster.servers()), expected.len());
     for server in 0..cluster.servers() {
         let bytes = cluster.stored(server);
@@ -112,7 +117,7 @@ pub fn assert_stored(rt: &impl Abort, cluster: &Cluster, expected: &[u64]) {
 }
 
 // So many layouts more, of server 0 alone.
-pub fn add_layouts(cluster: &mut Cluster, count: usize) -> Result<(), Refusal> {
+pub(crate) fn add_layouts(cluster: &mut Cluster, count: usize) -> Result<(), Refusal> {
     for _ in 0..count {
         cluster.add_layout(Layout::new(1, &[0])?)?;
     }
@@ -120,7 +125,11 @@ pub fn add_layouts(cluster: &mut Cluster, count: usize) -> Result<(), Refusal> {
 }
 
 // So many objects more, whose names are numbers, of layout 0.
-pub fn create_objects(alloc: Global, cluster: &mut Cluster, count: usize) -> Result<(), Fail> {
+pub(crate) fn create_objects(
+    alloc: Global,
+    cluster: &mut Cluster,
+    count: usize,
+) -> Result<(), Fail> {
     for number in 0..count {
         let name = format!(in alloc; "{number}")?;
         cluster.create(alloc, &name, 0)?;
@@ -129,7 +138,7 @@ pub fn create_objects(alloc: Global, cluster: &mut Cluster, count: usize) -> Res
 }
 
 // So many whole moves of an object to layout 0.
-pub fn move_on(
+pub(crate) fn move_on(
     alloc: Global,
     cluster: &mut Cluster,
     name: &str,

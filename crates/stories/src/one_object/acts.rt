@@ -6,7 +6,7 @@ use bytes::Bytes;
 use decoder::{Decoded, decode};
 use encoder::encode;
 use layout::Layout;
-use record::{Operation, Want};
+use record::Want;
 use register::{Receipt, Register};
 use std::alloc::Global;
 use std::process::Abort;
@@ -15,7 +15,7 @@ use tag::{Refusal, Stamp};
 
 // What is done to an object, each at a step of its own.
 #[derive(Clone, Copy)]
-pub enum Act {
+pub(crate) enum Act {
     Read,
     Write(&'static [u8]),
     Move(u8, &'static [u8]),
@@ -33,12 +33,12 @@ pub enum Act {
 }
 
 // An object whose servers 0 to 3 hold a piece each, any two of which give the value.
-pub fn object(alloc: Global) -> Result<Register, Fail> {
+pub(crate) fn object(alloc: Global) -> Result<Register, Fail> {
     Ok(Register::new(alloc, Layout::new(2, &[0, 1, 2, 3])?, 1)?)
 }
 
 // The number of the next step.
-pub fn next(rt: &impl Abort, object: &Register) -> Stamp
+pub(crate) fn next(rt: &impl Abort, object: &Register) -> Stamp
     ensures { object.now.last < result }
 {
     assert!(rt; object.last() < 1_000_000);
@@ -96,7 +96,7 @@ fn carry_out(
 
 // Does one after another, each with the refusal that is written beside it. Where memory is refused nothing has changed,
 // and it is done again.
-pub fn play(
+pub(crate) fn play(
     rt: &impl Abort,
     alloc: Global,
     object: &mut Register,
@@ -139,7 +139,7 @@ fn serve_first(rt: &impl Abort, object: &mut Register) -> Result<(), Refusal> {
 }
 
 // Serves and takes what waits at the head of the mail, until nothing waits.
-pub fn deliver(rt: &impl Abort, object: &mut Register) -> Result<(), Refusal> {
+pub(crate) fn deliver(rt: &impl Abort, object: &mut Register) -> Result<(), Refusal> {
     for _ in 0..64 {
         if object.mail_view().is_empty() {
             break;
@@ -195,7 +195,7 @@ fn wanted(
 }
 
 // So many turns of a call.
-pub fn go_on(
+pub(crate) fn go_on(
     rt: &impl Abort,
     alloc: Global,
     object: &mut Register,
@@ -209,7 +209,7 @@ pub fn go_on(
 }
 
 // Turns of a call, up to its answer.
-pub fn finish(
+pub(crate) fn finish(
     rt: &impl Abort,
     alloc: Global,
     object: &mut Register,
@@ -221,27 +221,4 @@ pub fn finish(
         }
     }
     Err(Fail::from("the call does not end"))
-}
-
-// A read returns this text.
-pub fn assert_reads(
-    rt: &impl Abort,
-    alloc: Global,
-    object: &mut Register,
-    text: &[u8],
-) -> Result<(), Fail> {
-    let call = match object.call_read(next(rt, object)) {
-        Err(Refusal::NoMemory) => object.call_read(next(rt, object))?,
-        called => called?,
-    };
-    let receipt = finish(rt, alloc, object, call)?;
-    assert_eq!(rt;
-        (receipt.call, receipt.object, receipt.operation),
-        (call, 7, Operation::Read)
-    );
-    let Some(value) = receipt.value else {
-        return Err(Fail::from("a read returns a value"));
-    };
-    assert_eq!(rt; value.as_slice(), text);
-    Ok(())
 }

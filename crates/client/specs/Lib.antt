@@ -1,4 +1,0 @@
-pub mod Choices
-pub mod Coding
-pub mod Driver
-pub mod Rounds

@@ -1,0 +1,12 @@
+pub mod Counting
+pub mod Pieces
+pub mod Sending
+pub mod Chosen
+pub mod Named
+pub mod Rounding
+pub mod Opened
+pub mod Refusing
+pub mod Turning
+pub mod Finishing
+pub mod Others
+pub mod Whole

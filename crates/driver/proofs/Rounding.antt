@@ -1,0 +1,89 @@
+-- What is handed out of a cluster to be coded or decoded.
+use Rattle.std.proofs.Common.{◌≡◌, ℕ, suc, ◌≤◌, ◌⊎◌, inl, inr, List, Option, Some, None, Result, Ok, Err, IsErrAnd, sym, ap, subst, ◌∙◌}
+use Rattle.tag.specs.declared.refusal.Refusal.{Refusal}
+use Rattle.tag.specs.declared.refusal.Refusal.TheVariants.{NoMemory}
+use Rattle.tag.specs.declared.limits.TheConstants.{MOST_STEPS}
+use Rattle.encoder.specs.Fragment.{fragment}
+use Rattle.encoder.specs.declared.fragment.Piece.{Piece}
+use Rattle.decoder.specs.Decoded.{Decoding}
+use Rattle.decoder.specs.Pieces.{ArePiecesOf, IsInterpolated}
+use Rattle.decoder.proofs.Cut.{IsInterpolated-pieces_of}
+use Rattle.record.specs.Sound.{IsSound}
+use Rattle.record.specs.declared.stage.Want.TheVariants as want
+use Rattle.register.specs.Causes.{supply_cause, settle_cause, value_cause}
+use Rattle.register.specs.State.{State}
+use Rattle.register.specs.View.{want_at, coding_at, pieces_at}
+use Rattle.cluster.specs.Cluster.{Cluster, named, if_named}
+use Rattle.cluster.specs.Causes.{next, if_object, object_cause}
+use Rattle.driver.specs.Coding.{supplying_cause, settling_cause, IsByCauseOrMemory}
+use Rattle.driver.specs.Driver.{wanted}
+use Rattle.driver.specs.Rounds.{IsToEncode, IsToDecode}
+use Rattle.driver.proofs.Named.{read_there, cause_there, same_cause, one_state}
+use Rattle.driver.proofs.Pieces.{pieces_are}
+use Rattle.driver.proofs.Sending.{codable, supply_is, settle_is, settling_none, value_refused}
+
+some_same : {X : Type 0} (x y : X) → Some x ≡ Some y → x ≡ y
+some_same x y e = cc
+
+module _ (cluster : Cluster) (name : List ℕ) (call : ℕ) where
+  pub to_encode : (state : State) (k n : ℕ) (value : List ℕ) → named cluster.objects name ≡ Some state → IsSound fragment state.object state.last
+      → if_named cluster name (λ object. coding_at object call) ≡ Some (value, k, n) → IsToEncode cluster name call k n value
+  to_encode state k n value there sound sent = record {
+    sent = sent;
+    lawful = codable state.object state.last call k n value sound (sym (read_there cluster name state (λ object. coding_at object call) there) ∙ sent);
+  }
+
+  pub to_decode : (state : State) (k len : ℕ) (pieces : List Piece) → named cluster.objects name ≡ Some state → IsSound fragment state.object state.last
+      → wanted cluster name call ≡ Some (want.Settle k len) → suc cluster.counter ≤ MOST_STEPS
+      → if_named cluster name (λ object. Some (pieces_at object call)) ≡ Some pieces → IsToDecode cluster name call k len pieces
+  to_decode state k len pieces there sound wants within taken =
+      let here : want_at state.object call ≡ Some (want.Settle k len) = sym (read_there cluster name state (λ object. want_at object call) there) ∙ wants in
+      let given = pieces_are state.object state.last call k len sound here in
+      let same : pieces_at state.object call ≡ pieces =
+      some_same _ _ (sym (read_there cluster name state (λ object. Some (pieces_at object call)) there) ∙ taken) in
+      record {
+        wants = wants;
+        taken = taken;
+        give = (given.0, given.1, subst (λ (ps : List Piece). ArePiecesOf given.0 k ps) same given.2);
+        room = cause_there cluster name state (λ object. settling_cause (next cluster) object call) there
+            ∙ settling_none state.object call k len (next cluster) here within;
+      }
+
+  pub supply_same : (k n : ℕ) (value : List ℕ) → IsToEncode cluster name call k n value
+      → object_cause cluster name (λ object. supply_cause (next cluster) object call (record { k = k; n = n; value = value }))
+      ≡ object_cause cluster name (λ object. supplying_cause (next cluster) object call)
+  supply_same k n value is =
+      same_cause cluster name (λ object. supply_cause (next cluster) object call (record { k = k; n = n; value = value }))
+      (λ object. supplying_cause (next cluster) object call)
+      (λ state there. supply_is state.object call k n (next cluster) value (sym (read_there cluster name state (λ object. coding_at object call) there) ∙ is.sent))
+
+  pub settle_same : (k len : ℕ) (pieces : List Piece) (decoded : Decoding) → IsToDecode cluster name call k len pieces → decoded.k ≡ k → decoded.pieces ≡ pieces
+      → object_cause cluster name (λ object. settle_cause (next cluster) object call decoded) ≡ object_cause cluster name (λ object. settling_cause (next cluster) object call)
+  settle_same k len pieces decoded is same_k same_pieces =
+      same_cause cluster name (λ object. settle_cause (next cluster) object call decoded) (λ object. settling_cause (next cluster) object call)
+      (λ state there. settle_is state.object call k len (next cluster) decoded (sym (read_there cluster name state (λ object. want_at object call) there) ∙ is.wants)
+      same_k (same_pieces ∙ some_same _ _ (sym is.taken ∙ read_there cluster name state (λ object. Some (pieces_at object call)) there)))
+
+  -- the pieces give a value
+  pub given_there : (old : State) (k len : ℕ) → named cluster.objects name ≡ Some old → IsSound fragment old.object old.last
+      → wanted cluster name call ≡ Some (want.Settle k len) → (state : State) → named cluster.objects name ≡ Some state
+      → (value : List ℕ) × IsInterpolated k len (pieces_at state.object call) value
+  given_there old k len there sound wants state at =
+      let here : want_at old.object call ≡ Some (want.Settle k len) = sym (read_there cluster name old (λ object. want_at object call) there) ∙ wants in
+      let given = pieces_are old.object old.last call k len sound here in
+      let value = IsInterpolated-pieces_of given.0 k len (pieces_at old.object call) given.1 given.2 in
+      (given.0, subst (λ (s : State). IsInterpolated k len (pieces_at s.object call) given.0) (one_state cluster name old state there at) value)
+
+  -- a call without a value to send is not supplied
+  pub no_value : {T : Type 0} (r : Result T Refusal) (e : Refusal) → IsErrAnd r (λ y. y ≡ e)
+      → (object_cause cluster name (λ object. value_cause object call) ≡ Some e) ⊎ ((object_cause cluster name (λ object. value_cause object call) ≡ None) × (e ≡ NoMemory))
+      → IsByCauseOrMemory (object_cause cluster name (λ object. value_cause object call))
+      (object_cause cluster name (λ object. supplying_cause (next cluster) object call)) r
+  no_value (Ok x) e is by = absurd is
+  no_value (Err y) e is (inr none) = inr (none.0, is ∙ none.1)
+  no_value (Err y) e is (inl some) = inl (supplied (named cluster.objects name) some ∙ ap Some (sym is))
+    where
+      supplied : (o : Option State) → if_object o (λ object. value_cause object call) ≡ Some e
+          → if_object o (λ object. supplying_cause (next cluster) object call) ≡ Some e
+      supplied None e = e
+      supplied (Some state) none = value_refused state.object call (next cluster) e none

@@ -1,0 +1,66 @@
+-- The messages of a call that can be handled, which of them is chosen, and how one is handled.
+use Rattle.std.specs.Prelude.{◌≡◌, ℕ, suc, ◌%◌, ◌==◌, ◌&&◌, Bool, true, false, if◌then◌else◌, List, [], ◌∷◌, length, Option, Some, option_map, slice_get}
+use Rattle.tag.specs.declared.refusal.Refusal.{Refusal}
+use Rattle.mail.specs.declared.message.Message.{Message}
+use Rattle.mail.specs.declared.message.Body.{Body}
+use Rattle.mail.specs.declared.message.Body.TheVariants as body
+use Rattle.record.specs.Records.{Object}
+use Rattle.record.specs.Steps.{Step}
+use Rattle.register.specs.Causes.{if_message, taken_cause}
+use Rattle.register.specs.View.{took_at}
+use Rattle.cluster.specs.Cluster.{Cluster}
+use Rattle.cluster.specs.Causes.{next, served_cause, can_handle}
+use Rattle.driver.specs.declared.messages.Handled.{Handled}
+use Rattle.driver.specs.declared.messages.Handled.TheVariants as handled
+
+-- the places of the messages that pass a test, where the first message stands at `place`
+abbrev pub places : (Message → Bool) → (place : ℕ) → List Message → List ℕ
+places test place [] = []
+places test place (message ∷ messages) = if test message then place ∷ places test (suc place) messages else places test (suc place) messages
+
+-- whether a message is the call's, and a reply or a request to a server that is up
+abbrev pub is_choice : Cluster → (call : ℕ) → Object → Message → Bool
+is_choice cluster call object message = message.call == call && can_handle cluster object message message.body
+
+-- where the call's messages that can be handled are, in mail order
+abbrev pub choices : Cluster → (call : ℕ) → Object → List ℕ
+choices cluster call object = places (is_choice cluster call object) 0 object.mail
+
+-- the chooser answers a number, and this is the place at its remainder by their count
+abbrev pub Picks : {C : Type 0} → (C → ℕ → ℕ → C → Type 0) → (among : List ℕ) → (before after : C) → (place : ℕ) → Type 0
+Picks chooses among before after place =
+    (answer : ℕ) × chooses before (length among) answer after × (slice_get among (answer % length among) ≡ Some place)
+
+-- the step that handles the message at a place: a request is served, and a reply is taken
+abbrev pub handling : (place : ℕ) → Body → Step
+handling place (body.Request asked) = Step.Serve place
+handling place (body.Reply kind made) = Step.Take place
+
+-- the step that was made for a message
+abbrev pub step_of : (place : ℕ) → Handled → Step
+step_of place handled.Served = Step.Serve place
+step_of place (handled.Taken took) = Step.Take place
+
+abbrev pub handled_as : Object → (place : ℕ) → Body → Handled
+handled_as object place (body.Request asked) = handled.Served
+handled_as object place (body.Reply kind made) = handled.Taken (took_at object place)
+
+-- what is done with the message at a place
+abbrev pub handled_at : (place : ℕ) → Object → Option Handled
+handled_at place object = option_map (λ (message : Message). handled_as object place message.body) (slice_get object.mail place)
+
+abbrev pub handled_cause : Cluster → Object → Message → Body → Option Refusal
+handled_cause cluster object message (body.Request asked) = served_cause cluster object message (body.Request asked)
+handled_cause cluster object message (body.Reply kind made) = taken_cause (next cluster) (body.Reply kind made)
+
+-- why the message at a place is not handled
+abbrev pub handling_cause : Cluster → (place : ℕ) → Object → Option Refusal
+handling_cause cluster place object = if_message (slice_get object.mail place) (λ message. handled_cause cluster object message message.body)
+
+abbrev pub is_request : Body → Bool
+is_request (body.Request asked) = true
+is_request (body.Reply kind made) = false
+
+-- whether the message at a place is a request
+abbrev pub request_at : (place : ℕ) → Object → Option Bool
+request_at place object = option_map (λ (message : Message). is_request message.body) (slice_get object.mail place)

@@ -1,0 +1,6 @@
+pub mod Choices
+pub mod Coding
+pub mod Driver
+pub mod Rounds
+pub mod Others
+pub mod WholeCalls

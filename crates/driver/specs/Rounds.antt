@@ -1,0 +1,49 @@
+-- What a round of the driver comes to.
+use Rattle.std.specs.Prelude.{◌≡◌, ◌≢◌, ℕ, pred, Bool, List, Some, None}
+use Rattle.encoder.specs.Coded.{IsLawful}
+use Rattle.encoder.specs.declared.fragment.Piece.{Piece}
+use Rattle.decoder.specs.Pieces.{IsInterpolated}
+use Rattle.record.specs.Steps.{Step}
+use Rattle.record.specs.declared.stage.Want.TheVariants as want
+use Rattle.register.specs.View.{coding_at, pieces_at}
+use Rattle.cluster.specs.Cluster.{Cluster, if_named}
+use Rattle.cluster.specs.Causes.{next, object_cause}
+use Rattle.cluster.specs.Steps.{stepped}
+use Rattle.driver.specs.declared.round.Round.{Round}
+use Rattle.driver.specs.declared.round.Round.TheVariants as round
+use Rattle.driver.specs.Coding.{settling_cause, GiveBack}
+use Rattle.driver.specs.Driver.{wanted, IsDue, IsTurn, IsAnswer}
+
+-- the value is the one that the call is to send, with its k and n, and it can be coded
+pub record IsToEncode (cluster : Cluster) (name : List ℕ) (call k n : ℕ) (value : List ℕ) : Type 0 where
+  pub sent : if_named cluster name (λ object. coding_at object call) ≡ Some (value, k, n)
+  pub lawful : IsLawful k n value
+
+-- the pieces are those of which the call is to settle the value, they give one, and its step has room
+pub record IsToDecode (cluster : Cluster) (name : List ℕ) (call k len : ℕ) (pieces : List Piece) : Type 0 where
+  pub wants : wanted cluster name call ≡ Some (want.Settle k len)
+  pub taken : if_named cluster name (λ object. Some (pieces_at object call)) ≡ Some pieces
+  pub give : GiveBack k len pieces
+  pub room : object_cause cluster name (λ object. settling_cause (next cluster) object call) ≡ None
+
+-- the call settles the value that its own pieces give
+pub record SettlesOwn (old : Cluster) (name : List ℕ) (call : ℕ) (new : Cluster) : Type 0 where
+  pub k : ℕ
+  pub len : ℕ
+  pub wants : wanted old name call ≡ Some (want.Settle k len)
+  pub pieces : List Piece
+  pub taken : if_named old name (λ object. Some (pieces_at object call)) ≡ Some pieces
+  pub value : List ℕ
+  pub given : IsInterpolated k len pieces value
+  pub made : new ≡ stepped old name (Step.Settle (pred call) value)
+
+module _ {C : Type 0} (chooses : C → ℕ → ℕ → C → Type 0) (name : List ℕ) (call : ℕ) where
+  -- a round is a turn, or leaves all as it is and hands out what is to be coded or decoded for one
+  abbrev pub IsRound : (again : Bool) → (old : Cluster) → (before : C) → (new : Cluster) → (after : C) → Round → Type 0
+  IsRound again old before new after round.Stepped =
+      IsTurn chooses name call again old before new after × (wanted old name call ≢ Some want.Answer)
+  IsRound again old before new after (round.Encode value k n) =
+      (new ≡ old) × (after ≡ before) × IsDue chooses name call old again before before (Step.Supply (pred call)) × IsToEncode old name call k n value
+  IsRound again old before new after (round.Decode pieces k len) =
+      (new ≡ old) × (after ≡ before) × IsToDecode old name call k len pieces.items
+  IsRound again old before new after (round.Answered receipt) = IsAnswer chooses name call again old before new after receipt

@@ -1,0 +1,128 @@
+//! Values that are coded for a call, or decoded, and the steps that they are for.
+ghost use Rattle.std.specs.Prelude.{◌≡◌, ℕ, List, pred, Some, None, IfOk, OnOk, OnErr};
+ghost use Rattle.tag.specs.Refusal.{IsByCause};
+ghost use Rattle.record.specs.Steps.{Step};
+ghost use Rattle.record.specs.declared.stage.Want.TheVariants as want;
+ghost use Rattle.register.specs.Causes.{value_cause};
+ghost use Rattle.register.specs.State.{State};
+ghost use Rattle.register.specs.View.{pieces_at};
+ghost use Rattle.decoder.specs.Pieces.{IsInterpolated};
+ghost use Rattle.cluster.specs.Cluster.{named};
+ghost use Rattle.cluster.specs.Causes.{next, object_cause};
+ghost use Rattle.cluster.specs.Steps.{stepped};
+ghost use Rattle.driver.specs.Coding.{supplying_cause, settling_cause, IsByCauseOrMemory};
+ghost use Rattle.driver.specs.Driver.{wanted};
+ghost use Rattle.driver.specs.Rounds.{IsToEncode, IsToDecode, SettlesOwn};
+
+use bytes::Bytes;
+use cluster::Cluster;
+use decoder::decode;
+use encoder::{Piece, encode};
+use record::Want;
+use std::alloc::Global;
+use tag::{MOST_STEPS, Refusal};
+
+/// The value that the call of this number is to send is coded, and the call is supplied with it.
+///
+/// `NoObject` or `NoCall` where there is none, `NotNow` where it sends no value, and `Full` where a limit of the steps, of
+/// its phases or of the messages is met. `NoMemory` comes before `Full` where the memory to code the value is refused.
+pub fn supply(alloc: Global, cluster: &mut Cluster, name: &str, call: u64) -> Result<(), Refusal>
+    ensures step { OnOk result (cluster.new ≡ stepped cluster.old name.entry.now (Step.Supply (pred call))) }
+    ensures cause { IsByCauseOrMemory (object_cause cluster.old name.entry.now (λ object. value_cause object call))
+        (object_cause cluster.old name.entry.now (λ object. supplying_cause (next cluster.old) object call)) result }
+
+    ensures unchanged { OnErr result (cluster.new ≡ cluster.old) }
+{
+    let (value, k, n) = value_to_encode(cluster, name, call)?;
+    supply_value(alloc, cluster, name, call, value, k, n)
+}
+
+/// The value that the call of this number is to settle is decoded from the pieces that it took, and settled.
+///
+/// `NoObject` or `NoCall` where there is none, `NotNow` unless it wants to settle a value, and `Full` where the limit of
+/// steps is met.
+pub fn settle(alloc: Global, cluster: &mut Cluster, name: &str, call: u64) -> Result<(), Refusal>
+    ensures step { OnOk result (SettlesOwn cluster.old name.entry.now call cluster.new) }
+    ensures cause { IsByCause (object_cause cluster.old name.entry.now (λ object. settling_cause (next cluster.old) object call)) result }
+    ensures unchanged { OnErr result (cluster.new ≡ cluster.old) }
+{
+    match cluster.want(name, call)? {
+        Want::Settle { k, len } => {
+            let pieces = pieces_to_decode(cluster, name, call, k, len)?;
+            settle_pieces(alloc, cluster, name, call, k, len, pieces)
+        }
+        _ => Err(Refusal::NotNow),
+    }
+}
+
+/// The value that a call is to send, with its k and n.
+pub(crate) fn value_to_encode(
+    cluster: &Cluster,
+    name: &str,
+    call: u64,
+) -> Result<(Bytes, u8, u8), Refusal>
+    ensures value { IfOk result (λ r. IsToEncode cluster.now name.now call r.1 r.2 r.0) }
+    ensures cause { IsByCause (object_cause cluster.now name.now (λ object. value_cause object call)) result }
+{
+    cluster.register(name)?.soundness();
+    cluster.value_to_code(name, call)
+}
+
+/// The pieces of which a call is to settle the value.
+pub(crate) fn pieces_to_decode(
+    cluster: &Cluster,
+    name: &str,
+    call: u64,
+    k: u8,
+    len: u32,
+) -> Result<Vec<Piece>, Refusal>
+    requires { wanted cluster.now name.now call ≡ Some (want.Settle k len) }
+    ensures pieces { IfOk result (λ ps. IsToDecode cluster.now name.now call k len ps.items) }
+    ensures given { (state : State) → named cluster.now.objects name.now ≡ Some state
+        → (value : List ℕ) × IsInterpolated k len (pieces_at state.object call) value }
+    ensures cause { IsByCause (object_cause cluster.now name.now (λ object. settling_cause (next cluster.now) object call)) result }
+{
+    cluster.register(name)?.soundness();
+    if cluster.counter() >= MOST_STEPS {
+        return Err(Refusal::Full);
+    }
+    cluster.pieces(name, call)
+}
+
+/// A call is supplied with its own value, which is coded for it.
+pub(crate) fn supply_value(
+    alloc: Global,
+    cluster: &mut Cluster,
+    name: &str,
+    call: u64,
+    value: Bytes,
+    k: u8,
+    n: u8,
+) -> Result<(), Refusal>
+    requires { IsToEncode cluster.old name.now call k n value }
+    ensures step { OnOk result (cluster.new ≡ stepped cluster.old name.entry.now (Step.Supply (pred call))) }
+    ensures cause { IsByCauseOrMemory None (object_cause cluster.old name.entry.now (λ object. supplying_cause (next cluster.old) object call)) result }
+    ensures unchanged { OnErr result (cluster.new ≡ cluster.old) }
+{
+    let coded = encode(alloc, k, n, value)?;
+    cluster.supply(name, call, coded)
+}
+
+/// A call settles the value that is decoded from its own pieces.
+pub(crate) fn settle_pieces(
+    alloc: Global,
+    cluster: &mut Cluster,
+    name: &str,
+    call: u64,
+    k: u8,
+    len: u32,
+    pieces: Vec<Piece>,
+) -> Result<(), Refusal>
+    requires { IsToDecode cluster.old name.now call k len pieces.items }
+    ensures step { OnOk result (SettlesOwn cluster.old name.entry.now call cluster.new) }
+    ensures cause { IsByCause (object_cause cluster.old name.entry.now (λ object. settling_cause (next cluster.old) object call)) result }
+    ensures unchanged { OnErr result (cluster.new ≡ cluster.old) }
+{
+    let decoded = decode(alloc, k, len, pieces)?;
+    cluster.settle(name, call, decoded)
+}

@@ -1,0 +1,16 @@
+//! The driver of one call: its rounds, and whole calls for one thread.
+#![tactic(auto)]
+
+pub use chooser::{Chooser, First};
+pub use coding::{settle, supply};
+pub use driver::finish;
+pub use messages::{Handled, handle};
+pub use round::{Round, make_round};
+pub use whole_call::{NotAnswered, move_to, read, write};
+
+mod chooser;
+mod coding;
+mod driver;
+mod messages;
+mod round;
+mod whole_call;

@@ -1,0 +1,160 @@
+//! The messages of a call: which one is handled next, and how.
+ghost use Rattle.std.specs.Prelude.{◌≡◌, ◌<◌, [], length, slice_get, Some, IfOk, IfErr, OnErr, OnOk, MatchOption, false};
+ghost use Rattle.tag.specs.Refusal.{IsByCause, IsExactlyByCause};
+ghost use Rattle.mail.specs.declared.message.Message.{Message as MessageOf};
+ghost use Rattle.record.specs.declared.stage.Want.TheVariants as want;
+ghost use Rattle.cluster.specs.Cluster.{if_named, named};
+ghost use Rattle.cluster.specs.Causes.{object_cause, place_cause};
+ghost use Rattle.cluster.specs.Steps.{stepped};
+ghost use Rattle.driver.specs.Choices.{Picks, choices, handled_at, handling_cause, is_choice, request_at, step_of};
+ghost use Rattle.driver.specs.Driver.{wanted, IsTurn, IsRefused};
+ghost use Rattle.driver.specs.Others.{AreOthers, IsBehind};
+
+use crate::Chooser;
+use cluster::Cluster;
+use mail::Body;
+use phase::Took;
+use register::Register;
+use tag::Refusal;
+
+/// What was done with a message.
+#[derive(Clone, Copy, Debug, PartialEq, Eq)]
+pub enum Handled {
+    /// It was a request, and its server served it.
+    Served,
+    /// It was a reply, and its call took it.
+    Taken(Took),
+}
+
+/// The message at a place is handled: a request is served, and a reply is taken.
+///
+/// `NoObject` or `NoMessage` where there is none, `Down` where it is a request to a server that is down, and `Full` as
+/// for `serve` and `take`.
+pub fn handle(cluster: &mut Cluster, name: &str, place: usize) -> Result<Handled, Refusal>
+    ensures step { IfOk result (λ h. cluster.new ≡ stepped cluster.old name.entry.now (step_of place h)) }
+    ensures handled { IfOk result (λ h. if_named cluster.old name.entry.now (handled_at place) ≡ Some h) }
+    ensures cause { IsByCause (object_cause cluster.old name.entry.now (handling_cause cluster.old place)) result }
+    ensures unchanged { OnErr result (cluster.new ≡ cluster.old) }
+{
+    if is_request(cluster, name, place)? {
+        cluster.serve(name, place)?;
+        return Ok(Handled::Served);
+    }
+    Ok(Handled::Taken(cluster.take(name, place)?))
+}
+
+/// One of the call's messages that can be handled is handled, the one that is chosen. `Stuck` where there is none.
+/// None of them stands before the place `from`.
+pub(crate) fn handle_chosen<C: Chooser>(
+    cluster: &mut Cluster,
+    name: &str,
+    call: u64,
+    from: usize,
+    chooser: &mut C,
+) -> Result<(), Refusal>
+    requires wants { wanted cluster.old name.now call ≡ Some want.Replies }
+    requires behind { IsBehind cluster.old name.now call from }
+    ensures turn { OnOk result (IsTurn C.chooses name.entry.now call false cluster.old chooser.old cluster.new chooser.new) }
+    ensures refused { IfErr result (λ e. IsRefused C.chooses name.entry.now call cluster.old false chooser.old chooser.new e) }
+    ensures unchanged { OnErr result (cluster.new ≡ cluster.old) }
+{
+    let register = cluster.register(name)?;
+    let Some(place) = chosen(cluster, register, name, call, from, chooser) else {
+        return Err(Refusal::Stuck);
+    };
+    handle(cluster, name, place)?;
+    Ok(())
+}
+
+// Whether the message at a place is a request.
+fn is_request(cluster: &Cluster, name: &str, place: usize) -> Result<bool, Refusal>
+    ensures value { IfOk result (λ b. if_named cluster.now name.now (request_at place) ≡ Some b) }
+    ensures cause { IsExactlyByCause (object_cause cluster.now name.now (place_cause place)) result }
+{
+    let mail = cluster.register(name)?.mail_view();
+    if mail.len() <= place {
+        return Err(Refusal::NoMessage);
+    }
+    match &mail.at(place).body {
+        Body::Request(_) => Ok(true),
+        Body::Reply { kind: _, reply: _ } => Ok(false),
+    }
+}
+
+// The place of the message that is chosen among those of the call that can be handled. None where there is none.
+fn chosen<C: Chooser>(
+    cluster: &Cluster,
+    register: &Register,
+    name: &str,
+    call: u64,
+    from: usize,
+    chooser: &mut C,
+) -> Option<usize>
+    requires object { named cluster.now.objects name.now ≡ Some register.now }
+    requires others { AreOthers call from register.now.object.mail }
+    ensures { MatchOption result ((choices cluster.now call register.now.object ≡ []) × (chooser.new ≡ chooser.old))
+        (λ place. Picks C.chooses (choices cluster.now call register.now.object) chooser.old chooser.new place) }
+{
+    let count = choice_count(cluster, register, name, call, from);
+    if count == 0 {
+        return None;
+    }
+    let skipped = chooser.choose(count) % count;
+    choice_at(cluster, register, name, call, from, skipped)
+}
+
+// How many messages of the call can be handled.
+fn choice_count(cluster: &Cluster, register: &Register, name: &str, call: u64, from: usize) -> usize
+    requires object { named cluster.now.objects name.now ≡ Some register.now }
+    requires others { AreOthers call from register.now.object.mail }
+    ensures { result ≡ length (choices cluster.now call register.now.object) }
+{
+    let mut count = 0;
+    for place in from..register.mail_view().len() {
+        if is_choice(cluster, register, name, call, place) {
+            count += 1;
+        }
+    }
+    count
+}
+
+// The place of the message behind `skipped` others of the call that can be handled.
+fn choice_at(
+    cluster: &Cluster,
+    register: &Register,
+    name: &str,
+    call: u64,
+    from: usize,
+    skipped: usize,
+) -> Option<usize>
+    requires object { named cluster.now.objects name.now ≡ Some register.now }
+    requires others { AreOthers call from register.now.object.mail }
+    ensures { result ≡ slice_get (choices cluster.now call register.now.object) skipped }
+{
+    let mut left = skipped;
+    for place in from..register.mail_view().len() {
+        if is_choice(cluster, register, name, call, place) {
+            if left == 0 {
+                return Some(place);
+            }
+            left -= 1;
+        }
+    }
+    None
+}
+
+// Whether the message at a place is the call's and can be handled.
+fn is_choice(cluster: &Cluster, register: &Register, name: &str, call: u64, place: usize) -> bool
+    requires object { named cluster.now.objects name.now ≡ Some register.now }
+    requires place { place < length register.now.object.mail }
+    ensures { (message : MessageOf) → slice_get register.now.object.mail place ≡ Some message
+        → result ≡ is_choice cluster.now call register.now.object message }
+{
+    if register.mail_view().at(place).call != call {
+        return false;
+    }
+    match cluster.can_handle(name, place) {
+        Ok(can_handle) => can_handle,
+        Err(_) => false,
+    }
+}

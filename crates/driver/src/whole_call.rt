@@ -1,0 +1,113 @@
+//! Whole calls, for one thread: the call step, and then the driver.
+ghost use Rattle.std.specs.Prelude.{MatchResult, ◌≡◌, false};
+ghost use Rattle.driver.specs.Driver.{IsFinished, IsUnfinished};
+ghost use Rattle.driver.specs.Others.{IsBehind, IsBehindNext};
+ghost use Rattle.driver.specs.WholeCalls.{IsWholeRead, IsWholeWrite, IsWholeMove};
+ghost use Rattle.driver.specs.declared.whole_call.NotAnswered.TheVariants as unanswered;
+
+use crate::Chooser;
+use crate::driver::drive;
+use bytes::Bytes;
+use cluster::{Cluster, LayoutId};
+use register::Receipt;
+use std::alloc::Global;
+use tag::Refusal;
+
+/// Why a whole call has no answer.
+#[derive(Clone, Copy, Debug, PartialEq, Eq)]
+pub enum NotAnswered {
+    /// The call step was refused, and nothing was done.
+    NotCalled(Refusal),
+    /// The driver was refused. The call of this number stays open.
+    Open { call: u64, refusal: Refusal },
+}
+
+/// A whole read: `Cluster::call_read`, and then the driver, as `finish` without a resume.
+///
+/// What it costs does not grow with the messages of other calls.
+pub fn read<C: Chooser>(
+    alloc: Global,
+    cluster: &mut Cluster,
+    name: &str,
+    chooser: &mut C,
+    turns: u64,
+) -> Result<Receipt, NotAnswered>
+    ensures { IsWholeRead C.chooses name.entry.now turns cluster.old chooser.old cluster.new chooser.new result }
+{
+    let from = next_place(cluster, name);
+    match cluster.call_read(name) {
+        Ok(call) => carry_on(alloc, cluster, name, call, from, chooser, turns),
+        Err(refusal) => Err(NotAnswered::NotCalled(refusal)),
+    }
+}
+
+/// A whole write: `Cluster::call_write`, and then the driver, as for a read.
+pub fn write<C: Chooser>(
+    alloc: Global,
+    cluster: &mut Cluster,
+    name: &str,
+    value: Bytes,
+    chooser: &mut C,
+    turns: u64,
+) -> Result<Receipt, NotAnswered>
+    ensures { IsWholeWrite C.chooses name.entry.now turns cluster.old chooser.old cluster.new chooser.new value result }
+{
+    let from = next_place(cluster, name);
+    match cluster.call_write(name, value) {
+        Ok(call) => carry_on(alloc, cluster, name, call, from, chooser, turns),
+        Err(refusal) => Err(NotAnswered::NotCalled(refusal)),
+    }
+}
+
+/// A whole move: `Cluster::call_move`, and then the driver, as for a read.
+pub fn move_to<C: Chooser>(
+    alloc: Global,
+    cluster: &mut Cluster,
+    name: &str,
+    id: LayoutId,
+    chooser: &mut C,
+    turns: u64,
+) -> Result<Receipt, NotAnswered>
+    ensures { IsWholeMove C.chooses name.entry.now turns cluster.old chooser.old cluster.new chooser.new id result }
+{
+    let from = next_place(cluster, name);
+    match cluster.call_move(name, id) {
+        Ok(call) => carry_on(alloc, cluster, name, call, from, chooser, turns),
+        Err(refusal) => Err(NotAnswered::NotCalled(refusal)),
+    }
+}
+
+// Where the messages of the next call will stand: behind those that wait.
+fn next_place(cluster: &Cluster, name: &str) -> usize
+    ensures { IsBehindNext cluster.now name.now result }
+{
+    match cluster.register(name) {
+        Ok(register) => {
+            register.soundness();
+            register.mail_view().len()
+        }
+        Err(_) => 0,
+    }
+}
+
+// The driver goes on with a call that has begun.
+fn carry_on<C: Chooser>(
+    alloc: Global,
+    cluster: &mut Cluster,
+    name: &str,
+    call: u64,
+    from: usize,
+    chooser: &mut C,
+    turns: u64,
+) -> Result<Receipt, NotAnswered>
+    requires { IsBehind cluster.old name.now call from }
+    ensures { MatchResult result
+        (λ receipt. IsFinished C.chooses name.entry.now call false turns cluster.old chooser.old cluster.new chooser.new receipt)
+        (λ e. (refusal : Refusal) × (e ≡ unanswered.Open call refusal)
+        × IsUnfinished C.chooses name.entry.now call false turns cluster.old chooser.old cluster.new chooser.new refusal) }
+{
+    match drive(alloc, cluster, name, call, from, false, chooser, turns) {
+        Ok(receipt) => Ok(receipt),
+        Err(refusal) => Err(NotAnswered::Open { call, refusal }),
+    }
+}
