@@ -1,0 +1,6 @@
+pub mod Calls
+pub mod Seats
+pub mod Closing
+pub mod Moves
+pub mod Sections
+pub mod Locked

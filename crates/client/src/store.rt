@@ -1,0 +1,124 @@
+//! The store that client threads share.
+
+ghost use Rattle.std.specs.Prelude.{◌≡◌, ◌+◌, ◌⊎◌, ◌<◌, None, Some, IfOk, IfErr, MatchResult, if◌then◌else◌};
+ghost use Rattle.tag.specs.Refusal.{IsByCause};
+ghost use Rattle.client.specs.Closing.{Fit, IsAccounted, all_records, receipts_of};
+ghost use Rattle.client.specs.Seats.{new_seats};
+ghost use Rattle.client.specs.Locked.{DisturbsNotThen, DisturbsThen, StirsNotThen, StirsThen};
+ghost use Rattle.client.specs.Sections.{open_store_cause};
+
+use crate::admin::Admin;
+use crate::close::{Closed, NotClosed};
+use crate::seat::{Seat, empty_seat};
+use crate::sections::{Booked, StoreName, close_in, disturb_in, stir_in};
+use cluster::Cluster;
+use driver::Chooser;
+use std::alloc::Global;
+use std::marker::PhantomData;
+use std::sync::ledger::Blank;
+use std::sync::{Mutex, Wait};
+use tag::{MOST_WORKERS, Refusal};
+
+mod calls;
+mod drive;
+mod moves;
+
+/// The most seats of one store.
+pub const MOST_SEATS: u32 = 1024;
+
+/// A cluster under one lock, for the seats of one name, with so many coding workers.
+#[derive(Drop)]
+pub struct Store<L: StoreName> {
+    booked: Mutex<Booked<L>>,
+    workers: usize,
+    alloc: Global,
+}
+
+/// A store with its seats and its administrator.
+pub type Opened<L> = (Store<L>, Vec<Seat<L>>, Admin<L>);
+
+impl<L: StoreName> Store<L> {
+    /// A store over a cluster without calls, with this many seats.
+    ///
+    /// `NotNow` where the cluster has a call, and `Full` above `MOST_SEATS` seats or `MOST_WORKERS` workers. The blank
+    /// has one part for each seat and one for the store.
+    pub fn open(
+        alloc: Global,
+        blank: Blank,
+        cluster: Cluster,
+        seats: u32,
+        workers: usize,
+    ) -> Result<Opened<L>, Refusal>
+        requires name { blank.name ≡ L.name }
+        requires parts { (blank.parts ≡ L.parts) × (blank.parts ≡ L.seats + 1) × (seats ≡ L.seats) }
+        ensures seats { IfOk result (λ opened. opened.1.items ≡ new_seats seats) }
+        ensures admin { IfOk result (λ opened. opened.2 ≡ None) }
+        ensures cause { IsByCause (open_store_cause cluster seats workers) result }
+    {
+        if cluster.calls() != 0 {
+            return Err(Refusal::NotNow);
+        }
+        if seats > MOST_SEATS || workers > MOST_WORKERS {
+            return Err(Refusal::Full);
+        }
+        let (book, mut own) = blank.open::<L>();
+        let mut list = Vec::with_capacity(alloc, seats as usize)?;
+        for number in 0..seats {
+            let share = own.split_off(1, 0);
+            list.push_reserved(empty_seat(alloc, number, share));
+        }
+        let store = Store {
+            booked: Mutex::new(Booked::new(cluster, book, own, seats)),
+            workers,
+            alloc,
+        };
+        let admin = Admin {
+            pending: None,
+            name: String::new(alloc),
+            of: PhantomData,
+        };
+        Ok((store, list, admin))
+    }
+
+    /// One message of an object that can be handled is served or taken, the chosen one. It answers whether there is one.
+    pub fn stir<R: Wait, C: Chooser>(
+        &self,
+        rt: &R,
+        name: &str,
+        chooser: &mut C,
+    ) -> Result<bool, Refusal>
+        ensures ok { IfOk result (λ b. StirsThen C.chooses name.now chooser.old b chooser.new) }
+        ensures err { IfErr result (λ e. StirsNotThen C.chooses name.now chooser.old chooser.new e) }
+    {
+        stir_in(&mut *self.booked.lock(rt), name, chooser)
+    }
+
+    /// One waiting message of an object, the chosen one, is lost or repeated, as is chosen. It answers whether there is one.
+    pub fn disturb<R: Wait, C: Chooser>(
+        &self,
+        rt: &R,
+        name: &str,
+        chooser: &mut C,
+    ) -> Result<bool, Refusal>
+        ensures ok { IfOk result (λ b. DisturbsThen C.chooses name.now chooser.old b chooser.new) }
+        ensures err { IfErr result (λ e. DisturbsNotThen C.chooses name.now chooser.old chooser.new e) }
+    {
+        disturb_in(&mut *self.booked.lock(rt), name, chooser)
+    }
+
+    /// Closes the store with all its seats, once all clients have ended.
+    pub fn close(self, seats: Vec<Seat<L>>) -> Result<Closed, NotClosed<L>>
+        ensures accounted { IfOk result (λ closed. IsAccounted closed.cluster seats.items) }
+        ensures fit { IfOk result (λ closed. Fit L.seats closed.cluster seats.items) }
+        ensures receipts { IfOk result (λ closed. closed.receipts ≡ receipts_of (all_records seats.items)) }
+        ensures stranger { IfErr result (λ e. (e.refusal ≡ Refusal.NoMemory) ⊎ ((e.refusal ≡ Refusal.Stranger) × (¬ Fit L.seats e.cluster seats.items))) }
+        ensures seats { IfErr result (λ e. e.seats.items ≡ seats.items) }
+    {
+        let Store {
+            booked,
+            workers: _,
+            alloc,
+        } = self;
+        close_in(alloc, booked.into_inner(), seats)
+    }
+}

@@ -1,0 +1,85 @@
+//! Whole reads and writes.
+
+ghost use Rattle.std.specs.Prelude.{◌≡◌, ◌⊎◌, IfOk, OnErr};
+ghost use Rattle.client.specs.Seats.{AddsAnswered, AddsPending, Settles};
+ghost use Rattle.client.specs.declared.call_record.Begin.TheVariants as begins;
+
+use crate::call_record::Begin;
+use crate::seat::Seat;
+use crate::sections::{StoreName, begin_in};
+use crate::store::Store;
+use bytes::Bytes;
+use coding_pool::{Gate, NoGate};
+use driver::Chooser;
+use register::Receipt;
+use std::sync::Wait;
+use std::thread::Threads;
+use tag::Refusal;
+
+impl<L: StoreName> Store<L> {
+    /// Writes a value, in at most so many turns beside the call step.
+    pub fn write<R: Threads + Wait + Sync, C: Chooser>(
+        &self,
+        rt: &R,
+        seat: &mut Seat<L>,
+        name: &str,
+        value: Bytes,
+        chooser: &mut C,
+        turns: u64,
+    ) -> Result<Receipt, Refusal>
+        ensures ok { IfOk result (λ receipt. AddsAnswered seat.old name.now (begins.Write value) receipt seat.new) }
+        ensures err { OnErr result ((seat.new ≡ seat.old) ⊎ AddsPending seat.old name.now (begins.Write value) seat.new) }
+    {
+        self.call(rt, &NoGate, seat, name, Begin::Write(value), chooser, turns)
+    }
+
+    /// Reads, in at most so many turns beside the call step.
+    pub fn read<R: Threads + Wait + Sync, C: Chooser>(
+        &self,
+        rt: &R,
+        seat: &mut Seat<L>,
+        name: &str,
+        chooser: &mut C,
+        turns: u64,
+    ) -> Result<Receipt, Refusal>
+        ensures ok { IfOk result (λ receipt. AddsAnswered seat.old name.now begins.Read receipt seat.new) }
+        ensures err { OnErr result ((seat.new ≡ seat.old) ⊎ AddsPending seat.old name.now begins.Read seat.new) }
+    {
+        self.call(rt, &NoGate, seat, name, Begin::Read, chooser, turns)
+    }
+
+    /// Goes on with the seat's pending call, in at most so many turns.
+    pub fn resume<R: Threads + Wait + Sync, C: Chooser>(
+        &self,
+        rt: &R,
+        seat: &mut Seat<L>,
+        chooser: &mut C,
+        turns: u64,
+    ) -> Result<Receipt, Refusal>
+        ensures ok { IfOk result (λ receipt. Settles seat.old.pending seat.old receipt seat.new) }
+        ensures err { OnErr result (seat.new ≡ seat.old) }
+    {
+        self.drive(rt, &NoGate, seat, true, chooser, turns)
+    }
+
+    /// A whole read or write, as `read` and `write` make them, through a gate that is told of each coding: the number of the
+    /// piece that a worker makes, and 0 where the client decodes. The growths for its record are made before the lock is
+    /// taken, where they can be.
+    pub fn call<G: Gate, R: Threads + Wait + Sync, C: Chooser>(
+        &self,
+        rt: &R,
+        gate: &G,
+        seat: &mut Seat<L>,
+        name: &str,
+        what: Begin,
+        chooser: &mut C,
+        turns: u64,
+    ) -> Result<Receipt, Refusal>
+        ensures ok { IfOk result (λ receipt. AddsAnswered seat.old name.now what receipt seat.new) }
+        ensures err { OnErr result ((seat.new ≡ seat.old) ⊎ AddsPending seat.old name.now what seat.new) }
+    {
+        let _ = seat.make_room(name);
+        begin_in(&mut *self.booked.lock(rt), seat, name, what)?;
+        self.drive(rt, gate, seat, false, chooser, turns)
+    }
+}

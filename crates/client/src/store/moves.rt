@@ -1,0 +1,137 @@
+//! What the administrator does through the lock.
+
+ghost use Rattle.std.specs.Prelude.{◌≡◌, ◌⊎◌, IfOk, OnErr};
+ghost use Rattle.client.specs.Locked.{AddsLayout, BeginsMove, Creates, Moves, SetsServer};
+ghost use Rattle.client.specs.Moves.{Ends};
+
+use crate::admin::{Admin, Order};
+use crate::sections::{Hand, StoreName, admin_in, begin_move_in, move_round_in};
+use crate::store::Store;
+use cluster::LayoutId;
+use coding_pool::NoGate;
+use driver::{Chooser, Round};
+use layout::Layout;
+use register::Receipt;
+use std::sync::Wait;
+use std::thread::Threads;
+use tag::Refusal;
+
+impl<L: StoreName> Store<L> {
+    /// One more layout.
+    pub fn add_layout<R: Wait>(
+        &self,
+        rt: &R,
+        admin: &mut Admin<L>,
+        layout: Layout,
+    ) -> Result<LayoutId, Refusal>
+        ensures added { AddsLayout layout result }
+        ensures same { admin.new ≡ admin.old }
+    {
+        let order = Order::AddLayout(layout);
+        match admin_in(self.alloc, &mut *self.booked.lock(rt), admin, order)? {
+            Some(id) => Ok(id),
+            None => unreachable!(),
+        }
+    }
+
+    /// One more object.
+    pub fn create<R: Wait>(
+        &self,
+        rt: &R,
+        admin: &mut Admin<L>,
+        name: &str,
+        layout: LayoutId,
+    ) -> Result<(), Refusal>
+        ensures created { Creates name.now layout result }
+        ensures same { admin.new ≡ admin.old }
+    {
+        let order = Order::Create { name, layout };
+        admin_in(self.alloc, &mut *self.booked.lock(rt), admin, order)?;
+        Ok(())
+    }
+
+    /// A server goes up or down.
+    pub fn set_server<R: Wait>(
+        &self,
+        rt: &R,
+        admin: &mut Admin<L>,
+        server: u8,
+        up: bool,
+    ) -> Result<(), Refusal>
+        ensures set { SetsServer server result }
+        ensures same { admin.new ≡ admin.old }
+    {
+        let order = Order::SetServer { server, up };
+        admin_in(self.alloc, &mut *self.booked.lock(rt), admin, order)?;
+        Ok(())
+    }
+
+    /// Moves an object to a layout, in at most so many turns beside the call step.
+    pub fn move_object<R: Threads + Wait + Sync, C: Chooser>(
+        &self,
+        rt: &R,
+        admin: &mut Admin<L>,
+        name: &str,
+        layout: LayoutId,
+        chooser: &mut C,
+        turns: u64,
+    ) -> Result<Receipt, Refusal>
+        ensures ok { IfOk result (λ receipt. Moves admin.old name.now receipt admin.new) }
+        ensures err { OnErr result ((admin.new ≡ admin.old) ⊎ BeginsMove admin.old name.now admin.new) }
+    {
+        begin_move_in(&mut *self.booked.lock(rt), admin, name, layout)?;
+        self.drive_move(rt, admin, false, chooser, turns)
+    }
+
+    /// Goes on with the administrator's pending move, in at most so many turns.
+    pub fn resume_move<R: Threads + Wait + Sync, C: Chooser>(
+        &self,
+        rt: &R,
+        admin: &mut Admin<L>,
+        chooser: &mut C,
+        turns: u64,
+    ) -> Result<Receipt, Refusal>
+        ensures ok { IfOk result (λ receipt. Ends admin.old receipt admin.new) }
+        ensures err { OnErr result (admin.new ≡ admin.old) }
+    {
+        self.drive_move(rt, admin, true, chooser, turns)
+    }
+
+    // Rounds until the answer.
+    fn drive_move<R: Threads + Wait + Sync, C: Chooser>(
+        &self,
+        rt: &R,
+        admin: &mut Admin<L>,
+        resumed: bool,
+        chooser: &mut C,
+        turns: u64,
+    ) -> Result<Receipt, Refusal>
+        ensures ok { IfOk result (λ receipt. Ends admin.old receipt admin.new) }
+        ensures err { OnErr result (admin.new ≡ admin.old) }
+    {
+        let mut asks_again = resumed;
+        let mut left = turns;
+        let mut hand = Hand::Empty;
+        for _ in rt.forever() {
+            let round = move_round_in(
+                &mut *self.booked.lock(rt),
+                admin,
+                chooser,
+                hand,
+                asks_again,
+                left,
+            )?;
+            asks_again = false;
+            match round {
+                Some(Round::Answered(receipt)) => return Ok(receipt),
+                Some(Round::Stepped) => {
+                    left = left.saturating_sub(1);
+                    hand = Hand::Empty;
+                }
+                Some(copied) => hand = self.coded(rt, &NoGate, copied)?,
+                None => hand = Hand::Empty,
+            }
+        }
+        unreachable!()
+    }
+}
