@@ -22,6 +22,4 @@ mod history_lines;
 mod mail_lines;
 mod outcome;
 mod sequence_line;
-#[cfg(test)]
-mod tests;
 mod vocabulary;

@@ -10,5 +10,3 @@ pub mod line;
 pub mod lines;
 mod mail_commands;
 mod object_commands;
-#[cfg(test)]
-mod tests;

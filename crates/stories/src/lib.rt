@@ -1,4 +1,4 @@
-//! Objects and clusters played by hand, and histories made by hand: tests alone. They
+//! Scripts with all that they print, objects and clusters played by hand, and histories made by hand: tests alone. They
 //! stand in a crate of their own, so that the crates which they play are proved once and not twice.
 #![tactic(auto)]
 
@@ -8,5 +8,7 @@ mod certificates;
 mod many_objects;
 #[cfg(test)]
 mod one_object;
+#[cfg(test)]
+mod scripts;
 #[cfg(test)]
 mod whole_calls;

@@ -1,0 +1,7 @@
+mod Stepping
+mod Whole
+mod Printing
+mod Delivering
+mod Reading
+mod Playing
+mod Running

@@ -1,0 +1,60 @@
+-- What a command that is one step comes to, from what the step's own call says.
+use Rattle.std.proofs.Common.{◌≡◌, ◌⊎◌, ℕ, List, subst, Option, Some, None, Result, Ok, Err, OnOk, OnErr, IfOk, sym, ap, ◌∙◌, inl, inr}
+use Rattle.std.specs.Prelude.{option_map}
+use Rattle.tag.specs.declared.refusal.Refusal.{Refusal}
+use Rattle.tag.specs.Refusal.{IsByCause, IsExactlyByCause}
+use Rattle.tag.specs.declared.refusal.Refusal.TheVariants.{NoMemory}
+use Rattle.driver.specs.Coding.{IsByCauseOrMemory}
+use Rattle.cluster.specs.Cluster.{Cluster}
+use Rattle.cluster.specs.Steps.{moved, created}
+use Rattle.cluster.specs.Causes.{object_cause, moving_cause, create_cause}
+use Rattle.player.specs.declared.report.Report.{Report}
+use Rattle.player.specs.Report.{report_of, done, refused}
+use Rattle.player.specs.Steps.{IsStep, IsGrowth, IsRefused}
+
+-- a step that gives something
+pub growth : {T : Type 0} (old new made : Cluster) (cause : Option Refusal) (found : Option T) (tell : T → Report) (r : Result T Refusal) (report : Report)
+    → OnOk r (new ≡ made) → IfOk r (λ x. found ≡ Some x) → IsByCause cause r → OnErr r (new ≡ old) → report ≡ report_of tell r
+    → IsGrowth old made cause (option_map tell found) new report
+growth old new made cause found tell (Ok x) report step given by same is = inl (by, step, ap (option_map tell) given ∙ ap Some (sym is))
+growth old new made cause found tell (Err e) report step given by same is = inr (e, by, (same, is))
+
+pub sure : {T : Type 0} (old new made : Cluster) (cause : Option Refusal) (found : Option T) (tell : T → Report) (r : Result T Refusal) (report : Report)
+    → OnOk r (new ≡ made) → IfOk r (λ x. found ≡ Some x) → IsExactlyByCause cause r → OnErr r (new ≡ old) → report ≡ report_of tell r
+    → IsStep old made cause (option_map tell found) new report
+sure old new made cause found tell (Ok x) report step given by same is = inl (by, step, ap (option_map tell) given ∙ ap Some (sym is))
+sure old new made cause found tell (Err e) report step given by same is = inr (e, by, (same, is))
+
+-- a step that gives nothing
+pub growth_done : (old new made : Cluster) (cause : Option Refusal) (r : Result Unit Refusal) (report : Report)
+    → OnOk r (new ≡ made) → IsByCause cause r → OnErr r (new ≡ old) → report ≡ report_of (λ _. done) r
+    → IsGrowth old made cause (Some done) new report
+growth_done old new made cause (Ok x) report step by same is = inl (by, step, ap Some (sym is))
+growth_done old new made cause (Err e) report step by same is = inr (e, by, (same, is))
+
+pub sure_done : (old new made : Cluster) (cause : Option Refusal) (r : Result Unit Refusal) (report : Report)
+    → OnOk r (new ≡ made) → IsExactlyByCause cause r → OnErr r (new ≡ old) → report ≡ report_of (λ _. done) r
+    → IsStep old made cause (Some done) new report
+sure_done old new made cause (Ok x) report step by same is = inl (by, step, ap Some (sym is))
+sure_done old new made cause (Err e) report step by same is = inr (e, by, (same, is))
+
+-- the number of a layout as it was handed over
+pub moved_to : (old new : Cluster) (name : List ℕ) (id number : ℕ) (told : Option Report) (report : Report) → id ≡ number
+    → IsGrowth old (moved old name id) (object_cause old name (moving_cause old id)) told new report
+    → IsGrowth old (moved old name number) (object_cause old name (moving_cause old number)) told new report
+moved_to old new name id number told report same =
+    subst (λ n. IsGrowth old (moved old name n) (object_cause old name (moving_cause old n)) told new report) same
+
+pub created_with : (old new : Cluster) (name : List ℕ) (id number : ℕ) (told : Option Report) (report : Report) → id ≡ number
+    → IsGrowth old (created old name id) (create_cause old name id) told new report
+    → IsGrowth old (created old name number) (create_cause old name number) told new report
+created_with old new name id number told report same =
+    subst (λ n. IsGrowth old (created old name n) (create_cause old name n) told new report) same
+
+-- a step that codes a value first, for which memory may be wanting
+pub coded : (old new made : Cluster) (no_value cause : Option Refusal) (r : Result Unit Refusal) (report : Report)
+    → OnOk r (new ≡ made) → IsByCauseOrMemory no_value cause r → OnErr r (new ≡ old) → report ≡ report_of (λ _. done) r
+    → IsStep old made cause (Some done) new report ⊎ ((no_value ≡ None) × IsRefused old NoMemory new report)
+coded old new made no_value cause (Ok x) report step by same is = inl (inl (by, step, ap Some (sym is)))
+coded old new made no_value cause (Err e) report step (inl by) same is = inl (inr (e, by, (same, is)))
+coded old new made no_value cause (Err e) report step (inr (none, memory)) same is = inr (none, (same, is ∙ ap refused memory))

@@ -1,0 +1,10 @@
+use Rattle.std.proofs.Common.{arith}
+use Rattle.std.proofs.lemmas.Grind.{common_steps}
+use Rattle.std.proofs.lemmas.List.FromFn.{map-range_with_len_more}
+use Rattle.cluster.specs.Accounts.{stored}
+use Rattle.player.proofs.shown.account_of.Goals as goal
+
+pub loop-server-preserved : goal.loop-server-preserved
+loop-server-preserved c =
+    let e = map-range_with_len_more (stored c.args.cluster.now) 0 c.loop-server.server c.loop-server.server (omega arith) in
+    grind (arith, common_steps, e)

@@ -1,0 +1,60 @@
+-- The commands that supply a call with coded bytes, or settle a decoded value.
+use Rattle.std.specs.Prelude.{◌≡◌, ◌⊎◌, ℕ, pred, List, length, Option, Some, None}
+use Rattle.tag.specs.declared.refusal.Refusal.{Refusal}
+use Rattle.tag.specs.declared.refusal.Refusal.TheVariants.{NoMemory, NoCall, NotNow}
+use Rattle.encoder.specs.Coded.{Coding, encode_cause}
+use Rattle.record.specs.declared.stage.Want.{Want}
+use Rattle.record.specs.declared.stage.Want.TheVariants as want
+use Rattle.record.specs.Records.{Object}
+use Rattle.record.specs.Steps.{Step}
+use Rattle.register.specs.Causes.{supply_cause, value_cause}
+use Rattle.register.specs.View.{want_at}
+use Rattle.cluster.specs.Cluster.{Cluster}
+use Rattle.cluster.specs.Steps.{stepped}
+use Rattle.cluster.specs.Causes.{next, object_cause}
+use Rattle.driver.specs.Coding.{supplying_cause, settling_cause}
+use Rattle.driver.specs.Rounds.{SettlesOwn}
+use Rattle.player.specs.declared.report.Report.{Report}
+use Rattle.player.specs.Report.{done}
+use Rattle.player.specs.Steps.{IsRefusalBy, IsRefused, IsStep}
+
+-- this cause, or else that one
+abbrev pub first_of : Option Refusal → Option Refusal → Option Refusal
+first_of None later = later
+first_of (Some refusal) later = Some refusal
+
+-- why the call that wants this gets no coded bytes: it is none, it wants none, or they can't be coded
+abbrev pub coding_cause : (value : List ℕ) → Option Want → Option Refusal
+coding_cause value None = Some NoCall
+coding_cause value (Some (want.Supply k n)) = encode_cause k n (length value)
+coding_cause value (Some _) = Some NotNow
+
+-- the bytes, coded as the call wants them
+abbrev pub coding_for : (value : List ℕ) → Option Want → Coding
+coding_for value (Some (want.Supply k n)) = record { k = k; n = n; value = value }
+coding_for value _ = record { k = 0; n = 0; value = value }
+
+-- why the call of this number is not supplied with these bytes: they are not coded, or are not its own
+abbrev pub supplying_as_cause : Cluster → (call : ℕ) → (value : List ℕ) → Object → Option Refusal
+supplying_as_cause cluster call value object =
+    first_of (coding_cause value (want_at object call)) (supply_cause (next cluster) object call (coding_for value (want_at object call)))
+
+-- the call of this number is supplied with these bytes, coded as it wants them; memory may be wanting where they can be coded
+abbrev pub SuppliesAs : Cluster → (name : List ℕ) → (call : ℕ) → (value : List ℕ) → Cluster → Report → Type 0
+SuppliesAs old name call value new report =
+    IsStep old (stepped old name (Step.Supply (pred call))) (object_cause old name (supplying_as_cause old call value)) (Some done) new report
+    ⊎ ((object_cause old name (λ object. coding_cause value (want_at object call)) ≡ None) × IsRefused old NoMemory new report)
+
+-- the call of this number is supplied with the pieces of its own value, or is refused: memory to code the value may be wanting where there is one
+abbrev pub Supplies : Cluster → (name : List ℕ) → (call : ℕ) → Cluster → Report → Type 0
+Supplies old name call new report =
+    IsStep old (stepped old name (Step.Supply (pred call))) (object_cause old name (λ object. supplying_cause (next old) object call))
+    (Some done) new report
+    ⊎ ((object_cause old name (λ object. value_cause object call) ≡ None) × IsRefused old NoMemory new report)
+
+-- the call of this number settles the value that its own pieces give
+abbrev pub SettlesValue : Cluster → (name : List ℕ) → (call : ℕ) → Cluster → Report → Type 0
+SettlesValue old name call new report =
+    (SettlesOwn old name call new × (report ≡ done))
+    ⊎ ((refusal : Refusal) × IsRefusalBy (object_cause old name (λ object. settling_cause (next old) object call)) refusal
+    × IsRefused old refusal new report)

@@ -1,0 +1,54 @@
+-- What `deliver` does to the messages of an object.
+use Rattle.std.specs.Prelude.{◌≡◌, ◌⊎◌, ℕ, zero, suc, ◌<◌, Bool, true, false, List, Option, Some, None}
+use Rattle.tag.specs.declared.refusal.Refusal.{Refusal}
+use Rattle.printing.specs.declared.outcome.Outcome.{Outcome}
+use Rattle.printing.specs.declared.outcome.Outcome.TheVariants as outcome
+use Rattle.cluster.specs.Cluster.{Cluster, if_named}
+use Rattle.cluster.specs.Steps.{stepped}
+use Rattle.cluster.specs.Causes as causes
+use Rattle.cluster.specs.Causes.{object_cause}
+use Rattle.driver.specs.declared.messages.Handled.{Handled}
+use Rattle.driver.specs.Choices.{step_of, handled_at, handling_cause}
+use Rattle.player.specs.declared.report.Report.{Report}
+use Rattle.player.specs.declared.report.Report.TheVariants as of
+use Rattle.player.specs.Steps.{IsRefusalBy}
+
+-- whether the message at a place is a reply, or a request to a server that is up
+abbrev pub can_handle_at : Cluster → (name : List ℕ) → (place : ℕ) → Option Bool
+can_handle_at cluster name place = if_named cluster name (causes.handled_at cluster place)
+
+-- none of the messages before this place can be handled
+abbrev pub NoneBefore : Cluster → (name : List ℕ) → (place : ℕ) → Type 0
+NoneBefore cluster name place = (earlier : ℕ) → earlier < place → can_handle_at cluster name earlier ≡ Some false
+
+-- the message at this place can be handled, and none before it
+pub record IsFirst (cluster : Cluster) (name : List ℕ) (place : ℕ) : Type 0 where
+  pub here : can_handle_at cluster name place ≡ Some true
+  pub none_before : NoneBefore cluster name place
+
+-- from one cluster to another by so many steps, each of which handles the first message that can be handled
+pub data Delivers (name : List ℕ) (old : Cluster) : ℕ → Cluster → Type 0 where
+  nothing : Delivers name old zero old
+  then_handles : {count : ℕ} {cluster : Cluster} (place : ℕ) (handled : Handled) → Delivers name old count cluster → IsFirst cluster name place
+      → if_named cluster name (handled_at place) ≡ Some handled → Delivers name old (suc count) (stepped cluster name (step_of place handled))
+
+-- no message can be handled
+abbrev pub IsIdle : Cluster → (name : List ℕ) → Type 0
+IsIdle cluster name = (place : ℕ) → ¬ (can_handle_at cluster name place ≡ Some true)
+
+-- there is no such object, or the first message that can be handled is refused
+abbrev pub IsStopped : Cluster → (name : List ℕ) → Refusal → Type 0
+IsStopped cluster name refusal =
+    (object_cause cluster name (λ object. None) ≡ Some refusal)
+    ⊎ ((place : ℕ) × IsFirst cluster name place × IsRefusalBy (object_cause cluster name (handling_cause cluster place)) refusal)
+
+abbrev pub DeliversTo : Cluster → (name : List ℕ) → Cluster → Outcome → Type 0
+DeliversTo old name new (outcome.Handled count) =
+    Delivers name old count new × (object_cause new name (λ object. None) ≡ None) × IsIdle new name
+DeliversTo old name new (outcome.Refused refusal) = (count : ℕ) × Delivers name old count new × IsStopped new name refusal
+DeliversTo old name new _ = ⊥
+
+-- the messages that can be handled are handled, always the first one, until there is none or one is refused; the steps before stay made
+abbrev pub DeliversAll : Cluster → (name : List ℕ) → Cluster → Report → Type 0
+DeliversAll old name new (of.Did outcome) = DeliversTo old name new outcome
+DeliversAll old name new _ = ⊥

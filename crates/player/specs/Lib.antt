@@ -1,0 +1,11 @@
+pub mod Report
+pub mod Steps
+pub mod ClusterCommands
+pub mod CallCommands
+pub mod CodingCommands
+pub mod MailCommands
+pub mod Deliver
+pub mod WholeCalls
+pub mod Shown
+pub mod Play
+pub mod Script

@@ -1,0 +1,141 @@
+-- What the run of a script does.
+use Rattle.std.specs.Prelude.{◌≡◌, ◌⊎◌, ℕ, suc, List, [], ◌∷◌, ◌++◌, ⊤, length, Option, None, IfSome}
+use Rattle.std.specs.Str.Lines.{lines}
+use Rattle.std.specs.Io.KnownBytes.{Appends, Keeps}
+use Rattle.std.specs.declared.io.ErrorKind.{ErrorKind}
+use Rattle.std.specs.declared.io.ErrorKind.TheVariants.{OutOfMemory}
+use Rattle.script.specs.declared.command.Command.{Command}
+use Rattle.script.specs.declared.line.Line.TheVariants as line
+use Rattle.script.specs.declared.error.LineError.TheVariants as line_error
+use Rattle.script.specs.Line.{IsLine, IsErrorOfLine}
+use Rattle.cluster.specs.Cluster.{Cluster}
+use Rattle.player.specs.declared.run.End.{End}
+use Rattle.player.specs.declared.run.End.TheVariants.{Unread, NoMemory, BadLine, OutputLost}
+use Rattle.player.specs.Play.{Contents, Plays, IsBadAt}
+
+-- a line is skipped, or spells a command, which is played
+abbrev pub PlaysLine : Option Cluster → (line : List ℕ) → Option Cluster → (text : List ℕ) → Type 0
+PlaysLine old words new text =
+    (IsLine words line.Skipped × (new ≡ old) × (text ≡ []))
+    ⊎ ((command : Command) × IsLine words (line.Command command) × Plays old command new text)
+
+-- a line is bad: it says nothing, or its command names what is not there or stands where it may not
+abbrev pub IsBadLine : Option Cluster → (line : List ℕ) → Type 0
+IsBadLine state words = IsErrorOfLine words line_error.Bad ⊎ ((command : Command) × IsLine words (line.Command command) × IsBadAt state command)
+
+-- the lines are played one after another from the beginning, which leads to this cluster and prints this text
+pub data PlaysLines : List (List ℕ) → Option Cluster → (text : List ℕ) → Type 0 where
+  none : PlaysLines [] None []
+  then_plays : {front : List (List ℕ)} {old new : Option Cluster} {text more : List ℕ} (line : List ℕ)
+      → PlaysLines front old text → PlaysLine old line new more → PlaysLines (front ++ line ∷ []) new (text ++ more)
+
+-- the lines before this one are played, which leads to this cluster
+pub record IsPlayedTo (all front : List (List ℕ)) (line : List ℕ) (state : Option Cluster) (text : List ℕ) : Type 0 where
+  pub rest : List (List ℕ)
+  pub parted : all ≡ front ++ line ∷ rest
+  pub played : PlaysLines front state text
+
+-- the script is what the reader has left, where that is known
+abbrev pub IsScriptOf : (remaining : Contents) → (script : List ℕ) → Type 0
+IsScriptOf remaining script = IfSome remaining (λ known. script ≡ known)
+
+-- the lines before a bad one are played, and their text printed
+pub record StopsAt (script : List ℕ) (old new : Contents) (number : ℕ) : Type 0 where
+  pub front : List (List ℕ)
+  pub words : List ℕ
+  pub state : Option Cluster
+  pub text : List ℕ
+  pub played : IsPlayedTo (lines script) front words state text
+  pub numbered : number ≡ suc (length front)
+  pub bad : IsBadLine state words
+  pub printed : Appends old new text
+
+-- the lines before one are played, and its command too, whose text is lost
+pub record LosesOutput (script : List ℕ) : Type 0 where
+  pub front : List (List ℕ)
+  pub words : List ℕ
+  pub state : Option Cluster
+  pub after : Option Cluster
+  pub text : List ℕ
+  pub more : List ℕ
+  pub played : IsPlayedTo (lines script) front words state text
+  pub command : Command
+  pub spelled : IsLine words (line.Command command)
+  pub carried_out : Plays state command after more
+
+-- the lines before one are played, and their text printed; that line finds no memory
+pub record LacksMemory (script : List ℕ) (old new : Contents) : Type 0 where
+  pub front : List (List ℕ)
+  pub words : List ℕ
+  pub state : Option Cluster
+  pub text : List ℕ
+  pub played : IsPlayedTo (lines script) front words state text
+  pub lacks : IsErrorOfLine words line_error.NoMemory
+  pub printed : Appends old new text
+
+-- a line's command is carried out, and its text is lost
+abbrev pub LosesLine : Option Cluster → (line : List ℕ) → Type 0
+LosesLine state words = (command : Command) × (after : Option Cluster) × (more : List ℕ) × IsLine words (line.Command command) × Plays state command after more
+
+-- a line is played from this cluster, which leads to that one, and its text printed
+abbrev pub IsPlayedFrom : Option Cluster → (line : List ℕ) → Option Cluster → (before after : Contents) → Type 0
+IsPlayedFrom old words new before after = (text : List ℕ) × PlaysLine old words new text × Appends before after text
+
+-- why the line of this number is the last one
+abbrev pub EndsLine : (number : ℕ) → Option Cluster → (line : List ℕ) → (before after : Contents) → End → Type 0
+EndsLine number state words before after Unread = ⊥
+EndsLine number state words before after NoMemory = (IsErrorOfLine words line_error.NoMemory × Keeps before after) ⊎ LosesLine state words
+EndsLine number state words before after (BadLine at) = (at ≡ number) × IsBadLine state words × Keeps before after
+EndsLine number state words before after OutputLost = LosesLine state words
+
+-- the lines of a script are played, and their text printed
+abbrev pub IsPlayedThrough : (script : List ℕ) → (old new : Contents) → Type 0
+IsPlayedThrough script old new = (state : Option Cluster) × (text : List ℕ) × PlaysLines (lines script) state text × Appends old new text
+
+-- why the run of a script ends before the script's last line, with what was done
+abbrev pub EndsAt : (script : List ℕ) → (old new : Contents) → End → Type 0
+EndsAt script old new Unread = ⊥
+EndsAt script old new NoMemory = LacksMemory script old new ⊎ LosesOutput script
+EndsAt script old new (BadLine number) = StopsAt script old new number
+EndsAt script old new OutputLost = LosesOutput script
+
+-- no script is read
+abbrev pub IsUnread : End → Type 0
+IsUnread Unread = ⊤
+IsUnread NoMemory = ⊤
+IsUnread _ = ⊥
+
+-- why the run of a script ends before the script's end, with what was done; where memory is wanting, nothing was printed, or it was
+-- wanting for a line, or for the text of a command that was carried out
+abbrev pub EndsBy : (remaining old new : Contents) → End → Type 0
+EndsBy remaining old new Unread = Keeps old new
+EndsBy remaining old new NoMemory =
+    Keeps old new ⊎ ((script : List ℕ) × IsScriptOf remaining script × (LacksMemory script old new ⊎ LosesOutput script))
+EndsBy remaining old new (BadLine number) = (script : List ℕ) × IsScriptOf remaining script × StopsAt script old new number
+EndsBy remaining old new OutputLost = (script : List ℕ) × IsScriptOf remaining script × LosesOutput script
+
+-- the whole script is played, and its text printed
+pub record PlaysScript (remaining old new : Contents) : Type 0 where
+  pub script : List ℕ
+  pub read : IsScriptOf remaining script
+  pub state : Option Cluster
+  pub text : List ℕ
+  pub played : PlaysLines (lines script) state text
+  pub printed : Appends old new text
+
+-- the exit status of an early end
+abbrev pub status_of : End → ℕ
+status_of Unread = 2
+status_of NoMemory = 1
+status_of (BadLine number) = 2
+status_of OutputLost = 1
+
+-- the exit status with what was done: 0 where the whole script is played, else that of why it is not
+abbrev pub Runs : (remaining old new : Contents) → (status : ℕ) → Type 0
+Runs remaining old new status =
+    ((status ≡ 0) × PlaysScript remaining old new) ⊎ ((end : End) × (status ≡ status_of end) × EndsBy remaining old new end)
+
+-- the exit status where the script can't be read, for an error of this kind
+abbrev pub unread_status : ErrorKind → ℕ
+unread_status OutOfMemory = 1
+unread_status _ = 2

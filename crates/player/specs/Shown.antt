@@ -1,0 +1,110 @@
+-- The commands that only show something.
+use Rattle.std.specs.Prelude.{◌≡◌, ◌⊎◌, ◌↔◌, ℕ, Bool, false, ◌++◌, List, [], ◌∷◌, map, length, Option, Some, None, option_map, is_some, IsTrue}
+use Rattle.std.specs.List.{list_all, range_with_len}
+use Rattle.tag.specs.declared.refusal.Refusal.{Refusal}
+use Rattle.tag.specs.declared.refusal.Refusal.TheVariants.{NoMemory}
+use Rattle.record.specs.Atomic.{IsSequence}
+use Rattle.record.specs.Journals.{entries}
+use Rattle.record.specs.Sequence.{IsTagSequence}
+use Rattle.history.specs.Check.{AreLawful}
+use Rattle.register.specs.Causes.{call_at, number_cause}
+use Rattle.register.specs.State.{State}
+use Rattle.register.specs.View.{view_at, bank_there}
+use Rattle.printing.specs.declared.account_line.Account.{Account}
+use Rattle.printing.specs.declared.outcome.Outcome.TheVariants as outcome
+use Rattle.printing.specs.Outcome.{outcome_text}
+use Rattle.printing.specs.CallLine.{call_text}
+use Rattle.printing.specs.MailLines.{mail_text}
+use Rattle.printing.specs.BankLine.{bank_text}
+use Rattle.printing.specs.AccountLine.{account_text}
+use Rattle.printing.specs.HistoryLines.{history_text}
+use Rattle.printing.specs.SequenceLine.{sequence_text}
+use Rattle.cluster.specs.Cluster.{Cluster, named, if_named}
+use Rattle.cluster.specs.Causes.{object_cause}
+use Rattle.cluster.specs.Accounts as accounts
+use Rattle.player.specs.Steps.{IsRefusalBy}
+
+-- a line with its end
+abbrev pub line_of : List ℕ → List ℕ
+line_of text = text ++ 10 ∷ []
+
+-- the line of a refusal
+abbrev pub refusal_line : Refusal → List ℕ
+refusal_line refusal = line_of (outcome_text (outcome.Refused refusal))
+
+-- there is no cause of refusal, and this is shown; or the command is refused by its cause
+abbrev pub IsShown : (cause : Option Refusal) → (told : Option (List ℕ)) → (text : List ℕ) → Type 0
+IsShown cause told text =
+    ((cause ≡ None) × (told ≡ Some text)) ⊎ ((refusal : Refusal) × (cause ≡ Some refusal) × (text ≡ refusal_line refusal))
+
+-- no cause but that there is no such object
+abbrev pub unknown_object : Cluster → (name : List ℕ) → Option Refusal
+unknown_object cluster name = object_cause cluster name (λ object. None)
+
+-- how far the call of this number has come
+abbrev pub ShowsCall : Cluster → (name : List ℕ) → (call : ℕ) → (text : List ℕ) → Type 0
+ShowsCall cluster name call text =
+    IsShown (object_cause cluster name (λ object. number_cause object call))
+    (option_map (λ view. line_of (call_text call view)) (if_named cluster name (λ object. view_at object call))) text
+
+-- the messages of an object
+abbrev pub ShowsMail : Cluster → (name : List ℕ) → (text : List ℕ) → Type 0
+ShowsMail cluster name text = IsShown (unknown_object cluster name) (if_named cluster name (λ object. Some (mail_text object.mail))) text
+
+-- the bank of a member of a position
+abbrev pub ShowsBank : Cluster → (name : List ℕ) → (position member : ℕ) → (text : List ℕ) → Type 0
+ShowsBank cluster name position member text =
+    IsShown (unknown_object cluster name)
+    (option_map (λ bank. line_of (bank_text bank)) (if_named cluster name (λ object. bank_there object position member))) text
+
+-- the object is there, and has no such bank
+abbrev pub HasNoBank : Cluster → (name : List ℕ) → (position member : ℕ) → Type 0
+HasNoBank cluster name position member =
+    (state : State) × (named cluster.objects name ≡ Some state) × (bank_there state.object position member ≡ None)
+
+-- the accounts say what the servers store, all and each, and what waits
+pub record IsAccount (cluster : Cluster) (account : Account) : Type 0 where
+  pub stored : account.stored ≡ accounts.stored_all cluster
+  pub mailed : account.mailed ≡ accounts.mailed cluster
+  pub servers : account.servers.items ≡ map (accounts.stored cluster) (range_with_len 0 (length cluster.servers))
+
+-- the accounts of the cluster
+abbrev pub ShowsAccount : Cluster → (text : List ℕ) → Type 0
+ShowsAccount cluster text =
+    ((account : Account) × IsAccount cluster account × (text ≡ line_of (account_text account))) ⊎ (text ≡ refusal_line NoMemory)
+
+-- the history of an object
+abbrev pub ShowsHistory : Cluster → (name : List ℕ) → (text : List ℕ) → Type 0
+ShowsHistory cluster name text =
+    ((unknown_object cluster name ≡ None) × (if_named cluster name (λ object. Some (history_text (entries object))) ≡ Some text))
+    ⊎ ((refusal : Refusal) × IsRefusalBy (unknown_object cluster name) refusal × (text ≡ refusal_line refusal))
+
+-- the sequence of the object's calls by their tags, which is one of its history
+pub record IsSequenceOf (cluster : Cluster) (name calls : List ℕ) : Type 0 where
+  pub state : State
+  pub there : named cluster.objects name ≡ Some state
+  pub by_tags : IsTagSequence state.object calls
+  pub sequence : IsSequence (entries state.object) calls
+
+-- a sequence of the object's calls
+abbrev pub ShowsSequence : Cluster → (name : List ℕ) → (text : List ℕ) → Type 0
+ShowsSequence cluster name text =
+    ((calls : List ℕ) × IsSequenceOf cluster name calls × (text ≡ line_of (sequence_text calls)))
+    ⊎ ((refusal : Refusal) × IsRefusalBy (unknown_object cluster name) refusal × (text ≡ refusal_line refusal))
+
+-- a call of the list is not there
+abbrev pub HasNoCall : Cluster → (name calls : List ℕ) → Type 0
+HasNoCall cluster name calls =
+    (state : State) × (named cluster.objects name ≡ Some state) × (list_all (λ call. is_some (call_at state.object call)) calls ≡ false)
+
+-- the answer says whether the calls are a sequence of the object's history
+pub record IsChecked (cluster : Cluster) (name calls : List ℕ) (answer : Bool) : Type 0 where
+  pub state : State
+  pub there : named cluster.objects name ≡ Some state
+  pub says : IsTrue answer ↔ (AreLawful (entries state.object) × IsSequence (entries state.object) calls)
+
+-- whether the calls are a sequence
+abbrev pub ShowsCheck : Cluster → (name calls : List ℕ) → (text : List ℕ) → Type 0
+ShowsCheck cluster name calls text =
+    ((answer : Bool) × IsChecked cluster name calls answer × (text ≡ line_of (outcome_text (outcome.Checked answer))))
+    ⊎ ((refusal : Refusal) × IsRefusalBy (unknown_object cluster name) refusal × (text ≡ refusal_line refusal))

@@ -1,0 +1,27 @@
+-- What a command that is one step does to a cluster, and what it reports.
+use Rattle.std.specs.Prelude.{◌≡◌, ◌⊎◌, Option, Some, None}
+use Rattle.tag.specs.declared.refusal.Refusal.{Refusal}
+use Rattle.tag.specs.declared.refusal.Refusal.TheVariants.{NoMemory}
+use Rattle.cluster.specs.Cluster.{Cluster}
+use Rattle.player.specs.declared.report.Report.{Report}
+use Rattle.player.specs.Report.{refused}
+
+-- a step is refused for its cause; where it has none, memory alone may be wanting
+abbrev pub IsRefusalBy : (cause : Option Refusal) → Refusal → Type 0
+IsRefusalBy cause refusal = (cause ≡ Some refusal) ⊎ ((cause ≡ None) × (refusal ≡ NoMemory))
+
+-- the command is refused, and the cluster is as it was
+abbrev pub IsRefused : (old : Cluster) → Refusal → (new : Cluster) → Report → Type 0
+IsRefused old refusal new report = (new ≡ old) × (report ≡ refused refusal)
+
+-- the step has no cause of refusal, is made and tells this; or it is refused by its cause
+abbrev pub IsStep : (old made : Cluster) → (cause : Option Refusal) → (told : Option Report) → (new : Cluster) → Report → Type 0
+IsStep old made cause told new report =
+    ((cause ≡ None) × (new ≡ made) × (told ≡ Some report))
+    ⊎ ((refusal : Refusal) × (cause ≡ Some refusal) × IsRefused old refusal new report)
+
+-- the same of a step that may find no memory
+abbrev pub IsGrowth : (old made : Cluster) → (cause : Option Refusal) → (told : Option Report) → (new : Cluster) → Report → Type 0
+IsGrowth old made cause told new report =
+    ((cause ≡ None) × (new ≡ made) × (told ≡ Some report))
+    ⊎ ((refusal : Refusal) × IsRefusalBy cause refusal × IsRefused old refusal new report)

@@ -1,0 +1,83 @@
+//! The commands on layouts, objects and servers.
+ghost use Rattle.std.specs.Prelude.{◌≡◌, IfOk, IfErr};
+ghost use Rattle.tag.specs.declared.refusal.Refusal.TheVariants.{BadLayout};
+ghost use Rattle.layout.specs.Layout.{IsLawful};
+ghost use Rattle.player.specs.ClusterCommands.{AddsLayout, MakesObject, SetsServer, IsBadLayout, AreBadMembers, layout_number};
+
+use crate::report::Report;
+use arrayvec::ArrayVec;
+use cluster::{Cluster, LayoutId};
+use layout::Layout;
+use std::alloc::Global;
+use tag::{MOST_MEMBERS, Refusal};
+
+/// Adds a layout.
+pub(crate) fn layout(cluster: &mut Cluster, k: u64, members: &[u64]) -> Report
+    ensures { AddsLayout cluster.old k members.now cluster.new result }
+{
+    let layout = match layout_of(k, members, cluster.servers()) {
+        Ok(layout) => layout,
+        Err(refusal) => return Report::refused(refusal),
+    };
+    Report::of_layout(cluster.add_layout(layout))
+}
+
+// The layout of these servers, of which there are so many. It takes no memory.
+fn layout_of(k: u64, members: &[u64], servers: u8) -> Result<Layout, Refusal>
+    ensures made { IfOk result (λ l. l ≡ record { k = k; members = members.now }) }
+    ensures lawful { IfOk result IsLawful }
+    ensures bad { IfErr result (λ r. (r ≡ BadLayout) × IsBadLayout (record { k = k; members = members.now }) servers) }
+{
+    let members = match members_of(members, servers) {
+        Ok(members) => members,
+        Err(refusal) => return Err(refusal),
+    };
+    if k > members.len() as u64 {
+        return Err(Refusal::BadLayout);
+    }
+    Layout::new(k as u8, &members)
+}
+
+fn members_of(members: &[u64], servers: u8) -> Result<ArrayVec<u8, MOST_MEMBERS>, Refusal>
+    ensures made { IfOk result (λ ms. ms.items ≡ members.now) }
+    ensures bad { IfErr result (λ r. (r ≡ BadLayout) × AreBadMembers members.now servers) }
+{
+    if members.len() > MOST_MEMBERS {
+        return Err(Refusal::BadLayout);
+    }
+    let mut servers_of = ArrayVec::new();
+    for member in members {
+        if *member >= u64::from(servers) {
+            return Err(Refusal::BadLayout);
+        }
+        servers_of.push(*member as u8);
+    }
+    Ok(servers_of)
+}
+
+/// Makes an object.
+pub(crate) fn object(alloc: Global, cluster: &mut Cluster, name: &str, layout: u64) -> Report
+    ensures { MakesObject cluster.old name.now layout cluster.new result }
+{
+    Report::of_step(cluster.create(alloc, name, layout_id(layout)))
+}
+
+/// A number that no layout can have is that of an unknown one.
+pub(crate) fn layout_id(number: u64) -> LayoutId
+    ensures { result ≡ layout_number number }
+{
+    match u32::try_from(number) {
+        Ok(id) => id,
+        Err(_) => u32::MAX,
+    }
+}
+
+/// Turns a server on or off.
+pub(crate) fn server(cluster: &mut Cluster, server: u64, up: bool) -> Report
+    ensures { SetsServer cluster.old server up cluster.new result }
+{
+    if server >= u64::from(cluster.servers()) {
+        return Report::refused(Refusal::BadLayout);
+    }
+    Report::of_step(cluster.set_server(server as u8, up))
+}

@@ -1,0 +1,13 @@
+//! Plays the commands of a script over a cluster, and prints what each prints.
+#![tactic(auto)]
+
+pub use run::{report_unread, run_script};
+
+mod call_commands;
+mod cluster_commands;
+mod mail_commands;
+mod player;
+mod report;
+mod run;
+mod shown;
+mod whole_calls;

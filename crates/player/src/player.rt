@@ -1,0 +1,160 @@
+//! What each command does, and what it prints.
+ghost use Rattle.std.specs.Prelude.{◌≡◌, ◌≢◌, ℕ, List, Some, OnOk, IfErr};
+ghost use Rattle.std.specs.Io.KnownBytes.{Keeps};
+ghost use Rattle.player.specs.declared.player.Stop.TheVariants.{Bad};
+ghost use Rattle.player.specs.Play.{Prints, IsPlayed, IsBad, Plays, IsBadAt, MayChange, Changes};
+ghost use Rattle.player.specs.Shown.{refusal_line, line_of};
+
+use crate::report::Report;
+use crate::whole_calls::{move_to, read, resume, write};
+use crate::{call_commands, cluster_commands, mail_commands, shown};
+use cluster::Cluster;
+use printing::Outcome;
+use script::command::Command;
+use std::alloc::Global;
+use std::fmt::Display;
+use std::io;
+use std::io::{ErrorKind, Write};
+use tag::Refusal;
+
+/// Why a script stops at a command.
+#[derive(Clone, Copy, Debug, PartialEq, Eq)]
+pub enum Stop {
+    /// The command names what is not there, or stands where it may not. It was not carried out.
+    Bad,
+    /// There is no memory for what the command prints. It was carried out.
+    NoMemory,
+    /// What the command prints could not be written. It was carried out.
+    OutputLost,
+}
+
+/// Carries out a command, and prints its lines. The first command makes the cluster, and no later one does.
+pub(crate) fn play<W: Write>(
+    alloc: Global,
+    cluster: &mut Option<Cluster>,
+    command: Command,
+    out: &mut W,
+) -> Result<(), Stop>
+    ensures { Prints (W.contents out.old) (W.contents out.new) (Plays cluster.old command.entry cluster.new)
+        (IsBadAt cluster.old command.entry × (cluster.new ≡ cluster.old)) result }
+{
+    if let Some(cluster) = cluster {
+        return carry_out(alloc, cluster, command, out);
+    }
+    let Command::Servers { count } = command else {
+        return Err(Stop::Bad);
+    };
+    *cluster = Some(Cluster::new(alloc, count));
+    print_line(out, Outcome::Done)
+}
+
+// A command behind the first.
+fn carry_out<W: Write>(
+    alloc: Global,
+    cluster: &mut Cluster,
+    command: Command,
+    out: &mut W,
+) -> Result<(), Stop>
+    ensures { Prints (W.contents out.old) (W.contents out.new) (IsPlayed cluster.old command.entry cluster.new)
+        (IsBad cluster.old command.entry × (cluster.new ≡ cluster.old)) result }
+{
+    match command {
+        Command::Servers { count: _ } => Err(Stop::Bad),
+        Command::Show { name, call } => shown::call(cluster, name, call, out),
+        Command::Mail { name } => shown::mail(cluster, name, out),
+        Command::Bank {
+            name,
+            position,
+            member,
+        } => shown::bank(cluster, name, position, member, out),
+        Command::Account => shown::account(alloc, cluster, out),
+        Command::History { name } => shown::history(cluster, name, out),
+        Command::Sequence { name } => shown::sequence_of(alloc, cluster, name, out),
+        Command::Check { name, calls } => shown::check_of(cluster, name, &calls, out),
+        command => print_line(out, change(alloc, cluster, command)),
+    }
+}
+
+// A command that may change the cluster.
+fn change(alloc: Global, cluster: &mut Cluster, command: Command) -> Report
+    requires { MayChange command }
+    ensures { Changes cluster.old command.entry cluster.new result }
+{
+    match command {
+        Command::Layout { k, members } => cluster_commands::layout(cluster, k, &members),
+        Command::Object { name, layout } => cluster_commands::object(alloc, cluster, name, layout),
+        Command::Down { server } => cluster_commands::server(cluster, server, false),
+        Command::Up { server } => cluster_commands::server(cluster, server, true),
+        Command::CallRead { name } => call_commands::call_read(cluster, name),
+        Command::CallWrite { name, value } => call_commands::call_write(cluster, name, value),
+        Command::CallMove { name, layout } => call_commands::call_move(cluster, name, layout),
+        Command::Advance { name, call } => call_commands::advance(cluster, name, call),
+        Command::Supply { name, call } => call_commands::supply(alloc, cluster, name, call),
+        Command::SupplyAs { name, call, value } => call_commands::supply_as(
+            alloc, cluster, name, call, value,
+        ),
+        Command::Settle { name, call } => call_commands::settle(alloc, cluster, name, call),
+        Command::Post { name, call } => call_commands::post(cluster, name, call),
+        Command::Answer { name, call } => call_commands::answer(cluster, name, call),
+        Command::Serve { name, place } => mail_commands::serve(cluster, name, place),
+        Command::Take { name, place } => mail_commands::take(cluster, name, place),
+        Command::Lose { name, place } => mail_commands::lose(cluster, name, place),
+        Command::Repeat { name, place } => mail_commands::repeat(cluster, name, place),
+        Command::Deliver { name } => mail_commands::deliver(cluster, name),
+        Command::Read { name, turns } => read(alloc, cluster, name, turns),
+        Command::Write { name, value, turns } => write(alloc, cluster, name, value, turns),
+        Command::Move {
+            name,
+            layout,
+            turns,
+        } => move_to(alloc, cluster, name, layout, turns),
+        Command::Resume { name, call, turns } => resume(alloc, cluster, name, call, turns),
+        _ => unreachable!(),
+    }
+}
+
+/// Prints the line of a refusal.
+pub(crate) fn refuse<W: Write>(out: &mut W, refusal: Refusal) -> Result<(), Stop>
+    ensures { Prints (W.contents out.old) (W.contents out.new) (λ text. text ≡ refusal_line refusal) ⊥ result }
+{
+    print_line(out, Outcome::Refused(refusal))
+}
+
+/// Prints a line, with its end.
+pub(crate) fn print_line<W: Write, D: Display + Drop>(out: &mut W, line: D) -> Result<(), Stop>
+    ensures { (text : List ℕ) → D.output line ≡ Some text → Prints (W.contents out.old) (W.contents out.new) (λ t. t ≡ line_of text) ⊥ result }
+{
+    match out.writeln(line) {
+        Ok(()) => flushed(out),
+        Err(error) => Err(lost(error)),
+    }
+}
+
+/// Prints lines, which have their ends.
+pub(crate) fn print<W: Write, D: Display + Drop>(out: &mut W, lines: D) -> Result<(), Stop>
+    ensures { (text : List ℕ) → D.output lines ≡ Some text → Prints (W.contents out.old) (W.contents out.new) (λ t. t ≡ text) ⊥ result }
+{
+    match out.write_fmt(lines) {
+        Ok(()) => flushed(out),
+        Err(error) => Err(lost(error)),
+    }
+}
+
+fn flushed<W: Write>(out: &mut W) -> Result<(), Stop>
+    ensures kept { OnOk result (Keeps (W.contents out.old) (W.contents out.new)) }
+    ensures lost { IfErr result (λ e. e ≢ Bad) }
+{
+    match out.flush() {
+        Ok(()) => Ok(()),
+        Err(error) => Err(lost(error)),
+    }
+}
+
+fn lost(error: io::Error) -> Stop
+    ensures { result ≢ Bad }
+{
+    match error.kind() {
+        ErrorKind::OutOfMemory => Stop::NoMemory,
+        _ => Stop::OutputLost,
+    }
+}

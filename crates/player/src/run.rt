@@ -1,0 +1,149 @@
+//! A whole script, over any reader and two writers.
+ghost use Rattle.std.specs.Prelude.{◌≡◌, ℕ, List, map, MatchResult};
+ghost use Rattle.std.specs.Str.Lines.{lines as lines_of};
+ghost use Rattle.std.specs.IoError.{error_kind};
+ghost use Rattle.player.specs.Script.{Runs, PlaysScript, EndsBy, EndsAt, EndsLine, IsScriptOf, IsUnread, IsPlayedFrom, IsPlayedThrough, status_of, unread_status};
+
+use crate::player::{Stop, play};
+use cluster::Cluster;
+use script::error::LineError;
+use script::line::{Line, parse_line};
+use script::lines::split_lines;
+use std::alloc::Global;
+use std::io::{ErrorKind, Read, Write};
+use std::{fmt, io};
+
+/// Why a run ends before the script's end.
+#[derive(Clone, Copy, Debug, PartialEq, Eq)]
+pub enum End {
+    /// The script cannot be read. No command was carried out.
+    Unread,
+    /// There is no memory for the script, a line of it or a line of output.
+    NoMemory,
+    /// The line of this number, from 1, is bad. The commands before it were carried out.
+    BadLine(usize),
+    /// A line of output could not be written. Its command was carried out.
+    OutputLost,
+}
+
+/// Plays the script that the reader gives, and answers the exit status. The whole script is read before its first
+/// command is carried out, and what a command prints is written, and flushed, before the next one is carried out.
+///
+/// 0 at the script's end. 1 where output cannot be written or finds no memory, or the script finds none. 2 where the
+/// script cannot be read, or a line is bad, which stops it. A line on `err` says why: `cannot read NAME`, `line L: bad`
+/// with the lines counted from 1, `refused 1 NoMemory`, or `cannot write the output`.
+pub fn run_script<R: Read, O: Write, E: Write>(
+    alloc: Global,
+    name: &str,
+    reader: &mut R,
+    out: &mut O,
+    err: &mut E,
+) -> u8
+    ensures { Runs (R.remaining reader.old) (O.contents out.old) (O.contents out.new) result }
+{
+    match play_script(alloc, reader, out) {
+        Ok(()) => 0,
+        Err(end) => report(end, name, err),
+    }
+}
+
+/// Says on `err` why the script of this name cannot be read, and answers the exit status: 1 where memory is wanting,
+/// else 2.
+pub fn report_unread<E: Write>(error: &io::Error, name: &str, err: &mut E) -> u8
+    ensures { result ≡ unread_status (error_kind error.now) }
+{
+    match error.kind() {
+        ErrorKind::OutOfMemory => report(End::NoMemory, name, err),
+        _ => report(End::Unread, name, err),
+    }
+}
+
+// A failed write of the text is passed over.
+fn report<E: Write>(end: End, name: &str, err: &mut E) -> u8
+    ensures { result ≡ status_of end }
+{
+    let _ = err.writeln(EndText { end, name });
+    match end {
+        End::Unread | End::BadLine(_) => 2,
+        End::NoMemory | End::OutputLost => 1,
+    }
+}
+
+// Why the run of a script of this name ended.
+#[derive(Clone, Copy)]
+struct EndText<'a> {
+    end: End,
+    name: &'a str,
+}
+
+impl fmt::Display for EndText<'_> {
+    fn fmt<W: fmt::Write>(&self, f: &mut fmt::Formatter<W>) -> fmt::Result {
+        match self.end {
+            End::Unread => write!(f, "cannot read {}", self.name),
+            End::NoMemory => f.write_str("refused 1 NoMemory"),
+            End::BadLine(line) => write!(f, "line {line}: bad"),
+            End::OutputLost => f.write_str("cannot write the output"),
+        }
+    }
+}
+
+fn play_script<R: Read, O: Write>(alloc: Global, reader: &mut R, out: &mut O) -> Result<(), End>
+    ensures { MatchResult result (λ _. PlaysScript (R.remaining reader.old) (O.contents out.old) (O.contents out.new))
+        (EndsBy (R.remaining reader.old) (O.contents out.old) (O.contents out.new)) }
+{
+    let text = match read_script(alloc, reader) {
+        Ok(text) => text,
+        Err(end) => return Err(end),
+    };
+    let Ok(lines) = split_lines(alloc, &text) else {
+        return Err(End::NoMemory);
+    };
+    play_lines(alloc, &lines, out)
+}
+
+fn read_script<R: Read>(alloc: Global, reader: &mut R) -> Result<Vec<u8>, End>
+    ensures { MatchResult result (λ text. IsScriptOf (R.remaining reader.old) text.items) IsUnread }
+{
+    let mut text = Vec::new(alloc);
+    match reader.read_to_end(&mut text) {
+        Ok(_) => Ok(text),
+        Err(error) if error.kind() == ErrorKind::OutOfMemory => Err(End::NoMemory),
+        Err(_) => Err(End::Unread),
+    }
+}
+
+fn play_lines<O: Write>(alloc: Global, lines: &[&[u8]], out: &mut O) -> Result<(), End>
+    ensures { (script : List ℕ) → map (λ line. line.now) lines.now ≡ lines_of script → MatchResult result
+        (λ _. IsPlayedThrough script (O.contents out.old) (O.contents out.new)) (EndsAt script (O.contents out.old) (O.contents out.new)) }
+{
+    let mut cluster = None;
+    for (index, line) in lines.iter().enumerate() {
+        play_line(alloc, &mut cluster, index + 1, line, out)?;
+    }
+    Ok(())
+}
+
+// The line of this number.
+fn play_line<O: Write>(
+    alloc: Global,
+    cluster: &mut Option<Cluster>,
+    number: usize,
+    line: &[u8],
+    out: &mut O,
+) -> Result<(), End>
+    ensures { MatchResult result (λ _. IsPlayedFrom cluster.old line.now cluster.new (O.contents out.old) (O.contents out.new))
+        (EndsLine number cluster.old line.now (O.contents out.old) (O.contents out.new)) }
+{
+    let command = match parse_line(alloc, line) {
+        Ok(Line::Skipped) => return Ok(()),
+        Ok(Line::Command(command)) => command,
+        Err(LineError::Bad) => return Err(End::BadLine(number)),
+        Err(LineError::NoMemory) => return Err(End::NoMemory),
+    };
+    match play(alloc, cluster, command, out) {
+        Ok(()) => Ok(()),
+        Err(Stop::Bad) => Err(End::BadLine(number)),
+        Err(Stop::NoMemory) => Err(End::NoMemory),
+        Err(Stop::OutputLost) => Err(End::OutputLost),
+    }
+}

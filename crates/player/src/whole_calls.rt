@@ -1,0 +1,53 @@
+//! Whole calls.
+ghost use Rattle.std.specs.Prelude.{true};
+ghost use Rattle.player.specs.WholeCalls.{Reads, Writes, Moves, Resumes, GoesOn};
+
+use crate::cluster_commands::layout_id;
+use crate::report::Report;
+use bytes::Bytes;
+use cluster::Cluster;
+use driver::{First, finish};
+use printing::Outcome;
+use std::alloc::Global;
+
+/// A whole read. A refusal after the call step names the call, which stays open.
+pub fn read(alloc: Global, cluster: &mut Cluster, name: &str, turns: u64) -> Report
+    ensures { Reads cluster.old name.entry.now turns cluster.new result }
+{
+    Report::of_whole(driver::read(alloc, cluster, name, &mut First, turns))
+}
+
+/// A whole write.
+pub fn write(alloc: Global, cluster: &mut Cluster, name: &str, value: Bytes, turns: u64) -> Report
+    ensures { Writes cluster.old name.entry.now value turns cluster.new result }
+{
+    Report::of_whole(driver::write(alloc, cluster, name, value, &mut First, turns))
+}
+
+/// A whole move.
+pub fn move_to(alloc: Global, cluster: &mut Cluster, name: &str, layout: u64, turns: u64) -> Report
+    ensures { Moves cluster.old name.entry.now layout turns cluster.new result }
+{
+    let id = layout_id(layout);
+    Report::of_whole(driver::move_to(alloc, cluster, name, id, &mut First, turns))
+}
+
+/// Goes on with a call that is there.
+pub fn resume(alloc: Global, cluster: &mut Cluster, name: &str, call: u64, turns: u64) -> Report
+    ensures { Resumes cluster.old name.entry.now call turns cluster.new result }
+{
+    match cluster.want(name, call) {
+        Ok(_) => carried_on(alloc, cluster, name, call, turns),
+        Err(refusal) => Report::refused(refusal),
+    }
+}
+
+// The call asks again first.
+fn carried_on(alloc: Global, cluster: &mut Cluster, name: &str, call: u64, turns: u64) -> Report
+    ensures { GoesOn name.entry.now call true turns cluster.old cluster.new result }
+{
+    match finish(alloc, cluster, name, call, true, &mut First, turns) {
+        Ok(receipt) => Report::Answered(receipt),
+        Err(refusal) => Report::Did(Outcome::CallRefused { call, refusal }),
+    }
+}
