@@ -86,6 +86,9 @@ fragments_shape = get_or form.subs 0 form.top
 abbrev pub decode_shape : Shape
 decode_shape = get_or form.subs 1 form.top
 
+abbrev pub run_shape : Shape
+run_shape = get_or form.subs 2 form.top
+
 pub fragments-rows : (a b c : Text) → let rows = rows_after fragments_shape.rules [] (codes "--" ∷ a ∷ b ∷ c ∷ []) in
     (first_of (codes "K") rows ≡ Some a) × (first_of (codes "N") rows ≡ Some b) × (first_of (codes "HEX") rows ≡ Some c)
 unfolding clap_on_literals
@@ -175,6 +178,23 @@ decode-takes a b (p ∷ rest) fits =
     ap₂ (λ (w : Walk) (ks : Kinds). or_else ks (decode_end w)) (walk-decode a b p rest) (fault-among a b (p ∷ []) rest)
     ∙ decode_end-among a b p rest fits
 
+pub run-rows : (file : Text) → first_of (codes "FILE") (rows_after run_shape.rules [] (codes "--" ∷ file ∷ [])) ≡ Some file
+unfolding clap_on_literals
+run-rows file = refl
+
+pub run-takes : (file : Text) → level_fault run_shape [] nothing_held (codes "--" ∷ file ∷ []) false [] ≡ []
+unfolding clap_on_literals
+run-takes file = refl
+
+pub run-lacks : level_fault run_shape [] nothing_held (codes "--" ∷ []) false [] ≡ MissingRequiredArgument ∷ []
+unfolding clap_on_literals
+run-lacks = refl
+
+pub run-strays : (a b : Text) (rest : List Text)
+    → level_fault run_shape [] nothing_held (codes "--" ∷ a ∷ b ∷ rest) false [] ≡ UnknownArgument ∷ []
+unfolding clap_on_literals
+run-strays a b rest = refl
+
 -- ---- a command that is not known
 
 -- a step that enters no command and waits for nothing
@@ -243,11 +263,13 @@ walk-dashes g false rest = walk-trailing g rest
 
 -- words of another command enter none
 pub subcommand_of-unknown : (name : Text) (rest : List Text) → bytes_eq (codes "fragments") name ≡ false → bytes_eq (codes "decode") name ≡ false
-    → subcommand_of cas_form (codes "cas" ∷ name ∷ codes "--" ∷ rest) ≡ None
+    → bytes_eq (codes "run") name ≡ false → subcommand_of cas_form (codes "cas" ∷ name ∷ codes "--" ∷ rest) ≡ None
 unfolding clap_on_literals
-subcommand_of-unknown name rest not_fragments not_decode =
+subcommand_of-unknown name rest not_fragments not_decode not_run =
     let none : find (answers_to name) (names_of form) ≡ None =
-    ap₂ (λ p q. cond (p || false) (Some (codes "fragments", [])) (cond (q || false) (Some (codes "decode", [])) None)) not_fragments not_decode in
+    ap₂ (λ p q. cond (p || false) (Some (codes "fragments", [])) (cond (q || false) (Some (codes "decode", []))
+    (cond (bytes_eq (codes "run") name || false) (Some (codes "run", [])) None))) not_fragments not_decode
+    ∙ ap (λ p. cond (p || false) (Some (codes "run", [])) None) not_run in
     let met = after_step-none name _ _ (other-none name nothing_held (bytes_eq name (codes "--"))) in
     let first : walked [] (names_of form) (walk_from nothing_held) name ≡ record (walk_from met.0) { is_trailing = met.1 } =
     ap (λ (o : Option (Text × List Text)).

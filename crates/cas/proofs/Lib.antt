@@ -1,4 +1,5 @@
 pub mod CommandLineLemmas
+pub mod FormLemmas
 pub mod FragmentsLemmas
 pub mod ProgramLemmas
 pub mod ReadingLemmas

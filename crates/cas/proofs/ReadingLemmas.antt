@@ -29,7 +29,8 @@ use Rattle.cas.specs.declared.fault.Fault.{Fault}
 use Rattle.cas.specs.declared.fault.Fault.TheVariants.{Refused, Usage}
 use Rattle.cas.proofs.CommandLineLemmas.{decode-lacks, decode-rows, decode-takes, decode_shape, fault_of-known}
 use Rattle.cas.proofs.CommandLineLemmas.{fragments-lacks, fragments-rows, fragments-strays, fragments-takes}
-use Rattle.cas.proofs.CommandLineLemmas.{fragments_shape, subcommand_of-known, subcommand_of-unknown}
+use Rattle.cas.proofs.CommandLineLemmas.{fragments_shape, run-lacks, run-rows, run-strays, run-takes, run_shape}
+use Rattle.cas.proofs.CommandLineLemmas.{subcommand_of-known, subcommand_of-unknown}
 
 -- the command `fragments` with the texts of K, N and HEX
 pub record FindsFragments (words : List Word) (name : Text) (rows : List Row) : Type 0 where
@@ -53,10 +54,17 @@ pub record FindsDecode (words : List Word) (name : Text) (rows : List Row) : Typ
   pub len : first_of (codes "LEN") rows ≡ Some b
   pub pieces : unwrap_or (all_of (codes "POINT:HEX") rows) [] ≡ rest
 
--- no command, or one of the two
+-- the command `run` with the text of FILE
+pub record FindsRun (words : List Word) (name : Text) (rows : List Row) : Type 0 where
+  pub file : Word
+  pub words_are : words ≡ codes "run" ∷ file ∷ []
+  pub name_is : name ≡ codes "run"
+  pub text : first_of (codes "FILE") rows ≡ Some file
+
+-- no command, or one of the three
 abbrev pub Finds : List Word → Option (Text × List Row) → Type 0
 Finds words None = ¬ (HasForm words)
-Finds words (Some p) = FindsFragments words p.0 p.1 ⊎ FindsDecode words p.0 p.1
+Finds words (Some p) = FindsFragments words p.0 p.1 ⊎ FindsDecode words p.0 p.1 ⊎ FindsRun words p.0 p.1
 
 -- ---- each command
 
@@ -72,6 +80,11 @@ decode-fault : (rest : List Word) → fault_of cas_form (marked_words (codes "de
     ≡ level_fault decode_shape [] nothing_held (codes "--" ∷ rest) false []
 unfolding clap_on_literals
 decode-fault rest = fault_of-known (codes "decode") decode_shape refl refl refl (codes "--" ∷ rest)
+
+run-fault : (rest : List Word) → fault_of cas_form (marked_words (codes "run" ∷ rest))
+    ≡ level_fault run_shape [] nothing_held (codes "--" ∷ rest) false []
+unfolding clap_on_literals
+run-fault rest = fault_of-known (codes "run") run_shape refl refl refl (codes "--" ∷ rest)
 
 finds-fragments : (rest : List Word) → fault_of cas_form (marked_words (codes "fragments" ∷ rest)) ≡ []
     → Finds (codes "fragments" ∷ rest) (subcommand_of cas_form (marked_words (codes "fragments" ∷ rest)))
@@ -94,48 +107,68 @@ finds-decode (a ∷ b ∷ rest) lawful =
     let rows = decode-rows a b rest in
     subst (Finds (codes "decode" ∷ a ∷ b ∷ rest))
     (sym (subcommand_of-known (codes "decode") decode_shape refl refl refl (codes "--" ∷ a ∷ b ∷ rest)))
-    (inr (record { a = a; b = b; rest = rest; words_are = refl; name_is = refl; k = rows.0; len = rows.1; pieces = rows.2 }))
+    (inr (inl (record { a = a; b = b; rest = rest; words_are = refl; name_is = refl; k = rows.0; len = rows.1; pieces = rows.2 })))
 finds-decode [] lawful = absurd (kinds-clash _ _ (sym (decode-fault [] ∙ decode-lacks [] (omega arith)) ∙ lawful))
 finds-decode (a ∷ []) lawful = absurd (kinds-clash _ _ (sym (decode-fault (a ∷ []) ∙ decode-lacks (a ∷ []) (omega arith)) ∙ lawful))
+
+finds-run : (rest : List Word) → fault_of cas_form (marked_words (codes "run" ∷ rest)) ≡ []
+    → Finds (codes "run" ∷ rest) (subcommand_of cas_form (marked_words (codes "run" ∷ rest)))
+unfolding clap_on_literals
+finds-run [] lawful = absurd (kinds-clash _ _ (sym (run-fault [] ∙ run-lacks) ∙ lawful))
+finds-run (file ∷ []) lawful =
+    subst (Finds (codes "run" ∷ file ∷ []))
+    (sym (subcommand_of-known (codes "run") run_shape refl refl refl (codes "--" ∷ file ∷ [])))
+    (inr (inr (record { file = file; words_are = refl; name_is = refl; text = run-rows file })))
+finds-run (a ∷ b ∷ rest) lawful = absurd (kinds-clash _ _ (sym (run-fault (a ∷ b ∷ rest) ∙ run-strays a b rest) ∙ lawful))
 
 -- ---- all words
 
 HasForm-some : ¬ (HasForm [])
 HasForm-some (inl (a, b, c, e)) = cc
-HasForm-some (inr (a, b, rest, e)) = cc
+HasForm-some (inr (inl (a, b, rest, e))) = cc
+HasForm-some (inr (inr (file, e))) = cc
 
 HasForm-unknown : (name : Word) (rest : List Word) → bytes_eq (codes "fragments") name ≡ false
-    → bytes_eq (codes "decode") name ≡ false → ¬ (HasForm (name ∷ rest))
-HasForm-unknown name rest not_fragments not_decode (inl (a, b, c, e)) =
+    → bytes_eq (codes "decode") name ≡ false → bytes_eq (codes "run") name ≡ false → ¬ (HasForm (name ∷ rest))
+HasForm-unknown name rest not_fragments not_decode not_run (inl (a, b, c, e)) =
     let same : name ≡ codes "fragments" = ap (λ (ws : List Word). get_or ws 0 []) e in
     let yes = (bytes_eq-Decides (codes "fragments") name).1 (sym same) in cc
-HasForm-unknown name rest not_fragments not_decode (inr (a, b, more, e)) =
+HasForm-unknown name rest not_fragments not_decode not_run (inr (inl (a, b, more, e))) =
     let same : name ≡ codes "decode" = ap (λ (ws : List Word). get_or ws 0 []) e in
     let yes = (bytes_eq-Decides (codes "decode") name).1 (sym same) in cc
+HasForm-unknown name rest not_fragments not_decode not_run (inr (inr (file, e))) =
+    let same : name ≡ codes "run" = ap (λ (ws : List Word). get_or ws 0 []) e in
+    let yes = (bytes_eq-Decides (codes "run") name).1 (sym same) in cc
 
 -- words without a fault have the form that is found, and where no command is found they have none
 pub marked_words-finds : (words : List Word) → fault_of cas_form (marked_words words) ≡ [] → Finds words (subcommand_of cas_form (marked_words words))
 unfolding clap_on_literals
 marked_words-finds [] lawful = HasForm-some
-marked_words-finds (name ∷ rest) lawful = go (bytes_eq (codes "fragments") name) refl (bytes_eq (codes "decode") name) refl
+marked_words-finds (name ∷ rest) lawful =
+    go (bytes_eq (codes "fragments") name) refl (bytes_eq (codes "decode") name) refl (bytes_eq (codes "run") name) refl
   where
     P : Word → Type 0
     P w = fault_of cas_form (marked_words (w ∷ rest)) ≡ [] → Finds (w ∷ rest) (subcommand_of cas_form (marked_words (w ∷ rest)))
 
     go : (f : Bool) → bytes_eq (codes "fragments") name ≡ f → (d : Bool) → bytes_eq (codes "decode") name ≡ d
-        → Finds (name ∷ rest) (subcommand_of cas_form (marked_words (name ∷ rest)))
-    go true is d other =
+        → (r : Bool) → bytes_eq (codes "run") name ≡ r → Finds (name ∷ rest) (subcommand_of cas_form (marked_words (name ∷ rest)))
+    go true is d d_is r r_is =
         subst P ((bytes_eq-Decides (codes "fragments") name).0 is) (finds-fragments rest) lawful
-    go false not true is =
+    go false not true is r r_is =
         subst P ((bytes_eq-Decides (codes "decode") name).0 is) (finds-decode rest) lawful
-    go false not_fragments false not_decode =
-        subst (Finds (name ∷ rest)) (sym (subcommand_of-unknown name rest not_fragments not_decode)) (HasForm-unknown name rest not_fragments not_decode)
+    go false not false never true is =
+        subst P ((bytes_eq-Decides (codes "run") name).0 is) (finds-run rest) lawful
+    go false not_fragments false not_decode false not_run =
+        subst (Finds (name ∷ rest)) (sym (subcommand_of-unknown name rest not_fragments not_decode not_run))
+        (HasForm-unknown name rest not_fragments not_decode not_run)
 
 -- words that have the form are without a fault
 pub marked_words-lawful : (words : List Word) → length words ≤ usize_max → HasForm words → fault_of cas_form (marked_words words) ≡ []
 marked_words-lawful words fits (inl (a, b, c, e)) =
     ap (λ ws. fault_of cas_form (marked_words ws)) e ∙ fragments-fault (a ∷ b ∷ c ∷ []) ∙ fragments-takes a b c
-marked_words-lawful words fits (inr (a, b, rest, e)) =
+marked_words-lawful words fits (inr (inr (file, e))) =
+    ap (λ ws. fault_of cas_form (marked_words ws)) e ∙ run-fault (file ∷ []) ∙ run-takes file
+marked_words-lawful words fits (inr (inl (a, b, rest, e))) =
     let count = ap (length {A = Word}) e in
     ap (λ ws. fault_of cas_form (marked_words ws)) e ∙ decode-fault (a ∷ b ∷ rest) ∙ decode-takes a b rest (omega arith)
 
@@ -176,7 +209,7 @@ rows-None None e = refl
 rows-None (Some p) e = cc
 
 -- the name and the rows are those of the command
-pub rows-Some : (m : ArgMatches) (name : Text) (rows : List Row) → Some name ≡ subcommand_name_of m
+rows-Some : (m : ArgMatches) (name : Text) (rows : List Row) → Some name ≡ subcommand_name_of m
     → Some rows ≡ option_map (λ p. p.1) (subcommand_rows_of m)
     → subcommand_rows_of m ≡ Some (name, rows)
 rows-Some m name rows named rowed = go (out-ArgMatches m).subcommand named rowed
@@ -185,6 +218,13 @@ rows-Some m name rows named rowed = go (out-ArgMatches m).subcommand named rowed
         → Some rows ≡ option_map (λ p. p.1) (subcommand_rows o) → subcommand_rows o ≡ Some (name, rows)
     go None n r = cc
     go (Some b) n r = ap₂ (λ x y. let p : Text × List Row = (x, y) in Some p) (some_is n) (some_is r)
+
+-- the command and its rows, for words that `clap` read
+pub Finds-command : (words seen : List Word) (m : ArgMatches) (name : Text) (rows : List Row) → seen ≡ marked_words words
+    → fault_of cas_form seen ≡ [] → subcommand_rows_of m ≡ subcommand_of cas_form seen → Some name ≡ subcommand_name_of m
+    → Some rows ≡ option_map (λ p. p.1) (subcommand_rows_of m) → Finds words (Some (name, rows))
+Finds-command words seen m name rows is lawful read named rowed =
+    subst (Finds words) (rows-Some m name rows named rowed) (Finds-read words seen (subcommand_rows_of m) is lawful read)
 
 -- `fragments`, by the texts under its names
 pub IsReading-fragments : (words : List Word) (name : Text) (found : Found) (r : Result Request Fault) → Finds words (Some (name, rows_of found))
@@ -196,8 +236,10 @@ IsReading-fragments words name found r (inl f) is reads =
     subst (λ ws. IsReading ws r) (sym f.words_are)
     (reads f.a f.b f.c (first_value-rows found (codes "K") ∙ f.k) (first_value-rows found (codes "N") ∙ f.n)
     (first_value-rows found (codes "HEX") ∙ f.digits))
-IsReading-fragments words name found r (inr d) is reads =
+IsReading-fragments words name found r (inr (inl d)) is reads =
     let clash : ◌≡◌ {A = ℕ} 102 100 = ap (λ (w : Word). get_or w 0 0) (sym is ∙ d.name_is) in absurd (omega arith)
+IsReading-fragments words name found r (inr (inr f)) is reads =
+    let clash : ◌≡◌ {A = ℕ} 102 114 = ap (λ (w : Word). get_or w 0 0) (sym is ∙ f.name_is) in absurd (omega arith)
 
 -- `decode`, by the texts under its names
 pub IsReading-decode : (words : List Word) (name : Text) (found : Found) (r : Result Request Fault) → Finds words (Some (name, rows_of found))
@@ -207,7 +249,21 @@ pub IsReading-decode : (words : List Word) (name : Text) (found : Found) (r : Re
     → IsReading words r
 IsReading-decode words name found r (inl f) is reads =
     let clash : ◌≡◌ {A = ℕ} 100 102 = ap (λ (w : Word). get_or w 0 0) (sym is ∙ f.name_is) in absurd (omega arith)
-IsReading-decode words name found r (inr d) is reads =
+IsReading-decode words name found r (inr (inr f)) is reads =
+    let clash : ◌≡◌ {A = ℕ} 100 114 = ap (λ (w : Word). get_or w 0 0) (sym is ∙ f.name_is) in absurd (omega arith)
+IsReading-decode words name found r (inr (inl d)) is reads =
     subst (λ ws. IsReading ws r) (sym d.words_are)
     (reads d.a d.b d.rest (first_value-rows found (codes "K") ∙ d.k) (first_value-rows found (codes "LEN") ∙ d.len)
     (ap (λ o. unwrap_or o []) (raw_values-rows found (codes "POINT:HEX")) ∙ d.pieces))
+
+-- `run`, by the text under its name
+pub IsReading-run : (words : List Word) (name : Text) (found : Found) (r : Result Request Fault) → Finds words (Some (name, rows_of found))
+    → name ≡ codes "run"
+    → ((file : Word) → first_value found (codes "FILE") ≡ Some file → IsReading (codes "run" ∷ file ∷ []) r)
+    → IsReading words r
+IsReading-run words name found r (inl f) is reads =
+    let clash : ◌≡◌ {A = ℕ} 114 102 = ap (λ (w : Word). get_or w 0 0) (sym is ∙ f.name_is) in absurd (omega arith)
+IsReading-run words name found r (inr (inl d)) is reads =
+    let clash : ◌≡◌ {A = ℕ} 114 100 = ap (λ (w : Word). get_or w 0 0) (sym is ∙ d.name_is) in absurd (omega arith)
+IsReading-run words name found r (inr (inr f)) is reads =
+    subst (λ ws. IsReading ws r) (sym f.words_are) (reads f.file (first_value-rows found (codes "FILE") ∙ f.text))

@@ -58,3 +58,5 @@ no_bytes a b c none (of.Fragments k n value) s =
     none value (subst P same s.6)
 no_bytes a b c none (of.Decode k len pieces) s =
     let clash : ◌≡◌ {A = ℕ} 102 100 = ap (λ (ws : List Word). get_or (get_or ws 0 []) 0 0) s.3 in absurd (omega arith)
+no_bytes a b c none (of.Run file) s =
+    let clash : ◌≡◌ {A = ℕ} 102 114 = ap (λ (ws : List Word). get_or (get_or ws 0 []) 0 0) s in absurd (omega arith)

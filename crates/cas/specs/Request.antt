@@ -1,6 +1,6 @@
 -- What the words of a command line ask for.
 use Rattle.std.specs.Prelude.{◌≡◌, ◌<◌, ◌⊎◌, ◌==◌, ◌^◌, ◌-◌, min, ℕ, Bool, List, [], ◌∷◌, length, ⊤, codes, Result}
-use Rattle.std.specs.Prelude.{MatchResult}
+use Rattle.std.specs.Prelude.{MatchResult, string_bytes}
 use Rattle.std.specs.List.{position_or_len, before_first, after_first}
 use Rattle.encoder.specs.declared.fragment.Piece.{Piece}
 use Rattle.tag.specs.declared.refusal.Refusal.TheVariants.{NoMemory}
@@ -35,17 +35,20 @@ ArePieces len [] (p ∷ ps) = ⊥
 ArePieces len (w ∷ ws) [] = ⊥
 ArePieces len (w ∷ ws) (p ∷ ps) = IsPiece len w p × ArePieces len ws ps
 
--- the words after the program's name spell the request: `fragments K N HEX`, or `decode K LEN POINT:HEX..`
+-- the words after the program's name spell the request: `fragments K N HEX`, `decode K LEN POINT:HEX..`, or `run FILE`, where
+-- any word is a FILE
 abbrev pub Spells : List Word → Request → Type 0
 Spells words (of.Fragments k n value) = (a : Word) × (b : Word) × (c : Word)
     × (words ≡ codes "fragments" ∷ a ∷ b ∷ c ∷ []) × IsNumber a k × IsNumber b n × IsHexadecimal c value
 Spells words (of.Decode k len pieces) = (a : Word) × (b : Word) × (rest : List Word)
     × (words ≡ codes "decode" ∷ a ∷ b ∷ rest) × IsNumber a k × IsNumber b len × ArePieces len rest pieces.items
+Spells words (of.Run file) = words ≡ codes "run" ∷ string_bytes file ∷ []
 
 -- the words have the form of a command line, whatever stands in the places of the numbers and bytes
 abbrev pub HasForm : List Word → Type 0
 HasForm words = ((a : Word) × (b : Word) × (c : Word) × (words ≡ codes "fragments" ∷ a ∷ b ∷ c ∷ []))
     ⊎ ((a : Word) × (b : Word) × (rest : List Word) × (words ≡ codes "decode" ∷ a ∷ b ∷ rest))
+    ⊎ ((file : Word) × (words ≡ codes "run" ∷ file ∷ []))
 
 -- why the words give no request: they have another form, they have the form and spell none, or memory is wanting
 abbrev pub IsFaultOf : List Word → Fault → Type 0

@@ -5,12 +5,12 @@ ghost use Rattle.clap.specs.Words.{fault_of, first_value, found_of, kind_of, mat
 ghost use Rattle.clap.specs.Words.{subcommand_of, subcommand_rows_of};
 ghost use Rattle.tag.specs.declared.refusal.Refusal.TheVariants.{NoMemory};
 ghost use Rattle.cas.specs.CommandLine.{IsForm, cas_form, decode_form, fragments_form, marked_words, positional};
-ghost use Rattle.cas.specs.CommandLine.{several};
+ghost use Rattle.cas.specs.CommandLine.{run_form, several};
 ghost use Rattle.cas.specs.Request.{IsReading, Word};
 ghost use Rattle.cas.specs.declared.fault.Fault.TheVariants.{Refused, Usage};
 
 use crate::fault::Fault;
-use crate::request::{Request, decode_request, fragments_request};
+use crate::request::{Request, decode_request, fragments_request, run_request};
 use clap::error::ErrorKind;
 use clap::{Arg, ArgAction, ArgMatches, Command, Error};
 use std::alloc::{AllocError, Global};
@@ -28,6 +28,7 @@ pub fn parse_request(alloc: Global, words: &[String]) -> Result<Request, Fault>
     match command {
         "fragments" => read_fragments(alloc, found),
         "decode" => read_decode(alloc, found),
+        "run" => read_run(alloc, found),
         _ => Err(Fault::Usage),
     }
 }
@@ -83,7 +84,8 @@ fn cas_form<'a>(alloc: Global) -> Result<Command<'a>, AllocError>
         .disable_help_flag(true)
         .disable_help_subcommand(true)
         .subcommand(fragments_form(alloc)?)?
-        .subcommand(decode_form(alloc)?)
+        .subcommand(decode_form(alloc)?)?
+        .subcommand(run_form(alloc)?)
 }
 
 fn fragments_form<'a>(alloc: Global) -> Result<Command<'a>, AllocError>
@@ -102,6 +104,12 @@ fn decode_form<'a>(alloc: Global) -> Result<Command<'a>, AllocError>
         .arg(positional(alloc, "K"))?
         .arg(positional(alloc, "LEN"))?
         .arg(several(alloc, "POINT:HEX"))
+}
+
+fn run_form<'a>(alloc: Global) -> Result<Command<'a>, AllocError>
+    ensures { IfOk result (λ c. IsForm c run_form) }
+{
+    Command::new(alloc, "run").arg(positional(alloc, "FILE"))
 }
 
 fn positional<'a>(alloc: Global, id: &'a str) -> Arg<'a>
@@ -140,6 +148,14 @@ fn read_decode(alloc: Global, found: &ArgMatches<'_>) -> Result<Request, Fault>
     let len = text(found, "LEN")?;
     let words = found.get_strs("POINT:HEX").unwrap_or(&[]);
     decode_request(alloc, k, len, words)
+}
+
+fn read_run(alloc: Global, found: &ArgMatches<'_>) -> Result<Request, Fault>
+    ensures { (file : Word) → first_value (found_of found.now) (codes "FILE") ≡ Some file
+        → IsReading (codes "run" ∷ file ∷ []) result }
+{
+    let file = text(found, "FILE")?;
+    run_request(alloc, file)
 }
 
 fn text<'a>(found: &ArgMatches<'a>, id: &str) -> Result<&'a str, Fault>

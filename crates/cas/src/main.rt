@@ -1,8 +1,9 @@
-//! The program `cas`: the fragments of a value, and the value of fragments, from the command line.
+//! The program `cas`: the fragments of a value, the value of fragments, and the run of a script, from the command line.
 #![tactic(auto)]
 
 mod arguments;
 mod fault;
+mod file;
 mod fragments;
 mod output;
 mod program;

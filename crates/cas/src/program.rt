@@ -1,26 +1,33 @@
 //! The program over any writer.
-ghost use Rattle.std.specs.Prelude.{◌≡◌, ◌⊎◌, ◌++◌, [], ◌∷◌, IfErr, IfOk, MatchResult, OnOk, map, string_bytes};
-ghost use Rattle.std.specs.Io.KnownBytes.{Appends};
+ghost use Rattle.std.specs.Prelude.{◌≡◌, ◌⊎◌, ◌++◌, [], ◌∷◌, List, IfErr, IfOk, MatchResult, OnOk, map, string_bytes};
+ghost use Rattle.std.specs.Io.KnownBytes.{Appends, Keeps};
 ghost use Rattle.tag.specs.declared.refusal.Refusal.{Refusal};
 ghost use Rattle.tag.specs.declared.refusal.Refusal.TheVariants.{NoMemory};
 ghost use Rattle.cas.specs.Answer.{IsAnswer, IsRefusedFor};
 ghost use Rattle.cas.specs.Output.{output_text};
-ghost use Rattle.cas.specs.Program.{EndsBy, FailsBy, PrintsAnswer};
+ghost use Rattle.cas.specs.Program.{EndsBy, IsPrinted};
+ghost use Rattle.cas.specs.Request.{Spells, Word};
+ghost use Rattle.cas.specs.declared.request.Request.TheVariants as request;
 ghost use Rattle.cas.specs.declared.fault.Fault.TheVariants.{OutputLost};
 
 use crate::arguments::parse_request;
 use crate::fault::Fault;
+use crate::file::run_file;
 use crate::fragments::fragments_of;
 use crate::output::Output;
 use crate::request::Request;
 use crate::value::value_of;
+use bytes::Bytes;
+use encoder::Piece;
 use std::alloc::Global;
 use std::io::Write;
+use std::rt::Files;
 use tag::Refusal;
 
 /// Carries out the words after the program's name, and answers the exit status: 0 where the line of the answer is
-/// written, 1 for a refusal or lost output, 2 for words that spell no request. A text on `err` says why.
-pub fn run_words<R: AllocGlobal, O: Write, E: Write>(
+/// written, or the script of the file played to its end, 1 for a refusal or lost output, 2 for words that spell no request
+/// or a script that cannot be read or is bad. A text on `err` says why.
+pub fn run_words<R: Files + AllocGlobal, O: Write, E: Write>(
     rt: &R,
     words: &[String],
     out: &mut O,
@@ -28,37 +35,62 @@ pub fn run_words<R: AllocGlobal, O: Write, E: Write>(
 ) -> u8
     ensures { EndsBy (map string_bytes words.now) (O.contents out.old) (O.contents out.new) result }
 {
-    match carry_out(rt.alloc(), words, out) {
-        Ok(()) => 0,
+    match parse_request(rt.alloc(), words) {
+        Ok(request) => carry_out(rt, request, out, err),
         Err(fault) => fault.report(err),
     }
 }
 
-/// Prints the answer of the request that the words spell.
-pub fn carry_out<W: Write>(alloc: Global, words: &[String], out: &mut W) -> Result<(), Fault>
-    ensures { MatchResult result
-        (λ _. PrintsAnswer (map string_bytes words.now) (W.contents out.old) (W.contents out.new))
-        (FailsBy (map string_bytes words.now) (W.contents out.old) (W.contents out.new)) }
-{
-    let request = parse_request(alloc, words)?;
-    let output = answer(alloc, request)?;
-    print_line(out, &output)
-}
-
-fn answer(alloc: Global, request: Request) -> Result<Output, Refusal>
-    ensures answered { IfOk result (IsAnswer request) }
-    ensures refused { IfErr result (λ r. (r ≡ NoMemory) ⊎ IsRefusedFor request r) }
-    ensures by_cause { (r : Refusal) → IsRefusedFor request r → result ≡ Err r }
+/// Carries out the request, and answers the exit status.
+pub fn carry_out<R: Files + AllocGlobal, O: Write, E: Write>(
+    rt: &R,
+    request: Request,
+    out: &mut O,
+    err: &mut E,
+) -> u8
+    ensures { (words : List Word) → Spells words request
+        → EndsBy words (O.contents out.old) (O.contents out.new) result }
 {
     match request {
         Request::Fragments { k, n, value } => {
-            let coded = fragments_of(alloc, k, n, value)?;
-            Ok(Output::Fragments(coded))
+            print_answer(answer_fragments(rt.alloc(), k, n, value), out, err)
         }
         Request::Decode { k, len, pieces } => {
-            let decoded = value_of(alloc, k, len, pieces)?;
-            Ok(Output::Value(decoded))
+            print_answer(answer_decode(rt.alloc(), k, len, pieces), out, err)
         }
+        Request::Run { file } => run_file(rt, file.as_str(), out, err),
+    }
+}
+
+fn answer_fragments(alloc: Global, k: u64, n: u64, value: Bytes) -> Result<Output, Refusal>
+    ensures answered { IfOk result (IsAnswer (request.Fragments k n value)) }
+    ensures refused { IfErr result (λ r. (r ≡ NoMemory) ⊎ IsRefusedFor (request.Fragments k n value) r) }
+    ensures by_cause { (r : Refusal) → IsRefusedFor (request.Fragments k n value) r → result ≡ Err r }
+{
+    let coded = fragments_of(alloc, k, n, value)?;
+    Ok(Output::Fragments(coded))
+}
+
+fn answer_decode(alloc: Global, k: u64, len: u64, pieces: Vec<Piece>) -> Result<Output, Refusal>
+    ensures answered { IfOk result (IsAnswer (request.Decode k len pieces)) }
+    ensures refused { IfErr result (λ r. (r ≡ NoMemory) ⊎ IsRefusedFor (request.Decode k len pieces) r) }
+    ensures by_cause { (r : Refusal) → IsRefusedFor (request.Decode k len pieces) r → result ≡ Err r }
+{
+    let decoded = value_of(alloc, k, len, pieces)?;
+    Ok(Output::Value(decoded))
+}
+
+/// Prints the line of an answer, or says why there is none, and answers the exit status.
+fn print_answer<O: Write, E: Write>(answer: Result<Output, Refusal>, out: &mut O, err: &mut E) -> u8
+    ensures { MatchResult answer (λ output. IsPrinted output (O.contents out.old) (O.contents out.new) result)
+        (λ _. (result ≡ 1) × Keeps (O.contents out.old) (O.contents out.new)) }
+{
+    match answer {
+        Ok(output) => match print_line(out, &output) {
+            Ok(()) => 0,
+            Err(fault) => fault.report(err),
+        },
+        Err(refusal) => Fault::Refused(refusal).report(err),
     }
 }
 

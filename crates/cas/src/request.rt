@@ -30,6 +30,10 @@ pub enum Request {
         len: u64,
         pieces: Vec<Piece>,
     },
+    /// `run FILE`: the script that the file of this name holds.
+    Run {
+        file: String,
+    },
 }
 
 /// The request `fragments K N HEX`.
@@ -50,6 +54,14 @@ pub fn decode_request(alloc: Global, k: &str, len: &str, words: &[&str]) -> Resu
     let len = number(len)?;
     let pieces = parse_pieces(alloc, len, words)?;
     Ok(Request::Decode { k, len, pieces })
+}
+
+/// The request `run FILE`.
+pub fn run_request(alloc: Global, file: &str) -> Result<Request, Fault>
+    ensures { IsReading (codes "run" ∷ file.now ∷ []) result }
+{
+    let file = String::from_str(alloc, file)?;
+    Ok(Request::Run { file })
 }
 
 fn parse_pieces(alloc: Global, len: u64, words: &[&str]) -> Result<Vec<Piece>, Fault>

@@ -1,10 +1,12 @@
 //! Command lines over memory. The fragments were computed apart from this program, as sums of products of polynomials
 //! over two elements modulo `x^8 + x^4 + x^3 + x^2 + 1`.
+use crate::file::run_opened;
 use crate::program::run_words;
 use std::alloc::{AllocError, Global};
 use std::io;
-use std::io::Write;
+use std::io::{ErrorKind, Write};
 use std::process::Abort;
+use std::rt::Files;
 use std::test::Fail;
 
 /// The words, standard output, standard error and the exit status.
@@ -12,7 +14,8 @@ type Row = (&'static str, &'static str, &'static str, u8);
 
 const BAD: &str = "bad argument\n";
 
-const USAGE: &str = "usage: cas fragments K N HEX\n       cas decode K LEN POINT:HEX..\n";
+const USAGE: &str =
+    "usage: cas fragments K N HEX\n       cas decode K LEN POINT:HEX..\n       cas run FILE\n";
 
 const BAD_LAYOUT: &str = "refused 2 BadLayout\n";
 
@@ -31,7 +34,7 @@ fn texts(alloc: Global, line: &str) -> Result<Vec<String>, AllocError> {
     Ok(words)
 }
 
-fn plays<R: AllocGlobal + Abort>(rt: &R, rows: &[Row]) -> Result<(), Fail> {
+fn plays<R: AllocGlobal + Files + Abort>(rt: &R, rows: &[Row]) -> Result<(), Fail> {
     for (line, out, err, status) in rows {
         let words = texts(rt.alloc(), line)?;
         let mut written = Vec::new(rt.alloc());
@@ -146,6 +149,8 @@ fn other_forms(rt: HostRuntime) -> Result<(), Fail> {
         ("fragments -- 2 4 41", "", USAGE, 2),
         ("decode", "", USAGE, 2),
         ("decode 2", "", USAGE, 2),
+        ("run", "", USAGE, 2),
+        ("run nofile.cas nofile.cas", "", USAGE, 2),
         ("fragment 2 4 41", "", USAGE, 2),
         ("Fragments 2 4 41", "", USAGE, 2),
         ("-- fragments 2 4 41", "", USAGE, 2),
@@ -158,6 +163,29 @@ fn other_forms(rt: HostRuntime) -> Result<(), Fail> {
     plays(&rt, &rows)
 }
 
+/// A file that is not there, and two that find no memory or no leave to be opened.
+#[test]
+fn files_that_cannot_be_read(rt: HostRuntime) -> Result<(), Fail> {
+    let rows = [
+        ("run nofile.cas", "", "cannot read nofile.cas\n", 2),
+        ("run --help", "", "cannot read --help\n", 2),
+    ];
+    plays(&rt, &rows)?;
+    let kinds = [
+        (ErrorKind::OutOfMemory, "refused 1 NoMemory\n", 1),
+        (ErrorKind::PermissionDenied, "cannot read story\n", 2),
+    ];
+    for (kind, reported, status) in kinds {
+        let mut out = Vec::new(rt.alloc());
+        let mut err = Vec::new(rt.alloc());
+        let opened = Err::<&[u8], io::Error>(io::Error::from(kind));
+        let answer = run_opened(rt.alloc(), "story", opened, &mut out, &mut err);
+        assert_eq!(rt; (answer, out.len()), (status, 0));
+        assert_eq!(rt; str::from_utf8(err.as_slice())?, reported);
+    }
+    Ok(())
+}
+
 /// A writer over memory that refuses each write once its calls are used up.
 #[derive(Drop)]
 struct FailingWriter {
@@ -168,7 +196,7 @@ struct FailingWriter {
 impl Write for FailingWriter {
     fn write(&mut self, buf: &[u8]) -> io::Result<usize> {
         if self.calls == 0 {
-            return Err(io::Error::from(io::ErrorKind::BrokenPipe));
+            return Err(io::Error::from(ErrorKind::BrokenPipe));
         }
         self.calls -= 1;
         self.written.extend_from_slice(buf)?;

@@ -3,8 +3,8 @@ use Rattle.std.proofs.lemmas.List.{length-map}
 use Rattle.clap.specs.Lexer.{usize_max}
 use Rattle.clap.specs.Words.{found_of, subcommand_rows_of}
 use Rattle.cas.specs.CommandLine.{marked_words}
-use Rattle.cas.proofs.ReadingLemmas.{Finds, Finds-read, IsFaultOf-unread, IsReading-decode, IsReading-fragments}
-use Rattle.cas.proofs.ReadingLemmas.{rows-None, rows-Some}
+use Rattle.cas.proofs.ReadingLemmas.{Finds, Finds-command, Finds-read, IsFaultOf-unread, IsReading-decode}
+use Rattle.cas.proofs.ReadingLemmas.{IsReading-fragments, IsReading-run, rows-None}
 use Rattle.cas.proofs.RequestLemmas.{err_of}
 use Rattle.cas.proofs.arguments.parse_request.Goals as goal
 
@@ -27,8 +27,8 @@ returns-in-fragments c =
     let seen : map (λ w. w.now) c.as_slice.result.now ≡ marked_words (map string_bytes c.args.words.now) =
     ap (map (λ w. w.now)) c.as_slice.ensures.value ∙ c.in_ok-marked.ensures in
     IsReading-fragments _ c.in-Some.command.now (found_of c.in-Some.found.now) _
-    (subst (Finds _) (rows-Some c.in_ok-matches.matches _ _ c.in-Some.ensures.name c.in-Some.ensures.rows)
-    (Finds-read _ _ _ seen c.in_ok-matches.ensures.faultless c.in_ok-matches.ensures.found))
+    (Finds-command _ _ c.in_ok-matches.matches _ _ seen c.in_ok-matches.ensures.faultless c.in_ok-matches.ensures.found
+    c.in-Some.ensures.name c.in-Some.ensures.rows)
     c.in-fragments.is c.read_fragments.ensures
 
 pub returns-in-decode : goal.returns-in-decode
@@ -36,6 +36,15 @@ returns-in-decode c =
     let seen : map (λ w. w.now) c.as_slice.result.now ≡ marked_words (map string_bytes c.args.words.now) =
     ap (map (λ w. w.now)) c.as_slice.ensures.value ∙ c.in_ok-marked.ensures in
     IsReading-decode _ c.in-Some.command.now (found_of c.in-Some.found.now) _
-    (subst (Finds _) (rows-Some c.in_ok-matches.matches _ _ c.in-Some.ensures.name c.in-Some.ensures.rows)
-    (Finds-read _ _ _ seen c.in_ok-matches.ensures.faultless c.in_ok-matches.ensures.found))
+    (Finds-command _ _ c.in_ok-matches.matches _ _ seen c.in_ok-matches.ensures.faultless c.in_ok-matches.ensures.found
+    c.in-Some.ensures.name c.in-Some.ensures.rows)
     c.in-decode.is c.read_decode.ensures
+
+pub returns-in-run : goal.returns-in-run
+returns-in-run c =
+    let seen : map (λ w. w.now) c.as_slice.result.now ≡ marked_words (map string_bytes c.args.words.now) =
+    ap (map (λ w. w.now)) c.as_slice.ensures.value ∙ c.in_ok-marked.ensures in
+    IsReading-run _ c.in-Some.command.now (found_of c.in-Some.found.now) _
+    (Finds-command _ _ c.in_ok-matches.matches _ _ seen c.in_ok-matches.ensures.faultless c.in_ok-matches.ensures.found
+    c.in-Some.ensures.name c.in-Some.ensures.rows)
+    c.in-run.is c.read_run.ensures

@@ -1,15 +1,11 @@
-use Rattle.cas.proofs.ProgramLemmas.{FailsBy-refused, FailsBy-unread, prints}
-use Rattle.cas.proofs.RequestLemmas.{err_of}
+use Rattle.cas.proofs.ProgramLemmas.{EndsBy-answer}
 use Rattle.cas.proofs.program.carry_out.Goals as goal
 
-pub returns-in_err-request : goal.returns-in_err-request
-returns-in_err-request g c = err_of _ _ _ _ c.from_residual.ensures.1 (FailsBy-unread _ _ _ c.in_err-request.ensures)
+pub returns-in-Fragments : goal.returns-in-Fragments
+returns-in-Fragments g c = λ words spelled.
+    EndsBy-answer words _ _ _ c.args.request _ _ c.in-Fragments.is spelled c.answer_fragments.ensures.answered c.answer_fragments.ensures.refused c.print_answer.ensures
 
-pub returns-in_err-output : goal.returns-in_err-output
-returns-in_err-output g c =
-    err_of _ _ _ _ c.from_residual-in_err-output.ensures.1
-    (FailsBy-refused _ _ c.in_ok-request.request c.in_err-output.field-0.0 c.in_ok-request.ensures c.in_err-output.ensures.refused)
-
-pub returns : goal.returns
-returns g c = prints _ _ _ c.in_ok-request.request c.in_ok-output.output c.print_line.result c.in_ok-request.ensures c.in_ok-output.ensures.answered
-    c.print_line.ensures.printed c.print_line.ensures.lost
+pub returns-in-Decode : goal.returns-in-Decode
+returns-in-Decode g c = λ words spelled.
+    EndsBy-answer words _ _ _ c.args.request _ _ c.in-Decode.is spelled c.answer_decode.ensures.answered c.answer_decode.ensures.refused
+    c.print_answer-in-Decode.ensures
