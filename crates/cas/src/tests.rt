@@ -7,9 +7,7 @@ use std::io;
 use std::io::{ErrorKind, Write};
 use std::process::Abort;
 use std::rt::Files;
-use std::sync::Wait;
 use std::test::Fail;
-use std::thread::Threads;
 
 /// The words, standard output, standard error and the exit status.
 type Row = (&'static str, &'static str, &'static str, u8);
@@ -17,7 +15,7 @@ type Row = (&'static str, &'static str, &'static str, u8);
 const BAD: &str = "bad argument\n";
 
 const USAGE: &str =
-    "usage: cas fragments K N HEX\n       cas decode K LEN POINT:HEX..\n       cas run FILE\n       cas soak CLIENTS CALLS MOVES CHOICES\n";
+    "usage: cas fragments K N HEX\n       cas decode K LEN POINT:HEX..\n       cas run FILE\n";
 
 const BAD_LAYOUT: &str = "refused 2 BadLayout\n";
 
@@ -36,10 +34,7 @@ fn texts(alloc: Global, line: &str) -> Result<Vec<String>, AllocError> {
     Ok(words)
 }
 
-fn plays<R: AllocGlobal + Files + Threads + Wait + Sync + Abort>(
-    rt: &R,
-    rows: &[Row],
-) -> Result<(), Fail> {
+fn plays<R: AllocGlobal + Files + Abort>(rt: &R, rows: &[Row]) -> Result<(), Fail> {
     for (line, out, err, status) in rows {
         let words = texts(rt.alloc(), line)?;
         let mut written = Vec::new(rt.alloc());
