@@ -1,5 +1,5 @@
 -- How a request changes the bytes of a bank.
-use Rattle.std.proofs.Common.{◌≡◌, ℕ, ◌+◌, ◌∷◌, [], length, true, false, cond, Option, Some, None, is_some, option_map, sum_by, sym, ap, ◌∙◌, refl, arith}
+use Rattle.std.proofs.Common.{◌≡◌, ℕ, ◌+◌, ◌∷◌, [], length, map, true, false, cond, Option, Some, None, is_some, option_map, sum_by, sym, ap, ◌∙◌, refl, arith}
 use Rattle.std.specs.FinMap as map
 use Rattle.std.specs.FinMap.Entries.{below_all, by_order}
 use Rattle.std.specs.declared.cmp.Ordering.TheVariants.{Less, Equal, Greater}
@@ -39,6 +39,11 @@ find-below x y (e ∷ es) less below =
 
 less_than : (x y : Tag) → tag_cmp x y ≡ Less → (eq_by_cmp tag_cmp x y ≡ false) × (tag_lt x y ≡ true)
 less_than x y is = (ap is_eq is, sym (is_lt-tag x y) ∙ ap is_lt is)
+
+-- the bytes of the rows are those of the entries
+pub rows_bytes : (es : Rows) → sum_by row_bytes (map (λ e. e.1) es) ≡ sum_by entry_bytes es
+rows_bytes [] = refl
+rows_bytes (e ∷ es) = let rest = rows_bytes es in omega (arith, sum_by-cons row_bytes e.1 (map (λ (e : Tag × Row). e.1) es), sum_by-cons entry_bytes e es, rest)
 
 -- the bytes after a new value comes in the place of an old one
 put_bytes : (k : Tag) (v : Row) (es : Rows) → map.is_sorted tag_cmp es ≡ true

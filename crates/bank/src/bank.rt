@@ -1,8 +1,8 @@
-ghost use Rattle.std.specs.Prelude.{◌≡◌, ℕ, ◌<◌, ◌^◌, IsTrue, Some, slice_get, option_copied};
+ghost use Rattle.std.specs.Prelude.{◌≡◌, ℕ, ◌<◌, ◌-◌, ◌^◌, min, IsTrue, Some, slice_get, option_copied};
 ghost use Rattle.std.specs.Prelude.{IfOk, IfErr, OnOk, OnErr, IsOk, IsNone};
 ghost use Rattle.tag.specs.declared.refusal.Refusal.TheVariants.{NoMemory};
 
-use crate::{Answer, Arrival, Label, Pointer, Reply, Row, Status, rows};
+use crate::{Answer, Arrival, HeldPiece, Label, Pointer, Reply, Row, Status, rows};
 use bytes::Bytes;
 use encoder::Piece;
 use std::alloc::Global;
@@ -25,6 +25,7 @@ pub struct Bank {
     // How many bytes all the pieces have, or the greatest number where they have more.
     bytes: u64,
     pointer: Pointer,
+    alloc: Global,
 }
 
 impl Model for Bank {
@@ -74,6 +75,7 @@ impl Bank {
             greatest: Tag::OPENING,
             bytes: 0,
             pointer: Pointer::Unset,
+            alloc,
         })
     }
 
@@ -108,6 +110,13 @@ impl Bank {
         ensures { result ≡ bank_bytes self.now }
     {
         self.bytes
+    }
+
+    /// The same, added anew by one walk over the tags; or the greatest number where they have more.
+    pub fn bytes_anew(&self) -> u64
+        ensures { result ≡ min (bank_bytes self.now) (2 ^ 64 - 1) }
+    {
+        rows::bytes(&self.rows)
     }
 
     /// Answers the status of the pointer.
@@ -204,13 +213,13 @@ impl Bank {
     }
 
     // A copy of the tag's piece.
-    fn copy_of(&self, tag: Tag) -> Result<Option<Piece>, Refusal>
+    fn copy_of(&self, tag: Tag) -> Result<Option<HeldPiece>, Refusal>
         ensures copy { IfOk result (λ p. p ≡ piece_of self.now tag) }
         ensures refused { IfErr result (λ e. e ≡ NoMemory) }
         ensures none { IsNone (piece_of self.now tag) → IsOk result }
     {
         match self.row_of(tag) {
-            Some(row) => row.copy_of_piece(),
+            Some(row) => row.copy_of_piece(self.alloc),
             None => Ok(None),
         }
     }

@@ -13,6 +13,7 @@ ghost use Rattle.bank.specs.Serve.{served_bank, answer_to, kind_of};
 ghost use Rattle.bank.specs.declared.request.Request.{Request as Asked};
 
 pub use bank::Bank;
+pub use held_piece::HeldPiece;
 pub use kind::Kind;
 pub use reply::{Answer, Reply};
 pub use request::Request;
@@ -20,6 +21,7 @@ pub use row::{Arrival, Label, Row};
 pub use status::{Pointer, Status};
 
 mod bank;
+mod held_piece;
 mod kind;
 mod reply;
 mod request;

@@ -1,7 +1,9 @@
 ghost use Rattle.std.specs.Prelude.{◌≡◌, ◌<◌, ◌^◌, length, is_some, if◌then◌else◌, Some, IfOk, IfErr, IsOk, IsNone};
 ghost use Rattle.tag.specs.declared.refusal.Refusal.TheVariants.{NoMemory};
 
+use crate::HeldPiece;
 use encoder::Piece;
+use std::alloc::Global;
 use tag::{Refusal, Stamp};
 
 /// How far a tag has come at a bank, with the step at which it did.
@@ -52,13 +54,16 @@ impl Row {
     }
 
     /// A copy of the piece, where one came.
-    pub(crate) fn copy_of_piece(&self) -> Result<Option<Piece>, Refusal>
+    pub(crate) fn copy_of_piece(&self, alloc: Global) -> Result<Option<HeldPiece>, Refusal>
         ensures copy { IfOk result (λ p. p ≡ piece_of_row (Some self.now)) }
         ensures refused { IfErr result (λ e. e ≡ NoMemory) }
         ensures none { IsNone (piece_of_row (Some self.now)) → IsOk result }
     {
         match &self.arrival {
-            Some(arrival) => Ok(Some(arrival.piece.clone()?)),
+            Some(arrival) => {
+                let copy = arrival.piece.clone()?;
+                Ok(Some(HeldPiece::new(alloc, copy)?))
+            }
             None => Ok(None),
         }
     }

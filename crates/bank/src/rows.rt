@@ -1,7 +1,9 @@
-ghost use Rattle.std.specs.Prelude.{◌≡◌, length, is_some, if◌then◌else◌, Some, None, IfOk, IfErr, OnOk, OnErr};
+ghost use Rattle.std.specs.Prelude.{◌≡◌, ◌-◌, ◌^◌, min, sum_by, length, is_some, if◌then◌else◌, Some, None, IfOk, IfErr, OnOk, OnErr};
 ghost use Rattle.std.specs.BTreeMap.{get, Updates, IsOrdered, IsUnchanged};
 ghost use Rattle.tag.specs.Tag.{tag_cmp};
 ghost use Rattle.tag.specs.declared.refusal.Refusal.TheVariants.{NoMemory};
+ghost use Rattle.std.specs.BTreeMap.{values};
+ghost use Rattle.bank.specs.Bytes.{row_bytes};
 ghost use Rattle.bank.specs.Bank.{row_after_pre_write, row_after_finalize, piece_of_row};
 
 use crate::{Arrival, Label, Row};
@@ -65,4 +67,15 @@ pub fn finalize(rows: &mut BTreeMap<Tag, Row>, tag: Tag, now: Stamp) -> Result<(
     };
     put(rows, tag, row)?;
     Ok(())
+}
+
+// How many bytes all the pieces have, or the greatest number where they have more.
+pub fn bytes(rows: &BTreeMap<Tag, Row>) -> u64
+    ensures { result ≡ min (sum_by row_bytes (values rows.now)) (2 ^ 64 - 1) }
+{
+    let mut total: u64 = 0;
+    for row in rows.values() {
+        total = total.saturating_add(row.bytes());
+    }
+    total
 }

@@ -19,6 +19,10 @@ fn piece(alloc: Global) -> Result<Piece, AllocError> {
     })
 }
 
+fn held(alloc: Global) -> Result<HeldPiece, Fail> {
+    Ok(HeldPiece::new(alloc, piece(alloc)?)?)
+}
+
 // The tags that a bank keeps in rising order, each with its label and the step at which its piece came.
 fn assert_keeps(rt: &impl Abort, bank: &Bank, rows: [(Tag, Label, Option<Stamp>); 3]) {
     assert_eq!(rt; bank.count(), 3);
@@ -40,7 +44,7 @@ fn answers_the_table_of_requests(rt: HostRuntime) -> Result<(), Fail> {
         (3, Request::Query, Answer::Greatest(FIRST)),
         (4, Request::Fetch(FIRST), Answer::Piece(None)),
         (5, Request::PreWrite(FIRST, piece(alloc)?), Answer::Done),
-        (6, Request::Fetch(FIRST), Answer::Piece(Some(piece(alloc)?))),
+        (6, Request::Fetch(FIRST), Answer::Piece(Some(held(alloc)?))),
         (7, Request::PreWrite(FIRST, piece(alloc)?), Answer::Done),
         (8, Request::PreWrite(SECOND, piece(alloc)?), Answer::Done),
         (9, Request::Query, Answer::Greatest(FIRST)),
@@ -90,5 +94,6 @@ fn keeps_tags_in_rising_order(rt: HostRuntime) -> Result<(), Fail> {
             (SECOND, Label::Finalized { since: 4 }, Some(2)),
         ],
     );
+    assert_eq!(rt; bank.bytes_anew(), 3);
     Ok(())
 }

@@ -1,5 +1,5 @@
 use super::*;
-use bank::{Answer, Reply, Request, Status};
+use bank::{Answer, HeldPiece, Reply, Request, Status};
 use bytes::Bytes;
 use encoder::Piece;
 use std::alloc::{AllocError, Global};
@@ -65,7 +65,12 @@ fn counts_the_bytes_of_pieces(rt: HostRuntime) -> Result<(), Fail> {
     let mut mail = Mail::new(alloc);
     mail.post_all(requests)?;
     assert_eq!(rt; mail.bytes(), 3);
-    answer_at(&rt, &mut mail, 1, Answer::Piece(Some(piece(alloc)?)));
+    answer_at(
+        &rt,
+        &mut mail,
+        1,
+        Answer::Piece(Some(HeldPiece::new(alloc, piece(alloc)?)?)),
+    );
     assert_eq!(rt; mail.bytes(), 6);
     answer_at(&rt, &mut mail, 0, Answer::Done);
     assert_eq!(rt; mail.bytes(), 3);

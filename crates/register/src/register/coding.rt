@@ -237,7 +237,7 @@ fn is_recorded(replies: &[Taken], piece: &Piece) -> bool
 {
     for taken in replies {
         if let Answer::Piece(Some(other)) = &taken.reply.answer
-            && is_same(piece, other)
+            && is_same(piece, other.piece())
         {
             return true;
         }
@@ -264,7 +264,7 @@ fn piece_by(replies: &[Taken], member: u8) -> Option<&Piece>
     for taken in replies {
         if taken.member == member {
             return match &taken.reply.answer {
-                Answer::Piece(Some(piece)) => Some(piece),
+                Answer::Piece(Some(held)) => Some(held.piece()),
                 _ => None,
             };
         }

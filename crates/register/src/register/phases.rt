@@ -152,7 +152,7 @@ fn value_len(replies: &[Taken]) -> u32
 {
     for taken in replies {
         if let Answer::Piece(Some(piece)) = &taken.reply.answer {
-            return piece.len;
+            return piece.piece().len;
         }
     }
     0

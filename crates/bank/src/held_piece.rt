@@ -1,0 +1,70 @@
+ghost use Rattle.std.specs.Prelude.{◌≡◌, ◌↔◌, IfOk, IfErr, IsTrue};
+ghost use Rattle.tag.specs.declared.refusal.Refusal.TheVariants.{NoMemory};
+
+use encoder::Piece;
+use std::alloc::{AllocError, Global};
+use std::marker::Model;
+use tag::Refusal;
+
+/// A piece behind a pointer, so that an answer which has none takes little room.
+#[derive(Debug, Drop)]
+pub struct HeldPiece {
+    piece: Box<Piece>,
+}
+
+impl Model for HeldPiece {
+    ghost use Rattle.encoder.specs.declared.fragment.Piece.{Piece as Fragment};
+
+    ghost Value = { Fragment };
+
+    ghost view = { λ h. h.piece.value };
+}
+
+impl HeldPiece {
+    /// The piece behind a pointer. `NoMemory` is the only refusal.
+    pub fn new(alloc: Global, piece: Piece) -> Result<HeldPiece, Refusal>
+        ensures piece { IfOk result (λ h. h ≡ piece) }
+        ensures refused { IfErr result (λ e. e ≡ NoMemory) }
+    {
+        match Box::new(alloc, piece) {
+            Ok(piece) => Ok(HeldPiece { piece }),
+            Err(_) => Err(Refusal::NoMemory),
+        }
+    }
+
+    /// The piece.
+    pub fn piece(&self) -> &Piece
+        ensures { result.now ≡ self.now }
+    {
+        &self.piece
+    }
+}
+
+impl Clone for HeldPiece {
+    ghost is_clone = { λ held copy. copy ≡ held };
+
+    fn clone(&self) -> Result<HeldPiece, AllocError> {
+        let piece = self.piece.as_ref().clone()?;
+        Ok(HeldPiece {
+            piece: Box::new(*Box::allocator(&self.piece), piece)?,
+        })
+    }
+}
+
+impl PartialEq for HeldPiece {
+    ghost use Rattle.encoder.specs.contracts.fragment.PiecePartialEq.TheImpl.Laws as pieces;
+
+    ghost eq = { ⟦<Piece as PartialEq>⟧.eq };
+
+    ghost laws = { pieces.laws-law };
+
+    fn eq(&self, other: &HeldPiece) -> bool {
+        *self.piece == *other.piece
+    }
+}
+
+impl Eq for HeldPiece {
+    ghost use Rattle.encoder.specs.contracts.fragment.PieceEq.TheImpl.Laws as pieces;
+
+    ghost laws = { pieces.laws-law };
+}
