@@ -50,7 +50,7 @@ pub struct Phase {
     members: u8,
     quorum: u8,
     start: Stamp,
-    // In the order of their takes, with room for a reply of each member.
+    // In the order of their takes, with room for a quorum's.
     replies: Vec<Taken>,
     end: Option<Stamp>,
 }
@@ -74,7 +74,7 @@ impl Model for Phase {
     } };
 
     ghost invariant = { λ p.
-        IsRecord p.members p.quorum p.replies.items p.end × (p.members ≤ vec_capacity p.replies) };
+        IsRecord p.members p.quorum p.replies.items p.end × (p.quorum ≤ vec_capacity p.replies) };
 }
 
 impl Phase {
@@ -84,7 +84,7 @@ impl Phase {
 
     /// A phase that begins at step `now`, of which `quorum` of the position's `members` are to reply.
     ///
-    /// Room for a reply of each member is reserved, so that no take is refused; `NoMemory` where there is none.
+    /// Room for a quorum's replies is reserved, so that no take is refused; `NoMemory` where there is none.
     pub fn new(
         alloc: Global,
         ask: Ask,
@@ -102,7 +102,7 @@ impl Phase {
             members,
             quorum,
             start: now,
-            replies: Vec::with_capacity(alloc, usize::from(members))?,
+            replies: Vec::with_capacity(alloc, usize::from(quorum))?,
             end: None,
         })
     }
