@@ -1,6 +1,2 @@
-pub mod Calls
-pub mod Seats
-pub mod Closing
-pub mod Moves
-pub mod Sections
+pub mod Opening
 pub mod Locked

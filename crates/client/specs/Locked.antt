@@ -6,8 +6,8 @@ use Rattle.layout.specs.Layout.{Layout}
 use Rattle.register.specs.declared.receipt.Receipt.{Receipt}
 use Rattle.cluster.specs.Cluster.{Cluster}
 use Rattle.cluster.specs.Causes.{layout_cause, create_cause, server_cause}
-use Rattle.client.specs.Moves.{Moving, Ends}
-use Rattle.client.specs.Sections.{Stirs, StirsNot, Disturbs, DisturbsNot, move_begun}
+use Rattle.sections.specs.Moves.{Moving, Ends}
+use Rattle.sections.specs.Sections.{Stirs, StirsNot, Disturbs, DisturbsNot, move_begun}
 
 module _ {C : Type 0} (chooses : C → ℕ → ℕ → C → Type 0) (name : List ℕ) (before : C) where
   -- a chosen message is served or taken, or there is none

@@ -1,16 +1,11 @@
-//! Whole calls: the driver that carries a call on to its answer, and the store that client threads share, with their seats.
+//! Whole calls of client threads: a store under one lock that they share, with their seats.
 #![tactic(auto)]
 
-pub use admin::{Admin, Order};
-pub use call_record::{Begin, CallRecord};
-pub use close::{Closed, NotClosed};
-pub use seat::Seat;
-pub use sections::{Booked, Hand, StoreName};
+pub use driver::{Chooser, First, finish};
+pub use sections;
+pub use sections::{
+    Admin, Begin, Booked, CallRecord, Closed, Hand, NotClosed, Order, Seat, StoreName,
+};
 pub use store::{MOST_SEATS, Opened, Store};
 
-mod admin;
-mod call_record;
-mod close;
-mod seat;
-pub mod sections;
 mod store;

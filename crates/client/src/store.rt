@@ -2,19 +2,17 @@
 
 ghost use Rattle.std.specs.Prelude.{◌≡◌, ◌+◌, ◌⊎◌, ◌<◌, None, Some, IfOk, IfErr, MatchResult, if◌then◌else◌};
 ghost use Rattle.tag.specs.Refusal.{IsByCause};
-ghost use Rattle.client.specs.Closing.{Fit, IsAccounted, all_records, receipts_of};
-ghost use Rattle.client.specs.Seats.{new_seats};
+ghost use Rattle.sections.specs.Closing.{Fit, IsAccounted, all_records, receipts_of};
+ghost use Rattle.sections.specs.Seats.{new_seats};
 ghost use Rattle.client.specs.Locked.{DisturbsNotThen, DisturbsThen, StirsNotThen, StirsThen};
-ghost use Rattle.client.specs.Sections.{open_store_cause};
+ghost use Rattle.client.specs.Opening.{open_store_cause};
 
-use crate::admin::Admin;
-use crate::close::{Closed, NotClosed};
-use crate::seat::{Seat, empty_seat};
-use crate::sections::{Booked, StoreName, close_in, disturb_in, stir_in};
 use cluster::Cluster;
 use driver::Chooser;
+use sections::{
+    Admin, Booked, Closed, NotClosed, Seat, StoreName, close_in, disturb_in, open_in, stir_in,
+};
 use std::alloc::Global;
-use std::marker::PhantomData;
 use std::sync::ledger::Blank;
 use std::sync::{Mutex, Wait};
 use tag::{MOST_WORKERS, Refusal};
@@ -61,21 +59,11 @@ impl<L: StoreName> Store<L> {
         if seats > MOST_SEATS || workers > MOST_WORKERS {
             return Err(Refusal::Full);
         }
-        let (book, mut own) = blank.open::<L>();
-        let mut list = Vec::with_capacity(alloc, seats as usize)?;
-        for number in 0..seats {
-            let share = own.split_off(1, 0);
-            list.push_reserved(empty_seat(alloc, number, share));
-        }
+        let (booked, list, admin) = open_in(alloc, blank, cluster, seats)?;
         let store = Store {
-            booked: Mutex::new(Booked::new(cluster, book, own, seats)),
+            booked: Mutex::new(booked),
             workers,
             alloc,
-        };
-        let admin = Admin {
-            pending: None,
-            name: String::new(alloc),
-            of: PhantomData,
         };
         Ok((store, list, admin))
     }

@@ -1,17 +1,15 @@
 //! Whole reads and writes.
 
 ghost use Rattle.std.specs.Prelude.{◌≡◌, ◌⊎◌, IfOk, OnErr};
-ghost use Rattle.client.specs.Seats.{AddsAnswered, AddsPending, Settles};
-ghost use Rattle.client.specs.declared.call_record.Begin.TheVariants as begins;
+ghost use Rattle.sections.specs.Seats.{AddsAnswered, AddsPending, Settles};
+ghost use Rattle.sections.specs.declared.call_record.Begin.TheVariants as begins;
 
-use crate::call_record::Begin;
-use crate::seat::Seat;
-use crate::sections::{StoreName, begin_in};
 use crate::store::Store;
 use bytes::Bytes;
 use coding_pool::{Gate, NoGate};
 use driver::Chooser;
 use register::Receipt;
+use sections::{Begin, Seat, StoreName, begin_in};
 use std::sync::Wait;
 use std::thread::Threads;
 use tag::Refusal;

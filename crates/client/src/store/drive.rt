@@ -1,15 +1,14 @@
 //! The driver of a whole call through the lock.
 
 ghost use Rattle.std.specs.Prelude.{◌≡◌, IfOk, OnErr};
-ghost use Rattle.client.specs.Seats.{Settles};
+ghost use Rattle.sections.specs.Seats.{Settles};
 
-use crate::seat::Seat;
-use crate::sections::{Hand, StoreName, round_in};
 use crate::store::Store;
 use coding_pool::{Gate, encode_all};
 use decoder::decode;
 use driver::{Chooser, Round};
 use register::Receipt;
+use sections::{Hand, Seat, StoreName, round_in};
 use std::sync::Wait;
 use std::thread::Threads;
 use tag::Refusal;

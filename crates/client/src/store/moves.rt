@@ -2,16 +2,15 @@
 
 ghost use Rattle.std.specs.Prelude.{◌≡◌, ◌⊎◌, IfOk, OnErr};
 ghost use Rattle.client.specs.Locked.{AddsLayout, BeginsMove, Creates, Moves, SetsServer};
-ghost use Rattle.client.specs.Moves.{Ends};
+ghost use Rattle.sections.specs.Moves.{Ends};
 
-use crate::admin::{Admin, Order};
-use crate::sections::{Hand, StoreName, admin_in, begin_move_in, move_round_in};
 use crate::store::Store;
 use cluster::LayoutId;
 use coding_pool::NoGate;
 use driver::{Chooser, Round};
 use layout::Layout;
 use register::Receipt;
+use sections::{Admin, Hand, Order, StoreName, admin_in, begin_move_in, move_round_in};
 use std::sync::Wait;
 use std::thread::Threads;
 use tag::Refusal;

@@ -1,5 +1,5 @@
 use Rattle.std.proofs.Common.{◌∙◌}
-use Rattle.client.proofs.Stirring.{on_err}
+use Rattle.sections.proofs.Stirring.{on_err}
 use Rattle.client.proofs.store.Store.drive.Goals as goal
 
 pub returns-in_err-round-clause-err : goal.returns-in_err-round-clause-err

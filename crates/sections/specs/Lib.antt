@@ -1,0 +1,5 @@
+pub mod Calls
+pub mod Seats
+pub mod Closing
+pub mod Moves
+pub mod Sections

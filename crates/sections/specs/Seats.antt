@@ -1,0 +1,153 @@
+-- What a seat keeps of its calls.
+use Rattle.std.specs.Prelude.{◌≡◌, ℕ, zero, suc, ◌<◌, ◌≤◌, nat_le, not, is_some, List, [], ◌∷◌, ◌++◌, length, Option, Some, None, MatchOption, max}
+use Rattle.std.specs.Option.{option_map_or}
+use Rattle.tag.specs.declared.refusal.Refusal.{Refusal}
+use Rattle.tag.specs.declared.refusal.Refusal.TheVariants.{NotNow, Stranger}
+use Rattle.record.specs.declared.call.Operation.{Operation}
+use Rattle.record.specs.declared.call.Operation.TheVariants as operation
+use Rattle.record.specs.Records.{Object}
+use Rattle.record.specs.Steps.{Step}
+use Rattle.register.specs.Causes.{unless, read_cause, write_cause}
+use Rattle.register.specs.State.{State}
+use Rattle.register.specs.declared.receipt.Receipt.{Receipt}
+use Rattle.cluster.specs.Cluster.{Cluster, named, place_of}
+use Rattle.cluster.specs.Causes.{next, object_cause}
+use Rattle.sections.specs.declared.call_record.CallRecord.{CallRecord}
+use Rattle.sections.specs.declared.call_record.Begin.{Begin}
+use Rattle.sections.specs.declared.call_record.Begin.TheVariants as begin
+
+-- a call without an answer, with the name of its object
+pub record Pending : Type 0 where
+  pub name : List ℕ
+  pub kept : CallRecord
+
+-- a seat: its number, the greatest answer step that it has seen, its calls that were answered or abandoned, and then the
+-- one that is neither
+pub record SeatState : Type 0 where
+  pub number : ℕ
+  pub floor : ℕ
+  pub records : List CallRecord
+  pub pending : Option Pending
+
+abbrev pub pending_of : List ℕ → Option CallRecord → Option Pending
+pending_of name None = None
+pending_of name (Some r) = Some (record { name = name; kept = r })
+
+abbrev pub listed : Option Pending → List CallRecord
+listed None = []
+listed (Some p) = p.kept ∷ []
+
+-- all records, in the order of their calls
+abbrev pub records_of : SeatState → List CallRecord
+records_of s = s.records ++ listed s.pending
+
+-- a pending call has no receipt
+abbrev pub IsUnanswered : Option Pending → Type 0
+IsUnanswered pending = MatchOption pending (Unit {0}) (λ p. p.kept.receipt ≡ None)
+
+-- the least floor that the next call may have
+abbrev pub least_after : ℕ → Option Receipt → ℕ
+least_after floor receipt = option_map_or (λ t. t.answered) receipt floor
+
+abbrev pub IsAnsweredLater : Option Receipt → Type 0
+IsAnsweredLater receipt = MatchOption receipt (Unit {0}) (λ t. t.called < t.answered)
+
+-- floors and steps rise from record to record, up to the seat's floor
+abbrev pub IsRising : ℕ → List CallRecord → ℕ → Type 0
+IsRising low [] high = low ≤ high
+IsRising low (r ∷ rs) high =
+    (low ≤ r.floor) × (r.floor < r.called) × IsAnsweredLater r.receipt × IsRising (least_after r.floor r.receipt) rs high
+
+-- of the receipts, in their order: the floor at the call, the call and the answer rise, and the next floor is not below this
+-- answer, up to the seat's floor
+abbrev pub IsInOrder : ℕ → List CallRecord → ℕ → Type 0
+IsInOrder low [] high = low ≤ high
+IsInOrder low (r ∷ rs) high =
+    (low ≤ r.floor) × MatchOption r.receipt (Unit {0}) (λ t. (r.floor < t.called) × (t.called < t.answered))
+    × IsInOrder (least_after r.floor r.receipt) rs high
+
+-- Steps of a seat
+
+abbrev pub operation_of : Begin → Operation
+operation_of begin.Read = operation.Read
+operation_of (begin.Write value) = operation.Write
+
+abbrev pub written_of : Begin → Option (List ℕ)
+written_of begin.Read = None
+written_of (begin.Write value) = Some value
+
+-- how long the value is that a write brings; 0 of a read
+abbrev pub written_len : Begin → ℕ
+written_len begin.Read = 0
+written_len (begin.Write value) = length value
+
+-- the step that begins a call
+abbrev pub call_step : Begin → Step
+call_step begin.Read = Step.CallRead
+call_step (begin.Write value) = Step.CallWrite value
+
+abbrev pub call_count : Option State → ℕ
+call_count None = 0
+call_count (Some state) = length state.object.calls
+
+-- the record of a call that begins now
+abbrev pub begun : Cluster → (name : List ℕ) → (floor : ℕ) → Begin → CallRecord
+begun cluster name floor what = record {
+  object = place_of cluster.objects name;
+  call = suc (call_count (named cluster.objects name));
+  operation = operation_of what;
+  written = written_of what;
+  floor = floor;
+  called = suc cluster.counter;
+  receipt = None;
+}
+
+-- the seat with a pending call
+abbrev pub with_pending : SeatState → (name : List ℕ) → CallRecord → SeatState
+with_pending s name r = record s { pending = Some (record { name = name; kept = r }) }
+
+-- the seat after its pending call is answered
+abbrev pub settled : SeatState → CallRecord → Receipt → SeatState
+settled s r t = record s { floor = max s.floor t.answered; records = s.records ++ (record r { receipt = Some t }) ∷ []; pending = None }
+
+-- the pending call gets its receipt
+abbrev pub Settles : Option Pending → SeatState → Receipt → SeatState → Type 0
+Settles None s receipt t = ⊥
+Settles (Some p) s receipt t = t ≡ settled s p.kept receipt
+
+-- one record more, of a call that began in some state of the cluster, with this receipt
+abbrev pub AddsAnswered : SeatState → (name : List ℕ) → Begin → Receipt → SeatState → Type 0
+AddsAnswered s name what t new = (cluster : Cluster) × (new ≡ settled s (begun cluster name s.floor what) t)
+
+-- one record more, of a call that stays pending
+abbrev pub AddsPending : SeatState → (name : List ℕ) → Begin → SeatState → Type 0
+AddsPending s name what new = (cluster : Cluster) × (new ≡ with_pending s name (begun cluster name s.floor what))
+
+abbrev pub abandoned : SeatState → SeatState
+abandoned s = record s { records = records_of s; pending = None }
+
+abbrev pub learnt : SeatState → Receipt → SeatState
+learnt s t = record s { floor = max s.floor t.answered }
+
+abbrev pub new_seat : ℕ → SeatState
+new_seat number = record { number = number; floor = 0; records = []; pending = None }
+
+-- the seats of a new store
+abbrev pub new_seats : ℕ → List SeatState
+new_seats zero = []
+new_seats (suc n) = new_seats n ++ new_seat n ∷ []
+
+-- Refusals
+
+-- a seat has not seen more than has happened
+abbrev pub unless_stranger : Cluster → SeatState → Option Refusal → Option Refusal
+unless_stranger cluster s later = unless (nat_le s.floor cluster.counter) Stranger later
+
+abbrev pub calling_cause : Begin → (now : ℕ) → Object → Option Refusal
+calling_cause begin.Read now object = read_cause now object
+calling_cause (begin.Write value) now object = write_cause value now object
+
+-- why a call of a seat does not begin
+abbrev pub begin_cause : Cluster → SeatState → (name : List ℕ) → Begin → Option Refusal
+begin_cause cluster s name what =
+    unless_stranger cluster s (object_cause cluster name (λ object. unless (not (is_some s.pending)) NotNow (calling_cause what (next cluster) object)))

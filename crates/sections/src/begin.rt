@@ -1,0 +1,72 @@
+//! How calls of seats begin.
+
+ghost use Rattle.std.specs.Prelude.{◌≡◌, ◌+◌, suc, IfOk, OnOk, OnErr};
+ghost use Rattle.tag.specs.Refusal.{IsByCause};
+ghost use Rattle.cluster.specs.Causes.{next, object_cause};
+ghost use Rattle.cluster.specs.Cluster.{named};
+ghost use Rattle.cluster.specs.Steps.{stepped};
+ghost use Rattle.sections.specs.Calls.{client_calls};
+ghost use Rattle.sections.specs.Seats.{begin_cause, begun, call_count, call_step, calling_cause, with_pending};
+
+use crate::booked::{Booked, StoreName};
+use crate::call_record::{Begin, CallRecord};
+use crate::seat::{Seat, hold};
+use cluster::Cluster;
+use tag::Refusal;
+
+/// A read or a write begins: one step, with its record in the seat.
+///
+/// `Stranger` where the seat has seen a later step than there was, `NoObject` where there is none of this name, `NotNow`
+/// where the seat has a call without an answer, `TooLong` where the value is too long, and `Full` where a limit of the
+/// steps, of the calls or of the messages is met.
+pub fn begin_in<L: StoreName>(
+    booked: &mut Booked<L>,
+    seat: &mut Seat<L>,
+    name: &str,
+    what: Begin,
+) -> Result<(), Refusal>
+    ensures step { OnOk result (booked.new ≡ stepped booked.old name.now (call_step what)) }
+    ensures seat { OnOk result (seat.new ≡ with_pending seat.old name.now (begun booked.old name.now seat.old.floor what)) }
+    ensures cause { IsByCause (begin_cause booked.old seat.old name.now what) result }
+    ensures unchanged { OnErr result (booked.new ≡ booked.old) }
+    ensures kept { OnErr result (seat.new ≡ seat.old) }
+{
+    if seat.floor > booked.cluster.counter() {
+        return Err(Refusal::Stranger);
+    }
+    let object = booked.cluster.place(name)?;
+    if seat.pending.is_some() {
+        return Err(Refusal::NotNow);
+    }
+    booked.cluster.may_call(name, what.len())?;
+    hold(&mut seat.name, name)?;
+    seat.records.reserve(1)?;
+    let operation = what.operation();
+    let written = what.written()?;
+    let call = begin_call(&mut booked.cluster, name, what)?;
+    booked.book.add(&mut seat.share, 1);
+    seat.pending = Some(CallRecord {
+        object,
+        call,
+        operation,
+        written,
+        floor: seat.floor,
+        called: booked.cluster.counter(),
+        receipt: None,
+    });
+    Ok(())
+}
+
+// The call step. It answers the call's number.
+fn begin_call(cluster: &mut Cluster, name: &str, what: Begin) -> Result<u64, Refusal>
+    ensures step { OnOk result (cluster.new ≡ stepped cluster.old name.entry.now (call_step what)) }
+    ensures number { IfOk result (λ n. n ≡ suc (call_count (named cluster.old.objects name.entry.now))) }
+    ensures count { OnOk result (client_calls cluster.new ≡ client_calls cluster.old + 1) }
+    ensures cause { IsByCause (object_cause cluster.old name.entry.now (λ object. calling_cause what (next cluster.old) object)) result }
+    ensures unchanged { OnErr result (cluster.new ≡ cluster.old) }
+{
+    match what {
+        Begin::Read => cluster.call_read(name),
+        Begin::Write(value) => cluster.call_write(name, value),
+    }
+}

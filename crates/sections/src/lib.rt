@@ -1,0 +1,28 @@
+//! The locked sections: each is one call of a function that is lent the cluster with its book, and says which steps it made.
+#![tactic(auto)]
+
+pub use admin::{Admin, Order};
+pub use begin::begin_in;
+pub use booked::{Booked, StoreName};
+pub use call_record::{Begin, CallRecord};
+pub use close::{Closed, NotClosed, close_in};
+pub use messages::{disturb_in, stir_in};
+pub use moves::{begin_move_in, move_round_in};
+pub use opening::{Parts, open_in};
+pub use orders::admin_in;
+pub use rounds::{Hand, round_in};
+pub use seat::Seat;
+
+mod admin;
+mod begin;
+mod booked;
+mod call_record;
+mod close;
+mod compare;
+mod fitting;
+mod messages;
+mod moves;
+mod opening;
+mod orders;
+mod rounds;
+mod seat;

@@ -1,0 +1,87 @@
+//! The administrator's moves.
+
+ghost use Rattle.std.specs.Prelude.{◌≡◌, ◌⊎◌, suc, None, Some, IfOk, IfErr, OnOk, OnErr, MatchResult};
+ghost use Rattle.tag.specs.Refusal.{IsByCause};
+ghost use Rattle.cluster.specs.Causes.{moving_cause, object_cause};
+ghost use Rattle.cluster.specs.Cluster.{named};
+ghost use Rattle.cluster.specs.Steps.{moved};
+ghost use Rattle.sections.specs.Calls.{client_calls};
+ghost use Rattle.sections.specs.Seats.{call_count};
+ghost use Rattle.sections.specs.Sections.{MoveGoes, MoveGoesNot, MoveLeaves, begin_move_cause, move_begun, move_cause_of};
+
+use crate::admin::Admin;
+use crate::booked::{Booked, StoreName};
+use crate::rounds::{Hand, go, want_to_go};
+use crate::seat::hold;
+use cluster::{Cluster, LayoutId};
+use driver::{Chooser, Round};
+use tag::Refusal;
+
+/// A move begins: one step.
+///
+/// `NoObject` where there is none of this name, `MovePending` where the object or the administrator has a move without an
+/// answer, `BadLayout` where there is no such layout, and `Full` where a limit is met.
+pub fn begin_move_in<L: StoreName>(
+    booked: &mut Booked<L>,
+    admin: &mut Admin<L>,
+    name: &str,
+    layout: LayoutId,
+) -> Result<(), Refusal>
+    ensures step { OnOk result (booked.new ≡ moved booked.old name.now layout) }
+    ensures free { OnOk result (admin.old ≡ None) }
+    ensures admin { OnOk result (admin.new ≡ move_begun booked.old name.now) }
+    ensures cause { IsByCause (begin_move_cause booked.old admin.old name.now layout) result }
+    ensures unchanged { OnErr result (booked.new ≡ booked.old) }
+    ensures kept { OnErr result (admin.new ≡ admin.old) }
+{
+    booked.cluster.place(name)?;
+    if admin.pending.is_some() {
+        return Err(Refusal::MovePending);
+    }
+    booked.cluster.may_move(name, layout)?;
+    hold(&mut admin.name, name)?;
+    let call = call_move(&mut booked.cluster, name, layout)?;
+    admin.pending = Some(call);
+    Ok(())
+}
+
+// The call step. It answers the call's number.
+fn call_move(cluster: &mut Cluster, name: &str, layout: LayoutId) -> Result<u64, Refusal>
+    ensures step { OnOk result (cluster.new ≡ moved cluster.old name.entry.now layout) }
+    ensures number { IfOk result (λ n. n ≡ suc (call_count (named cluster.old.objects name.entry.now))) }
+    ensures count { client_calls cluster.new ≡ client_calls cluster.old }
+    ensures cause { IsByCause (object_cause cluster.old name.entry.now (moving_cause cluster.old layout)) result }
+    ensures unchanged { OnErr result (cluster.new ≡ cluster.old) }
+{
+    cluster.call_move(name, layout)
+}
+
+/// One round of the administrator's move, as `round_in` makes it of a seat's call. At the answer the move is over.
+pub fn move_round_in<L: StoreName, C: Chooser>(
+    booked: &mut Booked<L>,
+    admin: &mut Admin<L>,
+    chooser: &mut C,
+    hand: Hand,
+    asks_again: bool,
+    turns: u64,
+) -> Result<Option<Round>, Refusal>
+    ensures steps { IfOk result (λ r. MoveGoes C.chooses admin.old hand asks_again booked.old chooser.old booked.new chooser.new r) }
+    ensures admin { IfOk result (λ r. MoveLeaves admin.old r admin.new) }
+    ensures cause { MatchResult result (λ r. move_cause_of booked.old admin.old turns ≡ None) (λ e.
+        ((move_cause_of booked.old admin.old turns ≡ Some e) × (chooser.new ≡ chooser.old))
+        ⊎ ((move_cause_of booked.old admin.old turns ≡ None) × MoveGoesNot C.chooses admin.old hand asks_again booked.old chooser.old chooser.new e)) }
+
+    ensures unchanged { OnErr result (booked.new ≡ booked.old) }
+    ensures kept { OnErr result (admin.new ≡ admin.old) }
+{
+    let Some(call) = admin.pending else {
+        return Err(Refusal::NoCall);
+    };
+    let name = admin.name.as_str();
+    want_to_go(&booked.cluster, name, call, turns)?;
+    let round = go(&mut booked.cluster, name, call, hand, asks_again, chooser)?;
+    if let Some(Round::Answered(_)) = &round {
+        admin.pending = None;
+    }
+    Ok(round)
+}

@@ -1,0 +1,147 @@
+//! A client's seat: its calls with their receipts, and what it has seen.
+
+ghost use Rattle.std.specs.Prelude.{◌≡◌, ◌<◌, ◌↔◌, IsTrue, IsSome, IfErr, OnOk};
+ghost use Rattle.std.specs.String.{string_bytes};
+ghost use Rattle.tag.specs.declared.refusal.Refusal.TheVariants.{NoMemory};
+ghost use Rattle.sections.specs.Seats.{Settles, abandoned, learnt, new_seat};
+
+use crate::booked::StoreName;
+use crate::call_record::CallRecord;
+use bytes::Bytes;
+use register::Receipt;
+use std::alloc::Global;
+use std::marker::Model;
+use std::sync::ledger::Share;
+use tag::{Refusal, Stamp};
+
+/// The right of one client to make calls through the store of this name, one at a time.
+#[derive(Drop)]
+pub struct Seat<L: StoreName> {
+    pub(crate) number: u32,
+    pub(crate) floor: Stamp,
+    // The calls that are answered or abandoned. There is room for the pending one.
+    pub(crate) records: Vec<CallRecord>,
+    pub(crate) pending: Option<CallRecord>,
+    // The name of the pending call's object.
+    pub(crate) name: String,
+    // As much of the store's book as there are records.
+    pub(crate) share: Share<L>,
+}
+
+impl<L: StoreName> Model for Seat<L> {
+    ghost use Rattle.std.specs.Prelude.{◌≡◌, ◌+◌, ◌≤◌, ◌++◌, length, vec_len, vec_capacity};
+    ghost use Rattle.std.specs.String.{string_bytes};
+    ghost use Rattle.sections.specs.Seats.{SeatState, IsRising, IsUnanswered, listed, pending_of};
+
+    ghost Value = { SeatState };
+
+    ghost view = { λ s. record { number = s.number; floor = s.floor; records = s.records.items; pending = pending_of (string_bytes s.name) s.pending } };
+
+    ghost invariant = { λ s. let pending = pending_of (string_bytes s.name) s.pending in
+        (s.share.parts ≡ 1) × (s.share.amount ≡ length (s.records.items ++ listed pending))
+        × IsRising 0 (s.records.items ++ listed pending) s.floor × IsUnanswered pending
+        × (vec_len s.records + length (listed pending) ≤ vec_capacity s.records) };
+}
+
+impl<L: StoreName> Seat<L> {
+    /// Which seat of its store it is, from 0.
+    pub fn number(&self) -> u32
+        ensures { result ≡ self.now.number }
+    {
+        self.number
+    }
+
+    /// Whether it has a call without an answer, which `resume` goes on with.
+    pub fn is_pending(&self) -> bool
+        ensures { IsTrue result ↔ IsSome self.now.pending }
+    {
+        self.pending.is_some()
+    }
+
+    /// The greatest answer step that it has seen.
+    pub fn floor(&self) -> Stamp
+        ensures { result ≡ self.now.floor }
+    {
+        self.floor
+    }
+
+    /// Sees another seat's receipt: calls of this seat begin later from now on. It takes no memory.
+    pub fn learn(&mut self, receipt: &Receipt)
+        ensures { self.new ≡ learnt self.old receipt.now }
+    {
+        let answered = receipt.answered;
+        self.floor = self.floor.max(answered);
+    }
+
+    /// Forgets the pending call, whose record stays. It takes no memory.
+    pub fn abandon(&mut self)
+        ensures { self.new ≡ abandoned self.old }
+    {
+        if let Some(record) = self.pending.take() {
+            self.records.push_reserved(record);
+        }
+    }
+
+    /// Its pending call is answered with a receipt, of which it keeps a copy with this copy of the value. It takes no memory.
+    pub(crate) fn settle(&mut self, receipt: &Receipt, value: Option<Bytes>)
+        requires pending { IsSome self.old.pending }
+        requires later { receipt.now.called < receipt.now.answered }
+        requires value { value ≡ receipt.now.value }
+        ensures { Settles self.old.pending self.old receipt.now self.new }
+    {
+        let kept = Receipt {
+            object: receipt.object,
+            operation: receipt.operation,
+            call: receipt.call,
+            called: receipt.called,
+            answered: receipt.answered,
+            value,
+        };
+        self.floor = self.floor.max(receipt.answered);
+        if let Some(mut record) = self.pending.take() {
+            record.receipt = Some(kept);
+            self.records.push_reserved(record);
+        }
+    }
+
+    /// Makes room for a call of an object of this name, where no call is pending. `NoMemory` is the only refusal.
+    pub fn make_room(&mut self, name: &str) -> Result<(), Refusal>
+        ensures same { self.new ≡ self.old }
+        ensures refused { IfErr result (λ r. r ≡ NoMemory) }
+    {
+        if self.is_pending() {
+            return Ok(());
+        }
+        hold(&mut self.name, name)?;
+        self.records.reserve(1)?;
+        Ok(())
+    }
+}
+
+/// A seat without calls. It takes no memory.
+pub(crate) fn empty_seat<L: StoreName>(alloc: Global, number: u32, share: Share<L>) -> Seat<L>
+    requires parts { share.parts ≡ 1 }
+    requires amount { share.amount ≡ 0 }
+    ensures { result ≡ new_seat number }
+{
+    Seat {
+        number,
+        floor: 0,
+        records: Vec::new(alloc),
+        pending: None,
+        name: String::new(alloc),
+        share,
+    }
+}
+
+/// Makes one text a copy of another.
+pub(crate) fn hold(kept: &mut String, text: &str) -> Result<(), Refusal>
+    ensures copy { OnOk result (string_bytes kept.new ≡ text.now) }
+    ensures refused { IfErr result (λ r. r ≡ NoMemory) }
+{
+    if kept.as_str() != text {
+        kept.clear();
+        kept.push_str(text)?;
+    }
+    Ok(())
+}
