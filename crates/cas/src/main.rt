@@ -1,19 +1,7 @@
 //! The program `cas`: the fragments of a value, the value of fragments, and the run of a script, from the command line.
 #![tactic(auto)]
 
-mod arguments;
-mod fault;
-mod file;
-mod fragments;
-mod output;
-mod program;
-mod request;
-#[cfg(test)]
-mod tests;
-mod value;
-
-use fault::Fault;
-use program::run_words;
+use commands::{Fault, run_words};
 use std::io::BufWriter;
 use std::process::ExitCode;
 use std::rt::Stdout;

@@ -6,6 +6,7 @@ use layout::Layout;
 use record::{Entry, Operation};
 use register::Register;
 use std::alloc::{AllocError, Global};
+use std::process::Abort;
 use std::test::Fail;
 use tag::{Stamp, Tag};
 
@@ -71,101 +72,116 @@ fn some_list_passes(alloc: Global, entries: &[Entry]) -> Result<bool, AllocError
     Ok(false)
 }
 
-#[test]
-fn tells_sequences_from_other_lists(rt: HostRuntime) -> Result<(), Fail> {
+/// Whether some list of at most four of these four calls passes.
+fn is_atomic(alloc: Global, calls: &[Seen; 4]) -> Result<bool, AllocError> {
+    let entries = entries_of(alloc, calls.as_slice())?;
+    some_list_passes(alloc, &entries)
+}
+
+/// Compares what `check` says of each of the lists. A list is written by its calls' digits.
+fn assert_checks<R: AllocGlobal + Abort>(
+    rt: &R,
+    entries: &[Entry],
+    lists: &str,
+    expected: bool,
+) -> Result<(), AllocError> {
+    for list in lists.split(' ') {
+        let mut order = Vec::new(rt.alloc());
+        for digit in list.bytes() {
+            order.push(u64::from(digit.saturating_sub(b'0')))?;
+        }
+        assert!(rt; check(entries, &order) == expected, "{list}");
+    }
+    Ok(())
+}
+
+/// Two answered writes, a read of the later one, a write without an answer, and a move.
+fn five_calls(alloc: Global) -> Result<Vec<Entry>, AllocError> {
+    let moved = Seen {
+        operation: Operation::Move,
+        called: 33,
+        answered: Some(41),
+        value: None,
+    };
     let calls = [
         write(1, Some(30), b"A"),
         write(2, Some(31), b"B"),
         read(32, 40, b"B"),
         write(3, None, b"C"),
-        Seen {
-            operation: Operation::Move,
-            called: 33,
-            answered: Some(41),
-            value: None,
-        },
+        moved,
     ];
-    let entries = entries_of(rt.alloc(), &calls)?;
-    let cases: [(&str, &[u64], bool); 10] = [
-        ("in order", &[1, 2, 3], true),
-        ("an unanswered write first", &[4, 1, 2, 3], true),
-        ("an unanswered write last", &[1, 2, 3, 4], true),
-        ("the read has an older value", &[2, 1, 3], false),
-        ("a write is left out", &[1, 3], false),
-        ("the read is left out", &[1, 2], false),
-        ("a read before an answered write", &[2, 3, 1], false),
-        ("a repeat", &[1, 2, 3, 3], false),
-        ("a move", &[1, 2, 3, 5], false),
-        ("no such call", &[1, 2, 3, 6], false),
-    ];
-    for (name, order, expected) in cases {
-        assert_eq!(rt; check(&entries, order), expected, "{name}");
-    }
+    entries_of(alloc, calls.as_slice())
+}
+
+#[test]
+fn tells_sequences_from_other_lists(rt: HostRuntime) -> Result<(), Fail> {
+    let entries = five_calls(rt.alloc())?;
+    // In order, and with the unanswered write first or last.
+    assert_checks(&rt, &entries, "123 4123 1234", true)?;
+    // The read has an older value, a write or the read is left out, or a read comes before an answered write.
+    assert_checks(&rt, &entries, "213 13 12 231", false)?;
+    // A repeat, a move, and no such call.
+    assert_checks(&rt, &entries, "1233 1235 1236", false)?;
     Ok(())
 }
 
 #[test]
-fn refuses_every_list_of_a_history_that_is_not_atomic(rt: HostRuntime) -> Result<(), Fail> {
-    let cases: [(&str, [Seen; 4], bool); 5] = [
-        (
-            "a stale read",
-            [
-                write(1, Some(2), b"A"),
-                write(3, Some(4), b"B"),
-                read(5, 6, b"A"),
-                read(7, 8, b"B"),
-            ],
-            false,
-        ),
-        (
-            "a lost acknowledged write",
-            [
-                write(1, Some(2), b"A"),
-                read(3, 4, b""),
-                read(5, 6, b""),
-                write(7, None, b"B"),
-            ],
-            false,
-        ),
-        (
-            "a new value and then an old one",
-            [
-                write(1, Some(2), b"A"),
-                write(3, None, b"B"),
-                read(4, 5, b"B"),
-                read(6, 7, b"A"),
-            ],
-            false,
-        ),
-        (
-            "a value never written",
-            [
-                write(1, Some(2), b"A"),
-                write(3, Some(4), b"B"),
-                read(5, 6, b"C"),
-                write(7, None, b"D"),
-            ],
-            false,
-        ),
-        (
-            "an old value and then a new one",
-            [
-                write(1, Some(2), b"A"),
-                write(3, None, b"B"),
-                read(4, 5, b"A"),
-                read(6, 7, b"B"),
-            ],
-            true,
-        ),
+fn refuses_a_stale_read(rt: HostRuntime) -> Result<(), Fail> {
+    let calls = [
+        write(1, Some(2), b"A"),
+        write(3, Some(4), b"B"),
+        read(5, 6, b"A"),
+        read(7, 8, b"B"),
     ];
-    for (name, calls, is_atomic) in cases {
-        let entries = entries_of(rt.alloc(), &calls)?;
-        assert_eq!(rt;
-            some_list_passes(rt.alloc(), &entries)?,
-            is_atomic,
-            "{name}"
-        );
-    }
+    assert!(rt; !is_atomic(rt.alloc(), &calls)?);
+    Ok(())
+}
+
+#[test]
+fn refuses_a_lost_acknowledged_write(rt: HostRuntime) -> Result<(), Fail> {
+    let calls = [
+        write(1, Some(2), b"A"),
+        read(3, 4, b""),
+        read(5, 6, b""),
+        write(7, None, b"B"),
+    ];
+    assert!(rt; !is_atomic(rt.alloc(), &calls)?);
+    Ok(())
+}
+
+#[test]
+fn refuses_a_new_value_and_then_an_old_one(rt: HostRuntime) -> Result<(), Fail> {
+    let calls = [
+        write(1, Some(2), b"A"),
+        write(3, None, b"B"),
+        read(4, 5, b"B"),
+        read(6, 7, b"A"),
+    ];
+    assert!(rt; !is_atomic(rt.alloc(), &calls)?);
+    Ok(())
+}
+
+#[test]
+fn refuses_a_value_never_written(rt: HostRuntime) -> Result<(), Fail> {
+    let calls = [
+        write(1, Some(2), b"A"),
+        write(3, Some(4), b"B"),
+        read(5, 6, b"C"),
+        write(7, None, b"D"),
+    ];
+    assert!(rt; !is_atomic(rt.alloc(), &calls)?);
+    Ok(())
+}
+
+#[test]
+fn takes_an_old_value_and_then_a_new_one(rt: HostRuntime) -> Result<(), Fail> {
+    let calls = [
+        write(1, Some(2), b"A"),
+        write(3, None, b"B"),
+        read(4, 5, b"A"),
+        read(6, 7, b"B"),
+    ];
+    assert!(rt; is_atomic(rt.alloc(), &calls)?);
     Ok(())
 }
 

@@ -2,6 +2,7 @@ use bytes::Bytes;
 use cluster::Cluster;
 use driver::{Chooser, First, finish};
 use layout::Layout;
+use register::Receipt;
 use std::alloc::Global;
 use std::test::Fail;
 use tag::Refusal;
@@ -24,24 +25,36 @@ fn one_server(alloc: Global) -> Result<Cluster, Refusal> {
     Ok(cluster)
 }
 
+/// Brings a call of the object `a` to its answer.
+fn finish_by(
+    alloc: Global,
+    cluster: &mut Cluster,
+    call: u64,
+    chooser: &mut impl Chooser,
+) -> Result<Receipt, Refusal> {
+    finish(alloc, cluster, "a", call, false, chooser, 100_000)
+}
+
+/// A write whose messages are chosen in their order.
+fn write(alloc: Global, cluster: &mut Cluster) -> Result<Receipt, Refusal> {
+    let call = cluster.call_write("a", Bytes::from_static(b"A"))?;
+    finish_by(alloc, cluster, call, &mut First)
+}
+
+/// A read whose messages are chosen out of their range.
+fn read(alloc: Global, cluster: &mut Cluster) -> Result<Receipt, Refusal> {
+    let call = cluster.call_read("a")?;
+    finish_by(alloc, cluster, call, &mut Greatest)
+}
+
 #[test]
 fn a_write_and_a_read(rt: HostRuntime) -> Result<(), Fail> {
     let alloc = rt.alloc();
     let mut cluster = one_server(alloc)?;
-    let write = cluster.call_write("a", Bytes::from_static(b"A"))?;
-    let written = finish(alloc, &mut cluster, "a", write, false, &mut First, 100_000)?;
-    assert_eq!(rt; (written.called, written.answered), (3, 18));
-    let read = cluster.call_read("a")?;
-    let answered = finish(
-        alloc,
-        &mut cluster,
-        "a",
-        read,
-        false,
-        &mut Greatest,
-        100_000,
-    )?;
-    assert_eq!(rt; (answered.called, answered.answered), (19, 32));
-    assert_eq!(rt; answered.value, Some(Bytes::from_static(b"A")));
+    let written = write(alloc, &mut cluster)?;
+    assert!(rt; written.called == 3 && written.answered == 18);
+    let answered = read(alloc, &mut cluster)?;
+    assert!(rt; answered.called == 19 && answered.answered == 32);
+    assert!(rt; answered.value == Some(Bytes::from_static(b"A")));
     Ok(())
 }

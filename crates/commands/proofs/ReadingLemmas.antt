@@ -1,0 +1,269 @@
+-- What `clap` finds for the words after the program's name.
+use Rattle.std.proofs.Common.{◌≡◌, ◌≢◌, ◌⊎◌, ◌∙◌, ◌≤◌, ℕ, List, [], ◌∷◌, length, Bool, true, false, Option, Some}
+use Rattle.std.proofs.Common.{None, codes, refl, ap, ap₂, sym, subst, inl, inr, arith}
+use Rattle.std.specs.Prelude.{unwrap_or, get_or, option_map, Box, Result}
+use Rattle.std.specs.Str.{bytes_eq}
+use Rattle.std.proofs.lemmas.Slice.Eq.{bytes_eq-Decides}
+use Rattle.clap.proofs.OnLiterals.{clap_on_literals}
+use Rattle.clap.specs.Kinds.{Kinds, IsAmong, HasKind}
+use Rattle.clap.specs.Lexer.{usize_max}
+use Rattle.clap.specs.Faults.{level_fault}
+use Rattle.clap.specs.Walk.{nothing_held}
+use Rattle.clap.proofs.WalkLemmas.{first_value-rows, raw_values-rows}
+use Rattle.clap.specs.Simple.{subcommand_rows}
+use Rattle.clap.specs.Words.{Row, Text, all_of, fault_of, first_of, first_value, kind_of, matched_of, raw_values}
+use Rattle.clap.specs.Words.{rows_of, subcommand_name_of, subcommand_of, subcommand_rows_of}
+use Rattle.clap.specs.declared.parser.matches.Found.{Found}
+use Rattle.clap.specs.declared.parser.matches.ArgMatches.{ArgMatches}
+use Rattle.clap.specs.declared.parser.matches.ArgMatches.TheViews.{out-ArgMatches, out-SubCommand}
+use Rattle.clap.specs.declared.parser.matches.SubCommand.{SubCommand}
+use Rattle.std.specs.Box.{box_value}
+use Rattle.clap.specs.declared.error.Error.{Error}
+use Rattle.clap.specs.declared.error.kind.ErrorKind.{ErrorKind}
+use Rattle.clap.specs.declared.error.kind.ErrorKind.TheVariants.{OutOfMemory}
+use Rattle.tag.specs.declared.refusal.Refusal.TheVariants.{NoMemory}
+use Rattle.commands.specs.CommandLine.{cas_form, marked_words}
+use Rattle.commands.specs.Request.{HasForm, IsFaultOf, IsReading, Word}
+use Rattle.commands.specs.declared.request.Request.{Request}
+use Rattle.commands.specs.declared.fault.Fault.{Fault}
+use Rattle.commands.specs.declared.fault.Fault.TheVariants.{Refused, Usage}
+use Rattle.commands.proofs.CommandLineLemmas.{decode-lacks, decode-rows, decode-takes, decode_shape, fault_of-known}
+use Rattle.commands.proofs.CommandLineLemmas.{fragments-lacks, fragments-rows, fragments-strays, fragments-takes}
+use Rattle.commands.proofs.CommandLineLemmas.{fragments_shape, run-lacks, run-rows, run-strays, run-takes, run_shape}
+use Rattle.commands.proofs.CommandLineLemmas.{subcommand_of-known, subcommand_of-unknown}
+
+-- the command `fragments` with the texts of K, N and HEX
+pub record FindsFragments (words : List Word) (name : Text) (rows : List Row) : Type 0 where
+  pub a : Word
+  pub b : Word
+  pub c : Word
+  pub words_are : words ≡ codes "fragments" ∷ a ∷ b ∷ c ∷ []
+  pub name_is : name ≡ codes "fragments"
+  pub k : first_of (codes "K") rows ≡ Some a
+  pub n : first_of (codes "N") rows ≡ Some b
+  pub digits : first_of (codes "HEX") rows ≡ Some c
+
+-- the command `decode` with the texts of K, LEN and the pieces
+pub record FindsDecode (words : List Word) (name : Text) (rows : List Row) : Type 0 where
+  pub a : Word
+  pub b : Word
+  pub rest : List Word
+  pub words_are : words ≡ codes "decode" ∷ a ∷ b ∷ rest
+  pub name_is : name ≡ codes "decode"
+  pub k : first_of (codes "K") rows ≡ Some a
+  pub len : first_of (codes "LEN") rows ≡ Some b
+  pub pieces : unwrap_or (all_of (codes "POINT:HEX") rows) [] ≡ rest
+
+-- the command `run` with the text of FILE
+pub record FindsRun (words : List Word) (name : Text) (rows : List Row) : Type 0 where
+  pub file : Word
+  pub words_are : words ≡ codes "run" ∷ file ∷ []
+  pub name_is : name ≡ codes "run"
+  pub text : first_of (codes "FILE") rows ≡ Some file
+
+-- no command, or one of the three
+abbrev pub Finds : List Word → Option (Text × List Row) → Type 0
+Finds words None = ¬ (HasForm words)
+Finds words (Some p) = FindsFragments words p.0 p.1 ⊎ FindsDecode words p.0 p.1 ⊎ FindsRun words p.0 p.1
+
+-- ---- each command
+
+kinds-clash : (k : ErrorKind) (ks : Kinds) → k ∷ ks ≡ [] → ⊥
+kinds-clash k ks e = cc
+
+fragments-fault : (rest : List Word) → fault_of cas_form (marked_words (codes "fragments" ∷ rest))
+    ≡ level_fault fragments_shape [] nothing_held (codes "--" ∷ rest) false []
+unfolding clap_on_literals
+fragments-fault rest = fault_of-known (codes "fragments") fragments_shape refl refl refl (codes "--" ∷ rest)
+
+decode-fault : (rest : List Word) → fault_of cas_form (marked_words (codes "decode" ∷ rest))
+    ≡ level_fault decode_shape [] nothing_held (codes "--" ∷ rest) false []
+unfolding clap_on_literals
+decode-fault rest = fault_of-known (codes "decode") decode_shape refl refl refl (codes "--" ∷ rest)
+
+run-fault : (rest : List Word) → fault_of cas_form (marked_words (codes "run" ∷ rest))
+    ≡ level_fault run_shape [] nothing_held (codes "--" ∷ rest) false []
+unfolding clap_on_literals
+run-fault rest = fault_of-known (codes "run") run_shape refl refl refl (codes "--" ∷ rest)
+
+finds-fragments : (rest : List Word) → fault_of cas_form (marked_words (codes "fragments" ∷ rest)) ≡ []
+    → Finds (codes "fragments" ∷ rest) (subcommand_of cas_form (marked_words (codes "fragments" ∷ rest)))
+unfolding clap_on_literals
+finds-fragments (a ∷ b ∷ c ∷ []) lawful =
+    let rows = fragments-rows a b c in
+    subst (Finds (codes "fragments" ∷ a ∷ b ∷ c ∷ []))
+    (sym (subcommand_of-known (codes "fragments") fragments_shape refl refl refl (codes "--" ∷ a ∷ b ∷ c ∷ [])))
+    (inl (record { a = a; b = b; c = c; words_are = refl; name_is = refl; k = rows.0; n = rows.1; digits = rows.2 }))
+finds-fragments (a ∷ b ∷ c ∷ d ∷ rest) lawful =
+    let clash = sym (fragments-fault (a ∷ b ∷ c ∷ d ∷ rest) ∙ fragments-strays a b c d rest) ∙ lawful in absurd (kinds-clash _ _ clash)
+finds-fragments [] lawful = absurd (kinds-clash _ _ (sym (fragments-fault [] ∙ fragments-lacks [] (omega arith)) ∙ lawful))
+finds-fragments (a ∷ []) lawful = absurd (kinds-clash _ _ (sym (fragments-fault (a ∷ []) ∙ fragments-lacks (a ∷ []) (omega arith)) ∙ lawful))
+finds-fragments (a ∷ b ∷ []) lawful = absurd (kinds-clash _ _ (sym (fragments-fault (a ∷ b ∷ []) ∙ fragments-lacks (a ∷ b ∷ []) (omega arith)) ∙ lawful))
+
+finds-decode : (rest : List Word) → fault_of cas_form (marked_words (codes "decode" ∷ rest)) ≡ []
+    → Finds (codes "decode" ∷ rest) (subcommand_of cas_form (marked_words (codes "decode" ∷ rest)))
+unfolding clap_on_literals
+finds-decode (a ∷ b ∷ rest) lawful =
+    let rows = decode-rows a b rest in
+    subst (Finds (codes "decode" ∷ a ∷ b ∷ rest))
+    (sym (subcommand_of-known (codes "decode") decode_shape refl refl refl (codes "--" ∷ a ∷ b ∷ rest)))
+    (inr (inl (record { a = a; b = b; rest = rest; words_are = refl; name_is = refl; k = rows.0; len = rows.1; pieces = rows.2 })))
+finds-decode [] lawful = absurd (kinds-clash _ _ (sym (decode-fault [] ∙ decode-lacks [] (omega arith)) ∙ lawful))
+finds-decode (a ∷ []) lawful = absurd (kinds-clash _ _ (sym (decode-fault (a ∷ []) ∙ decode-lacks (a ∷ []) (omega arith)) ∙ lawful))
+
+finds-run : (rest : List Word) → fault_of cas_form (marked_words (codes "run" ∷ rest)) ≡ []
+    → Finds (codes "run" ∷ rest) (subcommand_of cas_form (marked_words (codes "run" ∷ rest)))
+unfolding clap_on_literals
+finds-run [] lawful = absurd (kinds-clash _ _ (sym (run-fault [] ∙ run-lacks) ∙ lawful))
+finds-run (file ∷ []) lawful =
+    subst (Finds (codes "run" ∷ file ∷ []))
+    (sym (subcommand_of-known (codes "run") run_shape refl refl refl (codes "--" ∷ file ∷ [])))
+    (inr (inr (record { file = file; words_are = refl; name_is = refl; text = run-rows file })))
+finds-run (a ∷ b ∷ rest) lawful = absurd (kinds-clash _ _ (sym (run-fault (a ∷ b ∷ rest) ∙ run-strays a b rest) ∙ lawful))
+
+-- ---- all words
+
+HasForm-some : ¬ (HasForm [])
+HasForm-some (inl (a, b, c, e)) = cc
+HasForm-some (inr (inl (a, b, rest, e))) = cc
+HasForm-some (inr (inr (file, e))) = cc
+
+HasForm-unknown : (name : Word) (rest : List Word) → bytes_eq (codes "fragments") name ≡ false
+    → bytes_eq (codes "decode") name ≡ false → bytes_eq (codes "run") name ≡ false → ¬ (HasForm (name ∷ rest))
+HasForm-unknown name rest not_fragments not_decode not_run (inl (a, b, c, e)) =
+    let same : name ≡ codes "fragments" = ap (λ (ws : List Word). get_or ws 0 []) e in
+    let yes = (bytes_eq-Decides (codes "fragments") name).1 (sym same) in cc
+HasForm-unknown name rest not_fragments not_decode not_run (inr (inl (a, b, more, e))) =
+    let same : name ≡ codes "decode" = ap (λ (ws : List Word). get_or ws 0 []) e in
+    let yes = (bytes_eq-Decides (codes "decode") name).1 (sym same) in cc
+HasForm-unknown name rest not_fragments not_decode not_run (inr (inr (file, e))) =
+    let same : name ≡ codes "run" = ap (λ (ws : List Word). get_or ws 0 []) e in
+    let yes = (bytes_eq-Decides (codes "run") name).1 (sym same) in cc
+
+-- words without a fault have the form that is found, and where no command is found they have none
+pub marked_words-finds : (words : List Word) → fault_of cas_form (marked_words words) ≡ [] → Finds words (subcommand_of cas_form (marked_words words))
+unfolding clap_on_literals
+marked_words-finds [] lawful = HasForm-some
+marked_words-finds (name ∷ rest) lawful =
+    go (bytes_eq (codes "fragments") name) refl (bytes_eq (codes "decode") name) refl (bytes_eq (codes "run") name) refl
+  where
+    P : Word → Type 0
+    P w = fault_of cas_form (marked_words (w ∷ rest)) ≡ [] → Finds (w ∷ rest) (subcommand_of cas_form (marked_words (w ∷ rest)))
+
+    go : (f : Bool) → bytes_eq (codes "fragments") name ≡ f → (d : Bool) → bytes_eq (codes "decode") name ≡ d
+        → (r : Bool) → bytes_eq (codes "run") name ≡ r → Finds (name ∷ rest) (subcommand_of cas_form (marked_words (name ∷ rest)))
+    go true is d d_is r r_is =
+        subst P ((bytes_eq-Decides (codes "fragments") name).0 is) (finds-fragments rest) lawful
+    go false not true is r r_is =
+        subst P ((bytes_eq-Decides (codes "decode") name).0 is) (finds-decode rest) lawful
+    go false not false never true is =
+        subst P ((bytes_eq-Decides (codes "run") name).0 is) (finds-run rest) lawful
+    go false not_fragments false not_decode false not_run =
+        subst (Finds (name ∷ rest)) (sym (subcommand_of-unknown name rest not_fragments not_decode not_run))
+        (HasForm-unknown name rest not_fragments not_decode not_run)
+
+-- words that have the form are without a fault
+pub marked_words-lawful : (words : List Word) → length words ≤ usize_max → HasForm words → fault_of cas_form (marked_words words) ≡ []
+marked_words-lawful words fits (inl (a, b, c, e)) =
+    ap (λ ws. fault_of cas_form (marked_words ws)) e ∙ fragments-fault (a ∷ b ∷ c ∷ []) ∙ fragments-takes a b c
+marked_words-lawful words fits (inr (inr (file, e))) =
+    ap (λ ws. fault_of cas_form (marked_words ws)) e ∙ run-fault (file ∷ []) ∙ run-takes file
+marked_words-lawful words fits (inr (inl (a, b, rest, e))) =
+    let count = ap (length {A = Word}) e in
+    ap (λ ws. fault_of cas_form (marked_words ws)) e ∙ decode-fault (a ∷ b ∷ rest) ∙ decode-takes a b rest (omega arith)
+
+-- ---- the code's answers
+
+length-marked_words : (words : List Word) → length words ≤ length (marked_words words)
+length-marked_words [] = omega arith
+length-marked_words (name ∷ rest) = omega arith
+
+some_is : {T : Type 0} {x y : T} → Some x ≡ Some y → y ≡ x
+some_is e = cc
+
+-- an error of `clap` as a fault
+pub fault_from_clap : (kinds : Kinds) (error : Error) (fault : Fault) → HasKind kinds error → (kind_of error ≡ OutOfMemory → fault ≡ Refused NoMemory)
+    → (fault ≡ Refused NoMemory) ⊎ (fault ≡ Usage) → (fault ≡ Refused NoMemory) ⊎ ((fault ≡ Usage) × (kinds ≢ []))
+fault_from_clap kinds error fault (inl none_left) memory either = inl (memory none_left)
+fault_from_clap kinds error fault (inr among) memory (inl none_left) = inl none_left
+fault_from_clap kinds error fault (inr among) memory (inr usage) = inr (usage, λ none. subst (IsAmong (kind_of error)) none among)
+
+-- the fault of words that `clap` did not read
+pub IsFaultOf-unread : (words seen : List Word) (e : Fault) → seen ≡ marked_words words → length seen ≤ usize_max
+    → (e ≡ Refused NoMemory) ⊎ ((e ≡ Usage) × (fault_of cas_form seen ≢ [])) → IsFaultOf words e
+IsFaultOf-unread words seen e is fits (inl memory) = subst (IsFaultOf words) (sym memory) refl
+IsFaultOf-unread words seen e is fits (inr usage) =
+    let count = ap (length {A = Word}) is in
+    let longer = length-marked_words words in
+    subst (IsFaultOf words) (sym usage.0) (λ form. usage.1 (ap (fault_of cas_form) is ∙ marked_words-lawful words (omega arith) form))
+
+-- what is found for words that `clap` read
+pub Finds-read : (words seen : List Word) (o : Option (Text × List Row)) → seen ≡ marked_words words → fault_of cas_form seen ≡ []
+    → o ≡ subcommand_of cas_form seen → Finds words o
+Finds-read words seen o is lawful read =
+    subst (Finds words) (sym (read ∙ ap (subcommand_of cas_form) is)) (marked_words-finds words (ap (fault_of cas_form) (sym is) ∙ lawful))
+
+-- a command without rows is none
+pub rows-None : (o : Option (Text × List Row)) → None ≡ option_map (λ p. p.1) o → o ≡ None
+rows-None None e = refl
+rows-None (Some p) e = cc
+
+-- the name and the rows are those of the command
+rows-Some : (m : ArgMatches) (name : Text) (rows : List Row) → Some name ≡ subcommand_name_of m
+    → Some rows ≡ option_map (λ p. p.1) (subcommand_rows_of m)
+    → subcommand_rows_of m ≡ Some (name, rows)
+rows-Some m name rows named rowed = go (out-ArgMatches m).subcommand named rowed
+  where
+    go : {Z : Type 0} (o : Option (Box SubCommand Z)) → Some name ≡ option_map (λ b. (out-SubCommand (box_value b)).name.now) o
+        → Some rows ≡ option_map (λ p. p.1) (subcommand_rows o) → subcommand_rows o ≡ Some (name, rows)
+    go None n r = cc
+    go (Some b) n r = ap₂ (λ x y. let p : Text × List Row = (x, y) in Some p) (some_is n) (some_is r)
+
+-- the command and its rows, for words that `clap` read
+pub Finds-command : (words seen : List Word) (m : ArgMatches) (name : Text) (rows : List Row) → seen ≡ marked_words words
+    → fault_of cas_form seen ≡ [] → subcommand_rows_of m ≡ subcommand_of cas_form seen → Some name ≡ subcommand_name_of m
+    → Some rows ≡ option_map (λ p. p.1) (subcommand_rows_of m) → Finds words (Some (name, rows))
+Finds-command words seen m name rows is lawful read named rowed =
+    subst (Finds words) (rows-Some m name rows named rowed) (Finds-read words seen (subcommand_rows_of m) is lawful read)
+
+-- `fragments`, by the texts under its names
+pub IsReading-fragments : (words : List Word) (name : Text) (found : Found) (r : Result Request Fault) → Finds words (Some (name, rows_of found))
+    → name ≡ codes "fragments"
+    → ((a b c : Word) → first_value found (codes "K") ≡ Some a → first_value found (codes "N") ≡ Some b → first_value found (codes "HEX") ≡ Some c
+    → IsReading (codes "fragments" ∷ a ∷ b ∷ c ∷ []) r)
+    → IsReading words r
+IsReading-fragments words name found r (inl f) is reads =
+    subst (λ ws. IsReading ws r) (sym f.words_are)
+    (reads f.a f.b f.c (first_value-rows found (codes "K") ∙ f.k) (first_value-rows found (codes "N") ∙ f.n)
+    (first_value-rows found (codes "HEX") ∙ f.digits))
+IsReading-fragments words name found r (inr (inl d)) is reads =
+    let clash : ◌≡◌ {A = ℕ} 102 100 = ap (λ (w : Word). get_or w 0 0) (sym is ∙ d.name_is) in absurd (omega arith)
+IsReading-fragments words name found r (inr (inr f)) is reads =
+    let clash : ◌≡◌ {A = ℕ} 102 114 = ap (λ (w : Word). get_or w 0 0) (sym is ∙ f.name_is) in absurd (omega arith)
+
+-- `decode`, by the texts under its names
+pub IsReading-decode : (words : List Word) (name : Text) (found : Found) (r : Result Request Fault) → Finds words (Some (name, rows_of found))
+    → name ≡ codes "decode"
+    → ((a b : Word) (rest : List Word) → first_value found (codes "K") ≡ Some a → first_value found (codes "LEN") ≡ Some b
+    → unwrap_or (option_map raw_values (matched_of found (codes "POINT:HEX"))) [] ≡ rest → IsReading (codes "decode" ∷ a ∷ b ∷ rest) r)
+    → IsReading words r
+IsReading-decode words name found r (inl f) is reads =
+    let clash : ◌≡◌ {A = ℕ} 100 102 = ap (λ (w : Word). get_or w 0 0) (sym is ∙ f.name_is) in absurd (omega arith)
+IsReading-decode words name found r (inr (inr f)) is reads =
+    let clash : ◌≡◌ {A = ℕ} 100 114 = ap (λ (w : Word). get_or w 0 0) (sym is ∙ f.name_is) in absurd (omega arith)
+IsReading-decode words name found r (inr (inl d)) is reads =
+    subst (λ ws. IsReading ws r) (sym d.words_are)
+    (reads d.a d.b d.rest (first_value-rows found (codes "K") ∙ d.k) (first_value-rows found (codes "LEN") ∙ d.len)
+    (ap (λ o. unwrap_or o []) (raw_values-rows found (codes "POINT:HEX")) ∙ d.pieces))
+
+-- `run`, by the text under its name
+pub IsReading-run : (words : List Word) (name : Text) (found : Found) (r : Result Request Fault) → Finds words (Some (name, rows_of found))
+    → name ≡ codes "run"
+    → ((file : Word) → first_value found (codes "FILE") ≡ Some file → IsReading (codes "run" ∷ file ∷ []) r)
+    → IsReading words r
+IsReading-run words name found r (inl f) is reads =
+    let clash : ◌≡◌ {A = ℕ} 114 102 = ap (λ (w : Word). get_or w 0 0) (sym is ∙ f.name_is) in absurd (omega arith)
+IsReading-run words name found r (inr (inl d)) is reads =
+    let clash : ◌≡◌ {A = ℕ} 114 100 = ap (λ (w : Word). get_or w 0 0) (sym is ∙ d.name_is) in absurd (omega arith)
+IsReading-run words name found r (inr (inr f)) is reads =
+    subst (λ ws. IsReading ws r) (sym f.words_are) (reads f.file (first_value-rows found (codes "FILE") ∙ f.text))

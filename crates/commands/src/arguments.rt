@@ -1,0 +1,166 @@
+//! The command line, read by `clap` as texts.
+ghost use Rattle.std.specs.Prelude.{◌≡◌, ◌≢◌, ◌⊎◌, [], ◌∷◌, List, IfErr, IfOk, MatchResult, codes, false, map};
+ghost use Rattle.std.specs.Prelude.{option_map, string_bytes, unwrap_or};
+ghost use Rattle.clap.specs.Words.{fault_of, first_value, found_of, kind_of, matched_of, raw_values, rule_of};
+ghost use Rattle.clap.specs.Words.{subcommand_of, subcommand_rows_of};
+ghost use Rattle.tag.specs.declared.refusal.Refusal.TheVariants.{NoMemory};
+ghost use Rattle.commands.specs.CommandLine.{IsForm, cas_form, decode_form, fragments_form, marked_words, positional};
+ghost use Rattle.commands.specs.CommandLine.{run_form, several};
+ghost use Rattle.commands.specs.Request.{IsReading, Word};
+ghost use Rattle.commands.specs.declared.fault.Fault.TheVariants.{Refused, Usage};
+
+use crate::fault::Fault;
+use crate::request::{Request, decode_request, fragments_request, run_request};
+use clap::error::ErrorKind;
+use clap::{Arg, ArgAction, ArgMatches, Command, Error};
+use std::alloc::{AllocError, Global};
+use tag::Refusal;
+
+/// What the words after the program's name ask for.
+pub(crate) fn parse_request(alloc: Global, words: &[String]) -> Result<Request, Fault>
+    ensures { IsReading (map string_bytes words.now) result }
+{
+    let marked = marked(alloc, words)?;
+    let matches = read_words(alloc, marked.as_slice())?;
+    let Some((command, found)) = matches.subcommand() else {
+        return Err(Fault::Usage);
+    };
+    match command {
+        "fragments" => read_fragments(alloc, found),
+        "decode" => read_decode(alloc, found),
+        "run" => read_run(alloc, found),
+        _ => Err(Fault::Usage),
+    }
+}
+
+/// The words as `clap` is given them: behind the command stands `--`, so that no later word is read as an option.
+fn marked(alloc: Global, words: &[String]) -> Result<Vec<&str>, AllocError>
+    ensures { IfOk result (λ all. map (λ w. w.now) all.items ≡ marked_words (map string_bytes words.now)) }
+{
+    let mut all = Vec::new(alloc);
+    all.push("cas")?;
+    if let Some((command, rest)) = words.split_first() {
+        all.push(command.as_str())?;
+        all.push("--")?;
+        for word in rest {
+            all.push(word.as_str())?;
+        }
+    }
+    Ok(all)
+}
+
+/// What `clap` finds. It fails with `Usage` where the words have another form.
+fn read_words<'a>(alloc: Global, words: &'a [&'a str]) -> Result<ArgMatches<'a>, Fault>
+    ensures found { IfOk result (λ m. subcommand_rows_of m
+        ≡ subcommand_of cas_form (map (λ w. w.now) words.entry.now)) }
+    ensures faultless { IfOk result (λ _. fault_of cas_form (map (λ w. w.now) words.entry.now) ≡ []) }
+    ensures err { IfErr result (λ e. (e ≡ Refused NoMemory)
+        ⊎ ((e ≡ Usage) × (fault_of cas_form (map (λ w. w.now) words.entry.now) ≢ []))) }
+{
+    let form = match cas_form(alloc) {
+        Ok(form) => form,
+        Err(error) => return Err(Fault::from(error)),
+    };
+    match form.try_get_matches_from(words) {
+        Ok(matches) => Ok(matches),
+        Err(error) => Err(from_clap(error)),
+    }
+}
+
+fn from_clap(error: Error) -> Fault
+    ensures memory { kind_of error ≡ ErrorKind.OutOfMemory → result ≡ Refused NoMemory }
+    ensures either { (result ≡ Refused NoMemory) ⊎ (result ≡ Usage) }
+{
+    match error.kind() {
+        ErrorKind::OutOfMemory => Fault::Refused(Refusal::NoMemory),
+        _ => Fault::Usage,
+    }
+}
+
+fn cas_form<'a>(alloc: Global) -> Result<Command<'a>, AllocError>
+    ensures { IfOk result (λ c. IsForm c cas_form) }
+{
+    Command::new(alloc, "cas")
+        .disable_help_flag(true)
+        .disable_help_subcommand(true)
+        .subcommand(fragments_form(alloc)?)?
+        .subcommand(decode_form(alloc)?)?
+        .subcommand(run_form(alloc)?)
+}
+
+fn fragments_form<'a>(alloc: Global) -> Result<Command<'a>, AllocError>
+    ensures { IfOk result (λ c. IsForm c fragments_form) }
+{
+    Command::new(alloc, "fragments")
+        .arg(positional(alloc, "K"))?
+        .arg(positional(alloc, "N"))?
+        .arg(positional(alloc, "HEX"))
+}
+
+fn decode_form<'a>(alloc: Global) -> Result<Command<'a>, AllocError>
+    ensures { IfOk result (λ c. IsForm c decode_form) }
+{
+    Command::new(alloc, "decode")
+        .arg(positional(alloc, "K"))?
+        .arg(positional(alloc, "LEN"))?
+        .arg(several(alloc, "POINT:HEX"))
+}
+
+fn run_form<'a>(alloc: Global) -> Result<Command<'a>, AllocError>
+    ensures { IfOk result (λ c. IsForm c run_form) }
+{
+    Command::new(alloc, "run").arg(positional(alloc, "FILE"))
+}
+
+fn positional<'a>(alloc: Global, id: &'a str) -> Arg<'a>
+    ensures rule { rule_of result ≡ positional id.entry.now }
+    ensures local { result.global ≡ false }
+{
+    Arg::new(alloc, id).required(true).action(ArgAction::Set)
+}
+
+fn several<'a>(alloc: Global, id: &'a str) -> Arg<'a>
+    ensures rule { rule_of result ≡ several id.entry.now }
+    ensures local { result.global ≡ false }
+{
+    Arg::new(alloc, id).action(ArgAction::Append).num_args(..)
+}
+
+fn read_fragments(alloc: Global, found: &ArgMatches<'_>) -> Result<Request, Fault>
+    ensures { (a b c : Word) → first_value (found_of found.now) (codes "K") ≡ Some a
+        → first_value (found_of found.now) (codes "N") ≡ Some b
+        → first_value (found_of found.now) (codes "HEX") ≡ Some c
+        → IsReading (codes "fragments" ∷ a ∷ b ∷ c ∷ []) result }
+{
+    let k = text(found, "K")?;
+    let n = text(found, "N")?;
+    let digits = text(found, "HEX")?;
+    fragments_request(alloc, k, n, digits)
+}
+
+fn read_decode(alloc: Global, found: &ArgMatches<'_>) -> Result<Request, Fault>
+    ensures { (a b : Word) (rest : List Word) → first_value (found_of found.now) (codes "K") ≡ Some a
+        → first_value (found_of found.now) (codes "LEN") ≡ Some b
+        → unwrap_or (option_map raw_values (matched_of (found_of found.now) (codes "POINT:HEX"))) [] ≡ rest
+        → IsReading (codes "decode" ∷ a ∷ b ∷ rest) result }
+{
+    let k = text(found, "K")?;
+    let len = text(found, "LEN")?;
+    let words = found.get_strs("POINT:HEX").unwrap_or(&[]);
+    decode_request(alloc, k, len, words)
+}
+
+fn read_run(alloc: Global, found: &ArgMatches<'_>) -> Result<Request, Fault>
+    ensures { (file : Word) → first_value (found_of found.now) (codes "FILE") ≡ Some file
+        → IsReading (codes "run" ∷ file ∷ []) result }
+{
+    let file = text(found, "FILE")?;
+    run_request(alloc, file)
+}
+
+fn text<'a>(found: &ArgMatches<'a>, id: &str) -> Result<&'a str, Fault>
+    ensures { MatchResult result (λ t. first_value (found_of found.now) id.now ≡ Some t.now)
+        (λ _. first_value (found_of found.now) id.now ≡ None) }
+{
+    found.get_str(id).ok_or(Fault::Usage)
+}

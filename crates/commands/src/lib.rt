@@ -1,0 +1,15 @@
+//! The command lines of the program `cas`: the fragments of a value, the value of fragments, and the run of a script.
+#![tactic(auto)]
+
+pub use fault::Fault;
+pub use file::run_opened;
+pub use program::run_words;
+
+mod arguments;
+mod fault;
+mod file;
+mod fragments;
+mod output;
+mod program;
+mod request;
+mod value;

@@ -1,0 +1,42 @@
+//! Plays a table of scripts and command lines, and compares what each prints with what its row says.
+#![tactic(auto)]
+
+mod draft;
+mod line;
+mod row;
+mod run;
+mod script_line;
+mod table;
+
+use anyhow::{Result, bail};
+use row::Row;
+use run::Run;
+use std::io;
+use std::rt::Files;
+use table::parse_table;
+
+fn main(rt: HostRuntime) -> Result<()> {
+    let text = io::read_to_string(rt.alloc(), rt.stdin())?;
+    let rows = parse_table(rt.alloc(), &text)?;
+    let differing = play_all(&rt, &rows)?;
+    let count = rows.len();
+    if differing > 0 {
+        bail!("{differing} of {count} rows differ");
+    }
+    println!(rt; "{count} rows as expected")?;
+    Ok(())
+}
+
+/// Plays each row, prints those that differ, and answers how many they are.
+fn play_all<R: Files + Print + AllocGlobal>(rt: &R, rows: &[Row]) -> Result<usize> {
+    let mut differing = 0usize;
+    for row in rows {
+        let run = Run::of(rt, &row.deed);
+        if run != row.wanted {
+            let line = row.line;
+            println!(rt; "line {line}: the row that ends here printed\n{run}")?;
+            differing = differing.saturating_add(1);
+        }
+    }
+    Ok(differing)
+}
