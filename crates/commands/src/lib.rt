@@ -1,5 +1,4 @@
-//! The command lines of the program `cas`: the fragments of a value, the value of fragments, the run of a
-//! script, and a soak of the store.
+//! The command lines of the program `cas`: the fragments of a value, the value of fragments, and the run of a script.
 #![tactic(auto)]
 
 pub use fault::Fault;
@@ -13,5 +12,4 @@ mod fragments;
 mod output;
 mod program;
 mod request;
-mod soaking;
 mod value;
