@@ -1,0 +1,16 @@
+-- What a closed store comes to.
+use Rattle.std.specs.Prelude.{ℕ, List}
+use Rattle.cluster.specs.Cluster.{Cluster}
+use Rattle.sections.specs.Closing.{Fit, IsAccounted, all_records, receipts_of}
+use Rattle.sections.specs.Seats.{SeatState}
+use Rattle.soak.specs.Summary.{IsSummaryOf}
+use Rattle.soak.specs.declared.summary.Summary.{Summary}
+
+-- a store of this cluster was closed with these seats, one for each client, and the summary is of that cluster and of their
+-- receipts: so the reads and writes of the history that it counts are those that the seats recorded, each once
+pub record IsOfClosed (client_count : ℕ) (summary : Summary) : Type 0 where
+  pub cluster : Cluster
+  pub seats : List SeatState
+  pub fit : Fit client_count cluster seats
+  pub accounted : IsAccounted cluster seats
+  pub sums_up : IsSummaryOf cluster (receipts_of (all_records seats)) summary

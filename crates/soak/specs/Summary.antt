@@ -1,0 +1,65 @@
+-- What a soak comes to.
+use Rattle.std.specs.Prelude.{◌≡◌, ◌↔◌, ℕ, ◌+◌, ◌==◌, ◌&&◌, Bool, true, false, is_some, IsTrue, List, [], ◌∷◌, ◌++◌, Option, Some, None, count_by, codes, if◌then◌else◌}
+use Rattle.std.specs.Fmt.{decimal}
+use Rattle.record.specs.Journals.{entries}
+use Rattle.record.specs.declared.call.Entry.{Entry}
+use Rattle.record.specs.declared.call.Operation.{Operation}
+use Rattle.record.specs.declared.call.Operation.TheVariants as operation
+use Rattle.register.specs.State.{State}
+use Rattle.history.specs.Check.{must_stand}
+use Rattle.cluster.specs.Cluster.{Cluster, named}
+use Rattle.soak.specs.Audit.{AreAccounted}
+use Rattle.soak.specs.declared.summary.Summary.{Summary}
+
+abbrev pub entries_in : Option State → List Entry
+entries_in None = []
+entries_in (Some state) = entries state.object
+
+-- the entries of the object of this name
+abbrev pub entries_of : Cluster → (name : List ℕ) → List Entry
+entries_of cluster name = entries_in (named cluster.objects name)
+
+abbrev pub is_move : Operation → Bool
+is_move operation.Read = false
+is_move operation.Write = false
+is_move operation.Move = true
+
+-- whether an entry is of a move that is answered
+abbrev pub is_answered_move : Entry → Bool
+is_answered_move e = is_move e.operation && is_some e.answered
+
+-- how many reads and writes of an object are answered
+abbrev pub answered_calls : Cluster → (name : List ℕ) → ℕ
+answered_calls cluster name = count_by must_stand (entries_of cluster name)
+
+-- how many moves of an object are answered
+abbrev pub answered_moves : Cluster → (name : List ℕ) → ℕ
+answered_moves cluster name = count_by is_answered_move (entries_of cluster name)
+
+-- what a cluster with the objects `a` and `b` comes to, where the seats had so many receipts. That each object's history has
+-- the sequence of its tags is no question: it always does
+pub record IsSummaryOf (cluster : Cluster) (receipt_count : ℕ) (s : Summary) : Type 0 where
+  pub calls : s.calls ≡ answered_calls cluster (codes "a") + answered_calls cluster (codes "b")
+  pub receipts : s.receipts ≡ receipt_count
+  pub moves : s.moves ≡ answered_moves cluster (codes "a") + answered_moves cluster (codes "b")
+  pub check : s.check ≡ true
+  pub accounts : IsTrue s.accounts ↔ AreAccounted cluster
+
+-- a word and what it says, on a line
+abbrev pub line : (word said : List ℕ) → List ℕ
+line word said = word ++ 32 ∷ said
+
+-- a truth, as a word
+abbrev pub truth : Bool → List ℕ
+truth true = codes "true"
+truth false = codes "false"
+
+-- the five lines, parted by line feeds
+abbrev pub summary_text : Summary → List ℕ
+summary_text s = line (codes "calls") (decimal s.calls) ++ 10 ∷ line (codes "receipts") (decimal s.receipts)
+    ++ 10 ∷ line (codes "moves") (decimal s.moves) ++ 10 ∷ line (codes "check") (truth s.check)
+    ++ 10 ∷ line (codes "accounts") (truth s.accounts)
+
+-- 0 where the calls are the receipts and both truths hold, and else 1
+abbrev pub status_of : Summary → ℕ
+status_of s = if (s.calls == s.receipts) && (s.check && s.accounts) then 0 else 1

@@ -1,0 +1,21 @@
+//! The calls of a client, by their numbers.
+ghost use Rattle.std.specs.Prelude.{◌≡◌, IfOk};
+ghost use Rattle.soak.specs.Call.{object_of, value_of};
+
+use bytes::Bytes;
+use std::alloc::{AllocError, Global};
+
+/// The object that a client's call of this number goes to: two calls go to the one and two to the other, in turn.
+pub fn object_of(call: u64) -> &'static str
+    ensures { result.now ≡ object_of call }
+{
+    if call % 4 < 2 { "a" } else { "b" }
+}
+
+/// What a client writes in its call of this number: `CLIENT:CALL`.
+pub fn value_of(alloc: Global, client: u32, call: u64) -> Result<Bytes, AllocError>
+    ensures { IfOk result (λ value. value ≡ value_of client call) }
+{
+    let text = format!(in alloc; "{client}:{call}")?;
+    Bytes::from_string(text)
+}

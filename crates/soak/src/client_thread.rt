@@ -1,0 +1,66 @@
+//! What the thread of a client does.
+ghost use Rattle.std.specs.Prelude.{◌≡◌, None, IfOk, OnOk};
+
+use crate::call::{object_of, value_of};
+use crate::chooser::Congruential;
+use crate::moves::TURNS;
+use crate::plan::Plan;
+use client::{Seat, Store, StoreName};
+use std::alloc::Global;
+use std::sync::Wait;
+use std::thread::Threads;
+use tag::Refusal;
+
+/// How often a client stirs an object after each of its calls.
+const STIRS: u32 = 16;
+
+/// What the thread of a client hands back: its seat, or why one of its calls was refused.
+pub type Ended<L> = Result<Seat<L>, Refusal>;
+
+/// Makes the calls of the client with this seat, one after another.
+pub fn make_calls<L: StoreName, R: Threads + Wait + Sync>(
+    rt: &R,
+    alloc: Global,
+    store: &Store<L>,
+    mut seat: Seat<L>,
+    plan: Plan,
+) -> Ended<L> {
+    let mut chooser = Congruential::new(plan.choices, seat.number() as u64);
+    for call in 0..plan.calls {
+        make_call(rt, alloc, store, &mut seat, call, &mut chooser)?;
+        stir_often(rt, store, object_of(call), &mut chooser)?;
+    }
+    Ok(seat)
+}
+
+// The call of this number: a write where that is even, and else a read.
+fn make_call<L: StoreName, R: Threads + Wait + Sync>(
+    rt: &R,
+    alloc: Global,
+    store: &Store<L>,
+    seat: &mut Seat<L>,
+    call: u64,
+    chooser: &mut Congruential,
+) -> Result<(), Refusal> {
+    let name = object_of(call);
+    if call % 2 == 0 {
+        let value = value_of(alloc, seat.number(), call)?;
+        store.write(rt, seat, name, value, chooser, TURNS)?;
+    } else {
+        store.read(rt, seat, name, chooser, TURNS)?;
+    }
+    Ok(())
+}
+
+// Handles messages of an object, whosever they are.
+fn stir_often<L: StoreName, R: Wait>(
+    rt: &R,
+    store: &Store<L>,
+    name: &str,
+    chooser: &mut Congruential,
+) -> Result<(), Refusal> {
+    for _ in 0..STIRS {
+        store.stir(rt, name, chooser)?;
+    }
+    Ok(())
+}

@@ -1,0 +1,23 @@
+//! A soak: many clients and an administrator work through one store at once. When all have ended the store is closed, and
+//! what it comes to is counted and checked.
+#![tactic(auto)]
+
+pub use audit::are_accounted;
+pub use call::{object_of, value_of};
+pub use chooser::Congruential;
+pub use moves::{layout_after, object_moved};
+pub use plan::Plan;
+pub use run::run_plan;
+pub use setting::make_setting;
+pub use summary::Summary;
+
+mod audit;
+mod call;
+mod chooser;
+mod client_thread;
+mod crew;
+mod moves;
+mod plan;
+mod run;
+mod setting;
+mod summary;

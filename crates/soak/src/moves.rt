@@ -1,0 +1,50 @@
+//! The moves of the administrator, by their numbers, and the thread that makes them.
+ghost use Rattle.std.specs.Prelude.{◌≡◌, ◌<◌};
+ghost use Rattle.soak.specs.Moves.{layout_after, object_moved};
+
+use crate::chooser::Congruential;
+use crate::plan::{MOST_CLIENTS, Plan};
+use client::{Admin, Store, StoreName};
+use cluster::LayoutId;
+use std::sync::Wait;
+use std::thread::Threads;
+use tag::Refusal;
+
+/// How many turns each call and each move has.
+pub const TURNS: u64 = 1_000_000;
+
+/// The object that the move of this number moves: the one and the other, in turn.
+pub fn object_moved(number: u64) -> &'static str
+    ensures { result.now ≡ object_moved number }
+{
+    if number % 2 == 0 { "a" } else { "b" }
+}
+
+/// The layout that the move of this number leads to: each object goes round the three layouts.
+pub fn layout_after(number: u64) -> LayoutId
+    ensures layout { result ≡ layout_after number }
+    ensures there { result < 3 }
+{
+    ((number / 2 + 1) % 3) as u32
+}
+
+/// Makes the administrator's moves, one after another.
+pub fn make_moves<L: StoreName, R: Threads + Wait + Sync>(
+    rt: &R,
+    store: &Store<L>,
+    mut admin: Admin<L>,
+    plan: Plan,
+) -> Result<(), Refusal> {
+    let mut chooser = Congruential::new(plan.choices, MOST_CLIENTS);
+    for number in 0..plan.moves {
+        store.move_object(
+            rt,
+            &mut admin,
+            object_moved(number),
+            layout_after(number),
+            &mut chooser,
+            TURNS,
+        )?;
+    }
+    Ok(())
+}

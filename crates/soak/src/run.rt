@@ -1,0 +1,57 @@
+//! A whole soak.
+ghost use Rattle.std.specs.Prelude.{◌≡◌, ◌+◌, IfOk};
+ghost use Rattle.soak.specs.Closed.{IsOfClosed};
+
+use crate::crew::work_all;
+use crate::plan::Plan;
+use crate::setting::make_setting;
+use crate::summary::Summary;
+use client::{Store, StoreName};
+use std::alloc::Global;
+use std::marker::Brand;
+use std::sync::Wait;
+use std::sync::ledger::Blank;
+use std::thread::Threads;
+use tag::Refusal;
+
+/// How many workers code a value.
+const WORKERS: usize = 2;
+
+/// Lets the clients and the administrator of a plan work through one store at once, closes it once all have ended, and
+/// says what it comes to: the summary is of a cluster whose reads and writes are those that the clients' seats recorded,
+/// each once. Where a call is refused, or a thread cannot be started, it passes that on in place of a summary.
+pub fn run_plan<R: Threads + Wait + Sync>(
+    rt: &R,
+    alloc: Global,
+    plan: Plan,
+) -> Result<Summary, Refusal>
+    ensures { IfOk result (λ summary. IsOfClosed plan.clients summary) }
+{
+    let parts = plan.clients as u64 + 1;
+    soak_named::<Brand, R>(rt, alloc, Blank::new(parts), plan)
+}
+
+// The same of the store of this name.
+fn soak_named<L: StoreName + Send + Sync, R: Threads + Wait + Sync>(
+    rt: &R,
+    alloc: Global,
+    blank: Blank,
+    plan: Plan,
+) -> Result<Summary, Refusal>
+    requires name { blank.name ≡ L.name }
+    requires parts { (blank.parts ≡ L.parts) × (blank.parts ≡ L.seats + 1) × (plan.clients ≡ L.seats) }
+    ensures { IfOk result (λ summary. IsOfClosed plan.clients summary) }
+{
+    let (store, seats, admin) = Store::<L>::open(
+        alloc,
+        blank,
+        make_setting(alloc)?,
+        plan.clients,
+        WORKERS,
+    )?;
+    let seats = work_all(rt, alloc, &store, seats, admin, plan)?;
+    match store.close(seats) {
+        Ok(closed) => Summary::of(alloc, &closed.cluster, closed.receipts),
+        Err(not_closed) => Err(not_closed.refusal),
+    }
+}

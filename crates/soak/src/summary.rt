@@ -1,0 +1,134 @@
+//! What a soak comes to.
+ghost use Rattle.std.specs.Prelude.{◌≡◌, ◌<◌, ◌^◌, true, count_by, IfErr, IfOk};
+ghost use Rattle.tag.specs.declared.refusal.Refusal.TheVariants.{NoMemory};
+ghost use Rattle.record.specs.Journals.{entries};
+ghost use Rattle.history.specs.Check.{must_stand};
+ghost use Rattle.soak.specs.Audit.{missing_cause};
+ghost use Rattle.tag.specs.Refusal.{IsByCause};
+ghost use Rattle.soak.specs.Summary.{IsSummaryOf, is_answered_move, status_of};
+
+use crate::audit::are_accounted;
+use cluster::Cluster;
+use history::{check, entries_are_lawful, sequence};
+use record::{Entry, Operation, fragments_are_a_code};
+use register::Register;
+use std::alloc::Global;
+use std::fmt;
+use tag::Refusal;
+
+/// What is counted and checked once a store is closed. It prints as five lines, without the last line feed.
+#[derive(Clone, Copy, Debug, PartialEq, Eq)]
+pub struct Summary {
+    /// How many reads and writes are answered in the history.
+    pub calls: u64,
+    /// How many receipts the seats have.
+    pub receipts: u64,
+    /// How many moves are answered in the history.
+    pub moves: u64,
+    /// Whether the sequence that the tags give is one of each object's history.
+    pub check: bool,
+    /// Whether the accounts are the sums over banks and mail.
+    pub accounts: bool,
+}
+
+/// The same of one object.
+#[derive(Clone, Copy)]
+struct Seen {
+    calls: u64,
+    moves: u64,
+    check: bool,
+}
+
+impl Summary {
+    /// Counts and checks the cluster of a closed store, whose seats had so many receipts. `NoObject` where it has no
+    /// object `a` or `b`, and else `NoMemory` is the only refusal.
+    pub fn of(alloc: Global, cluster: &Cluster, receipts: u64) -> Result<Summary, Refusal>
+        ensures summary { IfOk result (λ s. IsSummaryOf cluster.now receipts s) }
+        ensures cause { IsByCause (missing_cause cluster.now) result }
+    {
+        let one = cluster.register("a")?;
+        let other = cluster.register("b")?;
+        let one = look_at(alloc, one)?;
+        let other = look_at(alloc, other)?;
+        Ok(Summary {
+            calls: one.calls + other.calls,
+            receipts,
+            moves: one.moves + other.moves,
+            check: one.check && other.check,
+            accounts: are_accounted(cluster)?,
+        })
+    }
+
+    /// The exit status: 0 where the calls are the receipts, and all is as it should be, and else 1.
+    pub fn status(&self) -> u8
+        ensures { result ≡ status_of self.now }
+    {
+        if self.calls == self.receipts && self.check && self.accounts {
+            0
+        } else {
+            1
+        }
+    }
+}
+
+impl fmt::Display for Summary {
+    ghost use Rattle.std.specs.Prelude.{Some};
+    ghost use Rattle.soak.specs.Summary.{summary_text};
+
+    ghost output = { λ summary. Some (summary_text summary) };
+
+    fn fmt<W: fmt::Write>(&self, f: &mut fmt::Formatter<W>) -> fmt::Result {
+        writeln!(f, "calls {}", self.calls)?;
+        writeln!(f, "receipts {}", self.receipts)?;
+        writeln!(f, "moves {}", self.moves)?;
+        writeln!(f, "check {}", self.check)?;
+        write!(f, "accounts {}", self.accounts)
+    }
+}
+
+fn look_at(alloc: Global, register: &Register) -> Result<Seen, Refusal>
+    ensures calls { IfOk result (λ s. s.calls ≡ count_by must_stand (entries register.now.object)) }
+    ensures moves { IfOk result (λ s. s.moves ≡ count_by is_answered_move (entries register.now.object)) }
+    ensures few { IfOk result (λ s. (s.calls < 2 ^ 63) × (s.moves < 2 ^ 63)) }
+    ensures check { IfOk result (λ s. s.check ≡ true) }
+    ensures refused { IfErr result (λ r. r ≡ NoMemory) }
+{
+    register.soundness();
+    fragments_are_a_code();
+    entries_are_lawful();
+    let entries = register.entries()?;
+    let order = sequence(alloc, register)?;
+    Ok(Seen {
+        calls: answered_calls(&entries) as u64,
+        moves: answered_moves(&entries) as u64,
+        check: check(&entries, &order),
+    })
+}
+
+fn answered_calls(entries: &[Entry]) -> usize
+    ensures calls { result ≡ count_by must_stand entries.now }
+    ensures few { result < 2 ^ 63 }
+{
+    let _few = entries.len();
+    entries.iter().filter(|e| is_answered_call(e)).count()
+}
+
+fn answered_moves(entries: &[Entry]) -> usize
+    ensures moves { result ≡ count_by is_answered_move entries.now }
+    ensures few { result < 2 ^ 63 }
+{
+    let _few = entries.len();
+    entries.iter().filter(|e| is_answered_move(e)).count()
+}
+
+fn is_answered_call(entry: &Entry) -> bool
+    ensures { result ≡ must_stand entry.now }
+{
+    entry.operation != Operation::Move && entry.answered.is_some()
+}
+
+fn is_answered_move(entry: &Entry) -> bool
+    ensures { result ≡ is_answered_move entry.now }
+{
+    entry.operation == Operation::Move && entry.answered.is_some()
+}
