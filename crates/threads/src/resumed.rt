@@ -1,0 +1,108 @@
+//! The administrator's steps, and a move and a write that are resumed.
+
+ghost use Rattle.std.specs.Prelude.{◌≡◌, ◌+◌};
+
+use crate::acts::{Answer, HELLO, TURNS, close, is_refused, resume, take_seat, write};
+use client::{Admin, Opened, Seat, Store, StoreName};
+use cluster::{Cluster, LayoutId};
+use driver::First;
+use layout::Layout;
+use record::Operation;
+use std::alloc::Global;
+use std::marker::Brand;
+use std::process::Abort;
+use std::sync::Wait;
+use std::sync::ledger::Blank;
+use std::test::Fail;
+use std::thread::Threads;
+use tag::Refusal;
+
+fn open_empty<L: StoreName>(alloc: Global, blank: Blank) -> Result<Opened<L>, Refusal>
+    requires name { blank.name ≡ L.name }
+    requires parts { (blank.parts ≡ L.parts) × (blank.parts ≡ L.seats + 1) × (1 ≡ L.seats) }
+{
+    let cluster = Cluster::new(alloc, 4);
+    let (store, seats, admin) = Store::<L>::open(alloc, blank, cluster, 1, 0)?;
+    Ok((store, seats, admin))
+}
+
+// One layout, and the object `a` with it.
+fn creates<L: StoreName, R: Wait>(
+    rt: &R,
+    store: &Store<L>,
+    admin: &mut Admin<L>,
+) -> Result<LayoutId, Refusal> {
+    let layout = store.add_layout(rt, admin, Layout::new(2, &[0, 1, 2, 3])?)?;
+    store.create(rt, admin, "a", layout)?;
+    Ok(layout)
+}
+
+fn moves<L: StoreName, R: Threads + Wait + Sync>(
+    rt: &R,
+    store: &Store<L>,
+    admin: &mut Admin<L>,
+    layout: LayoutId,
+) -> Answer {
+    store.move_object(rt, admin, "a", layout, &mut First, 3)
+}
+
+fn resumes_move<L: StoreName, R: Threads + Wait + Sync>(
+    rt: &R,
+    store: &Store<L>,
+    admin: &mut Admin<L>,
+) -> Answer {
+    store.resume_move(rt, admin, &mut First, TURNS)
+}
+
+fn is_call<R: Abort>(
+    rt: &R,
+    answer: Answer,
+    operation: Operation,
+    call: u64,
+) -> Result<(), Refusal> {
+    let receipt = answer?;
+    assert_eq!(rt; receipt.operation, operation);
+    assert_eq!(rt; receipt.call, call);
+    Ok(())
+}
+
+fn moves_in_two<L: StoreName, R: Threads + Wait + Abort + Sync>(
+    rt: &R,
+    store: &Store<L>,
+    mut admin: Admin<L>,
+) -> Result<(), Refusal> {
+    let layout = creates(rt, store, &mut admin)?;
+    is_refused(rt, moves(rt, store, &mut admin, layout), Refusal::GaveUp);
+    is_call(rt, resumes_move(rt, store, &mut admin), Operation::Move, 1)
+}
+
+fn writes_in_two<L: StoreName, R: Threads + Wait + Abort + Sync>(
+    rt: &R,
+    store: &Store<L>,
+    seat: &mut Seat<L>,
+) -> Result<(), Refusal> {
+    is_refused(rt, write(rt, store, seat, HELLO, 3), Refusal::GaveUp);
+    is_call(rt, resume(rt, store, seat), Operation::Write, 2)
+}
+
+fn administers<L: StoreName, R: Threads + Wait + Abort + Sync>(
+    rt: &R,
+    alloc: Global,
+    blank: Blank,
+) -> Result<(), Refusal>
+    requires name { blank.name ≡ L.name }
+    requires parts { (blank.parts ≡ L.parts) × (blank.parts ≡ L.seats + 1) × (1 ≡ L.seats) }
+{
+    let (store, mut seats, admin) = open_empty::<L>(alloc, blank)?;
+    let mut seat = take_seat(&mut seats)?;
+    moves_in_two(rt, &store, admin)?;
+    writes_in_two(rt, &store, &mut seat)?;
+    seats.push(seat)?;
+    close(rt, store, seats, 1, 2)?;
+    Ok(())
+}
+
+#[test]
+fn moves_and_writes_are_resumed(rt: HostRuntime) -> Result<(), Fail> {
+    Ok(administers::<Brand, _>(&rt, rt.alloc(), Blank::new(2))?)
+}
