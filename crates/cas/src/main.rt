@@ -1,4 +1,5 @@
-//! The program `cas`: the fragments of a value, the value of fragments, and the run of a script, from the command line.
+//! The program `cas`: the fragments of a value, the value of fragments, the run of a script, and a soak of the store,
+//! from the command line.
 #![tactic(auto)]
 
 use commands::{Fault, run_words};

@@ -89,6 +89,9 @@ decode_shape = get_or form.subs 1 form.top
 abbrev pub run_shape : Shape
 run_shape = get_or form.subs 2 form.top
 
+abbrev pub soak_shape : Shape
+soak_shape = get_or form.subs 3 form.top
+
 pub fragments-rows : (a b c : Text) → let rows = rows_after fragments_shape.rules [] (codes "--" ∷ a ∷ b ∷ c ∷ []) in
     (first_of (codes "K") rows ≡ Some a) × (first_of (codes "N") rows ≡ Some b) × (first_of (codes "HEX") rows ≡ Some c)
 unfolding clap_on_literals
@@ -195,6 +198,30 @@ pub run-strays : (a b : Text) (rest : List Text)
 unfolding clap_on_literals
 run-strays a b rest = refl
 
+pub soak-rows : (a b c d : Text) → let rows = rows_after soak_shape.rules [] (codes "--" ∷ a ∷ b ∷ c ∷ d ∷ []) in
+    (first_of (codes "CLIENTS") rows ≡ Some a) × (first_of (codes "CALLS") rows ≡ Some b) × (first_of (codes "MOVES") rows ≡ Some c)
+    × (first_of (codes "CHOICES") rows ≡ Some d)
+unfolding clap_on_literals
+soak-rows a b c d = (refl, refl, refl, refl)
+
+pub soak-takes : (a b c d : Text) → level_fault soak_shape [] nothing_held (codes "--" ∷ a ∷ b ∷ c ∷ d ∷ []) false [] ≡ []
+unfolding clap_on_literals
+soak-takes a b c d = refl
+
+pub soak-lacks : (rest : List Text) → length rest < 4
+    → level_fault soak_shape [] nothing_held (codes "--" ∷ rest) false [] ≡ MissingRequiredArgument ∷ []
+unfolding clap_on_literals
+soak-lacks [] few = refl
+soak-lacks (a ∷ []) few = refl
+soak-lacks (a ∷ b ∷ []) few = refl
+soak-lacks (a ∷ b ∷ c ∷ []) few = refl
+soak-lacks (a ∷ b ∷ c ∷ d ∷ rest) few = absurd (omega arith)
+
+pub soak-strays : (a b c d e : Text) (rest : List Text)
+    → level_fault soak_shape [] nothing_held (codes "--" ∷ a ∷ b ∷ c ∷ d ∷ e ∷ rest) false [] ≡ UnknownArgument ∷ []
+unfolding clap_on_literals
+soak-strays a b c d e rest = refl
+
 -- ---- a command that is not known
 
 -- a step that enters no command and waits for nothing
@@ -263,13 +290,15 @@ walk-dashes g false rest = walk-trailing g rest
 
 -- words of another command enter none
 pub subcommand_of-unknown : (name : Text) (rest : List Text) → bytes_eq (codes "fragments") name ≡ false → bytes_eq (codes "decode") name ≡ false
-    → bytes_eq (codes "run") name ≡ false → subcommand_of cas_form (codes "cas" ∷ name ∷ codes "--" ∷ rest) ≡ None
+    → bytes_eq (codes "run") name ≡ false → bytes_eq (codes "soak") name ≡ false
+    → subcommand_of cas_form (codes "cas" ∷ name ∷ codes "--" ∷ rest) ≡ None
 unfolding clap_on_literals
-subcommand_of-unknown name rest not_fragments not_decode not_run =
+subcommand_of-unknown name rest not_fragments not_decode not_run not_soak =
     let none : find (answers_to name) (names_of form) ≡ None =
     ap₂ (λ p q. cond (p || false) (Some (codes "fragments", [])) (cond (q || false) (Some (codes "decode", []))
-    (cond (bytes_eq (codes "run") name || false) (Some (codes "run", [])) None))) not_fragments not_decode
-    ∙ ap (λ p. cond (p || false) (Some (codes "run", [])) None) not_run in
+    (cond (bytes_eq (codes "run") name || false) (Some (codes "run", [])) (cond (bytes_eq (codes "soak") name || false) (Some (codes "soak", [])) None))))
+    not_fragments not_decode
+    ∙ ap₂ (λ p q. cond (p || false) (Some (codes "run", [])) (cond (q || false) (Some (codes "soak", [])) None)) not_run not_soak in
     let met = after_step-none name _ _ (other-none name nothing_held (bytes_eq name (codes "--"))) in
     let first : walked [] (names_of form) (walk_from nothing_held) name ≡ record (walk_from met.0) { is_trailing = met.1 } =
     ap (λ (o : Option (Text × List Text)).

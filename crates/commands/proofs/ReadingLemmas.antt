@@ -30,6 +30,7 @@ use Rattle.commands.specs.declared.fault.Fault.TheVariants.{Refused, Usage}
 use Rattle.commands.proofs.CommandLineLemmas.{decode-lacks, decode-rows, decode-takes, decode_shape, fault_of-known}
 use Rattle.commands.proofs.CommandLineLemmas.{fragments-lacks, fragments-rows, fragments-strays, fragments-takes}
 use Rattle.commands.proofs.CommandLineLemmas.{fragments_shape, run-lacks, run-rows, run-strays, run-takes, run_shape}
+use Rattle.commands.proofs.CommandLineLemmas.{soak-lacks, soak-rows, soak-strays, soak-takes, soak_shape}
 use Rattle.commands.proofs.CommandLineLemmas.{subcommand_of-known, subcommand_of-unknown}
 
 -- the command `fragments` with the texts of K, N and HEX
@@ -61,10 +62,23 @@ pub record FindsRun (words : List Word) (name : Text) (rows : List Row) : Type 0
   pub name_is : name ≡ codes "run"
   pub text : first_of (codes "FILE") rows ≡ Some file
 
--- no command, or one of the three
+-- the command `soak` with the texts of its numbers
+pub record FindsSoak (words : List Word) (name : Text) (rows : List Row) : Type 0 where
+  pub a : Word
+  pub b : Word
+  pub c : Word
+  pub d : Word
+  pub words_are : words ≡ codes "soak" ∷ a ∷ b ∷ c ∷ d ∷ []
+  pub name_is : name ≡ codes "soak"
+  pub clients : first_of (codes "CLIENTS") rows ≡ Some a
+  pub calls : first_of (codes "CALLS") rows ≡ Some b
+  pub moves : first_of (codes "MOVES") rows ≡ Some c
+  pub choices : first_of (codes "CHOICES") rows ≡ Some d
+
+-- no command, or one of the four
 abbrev pub Finds : List Word → Option (Text × List Row) → Type 0
 Finds words None = ¬ (HasForm words)
-Finds words (Some p) = FindsFragments words p.0 p.1 ⊎ FindsDecode words p.0 p.1 ⊎ FindsRun words p.0 p.1
+Finds words (Some p) = FindsFragments words p.0 p.1 ⊎ FindsDecode words p.0 p.1 ⊎ FindsRun words p.0 p.1 ⊎ FindsSoak words p.0 p.1
 
 -- ---- each command
 
@@ -85,6 +99,11 @@ run-fault : (rest : List Word) → fault_of cas_form (marked_words (codes "run" 
     ≡ level_fault run_shape [] nothing_held (codes "--" ∷ rest) false []
 unfolding clap_on_literals
 run-fault rest = fault_of-known (codes "run") run_shape refl refl refl (codes "--" ∷ rest)
+
+soak-fault : (rest : List Word) → fault_of cas_form (marked_words (codes "soak" ∷ rest))
+    ≡ level_fault soak_shape [] nothing_held (codes "--" ∷ rest) false []
+unfolding clap_on_literals
+soak-fault rest = fault_of-known (codes "soak") soak_shape refl refl refl (codes "--" ∷ rest)
 
 finds-fragments : (rest : List Word) → fault_of cas_form (marked_words (codes "fragments" ∷ rest)) ≡ []
     → Finds (codes "fragments" ∷ rest) (subcommand_of cas_form (marked_words (codes "fragments" ∷ rest)))
@@ -118,27 +137,59 @@ finds-run [] lawful = absurd (kinds-clash _ _ (sym (run-fault [] ∙ run-lacks) 
 finds-run (file ∷ []) lawful =
     subst (Finds (codes "run" ∷ file ∷ []))
     (sym (subcommand_of-known (codes "run") run_shape refl refl refl (codes "--" ∷ file ∷ [])))
-    (inr (inr (record { file = file; words_are = refl; name_is = refl; text = run-rows file })))
+    (inr (inr (inl (record { file = file; words_are = refl; name_is = refl; text = run-rows file }))))
 finds-run (a ∷ b ∷ rest) lawful = absurd (kinds-clash _ _ (sym (run-fault (a ∷ b ∷ rest) ∙ run-strays a b rest) ∙ lawful))
+
+finds-soak : (rest : List Word) → fault_of cas_form (marked_words (codes "soak" ∷ rest)) ≡ []
+    → Finds (codes "soak" ∷ rest) (subcommand_of cas_form (marked_words (codes "soak" ∷ rest)))
+unfolding clap_on_literals
+finds-soak (a ∷ b ∷ c ∷ d ∷ []) lawful =
+    let rows = soak-rows a b c d in
+    subst (Finds (codes "soak" ∷ a ∷ b ∷ c ∷ d ∷ []))
+    (sym (subcommand_of-known (codes "soak") soak_shape refl refl refl (codes "--" ∷ a ∷ b ∷ c ∷ d ∷ [])))
+    (inr (inr (inr (record {
+      a = a;
+      b = b;
+      c = c;
+      d = d;
+      words_are = refl;
+      name_is = refl;
+      clients = rows.0;
+      calls = rows.1;
+      moves = rows.2;
+      choices = rows.3;
+    }))))
+finds-soak (a ∷ b ∷ c ∷ d ∷ e ∷ rest) lawful =
+    let clash = sym (soak-fault (a ∷ b ∷ c ∷ d ∷ e ∷ rest) ∙ soak-strays a b c d e rest) ∙ lawful in absurd (kinds-clash _ _ clash)
+finds-soak [] lawful = absurd (kinds-clash _ _ (sym (soak-fault [] ∙ soak-lacks [] (omega arith)) ∙ lawful))
+finds-soak (a ∷ []) lawful = absurd (kinds-clash _ _ (sym (soak-fault (a ∷ []) ∙ soak-lacks (a ∷ []) (omega arith)) ∙ lawful))
+finds-soak (a ∷ b ∷ []) lawful = absurd (kinds-clash _ _ (sym (soak-fault (a ∷ b ∷ []) ∙ soak-lacks (a ∷ b ∷ []) (omega arith)) ∙ lawful))
+finds-soak (a ∷ b ∷ c ∷ []) lawful =
+    absurd (kinds-clash _ _ (sym (soak-fault (a ∷ b ∷ c ∷ []) ∙ soak-lacks (a ∷ b ∷ c ∷ []) (omega arith)) ∙ lawful))
 
 -- ---- all words
 
 HasForm-some : ¬ (HasForm [])
 HasForm-some (inl (a, b, c, e)) = cc
 HasForm-some (inr (inl (a, b, rest, e))) = cc
-HasForm-some (inr (inr (file, e))) = cc
+HasForm-some (inr (inr (inl (file, e)))) = cc
+HasForm-some (inr (inr (inr (a, b, c, d, e)))) = cc
 
 HasForm-unknown : (name : Word) (rest : List Word) → bytes_eq (codes "fragments") name ≡ false
-    → bytes_eq (codes "decode") name ≡ false → bytes_eq (codes "run") name ≡ false → ¬ (HasForm (name ∷ rest))
-HasForm-unknown name rest not_fragments not_decode not_run (inl (a, b, c, e)) =
+    → bytes_eq (codes "decode") name ≡ false → bytes_eq (codes "run") name ≡ false → bytes_eq (codes "soak") name ≡ false
+    → ¬ (HasForm (name ∷ rest))
+HasForm-unknown name rest not_fragments not_decode not_run not_soak (inl (a, b, c, e)) =
     let same : name ≡ codes "fragments" = ap (λ (ws : List Word). get_or ws 0 []) e in
     let yes = (bytes_eq-Decides (codes "fragments") name).1 (sym same) in cc
-HasForm-unknown name rest not_fragments not_decode not_run (inr (inl (a, b, more, e))) =
+HasForm-unknown name rest not_fragments not_decode not_run not_soak (inr (inl (a, b, more, e))) =
     let same : name ≡ codes "decode" = ap (λ (ws : List Word). get_or ws 0 []) e in
     let yes = (bytes_eq-Decides (codes "decode") name).1 (sym same) in cc
-HasForm-unknown name rest not_fragments not_decode not_run (inr (inr (file, e))) =
+HasForm-unknown name rest not_fragments not_decode not_run not_soak (inr (inr (inl (file, e)))) =
     let same : name ≡ codes "run" = ap (λ (ws : List Word). get_or ws 0 []) e in
     let yes = (bytes_eq-Decides (codes "run") name).1 (sym same) in cc
+HasForm-unknown name rest not_fragments not_decode not_run not_soak (inr (inr (inr (a, b, c, d, e)))) =
+    let same : name ≡ codes "soak" = ap (λ (ws : List Word). get_or ws 0 []) e in
+    let yes = (bytes_eq-Decides (codes "soak") name).1 (sym same) in cc
 
 -- words without a fault have the form that is found, and where no command is found they have none
 pub marked_words-finds : (words : List Word) → fault_of cas_form (marked_words words) ≡ [] → Finds words (subcommand_of cas_form (marked_words words))
@@ -146,28 +197,34 @@ unfolding clap_on_literals
 marked_words-finds [] lawful = HasForm-some
 marked_words-finds (name ∷ rest) lawful =
     go (bytes_eq (codes "fragments") name) refl (bytes_eq (codes "decode") name) refl (bytes_eq (codes "run") name) refl
+    (bytes_eq (codes "soak") name) refl
   where
     P : Word → Type 0
     P w = fault_of cas_form (marked_words (w ∷ rest)) ≡ [] → Finds (w ∷ rest) (subcommand_of cas_form (marked_words (w ∷ rest)))
 
     go : (f : Bool) → bytes_eq (codes "fragments") name ≡ f → (d : Bool) → bytes_eq (codes "decode") name ≡ d
-        → (r : Bool) → bytes_eq (codes "run") name ≡ r → Finds (name ∷ rest) (subcommand_of cas_form (marked_words (name ∷ rest)))
-    go true is d d_is r r_is =
+        → (r : Bool) → bytes_eq (codes "run") name ≡ r → (s : Bool) → bytes_eq (codes "soak") name ≡ s
+        → Finds (name ∷ rest) (subcommand_of cas_form (marked_words (name ∷ rest)))
+    go true is d d_is r r_is s s_is =
         subst P ((bytes_eq-Decides (codes "fragments") name).0 is) (finds-fragments rest) lawful
-    go false not true is r r_is =
+    go false not true is r r_is s s_is =
         subst P ((bytes_eq-Decides (codes "decode") name).0 is) (finds-decode rest) lawful
-    go false not false never true is =
+    go false not false never true is s s_is =
         subst P ((bytes_eq-Decides (codes "run") name).0 is) (finds-run rest) lawful
-    go false not_fragments false not_decode false not_run =
-        subst (Finds (name ∷ rest)) (sym (subcommand_of-unknown name rest not_fragments not_decode not_run))
-        (HasForm-unknown name rest not_fragments not_decode not_run)
+    go false not false never false none true is =
+        subst P ((bytes_eq-Decides (codes "soak") name).0 is) (finds-soak rest) lawful
+    go false not_fragments false not_decode false not_run false not_soak =
+        subst (Finds (name ∷ rest)) (sym (subcommand_of-unknown name rest not_fragments not_decode not_run not_soak))
+        (HasForm-unknown name rest not_fragments not_decode not_run not_soak)
 
 -- words that have the form are without a fault
 pub marked_words-lawful : (words : List Word) → length words ≤ usize_max → HasForm words → fault_of cas_form (marked_words words) ≡ []
 marked_words-lawful words fits (inl (a, b, c, e)) =
     ap (λ ws. fault_of cas_form (marked_words ws)) e ∙ fragments-fault (a ∷ b ∷ c ∷ []) ∙ fragments-takes a b c
-marked_words-lawful words fits (inr (inr (file, e))) =
+marked_words-lawful words fits (inr (inr (inl (file, e)))) =
     ap (λ ws. fault_of cas_form (marked_words ws)) e ∙ run-fault (file ∷ []) ∙ run-takes file
+marked_words-lawful words fits (inr (inr (inr (a, b, c, d, e)))) =
+    ap (λ ws. fault_of cas_form (marked_words ws)) e ∙ soak-fault (a ∷ b ∷ c ∷ d ∷ []) ∙ soak-takes a b c d
 marked_words-lawful words fits (inr (inl (a, b, rest, e))) =
     let count = ap (length {A = Word}) e in
     ap (λ ws. fault_of cas_form (marked_words ws)) e ∙ decode-fault (a ∷ b ∷ rest) ∙ decode-takes a b rest (omega arith)
@@ -238,8 +295,10 @@ IsReading-fragments words name found r (inl f) is reads =
     (first_value-rows found (codes "HEX") ∙ f.digits))
 IsReading-fragments words name found r (inr (inl d)) is reads =
     let clash : ◌≡◌ {A = ℕ} 102 100 = ap (λ (w : Word). get_or w 0 0) (sym is ∙ d.name_is) in absurd (omega arith)
-IsReading-fragments words name found r (inr (inr f)) is reads =
+IsReading-fragments words name found r (inr (inr (inl f))) is reads =
     let clash : ◌≡◌ {A = ℕ} 102 114 = ap (λ (w : Word). get_or w 0 0) (sym is ∙ f.name_is) in absurd (omega arith)
+IsReading-fragments words name found r (inr (inr (inr f))) is reads =
+    let clash : ◌≡◌ {A = ℕ} 102 115 = ap (λ (w : Word). get_or w 0 0) (sym is ∙ f.name_is) in absurd (omega arith)
 
 -- `decode`, by the texts under its names
 pub IsReading-decode : (words : List Word) (name : Text) (found : Found) (r : Result Request Fault) → Finds words (Some (name, rows_of found))
@@ -249,8 +308,10 @@ pub IsReading-decode : (words : List Word) (name : Text) (found : Found) (r : Re
     → IsReading words r
 IsReading-decode words name found r (inl f) is reads =
     let clash : ◌≡◌ {A = ℕ} 100 102 = ap (λ (w : Word). get_or w 0 0) (sym is ∙ f.name_is) in absurd (omega arith)
-IsReading-decode words name found r (inr (inr f)) is reads =
+IsReading-decode words name found r (inr (inr (inl f))) is reads =
     let clash : ◌≡◌ {A = ℕ} 100 114 = ap (λ (w : Word). get_or w 0 0) (sym is ∙ f.name_is) in absurd (omega arith)
+IsReading-decode words name found r (inr (inr (inr f))) is reads =
+    let clash : ◌≡◌ {A = ℕ} 100 115 = ap (λ (w : Word). get_or w 0 0) (sym is ∙ f.name_is) in absurd (omega arith)
 IsReading-decode words name found r (inr (inl d)) is reads =
     subst (λ ws. IsReading ws r) (sym d.words_are)
     (reads d.a d.b d.rest (first_value-rows found (codes "K") ∙ d.k) (first_value-rows found (codes "LEN") ∙ d.len)
@@ -265,5 +326,25 @@ IsReading-run words name found r (inl f) is reads =
     let clash : ◌≡◌ {A = ℕ} 114 102 = ap (λ (w : Word). get_or w 0 0) (sym is ∙ f.name_is) in absurd (omega arith)
 IsReading-run words name found r (inr (inl d)) is reads =
     let clash : ◌≡◌ {A = ℕ} 114 100 = ap (λ (w : Word). get_or w 0 0) (sym is ∙ d.name_is) in absurd (omega arith)
-IsReading-run words name found r (inr (inr f)) is reads =
+IsReading-run words name found r (inr (inr (inr f))) is reads =
+    let clash : ◌≡◌ {A = ℕ} 114 115 = ap (λ (w : Word). get_or w 0 0) (sym is ∙ f.name_is) in absurd (omega arith)
+IsReading-run words name found r (inr (inr (inl f))) is reads =
     subst (λ ws. IsReading ws r) (sym f.words_are) (reads f.file (first_value-rows found (codes "FILE") ∙ f.text))
+
+-- `soak`, by the texts under its names
+pub IsReading-soak : (words : List Word) (name : Text) (found : Found) (r : Result Request Fault) → Finds words (Some (name, rows_of found))
+    → name ≡ codes "soak"
+    → ((a b c d : Word) → first_value found (codes "CLIENTS") ≡ Some a → first_value found (codes "CALLS") ≡ Some b
+    → first_value found (codes "MOVES") ≡ Some c → first_value found (codes "CHOICES") ≡ Some d
+    → IsReading (codes "soak" ∷ a ∷ b ∷ c ∷ d ∷ []) r)
+    → IsReading words r
+IsReading-soak words name found r (inl f) is reads =
+    let clash : ◌≡◌ {A = ℕ} 115 102 = ap (λ (w : Word). get_or w 0 0) (sym is ∙ f.name_is) in absurd (omega arith)
+IsReading-soak words name found r (inr (inl d)) is reads =
+    let clash : ◌≡◌ {A = ℕ} 115 100 = ap (λ (w : Word). get_or w 0 0) (sym is ∙ d.name_is) in absurd (omega arith)
+IsReading-soak words name found r (inr (inr (inl f))) is reads =
+    let clash : ◌≡◌ {A = ℕ} 115 114 = ap (λ (w : Word). get_or w 0 0) (sym is ∙ f.name_is) in absurd (omega arith)
+IsReading-soak words name found r (inr (inr (inr f))) is reads =
+    subst (λ ws. IsReading ws r) (sym f.words_are)
+    (reads f.a f.b f.c f.d (first_value-rows found (codes "CLIENTS") ∙ f.clients) (first_value-rows found (codes "CALLS") ∙ f.calls)
+    (first_value-rows found (codes "MOVES") ∙ f.moves) (first_value-rows found (codes "CHOICES") ∙ f.choices))

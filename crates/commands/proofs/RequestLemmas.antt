@@ -5,6 +5,8 @@ use Rattle.std.proofs.lemmas.List.{take_more, map-append}
 use Rattle.std.specs.Prelude.{Result, Ok, Err, IsErrAnd, MatchResult}
 use Rattle.tag.specs.declared.refusal.Refusal.TheVariants.{NoMemory}
 use Rattle.words.specs.Hexadecimal.{IsHexadecimal}
+use Rattle.words.specs.Number.{IsNumber}
+use Rattle.soak.specs.declared.plan.Plan.{Plan}
 use Rattle.encoder.specs.declared.fragment.Piece.{Piece}
 use Rattle.commands.specs.declared.request.Request.{Request}
 use Rattle.commands.specs.declared.request.Request.TheVariants as of
@@ -60,3 +62,28 @@ no_bytes a b c none (of.Decode k len pieces) s =
     let clash : ◌≡◌ {A = ℕ} 102 100 = ap (λ (ws : List Word). get_or (get_or ws 0 []) 0 0) s.3 in absurd (omega arith)
 no_bytes a b c none (of.Run file) s =
     let clash : ◌≡◌ {A = ℕ} 102 114 = ap (λ (ws : List Word). get_or (get_or ws 0 []) 0 0) s in absurd (omega arith)
+no_bytes a b c none (of.Soak plan) s =
+    let clash : ◌≡◌ {A = ℕ} 102 115 = ap (λ (ws : List Word). get_or (get_or ws 0 []) 0 0) s.4 in absurd (omega arith)
+
+-- words of `soak` that write no numbers
+pub no_numbers : (a b c d : Word)
+    → ((plan : Plan) → IsNumber a plan.clients → IsNumber b plan.calls → IsNumber c plan.moves → IsNumber d plan.choices → ⊥)
+    → (r : Request) → ¬ (Spells (codes "soak" ∷ a ∷ b ∷ c ∷ d ∷ []) r)
+no_numbers a b c d none (of.Fragments k n value) s =
+    let clash : ◌≡◌ {A = ℕ} 115 102 = ap (λ (ws : List Word). get_or (get_or ws 0 []) 0 0) s.3 in absurd (omega arith)
+no_numbers a b c d none (of.Decode k len pieces) s =
+    let clash : ◌≡◌ {A = ℕ} 115 100 = ap (λ (ws : List Word). get_or (get_or ws 0 []) 0 0) s.3 in absurd (omega arith)
+no_numbers a b c d none (of.Run file) s =
+    let clash : ◌≡◌ {A = ℕ} 115 114 = ap (λ (ws : List Word). get_or (get_or ws 0 []) 0 0) s in absurd (omega arith)
+no_numbers a b c d none (of.Soak plan) s =
+    let at : (i : ℕ) → get_or (codes "soak" ∷ s.0 ∷ s.1 ∷ s.2 ∷ s.3 ∷ []) i [] ≡ get_or (codes "soak" ∷ a ∷ b ∷ c ∷ d ∷ []) i [] =
+    λ i. ap (λ (ws : List Word). get_or ws i []) (sym s.4) in
+    none plan (subst (λ (w : Word). IsNumber w plan.clients) (at 1) s.5) (subst (λ (w : Word). IsNumber w plan.calls) (at 2) s.6)
+    (subst (λ (w : Word). IsNumber w plan.moves) (at 3) s.7) (subst (λ (w : Word). IsNumber w plan.choices) (at 4) s.8)
+
+-- such words are a bad argument
+pub bad_number : (a b c d : Word) (e : Fault) → e ≡ BadArgument
+    → ((plan : Plan) → IsNumber a plan.clients → IsNumber b plan.calls → IsNumber c plan.moves → IsNumber d plan.choices → ⊥)
+    → IsFaultOf (codes "soak" ∷ a ∷ b ∷ c ∷ d ∷ []) e
+bad_number a b c d e bad none =
+    subst (IsFaultOf (codes "soak" ∷ a ∷ b ∷ c ∷ d ∷ [])) (sym bad) (inr (inr (inr (a, b, c, d, refl))), no_numbers a b c d none)

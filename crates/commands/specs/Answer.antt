@@ -1,4 +1,4 @@
--- What a request is answered, where one line answers it. A script answers by lines of its own.
+-- What a request is answered, where one line answers it. A script and a soak answer by lines of their own.
 use Rattle.std.specs.Prelude.{◌≡◌, ◌⊎◌, ℕ, List, None, Some, length}
 use Rattle.tag.specs.declared.refusal.Refusal.{Refusal}
 use Rattle.tag.specs.declared.refusal.Refusal.TheVariants.{BadPieces}
@@ -24,6 +24,7 @@ IsAnswer (request.Fragments k n value) (output.Value decoded) = ⊥
 IsAnswer (request.Decode k len pieces) (output.Fragments coded) = ⊥
 IsAnswer (request.Decode k len pieces) (output.Value decoded) = IsValueOf k len pieces.items decoded.value
 IsAnswer (request.Run file) output = ⊥
+IsAnswer (request.Soak plan) output = ⊥
 
 -- the request is refused for this cause
 abbrev pub IsRefusedFor : Request → Refusal → Type 0
@@ -31,3 +32,4 @@ IsRefusedFor (request.Fragments k n value) refusal = encode_cause k n (length va
 IsRefusedFor (request.Decode k len pieces) refusal =
     (refusal ≡ BadPieces) × ((¬ AreLawful k len pieces.items) ⊎ HaveNoValue k len pieces.items)
 IsRefusedFor (request.Run file) refusal = ⊥
+IsRefusedFor (request.Soak plan) refusal = ⊥

@@ -33,14 +33,19 @@ decode_form = with_rule (with_rule (with_rule (new_app (codes "decode"))
 abbrev pub run_form : App
 run_form = with_rule (new_app (codes "run")) (positional (codes "FILE"))
 
+-- `soak CLIENTS CALLS MOVES CHOICES`
+abbrev pub soak_form : App
+soak_form = with_rule (with_rule (with_rule (with_rule (new_app (codes "soak"))
+    (positional (codes "CLIENTS"))) (positional (codes "CALLS"))) (positional (codes "MOVES"))) (positional (codes "CHOICES"))
+
 -- with no flag and no command that asks for help
 abbrev pub without_help : App → App
 without_help = on_top (λ s. record s { disable_help_flag = true; disable_help_subcommand = true })
 
 -- the whole command line
 abbrev pub cas_form : App
-cas_form = with_subcommand (with_subcommand (with_subcommand (without_help (new_app (codes "cas")))
-    fragments_form.top) decode_form.top) run_form.top
+cas_form = with_subcommand (with_subcommand (with_subcommand (with_subcommand (without_help (new_app (codes "cas")))
+    fragments_form.top) decode_form.top) run_form.top) soak_form.top
 
 -- the command is read as the form says, and has no global argument
 abbrev pub IsForm : Command → App → Type 0

@@ -5,11 +5,17 @@ use Rattle.std.specs.declared.io.ErrorKind.{ErrorKind}
 use Rattle.tag.specs.declared.refusal.Refusal.{Refusal}
 use Rattle.tag.specs.declared.refusal.Refusal.TheVariants.{NoMemory}
 use Rattle.player.specs.Script.{Runs, unread_status}
+use Rattle.soak.specs.Closed.{IsOfClosed}
+use Rattle.soak.specs.Summary.{summary_text}
+use Rattle.soak.specs.Summary.{status_of as status_of_summary}
+use Rattle.soak.specs.declared.plan.Plan.{Plan}
+use Rattle.soak.specs.declared.summary.Summary.{Summary}
 use Rattle.commands.specs.Answer.{IsAnswer, IsRefusedFor}
 use Rattle.commands.specs.Fault.{status_of}
 use Rattle.commands.specs.Output.{output_text}
 use Rattle.commands.specs.Request.{HasForm, Spells, Word}
 use Rattle.commands.specs.declared.request.Request.{Request}
+use Rattle.commands.specs.declared.request.Request.TheVariants as request
 use Rattle.commands.specs.declared.output.Output.{Output}
 use Rattle.commands.specs.declared.fault.Fault.{Fault}
 use Rattle.commands.specs.declared.fault.Fault.TheVariants.{NotText, Usage, BadArgument, Refused, OutputLost}
@@ -60,9 +66,19 @@ abbrev pub RunsFile : Contents → Contents → ℕ → Type 0
 RunsFile old new status = ((kind : ErrorKind) × IsUnopened kind old new status)
     ⊎ ((given : Option (List ℕ)) × Runs given old new status)
 
--- the exit status with what was done: 0 where the line of the answer is written, else the status of why it is not; or the
--- words are `run FILE`, and the status is that of the file's run
+-- the lines are written of what a store comes to that was closed with as many seats as the plan has clients, and the status
+-- is as they say; or the soak was refused, and the writer is as it was; or such lines were lost
+abbrev pub Soaks : Plan → Contents → Contents → ℕ → Type 0
+Soaks plan old new status =
+    ((summary : Summary) × IsOfClosed plan.clients summary × (status ≡ status_of_summary summary)
+    × Appends old new (summary_text summary ++ 10 ∷ []))
+    ⊎ (((status ≡ 1) × Keeps old new)
+    ⊎ ((status ≡ 1) × ((summary : Summary) × IsOfClosed plan.clients summary)))
+
+-- the exit status with what was done: 0 where the line of the answer is written, else the status of why it is not; the
+-- words are `run FILE`, and the status is that of the file's run; or they spell a soak, and the status is that of the soak
 abbrev pub EndsBy : List Word → Contents → Contents → ℕ → Type 0
 EndsBy words old new status = ((status ≡ 0) × PrintsAnswer words old new)
     ⊎ ((fault : Fault) × (status ≡ status_of fault) × FailsBy words old new fault)
     ⊎ ((file : Word) × (words ≡ codes "run" ∷ file ∷ []) × RunsFile old new status)
+    ⊎ ((plan : Plan) × Spells words (request.Soak plan) × Soaks plan old new status)

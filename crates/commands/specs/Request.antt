@@ -6,6 +6,7 @@ use Rattle.encoder.specs.declared.fragment.Piece.{Piece}
 use Rattle.tag.specs.declared.refusal.Refusal.TheVariants.{NoMemory}
 use Rattle.words.specs.Number.{IsNumber}
 use Rattle.words.specs.Hexadecimal.{IsHexadecimal}
+use Rattle.soak.specs.Plan.{IsWithin}
 use Rattle.commands.specs.declared.request.Request.{Request}
 use Rattle.commands.specs.declared.request.Request.TheVariants as of
 use Rattle.commands.specs.declared.fault.Fault.{Fault}
@@ -36,19 +37,23 @@ ArePieces len (w ∷ ws) [] = ⊥
 ArePieces len (w ∷ ws) (p ∷ ps) = IsPiece len w p × ArePieces len ws ps
 
 -- the words after the program's name spell the request: `fragments K N HEX`, `decode K LEN POINT:HEX..`, or `run FILE`, where
--- any word is a FILE
+-- any word is a FILE, or `soak CLIENTS CALLS MOVES CHOICES`
 abbrev pub Spells : List Word → Request → Type 0
 Spells words (of.Fragments k n value) = (a : Word) × (b : Word) × (c : Word)
     × (words ≡ codes "fragments" ∷ a ∷ b ∷ c ∷ []) × IsNumber a k × IsNumber b n × IsHexadecimal c value
 Spells words (of.Decode k len pieces) = (a : Word) × (b : Word) × (rest : List Word)
     × (words ≡ codes "decode" ∷ a ∷ b ∷ rest) × IsNumber a k × IsNumber b len × ArePieces len rest pieces.items
 Spells words (of.Run file) = words ≡ codes "run" ∷ string_bytes file ∷ []
+Spells words (of.Soak plan) = (a : Word) × (b : Word) × (c : Word) × (d : Word)
+    × (words ≡ codes "soak" ∷ a ∷ b ∷ c ∷ d ∷ []) × IsNumber a plan.clients × IsNumber b plan.calls × IsNumber c plan.moves
+    × IsNumber d plan.choices × IsWithin plan.clients plan.calls plan.moves
 
 -- the words have the form of a command line, whatever stands in the places of the numbers and bytes
 abbrev pub HasForm : List Word → Type 0
 HasForm words = ((a : Word) × (b : Word) × (c : Word) × (words ≡ codes "fragments" ∷ a ∷ b ∷ c ∷ []))
     ⊎ ((a : Word) × (b : Word) × (rest : List Word) × (words ≡ codes "decode" ∷ a ∷ b ∷ rest))
     ⊎ ((file : Word) × (words ≡ codes "run" ∷ file ∷ []))
+    ⊎ ((a : Word) × (b : Word) × (c : Word) × (d : Word) × (words ≡ codes "soak" ∷ a ∷ b ∷ c ∷ d ∷ []))
 
 -- why the words give no request: they have another form, they have the form and spell none, or memory is wanting
 abbrev pub IsFaultOf : List Word → Fault → Type 0

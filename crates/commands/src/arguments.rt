@@ -5,12 +5,12 @@ ghost use Rattle.clap.specs.Words.{fault_of, first_value, found_of, kind_of, mat
 ghost use Rattle.clap.specs.Words.{subcommand_of, subcommand_rows_of};
 ghost use Rattle.tag.specs.declared.refusal.Refusal.TheVariants.{NoMemory};
 ghost use Rattle.commands.specs.CommandLine.{IsForm, cas_form, decode_form, fragments_form, marked_words, positional};
-ghost use Rattle.commands.specs.CommandLine.{run_form, several};
+ghost use Rattle.commands.specs.CommandLine.{run_form, several, soak_form};
 ghost use Rattle.commands.specs.Request.{IsReading, Word};
 ghost use Rattle.commands.specs.declared.fault.Fault.TheVariants.{Refused, Usage};
 
 use crate::fault::Fault;
-use crate::request::{Request, decode_request, fragments_request, run_request};
+use crate::request::{Request, decode_request, fragments_request, run_request, soak_request};
 use clap::error::ErrorKind;
 use clap::{Arg, ArgAction, ArgMatches, Command, Error};
 use std::alloc::{AllocError, Global};
@@ -29,6 +29,7 @@ pub(crate) fn parse_request(alloc: Global, words: &[String]) -> Result<Request, 
         "fragments" => read_fragments(alloc, found),
         "decode" => read_decode(alloc, found),
         "run" => read_run(alloc, found),
+        "soak" => read_soak(found),
         _ => Err(Fault::Usage),
     }
 }
@@ -85,7 +86,8 @@ fn cas_form<'a>(alloc: Global) -> Result<Command<'a>, AllocError>
         .disable_help_subcommand(true)
         .subcommand(fragments_form(alloc)?)?
         .subcommand(decode_form(alloc)?)?
-        .subcommand(run_form(alloc)?)
+        .subcommand(run_form(alloc)?)?
+        .subcommand(soak_form(alloc)?)
 }
 
 fn fragments_form<'a>(alloc: Global) -> Result<Command<'a>, AllocError>
@@ -110,6 +112,16 @@ fn run_form<'a>(alloc: Global) -> Result<Command<'a>, AllocError>
     ensures { IfOk result (λ c. IsForm c run_form) }
 {
     Command::new(alloc, "run").arg(positional(alloc, "FILE"))
+}
+
+fn soak_form<'a>(alloc: Global) -> Result<Command<'a>, AllocError>
+    ensures { IfOk result (λ c. IsForm c soak_form) }
+{
+    Command::new(alloc, "soak")
+        .arg(positional(alloc, "CLIENTS"))?
+        .arg(positional(alloc, "CALLS"))?
+        .arg(positional(alloc, "MOVES"))?
+        .arg(positional(alloc, "CHOICES"))
 }
 
 fn positional<'a>(alloc: Global, id: &'a str) -> Arg<'a>
@@ -156,6 +168,20 @@ fn read_run(alloc: Global, found: &ArgMatches<'_>) -> Result<Request, Fault>
 {
     let file = text(found, "FILE")?;
     run_request(alloc, file)
+}
+
+fn read_soak(found: &ArgMatches<'_>) -> Result<Request, Fault>
+    ensures { (a b c d : Word) → first_value (found_of found.now) (codes "CLIENTS") ≡ Some a
+        → first_value (found_of found.now) (codes "CALLS") ≡ Some b
+        → first_value (found_of found.now) (codes "MOVES") ≡ Some c
+        → first_value (found_of found.now) (codes "CHOICES") ≡ Some d
+        → IsReading (codes "soak" ∷ a ∷ b ∷ c ∷ d ∷ []) result }
+{
+    let clients = text(found, "CLIENTS")?;
+    let calls = text(found, "CALLS")?;
+    let moves = text(found, "MOVES")?;
+    let choices = text(found, "CHOICES")?;
+    soak_request(clients, calls, moves, choices)
 }
 
 fn text<'a>(found: &ArgMatches<'a>, id: &str) -> Result<&'a str, Fault>

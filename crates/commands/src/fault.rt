@@ -12,7 +12,7 @@ pub enum Fault {
     #[error("")]
     NotText,
     /// The command line has another form.
-    #[error("usage: cas fragments K N HEX\n       cas decode K LEN POINT:HEX..\n       cas run FILE")]
+    #[error("usage: cas fragments K N HEX\n       cas decode K LEN POINT:HEX..\n       cas run FILE\n       cas soak CLIENTS CALLS MOVES CHOICES")]
     Usage,
     /// A word is not the number or the bytes that its place takes.
     #[error("bad argument")]

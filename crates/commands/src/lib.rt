@@ -1,4 +1,5 @@
-//! The command lines of the program `cas`: the fragments of a value, the value of fragments, and the run of a script.
+//! The command lines of the program `cas`: the fragments of a value, the value of fragments, the run of a
+//! script, and a soak of the store.
 #![tactic(auto)]
 
 pub use fault::Fault;
@@ -12,4 +13,5 @@ mod fragments;
 mod output;
 mod program;
 mod request;
+mod soaking;
 mod value;

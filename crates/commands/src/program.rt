@@ -16,18 +16,21 @@ use crate::file::run_file;
 use crate::fragments::fragments_of;
 use crate::output::Output;
 use crate::request::Request;
+use crate::soaking::run_soak;
 use crate::value::value_of;
 use bytes::Bytes;
 use encoder::Piece;
 use std::alloc::Global;
 use std::io::Write;
 use std::rt::Files;
+use std::sync::Wait;
+use std::thread::Threads;
 use tag::Refusal;
 
 /// Carries out the words after the program's name, and answers the exit status: 0 where the line of the answer is
 /// written, or the script of the file played to its end, 1 for a refusal or lost output, 2 for words that spell no request
 /// or a script that cannot be read or is bad. A text on `err` says why.
-pub fn run_words<R: Files + AllocGlobal, O: Write, E: Write>(
+pub fn run_words<R: Files + AllocGlobal + Threads + Wait + Sync, O: Write, E: Write>(
     rt: &R,
     words: &[String],
     out: &mut O,
@@ -42,7 +45,7 @@ pub fn run_words<R: Files + AllocGlobal, O: Write, E: Write>(
 }
 
 /// Carries out the request, and answers the exit status.
-fn carry_out<R: Files + AllocGlobal, O: Write, E: Write>(
+fn carry_out<R: Files + AllocGlobal + Threads + Wait + Sync, O: Write, E: Write>(
     rt: &R,
     request: Request,
     out: &mut O,
@@ -59,6 +62,7 @@ fn carry_out<R: Files + AllocGlobal, O: Write, E: Write>(
             print_answer(answer_decode(rt.alloc(), k, len, pieces), out, err)
         }
         Request::Run { file } => run_file(rt, file.as_str(), out, err),
+        Request::Soak { plan } => run_soak(rt, plan, out, err),
     }
 }
 

@@ -10,6 +10,7 @@ ghost use Rattle.commands.specs.declared.fault.Fault.TheVariants.{BadArgument, R
 use crate::fault::Fault;
 use bytes::Bytes;
 use encoder::Piece;
+use soak::Plan;
 use std::alloc::Global;
 use words::hexadecimal::parse_bytes;
 use words::number::parse_number;
@@ -33,6 +34,10 @@ pub(crate) enum Request {
     /// `run FILE`: the script that the file of this name holds.
     Run {
         file: String,
+    },
+    /// `soak CLIENTS CALLS MOVES CHOICES`: what a store comes to once so many clients have worked through it.
+    Soak {
+        plan: Plan,
     },
 }
 
@@ -72,6 +77,25 @@ pub(crate) fn run_request(alloc: Global, file: &str) -> Result<Request, Fault>
 {
     let file = String::from_str(alloc, file)?;
     Ok(Request::Run { file })
+}
+
+/// The request `soak CLIENTS CALLS MOVES CHOICES`.
+pub(crate) fn soak_request(
+    clients: &str,
+    calls: &str,
+    moves: &str,
+    choices: &str,
+) -> Result<Request, Fault>
+    ensures { IsReading (codes "soak" ∷ clients.now ∷ calls.now ∷ moves.now ∷ choices.now ∷ []) result }
+{
+    let clients = number(clients)?;
+    let calls = number(calls)?;
+    let moves = number(moves)?;
+    let choices = number(choices)?;
+    let Some(plan) = Plan::new(clients, calls, moves, choices) else {
+        return Err(Fault::BadArgument);
+    };
+    Ok(Request::Soak { plan })
 }
 
 fn parse_pieces(alloc: Global, len: u64, words: &[&str]) -> Result<Vec<Piece>, Fault>

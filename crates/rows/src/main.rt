@@ -13,6 +13,8 @@ use row::Row;
 use run::Run;
 use std::io;
 use std::rt::Files;
+use std::sync::Wait;
+use std::thread::Threads;
 use table::parse_table;
 
 fn main(rt: HostRuntime) -> Result<()> {
@@ -28,7 +30,10 @@ fn main(rt: HostRuntime) -> Result<()> {
 }
 
 /// Plays each row, prints those that differ, and answers how many they are.
-fn play_all<R: Files + Print + AllocGlobal>(rt: &R, rows: &[Row]) -> Result<usize> {
+fn play_all<R: Files + Print + AllocGlobal + Threads + Wait + Sync>(
+    rt: &R,
+    rows: &[Row],
+) -> Result<usize> {
     let mut differing = 0usize;
     for row in rows {
         let run = Run::of(rt, &row.deed);

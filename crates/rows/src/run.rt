@@ -4,6 +4,8 @@ use commands::run_words;
 use player::run_script;
 use std::fmt;
 use std::rt::Files;
+use std::sync::Wait;
+use std::thread::Threads;
 
 /// What a run prints, and its exit status. It shows as the lines of a row.
 #[derive(Drop, PartialEq, Eq)]
@@ -15,7 +17,7 @@ pub(crate) struct Run {
 
 impl Run {
     /// Plays the script, or carries out the command line.
-    pub(crate) fn of<R: Files + AllocGlobal>(rt: &R, deed: &Deed) -> Run {
+    pub(crate) fn of<R: Files + AllocGlobal + Threads + Wait + Sync>(rt: &R, deed: &Deed) -> Run {
         let mut out = Vec::new(rt.alloc());
         let mut err = Vec::new(rt.alloc());
         let status = match deed {

@@ -6,7 +6,9 @@ use std::io;
 use std::io::ErrorKind;
 use std::process::Abort;
 use std::rt::Files;
+use std::sync::Wait;
 use std::test::Fail;
+use std::thread::Threads;
 
 const LINE: &[u8] = b"0:. 1:. 2:.\n";
 
@@ -49,13 +51,21 @@ enum End {
 }
 
 /// Runs the words, and answers the status and what stands on standard error.
-fn run<R: AllocGlobal + Files>(rt: &R, words: &[String], out: &mut FailingWriter) -> (u8, Vec<u8>) {
+fn run<R: AllocGlobal + Files + Threads + Wait + Sync>(
+    rt: &R,
+    words: &[String],
+    out: &mut FailingWriter,
+) -> (u8, Vec<u8>) {
     let mut err = Vec::new(rt.alloc());
     let status = run_words(rt, words, out, &mut err);
     (status, err)
 }
 
-fn end_behind<R: AllocGlobal + Files + Abort>(rt: &R, words: &[String], calls: u64) -> End {
+fn end_behind<R: AllocGlobal + Files + Threads + Wait + Sync + Abort>(
+    rt: &R,
+    words: &[String],
+    calls: u64,
+) -> End {
     let mut out = FailingWriter::new(rt.alloc(), calls, ErrorKind::BrokenPipe);
     let (status, err) = run(rt, words, &mut out);
     let is_whole = out.written.as_slice() == LINE;

@@ -4,7 +4,7 @@ use Rattle.clap.specs.Lexer.{usize_max}
 use Rattle.clap.specs.Words.{found_of, subcommand_rows_of}
 use Rattle.commands.specs.CommandLine.{marked_words}
 use Rattle.commands.proofs.ReadingLemmas.{Finds, Finds-command, Finds-read, IsFaultOf-unread, IsReading-decode}
-use Rattle.commands.proofs.ReadingLemmas.{IsReading-fragments, IsReading-run, rows-None}
+use Rattle.commands.proofs.ReadingLemmas.{IsReading-fragments, IsReading-run, IsReading-soak, rows-None}
 use Rattle.commands.proofs.RequestLemmas.{err_of}
 use Rattle.commands.proofs.arguments.parse_request.Goals as goal
 
@@ -48,3 +48,12 @@ returns-in-run c =
     (Finds-command _ _ c.in_ok-matches.matches _ _ seen c.in_ok-matches.ensures.faultless c.in_ok-matches.ensures.found
     c.in-Some.ensures.name c.in-Some.ensures.rows)
     c.in-run.is c.read_run.ensures
+
+pub returns-in-soak : goal.returns-in-soak
+returns-in-soak c =
+    let seen : map (λ w. w.now) c.as_slice.result.now ≡ marked_words (map string_bytes c.args.words.now) =
+    ap (map (λ w. w.now)) c.as_slice.ensures.value ∙ c.in_ok-marked.ensures in
+    IsReading-soak _ c.in-Some.command.now (found_of c.in-Some.found.now) _
+    (Finds-command _ _ c.in_ok-matches.matches _ _ seen c.in_ok-matches.ensures.faultless c.in_ok-matches.ensures.found
+    c.in-Some.ensures.name c.in-Some.ensures.rows)
+    c.in-soak.is c.read_soak.ensures

@@ -1,0 +1,42 @@
+//! A soak of the store.
+ghost use Rattle.std.specs.Prelude.{◌≡◌, ◌++◌, ◌∷◌, [], IfErr, OnOk};
+ghost use Rattle.std.specs.Io.KnownBytes.{Appends};
+ghost use Rattle.soak.specs.Summary.{summary_text};
+ghost use Rattle.commands.specs.Program.{Soaks};
+ghost use Rattle.commands.specs.declared.fault.Fault.TheVariants.{OutputLost};
+
+use crate::fault::Fault;
+use soak::{Plan, Summary, run_plan};
+use std::io::Write;
+use std::sync::Wait;
+use std::thread::Threads;
+
+/// Lets clients work through a store as the plan says, prints what it comes to, and answers the exit status. Where a call
+/// is refused or a thread cannot be started, a text on `err` says so.
+pub fn run_soak<R: AllocGlobal + Threads + Wait + Sync, O: Write, E: Write>(
+    rt: &R,
+    plan: Plan,
+    out: &mut O,
+    err: &mut E,
+) -> u8
+    ensures { Soaks plan (O.contents out.old) (O.contents out.new) result }
+{
+    match run_plan(rt, rt.alloc(), plan) {
+        Ok(summary) => match print_summary(out, &summary) {
+            Ok(()) => summary.status(),
+            Err(fault) => fault.report(err),
+        },
+        Err(refusal) => Fault::Refused(refusal).report(err),
+    }
+}
+
+fn print_summary<W: Write>(out: &mut W, summary: &Summary) -> Result<(), Fault>
+    ensures printed { OnOk result
+        (Appends (W.contents out.old) (W.contents out.new) (summary_text summary.now ++ 10 ∷ [])) }
+    ensures lost { IfErr result (λ e. e ≡ OutputLost) }
+{
+    match out.writeln(summary) {
+        Ok(()) => out.flush().map_err(|_| Fault::OutputLost),
+        Err(_) => Err(Fault::OutputLost),
+    }
+}
