@@ -1,6 +1,7 @@
 mod Stepping
 mod Whole
 mod Printing
+mod Checking
 mod Delivering
 mod Reading
 mod Playing

@@ -55,6 +55,6 @@ Supplies old name call new report =
 -- the call of this number settles the value that its own pieces give
 abbrev pub SettlesValue : Cluster → (name : List ℕ) → (call : ℕ) → Cluster → Report → Type 0
 SettlesValue old name call new report =
-    (SettlesOwn old name call new × (report ≡ done))
+    ((object_cause old name (λ object. settling_cause (next old) object call) ≡ None) × SettlesOwn old name call new × (report ≡ done))
     ⊎ ((refusal : Refusal) × IsRefusalBy (object_cause old name (λ object. settling_cause (next old) object call)) refusal
     × IsRefused old refusal new report)

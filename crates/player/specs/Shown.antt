@@ -103,8 +103,8 @@ pub record IsChecked (cluster : Cluster) (name calls : List ℕ) (answer : Bool)
   pub there : named cluster.objects name ≡ Some state
   pub says : IsTrue answer ↔ (AreLawful (entries state.object) × IsSequence (entries state.object) calls)
 
--- whether the calls are a sequence
+-- whether the calls, of which none is missing, are a sequence
 abbrev pub ShowsCheck : Cluster → (name calls : List ℕ) → (text : List ℕ) → Type 0
-ShowsCheck cluster name calls text =
-    ((answer : Bool) × IsChecked cluster name calls answer × (text ≡ line_of (outcome_text (outcome.Checked answer))))
-    ⊎ ((refusal : Refusal) × IsRefusalBy (unknown_object cluster name) refusal × (text ≡ refusal_line refusal))
+ShowsCheck cluster name calls text = (¬ (HasNoCall cluster name calls))
+    × (((answer : Bool) × IsChecked cluster name calls answer × (text ≡ line_of (outcome_text (outcome.Checked answer))))
+    ⊎ ((refusal : Refusal) × IsRefusalBy (unknown_object cluster name) refusal × (text ≡ refusal_line refusal)))
