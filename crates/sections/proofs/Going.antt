@@ -120,7 +120,8 @@ ArePast cluster name = (state : State) → named cluster.objects name ≡ Some s
 told : (old : Cluster) (name : List ℕ) (call : ℕ) (receipt : Receipt) (copy : Option (List ℕ))
     → if_named old name (λ object. receipt_at object (place_of old.objects name) call (next old)) ≡ Some receipt
     → copy ≡ if_named old name (λ object. value_at object call) → ArePast old name
-    → ((if is_some receipt.value then copy else None) ≡ receipt.value) × (receipt.called < receipt.answered)
+    → ((if is_some receipt.value then copy else None) ≡ receipt.value) × (receipt.called < receipt.answered) × (receipt.call ≡ call)
+    × (receipt.answered ≡ next old)
 told old name call receipt copy handed is past =
     let s = is_there old name (λ object. receipt_at object (place_of old.objects name) call (next old)) receipt handed in
     let f = found_receipt s.0.object (place_of old.objects name) call (next old) receipt s.2 in
@@ -132,6 +133,8 @@ told old name call receipt copy handed is past =
       subst (λ (r : Receipt). (if is_some r.value then copy else None) ≡ r.value) (sym f.2)
           (ap (λ v. if is_some (entry_value c.kind (Some (next old)) c.settled) then v else None) value ∙ rest),
       subst (λ (r : Receipt). r.called < r.answered) (sym f.2) (omega (arith, low)),
+      ap (λ (r : Receipt). r.call) f.2,
+      ap (λ (r : Receipt). r.answered) f.2,
     )
   where
     value_of_call : Option Call → Option (List ℕ)
@@ -147,7 +150,7 @@ module _ {C : Type 0} (chooses : C → ℕ → ℕ → C → Type 0) (name : Lis
 
   pub copies : (h : Hand) (r : Option Round) (w : Want) (copy : Option (List ℕ)) → Goes chooses name call h again old before new after r → wanted old name call ≡ Some w
       → (w ≡ want.Answer → h ≡ hand.Empty → old.counter < MOST_STEPS → copy ≡ if_named old name (λ object. value_at object call)) → ArePast old name
-      → new.counter ≤ MOST_STEPS → Copies r (if tells r then copy else None)
+      → new.counter ≤ MOST_STEPS → Copies old call r (if tells r then copy else None)
   copies h None w copy goes is value past few = tt
   copies h (Some round.Stepped) w copy goes is value past few = tt
   copies h (Some (round.Encode v k n)) w copy goes is value past few = tt

@@ -1,8 +1,8 @@
 -- What a seat keeps of its calls.
-use Rattle.std.specs.Prelude.{◌≡◌, ℕ, zero, suc, ◌<◌, ◌≤◌, nat_le, not, is_some, List, [], ◌∷◌, ◌++◌, length, Option, Some, None, MatchOption, max}
+use Rattle.std.specs.Prelude.{◌≡◌, ◌⊎◌, ℕ, zero, suc, ◌<◌, ◌≤◌, nat_le, not, is_some, List, [], ◌∷◌, ◌++◌, length, Option, Some, None, MatchOption, max}
 use Rattle.std.specs.Option.{option_map_or}
 use Rattle.tag.specs.declared.refusal.Refusal.{Refusal}
-use Rattle.tag.specs.declared.refusal.Refusal.TheVariants.{NotNow, Stranger}
+use Rattle.tag.specs.declared.refusal.Refusal.TheVariants.{NoMemory, NotNow, Stranger}
 use Rattle.record.specs.declared.call.Operation.{Operation}
 use Rattle.record.specs.declared.call.Operation.TheVariants as operation
 use Rattle.record.specs.Records.{Object}
@@ -110,18 +110,16 @@ with_pending s name r = record s { pending = Some (record { name = name; kept = 
 abbrev pub settled : SeatState → CallRecord → Receipt → SeatState
 settled s r t = record s { floor = max s.floor t.answered; records = s.records ++ (record r { receipt = Some t }) ∷ []; pending = None }
 
--- the pending call gets its receipt
+-- the receipt is of the pending call
+abbrev pub IsOf : Option Pending → Receipt → Type 0
+IsOf None receipt = ⊥
+IsOf (Some p) receipt = receipt.call ≡ p.kept.call
+
+-- the pending call gets its receipt, whose answer is later than its call and than all that the seat has seen
 abbrev pub Settles : Option Pending → SeatState → Receipt → SeatState → Type 0
 Settles None s receipt t = ⊥
-Settles (Some p) s receipt t = t ≡ settled s p.kept receipt
-
--- one record more, of a call that began in some state of the cluster, with this receipt
-abbrev pub AddsAnswered : SeatState → (name : List ℕ) → Begin → Receipt → SeatState → Type 0
-AddsAnswered s name what t new = (cluster : Cluster) × (new ≡ settled s (begun cluster name s.floor what) t)
-
--- one record more, of a call that stays pending
-abbrev pub AddsPending : SeatState → (name : List ℕ) → Begin → SeatState → Type 0
-AddsPending s name what new = (cluster : Cluster) × (new ≡ with_pending s name (begun cluster name s.floor what))
+Settles (Some p) s receipt t =
+    (receipt.call ≡ p.kept.call) × (receipt.called < receipt.answered) × (s.floor < receipt.answered) × (t ≡ settled s p.kept receipt)
 
 abbrev pub abandoned : SeatState → SeatState
 abandoned s = record s { records = records_of s; pending = None }
@@ -151,3 +149,17 @@ calling_cause (begin.Write value) now object = write_cause value now object
 abbrev pub begin_cause : Cluster → SeatState → (name : List ℕ) → Begin → Option Refusal
 begin_cause cluster s name what =
     unless_stranger cluster s (object_cause cluster name (λ object. unless (not (is_some s.pending)) NotNow (calling_cause what (next cluster) object)))
+
+-- one record more, of a call that begins in some state of the cluster and stays pending
+abbrev pub AddsPending : SeatState → (name : List ℕ) → Begin → SeatState → Type 0
+AddsPending s name what new =
+    (cluster : Cluster) × (begin_cause cluster s name what ≡ None) × (new ≡ with_pending s name (begun cluster name s.floor what))
+
+-- one record more, of a call that begins so and gets this receipt
+abbrev pub AddsAnswered : SeatState → (name : List ℕ) → Begin → Receipt → SeatState → Type 0
+AddsAnswered s name what receipt new = (begun_seat : SeatState) × AddsPending s name what begun_seat × Settles begun_seat.pending begun_seat receipt new
+
+-- there is a state of the cluster in which the call does not begin for this cause
+abbrev pub BeginsNot : SeatState → (name : List ℕ) → Begin → Refusal → Type 0
+BeginsNot s name what r =
+    (cluster : Cluster) × ((begin_cause cluster s name what ≡ Some r) ⊎ ((begin_cause cluster s name what ≡ None) × (r ≡ NoMemory)))

@@ -1,5 +1,5 @@
 -- What each locked section does.
-use Rattle.std.specs.Prelude.{◌≡◌, ◌⊎◌, ℕ, zero, suc, pred, ◌<◌, ◌%◌, ◌==◌, nat_lt, not, Bool, true, false, is_some, if◌then◌else◌, List, [], length, Option, Some, None, slice_get}
+use Rattle.std.specs.Prelude.{◌≡◌, ◌≢◌, ◌⊎◌, ℕ, zero, suc, pred, ◌<◌, ◌%◌, ◌==◌, nat_lt, not, Bool, true, false, is_some, if◌then◌else◌, List, [], length, Option, Some, None, slice_get}
 use Rattle.tag.specs.declared.refusal.Refusal.{Refusal}
 use Rattle.tag.specs.declared.refusal.Refusal.TheVariants.{NoMemory, NoCall, NotNow, MovePending, GaveUp}
 use Rattle.mail.specs.declared.message.Message.{Message}
@@ -52,6 +52,10 @@ hand_cause cluster name call hand.Empty = None
 hand_cause cluster name call (hand.Coded coded) = object_cause cluster name (λ object. supply_cause (next cluster) object call coded)
 hand_cause cluster name call (hand.Decoded decoded) = object_cause cluster name (λ object. settle_cause (next cluster) object call decoded)
 
+-- refused for its cause, or, where there is none, for want of memory
+abbrev pub IsRefusedBy : Option Refusal → Refusal → Type 0
+IsRefusedBy cause r = (cause ≡ Some r) ⊎ ((cause ≡ None) × (r ≡ NoMemory))
+
 -- a step was made, and nothing was chosen
 abbrev pub HandsIn : {C : Type 0} → (name : List ℕ) → Step → (old : Cluster) → (before : C) → (new : Cluster) → (after : C) → Option Round → Type 0
 HandsIn name step old before new after (Some round.Stepped) = (new ≡ stepped old name step) × (after ≡ before)
@@ -70,11 +74,13 @@ module _ {C : Type 0} (chooses : C → ℕ → ℕ → C → Type 0) where
   Goes name call (hand.Coded coded) again old before new after (Some r) = HandsIn name (Step.Supply (pred call)) old before new after (Some r)
   Goes name call (hand.Decoded decoded) again old before new after r = HandsIn name (Step.Settle (pred call) decoded.value) old before new after r
 
-  -- why a round is refused that may be made
+  -- why a round is refused that may be made; a coded value that came too late is not refused
   abbrev pub GoesNot : (name : List ℕ) → (call : ℕ) → Hand → (again : Bool) → (old : Cluster) → (before after : C) → Refusal → Type 0
   GoesNot name call hand.Empty again old before after r = IsRefused chooses name call old again before after r
-  GoesNot name call h again old before after r =
-      (after ≡ before) × ((hand_cause old name call h ≡ Some r) ⊎ ((hand_cause old name call h ≡ None) × (r ≡ NoMemory)))
+  GoesNot name call (hand.Coded coded) again old before after r =
+      (after ≡ before) × (r ≢ NotNow) × IsRefusedBy (hand_cause old name call (hand.Coded coded)) r
+  GoesNot name call (hand.Decoded decoded) again old before after r =
+      (after ≡ before) × IsRefusedBy (hand_cause old name call (hand.Decoded decoded)) r
 
   -- the rounds of a seat's call
   abbrev pub SeatGoes : Option Pending → Hand → (again : Bool) → (old : Cluster) → (before : C) → (new : Cluster) → (after : C) → Option Round → Type 0
@@ -95,10 +101,11 @@ abbrev pub tells : Option Round → Bool
 tells (Some (round.Answered receipt)) = is_some receipt.value
 tells _ = false
 
--- where a round answered its call, a second copy of the value that it tells
-abbrev pub Copies : Option Round → Option (List ℕ) → Type 0
-Copies (Some (round.Answered receipt)) copy = (copy ≡ receipt.value) × (receipt.called < receipt.answered)
-Copies _ copy = Unit {0}
+-- where a round answered its call, the receipt is of that call and of the next step, and this is a second copy of its value
+abbrev pub Copies : Cluster → (call : ℕ) → Option Round → Option (List ℕ) → Type 0
+Copies old call (Some (round.Answered receipt)) copy =
+    (copy ≡ receipt.value) × (receipt.called < receipt.answered) × (receipt.call ≡ call) × (receipt.answered ≡ next old)
+Copies old call _ copy = Unit {0}
 
 -- Messages
 

@@ -11,7 +11,7 @@ ghost use Rattle.sections.specs.Sections.{MoveGoes, MoveGoesNot, MoveLeaves, beg
 
 use crate::admin::Admin;
 use crate::booked::{Booked, StoreName};
-use crate::rounds::{Hand, go, want_to_go};
+use crate::rounds::{Hand, go, past_calls, want_to_go};
 use crate::seat::hold;
 use cluster::{Cluster, LayoutId};
 use driver::{Chooser, Round};
@@ -79,6 +79,7 @@ pub fn move_round_in<L: StoreName, C: Chooser>(
     };
     let name = admin.name.as_str();
     want_to_go(&booked.cluster, name, call, turns)?;
+    past_calls(&booked.cluster, name);
     let round = go(&mut booked.cluster, name, call, hand, asks_again, chooser)?;
     if let Some(Round::Answered(_)) = &round {
         admin.pending = None;

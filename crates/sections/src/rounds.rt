@@ -97,7 +97,7 @@ fn go_with_copy<C: Chooser>(
     chooser: &mut C,
 ) -> Result<(Option<Round>, Option<Bytes>), Refusal>
     ensures steps { IfOk result (λ r. Goes C.chooses name.entry.now call hand asks_again cluster.old chooser.old cluster.new chooser.new r.0) }
-    ensures copy { IfOk result (λ r. Copies r.0 r.1) }
+    ensures copy { IfOk result (λ r. Copies cluster.old call r.0 r.1) }
     ensures cause { MatchResult result (λ r. going_cause cluster.old name.entry.now call turns ≡ None) (λ e.
         ((going_cause cluster.old name.entry.now call turns ≡ Some e) × (chooser.new ≡ chooser.old))
         ⊎ ((going_cause cluster.old name.entry.now call turns ≡ None) × GoesNot C.chooses name.entry.now call hand asks_again cluster.old chooser.old chooser.new e)) }
@@ -146,8 +146,8 @@ fn copy_to_keep(
     }
 }
 
-// The calls of an object were made by the last step. It does nothing.
-fn past_calls(cluster: &Cluster, name: &str)
+/// The calls of an object were made by the last step. It does nothing.
+pub(crate) fn past_calls(cluster: &Cluster, name: &str)
     ensures { (state : State) → named cluster.now.objects name.now ≡ Some state
         → AllByRecursion (λ call. call.called ≤ cluster.now.counter) state.object.calls }
 {

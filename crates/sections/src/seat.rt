@@ -3,7 +3,7 @@
 ghost use Rattle.std.specs.Prelude.{◌≡◌, ◌<◌, ◌↔◌, IsTrue, IsSome, IfErr, OnOk};
 ghost use Rattle.std.specs.String.{string_bytes};
 ghost use Rattle.tag.specs.declared.refusal.Refusal.TheVariants.{NoMemory};
-ghost use Rattle.sections.specs.Seats.{Settles, abandoned, learnt, new_seat};
+ghost use Rattle.sections.specs.Seats.{IsOf, Settles, abandoned, learnt, new_seat};
 
 use crate::booked::StoreName;
 use crate::call_record::CallRecord;
@@ -85,7 +85,9 @@ impl<L: StoreName> Seat<L> {
     /// Its pending call is answered with a receipt, of which it keeps a copy with this copy of the value. It takes no memory.
     pub(crate) fn settle(&mut self, receipt: &Receipt, value: Option<Bytes>)
         requires pending { IsSome self.old.pending }
+        requires call { IsOf self.old.pending receipt.now }
         requires later { receipt.now.called < receipt.now.answered }
+        requires floor { self.old.floor < receipt.now.answered }
         requires value { value ≡ receipt.now.value }
         ensures { Settles self.old.pending self.old receipt.now self.new }
     {

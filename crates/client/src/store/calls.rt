@@ -1,7 +1,7 @@
 //! Whole reads and writes.
 
-ghost use Rattle.std.specs.Prelude.{◌≡◌, ◌⊎◌, IfOk, OnErr};
-ghost use Rattle.sections.specs.Seats.{AddsAnswered, AddsPending, Settles};
+ghost use Rattle.std.specs.Prelude.{◌≡◌, ◌⊎◌, IfErr, IfOk, OnErr};
+ghost use Rattle.sections.specs.Seats.{AddsAnswered, AddsPending, BeginsNot, Settles};
 ghost use Rattle.sections.specs.declared.call_record.Begin.TheVariants as begins;
 
 use crate::store::Store;
@@ -26,7 +26,8 @@ impl<L: StoreName> Store<L> {
         turns: u64,
     ) -> Result<Receipt, Refusal>
         ensures ok { IfOk result (λ receipt. AddsAnswered seat.old name.now (begins.Write value) receipt seat.new) }
-        ensures err { OnErr result ((seat.new ≡ seat.old) ⊎ AddsPending seat.old name.now (begins.Write value) seat.new) }
+        ensures err { IfErr result (λ r. ((seat.new ≡ seat.old) × BeginsNot seat.old name.now (begins.Write value) r)
+            ⊎ AddsPending seat.old name.now (begins.Write value) seat.new) }
     {
         self.call(rt, &NoGate, seat, name, Begin::Write(value), chooser, turns)
     }
@@ -41,7 +42,8 @@ impl<L: StoreName> Store<L> {
         turns: u64,
     ) -> Result<Receipt, Refusal>
         ensures ok { IfOk result (λ receipt. AddsAnswered seat.old name.now begins.Read receipt seat.new) }
-        ensures err { OnErr result ((seat.new ≡ seat.old) ⊎ AddsPending seat.old name.now begins.Read seat.new) }
+        ensures err { IfErr result (λ r. ((seat.new ≡ seat.old) × BeginsNot seat.old name.now begins.Read r)
+            ⊎ AddsPending seat.old name.now begins.Read seat.new) }
     {
         self.call(rt, &NoGate, seat, name, Begin::Read, chooser, turns)
     }
@@ -74,7 +76,8 @@ impl<L: StoreName> Store<L> {
         turns: u64,
     ) -> Result<Receipt, Refusal>
         ensures ok { IfOk result (λ receipt. AddsAnswered seat.old name.now what receipt seat.new) }
-        ensures err { OnErr result ((seat.new ≡ seat.old) ⊎ AddsPending seat.old name.now what seat.new) }
+        ensures err { IfErr result (λ r. ((seat.new ≡ seat.old) × BeginsNot seat.old name.now what r)
+            ⊎ AddsPending seat.old name.now what seat.new) }
     {
         let _ = seat.make_room(name);
         begin_in(&mut *self.booked.lock(rt), seat, name, what)?;

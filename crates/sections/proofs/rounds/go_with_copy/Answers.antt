@@ -18,7 +18,7 @@ returns-in_err-copy-clause-cause g c =
 
 pub returns-clause-copy : goal.returns-clause-copy
 returns-clause-copy g c =
-    subst (λ v. Copies c.in_ok-round.round v) (sym c.kept_value-copy.ensures)
+    subst (λ v. Copies c.args.cluster.now c.args.call c.in_ok-round.round v) (sym c.kept_value-copy.ensures)
     (copies g.C.Chooser.chooses c.args.name.now c.args.call c.args.asks_again c.args.cluster.now c.args.chooser.now c.go.new.cluster c.go.new.chooser c.args.hand
     c.in_ok-round.round c.in_ok-want.want c.in_ok-copy.copy c.in_ok-round.ensures.steps c.in_ok-want.ensures.want c.in_ok-copy.ensures.value c.past_calls.ensures
     c.keeping.ensures.1.1.few_steps)
