@@ -23,6 +23,9 @@ const CALLS: u8 = 100;
 
 const DISTURBANCES: u64 = 1_000;
 
+/// The least number of them that find a message.
+const LEAST_FOUND: u64 = 100;
+
 /// Fewer than a call takes, so that each is resumed.
 const FEW_TURNS: u64 = 20;
 
@@ -122,15 +125,23 @@ fn disturb<L: StoreName, R: Wait>(
 }
 
 // Loses and repeats messages, five for each call that is begun.
-fn disturbs<L: StoreName, R: Wait>(rt: &R, store: &Store<L>, tally: &Tally) -> Result<(), Refusal> {
+fn disturbs<L: StoreName, R: Wait + Abort>(
+    rt: &R,
+    store: &Store<L>,
+    tally: &Tally,
+) -> Result<(), Refusal> {
     let mut chooser = Varied {
         state: 0,
         mask: u64::MAX,
     };
+    let mut found = 0u64;
     for number in 0..DISTURBANCES {
         tally.wait_for_more(number / 5);
-        disturb(rt, store, &mut chooser)?;
+        if disturb(rt, store, &mut chooser)? {
+            found = found.saturating_add(1);
+        }
     }
+    assert!(rt; found >= LEAST_FOUND);
     Ok(())
 }
 
@@ -154,7 +165,7 @@ fn both_call<L: StoreName + Send + Sync, R: Threads + Wait + Sync>(
 }
 
 // Both clients, and the thread that disturbs them.
-fn all_work<L: StoreName + Send + Sync, R: Threads + Wait + Sync>(
+fn all_work<L: StoreName + Send + Sync, R: Threads + Wait + Sync + Abort>(
     rt: &R,
     alloc: Global,
     store: &Store<L>,
@@ -180,7 +191,7 @@ fn has_a_sequence<R: Abort>(rt: &R, alloc: Global, cluster: &Cluster) -> Result<
     Ok(())
 }
 
-fn works<L: StoreName + Send + Sync, R: Threads + Wait + Sync>(
+fn works<L: StoreName + Send + Sync, R: Threads + Wait + Sync + Abort>(
     rt: &R,
     alloc: Global,
     store: &Store<L>,

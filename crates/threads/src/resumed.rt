@@ -1,4 +1,4 @@
-//! The administrator's steps, and a move and a write that are resumed.
+//! The administrator's steps, and a move and writes that are resumed.
 
 ghost use Rattle.std.specs.Prelude.{◌≡◌, ◌+◌};
 
@@ -69,11 +69,11 @@ fn is_call<R: Abort>(
 fn moves_in_two<L: StoreName, R: Threads + Wait + Abort + Sync>(
     rt: &R,
     store: &Store<L>,
-    mut admin: Admin<L>,
+    admin: &mut Admin<L>,
 ) -> Result<(), Refusal> {
-    let layout = creates(rt, store, &mut admin)?;
-    is_refused(rt, moves(rt, store, &mut admin, layout), Refusal::GaveUp);
-    is_call(rt, resumes_move(rt, store, &mut admin), Operation::Move, 1)
+    let layout = creates(rt, store, admin)?;
+    is_refused(rt, moves(rt, store, admin, layout), Refusal::GaveUp);
+    is_call(rt, resumes_move(rt, store, admin), Operation::Move, 1)
 }
 
 fn writes_in_two<L: StoreName, R: Threads + Wait + Abort + Sync>(
@@ -85,6 +85,20 @@ fn writes_in_two<L: StoreName, R: Threads + Wait + Abort + Sync>(
     is_call(rt, resume(rt, store, seat), Operation::Write, 2)
 }
 
+// Two of four servers are down, and so there is no quorum of three; with one of them up again the write goes on.
+fn waits_for_a_server<L: StoreName, R: Threads + Wait + Abort + Sync>(
+    rt: &R,
+    store: &Store<L>,
+    admin: &mut Admin<L>,
+    seat: &mut Seat<L>,
+) -> Result<(), Refusal> {
+    store.set_server(rt, admin, 2, false)?;
+    store.set_server(rt, admin, 3, false)?;
+    is_refused(rt, write(rt, store, seat, HELLO, TURNS), Refusal::Stuck);
+    store.set_server(rt, admin, 3, true)?;
+    is_call(rt, resume(rt, store, seat), Operation::Write, 3)
+}
+
 fn administers<L: StoreName, R: Threads + Wait + Abort + Sync>(
     rt: &R,
     alloc: Global,
@@ -93,12 +107,13 @@ fn administers<L: StoreName, R: Threads + Wait + Abort + Sync>(
     requires name { blank.name ≡ L.name }
     requires parts { (blank.parts ≡ L.parts) × (blank.parts ≡ L.seats + 1) × (1 ≡ L.seats) }
 {
-    let (store, mut seats, admin) = open_empty::<L>(alloc, blank)?;
+    let (store, mut seats, mut admin) = open_empty::<L>(alloc, blank)?;
     let mut seat = take_seat(&mut seats)?;
-    moves_in_two(rt, &store, admin)?;
+    moves_in_two(rt, &store, &mut admin)?;
     writes_in_two(rt, &store, &mut seat)?;
+    waits_for_a_server(rt, &store, &mut admin, &mut seat)?;
     seats.push(seat)?;
-    close(rt, store, seats, 1, 2)?;
+    close(rt, store, seats, 2, 3)?;
     Ok(())
 }
 
