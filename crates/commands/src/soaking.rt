@@ -13,7 +13,7 @@ use std::thread::Threads;
 
 /// Lets clients work through a store as the plan says, prints what it comes to, and answers the exit status. Where a call
 /// is refused or a thread cannot be started, a text on `err` says so.
-pub fn run_soak<R: AllocGlobal + Threads + Wait + Sync, O: Write, E: Write>(
+pub(crate) fn run_soak<R: AllocGlobal + Threads + Wait + Sync, O: Write, E: Write>(
     rt: &R,
     plan: Plan,
     out: &mut O,

@@ -1,5 +1,4 @@
 //! What the thread of a client does.
-ghost use Rattle.std.specs.Prelude.{◌≡◌, None, IfOk, OnOk};
 
 use crate::call::{object_of, value_of};
 use crate::chooser::Congruential;
@@ -15,10 +14,10 @@ use tag::Refusal;
 const STIRS: u32 = 16;
 
 /// What the thread of a client hands back: its seat, or why one of its calls was refused.
-pub type Ended<L> = Result<Seat<L>, Refusal>;
+pub(crate) type Ended<L> = Result<Seat<L>, Refusal>;
 
 /// Makes the calls of the client with this seat, one after another.
-pub fn make_calls<L: StoreName, R: Threads + Wait + Sync>(
+pub(crate) fn make_calls<L: StoreName, R: Threads + Wait + Sync>(
     rt: &R,
     alloc: Global,
     store: &Store<L>,

@@ -1,5 +1,4 @@
 //! The threads in which the clients and the administrator work.
-ghost use Rattle.std.specs.Prelude.{◌≡◌};
 
 use crate::client_thread::{Ended, make_calls};
 use crate::moves::make_moves;
@@ -14,7 +13,7 @@ use tag::Refusal;
 /// Lets each client work in a thread of its own, and the administrator in another, and gives the seats back once all have
 /// ended. The first client's refusal is passed on, or else that of the administrator; a thread that cannot be started is
 /// refused with `NoMemory`, and hinders no other.
-pub fn work_all<L: StoreName + Send + Sync, R: Threads + Wait + Sync>(
+pub(crate) fn work_all<L: StoreName + Send + Sync, R: Threads + Wait + Sync>(
     rt: &R,
     alloc: Global,
     store: &Store<L>,

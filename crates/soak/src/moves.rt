@@ -11,7 +11,7 @@ use std::thread::Threads;
 use tag::Refusal;
 
 /// How many turns each call and each move has.
-pub const TURNS: u64 = 1_000_000;
+pub(crate) const TURNS: u64 = 1_000_000;
 
 /// The object that the move of this number moves: the one and the other, in turn.
 pub fn object_moved(number: u64) -> &'static str
@@ -29,7 +29,7 @@ pub fn layout_after(number: u64) -> LayoutId
 }
 
 /// Makes the administrator's moves, one after another.
-pub fn make_moves<L: StoreName, R: Threads + Wait + Sync>(
+pub(crate) fn make_moves<L: StoreName, R: Threads + Wait + Sync>(
     rt: &R,
     store: &Store<L>,
     mut admin: Admin<L>,

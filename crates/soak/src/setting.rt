@@ -8,9 +8,6 @@ use layout::Layout;
 use std::alloc::Global;
 use tag::Refusal;
 
-/// The objects of a soak, in order of creation.
-pub const OBJECTS: [&str; 2] = ["a", "b"];
-
 const SERVERS: u8 = 5;
 
 /// Five servers, all up; three layouts, of four, five and three of them with k 2, 3 and 1; and two objects, both with the

@@ -1,4 +1,4 @@
-//! Scripts with all that they print, objects and clusters played by hand, and histories made by hand: tests alone. They
+//! Objects and clusters played by hand, histories made by hand, and scripts whose readers and writers fail: tests alone. They
 //! stand in a crate of their own, so that the crates which they play are proved once and not twice.
 #![tactic(auto)]
 
