@@ -70,10 +70,10 @@ RunsFile old new status = ((kind : ErrorKind) × IsUnopened kind old new status)
 -- is as they say; or the soak was refused, and the writer is as it was; or such lines were lost
 abbrev pub Soaks : Plan → Contents → Contents → ℕ → Type 0
 Soaks plan old new status =
-    ((summary : Summary) × IsOfClosed plan.clients summary × (status ≡ status_of_summary summary)
+    ((summary : Summary) × IsOfClosed plan.clients plan.calls summary × (status ≡ status_of_summary summary)
     × Appends old new (summary_text summary ++ 10 ∷ []))
     ⊎ (((status ≡ 1) × Keeps old new)
-    ⊎ ((status ≡ 1) × ((summary : Summary) × IsOfClosed plan.clients summary)))
+    ⊎ ((status ≡ 1) × ((summary : Summary) × IsOfClosed plan.clients plan.calls summary)))
 
 -- the exit status with what was done: 0 where the line of the answer is written, else the status of why it is not; the
 -- words are `run FILE`, and the status is that of the file's run; or they spell a soak, and the status is that of the soak

@@ -1,16 +1,20 @@
 -- What a closed store comes to.
 use Rattle.std.specs.Prelude.{ℕ, List}
+use Rattle.std.specs.List.{AllByRecursion}
 use Rattle.cluster.specs.Cluster.{Cluster}
 use Rattle.sections.specs.Closing.{Fit, IsAccounted, all_records, receipts_of}
 use Rattle.sections.specs.Seats.{SeatState}
+use Rattle.soak.specs.Made.{HasMade}
 use Rattle.soak.specs.Summary.{IsSummaryOf}
 use Rattle.soak.specs.declared.summary.Summary.{Summary}
 
--- a store of this cluster was closed with these seats, one for each client, and the summary is of that cluster and of their
--- receipts: so the reads and writes of the history that it counts are those that the seats recorded, each once
-pub record IsOfClosed (client_count : ℕ) (summary : Summary) : Type 0 where
+-- a store of this cluster was closed with these seats, one for each client, with which so many calls were made, and the summary
+-- is of that cluster and of their receipts: so the reads and writes of the history that it counts are those that the seats
+-- recorded, each once
+pub record IsOfClosed (client_count call_count : ℕ) (summary : Summary) : Type 0 where
   pub cluster : Cluster
   pub seats : List SeatState
   pub fit : Fit client_count cluster seats
+  pub made : AllByRecursion (HasMade call_count) seats
   pub accounted : IsAccounted cluster seats
   pub sums_up : IsSummaryOf cluster (receipts_of (all_records seats)) summary

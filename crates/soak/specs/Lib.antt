@@ -2,6 +2,7 @@ pub mod Audit
 pub mod Call
 pub mod Chooser
 pub mod Closed
+pub mod Made
 pub mod Moves
 pub mod Plan
 pub mod Setting

@@ -1,4 +1,6 @@
 //! What the thread of a client does.
+ghost use Rattle.std.specs.Prelude.{IfOk, OnOk};
+ghost use Rattle.soak.specs.Made.{HasMade, IsNew, Makes};
 
 use crate::call::{object_of, value_of};
 use crate::chooser::Congruential;
@@ -16,14 +18,17 @@ const STIRS: u32 = 16;
 /// What the thread of a client hands back: its seat, or why one of its calls was refused.
 pub(crate) type Ended<L> = Result<Seat<L>, Refusal>;
 
-/// Makes the calls of the client with this seat, one after another.
+/// Makes the calls of the client with this seat, which is new, one after another.
 pub(crate) fn make_calls<L: StoreName, R: Threads + Wait + Sync>(
     rt: &R,
     alloc: Global,
     store: &Store<L>,
     mut seat: Seat<L>,
     plan: Plan,
-) -> Ended<L> {
+) -> Ended<L>
+    requires { IsNew seat }
+    ensures { IfOk result (λ seat. HasMade plan.calls seat) }
+{
     let mut chooser = Congruential::new(plan.choices, seat.number() as u64);
     for call in 0..plan.calls {
         make_call(rt, alloc, store, &mut seat, call, &mut chooser)?;
@@ -40,7 +45,9 @@ fn make_call<L: StoreName, R: Threads + Wait + Sync>(
     seat: &mut Seat<L>,
     call: u64,
     chooser: &mut Congruential,
-) -> Result<(), Refusal> {
+) -> Result<(), Refusal>
+    ensures { OnOk result (Makes call seat.old seat.new) }
+{
     let name = object_of(call);
     if call % 2 == 0 {
         let value = value_of(alloc, seat.number(), call)?;

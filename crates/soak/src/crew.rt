@@ -1,4 +1,7 @@
 //! The threads in which the clients and the administrator work.
+ghost use Rattle.std.specs.Prelude.{◌≡◌, ℕ, IfOk};
+ghost use Rattle.std.specs.List.{AllByRecursion};
+ghost use Rattle.soak.specs.Made.{HasMade, IsNew};
 
 use crate::client_thread::{Ended, make_calls};
 use crate::moves::make_moves;
@@ -7,12 +10,26 @@ use client::{Admin, Seat, Store, StoreName};
 use std::alloc::Global;
 use std::sync::Wait;
 use std::thread;
-use std::thread::{JoinHandle, Scope, Threads};
+use std::thread::{JoinHandle, Promise, PromisedHandle, Scope, Threads};
 use tag::Refusal;
 
+/// What the thread of a client promises: where it hands a seat back, so many calls were made with it.
+#[derive(Clone, Copy)]
+pub(crate) struct CallsMade(pub(crate) u64);
+
+impl<L: StoreName> Promise<Ended<L>> for CallsMade {
+    ghost use Rattle.std.specs.Prelude.{IfOk};
+    ghost use Rattle.soak.specs.Made.{HasMade};
+
+    ghost kept_by = { λ promise ended. IfOk ended (λ seat. HasMade promise.0 seat) };
+}
+
+// The thread of a client, or why there is none.
+type Started<L> = Result<PromisedHandle<Ended<L>, CallsMade>, Refusal>;
+
 /// Lets each client work in a thread of its own, and the administrator in another, and gives the seats back once all have
-/// ended. The first client's refusal is passed on, or else that of the administrator; a thread that cannot be started is
-/// refused with `NoMemory`, and hinders no other.
+/// ended, each with all calls of the plan made. The first client's refusal is passed on, or else that of the
+/// administrator; a thread that cannot be started is refused with `NoMemory`, and hinders no other.
 pub(crate) fn work_all<L: StoreName + Send + Sync, R: Threads + Wait + Sync>(
     rt: &R,
     alloc: Global,
@@ -20,42 +37,58 @@ pub(crate) fn work_all<L: StoreName + Send + Sync, R: Threads + Wait + Sync>(
     seats: Vec<Seat<L>>,
     admin: Admin<L>,
     plan: Plan,
-) -> Result<Vec<Seat<L>>, Refusal> {
+) -> Result<Vec<Seat<L>>, Refusal>
+    requires { AllByRecursion IsNew seats.items }
+    ensures { IfOk result (λ seats. AllByRecursion (HasMade plan.calls) seats.items) }
+{
     thread::scope(
         thread::scope_env(),
         rt,
-        |scope| -> Result<Vec<Seat<L>>, Refusal> {
-            work_in(scope, rt, alloc, store, seats, admin, plan)
-        },
+        |scope| -> Result<Vec<Seat<L>>, Refusal>
+            requires { AllByRecursion IsNew seats.items }
+            ensures { IfOk result (λ seats. AllByRecursion (HasMade plan.calls) seats.items) }
+        { work_in(scope, rt, alloc, store, seats, admin, plan) },
     )
 }
 
-// Starts the threads, and waits for those that were started.
+// Starts the threads, and waits for them. A refusal is passed on once all have ended, since the scope waits for those that
+// nobody joins.
 fn work_in<'s, E, L: StoreName + Send + Sync, R: Threads + Wait + Sync>(
     scope: &Scope<'s, E>,
     rt: &'s R,
     alloc: Global,
     store: &'s Store<L>,
-    mut seats: Vec<Seat<L>>,
+    seats: Vec<Seat<L>>,
     admin: Admin<L>,
     plan: Plan,
-) -> Result<Vec<Seat<L>>, Refusal> {
-    let mut ended = Vec::with_capacity(alloc, seats.len())?;
-    let mut started = Vec::with_capacity(alloc, seats.len())?;
+) -> Result<Vec<Seat<L>>, Refusal>
+    requires { AllByRecursion IsNew seats.items }
+    ensures { IfOk result (λ seats. AllByRecursion (HasMade plan.calls) seats.items) }
+{
     let mover = start_moves(scope, rt, store, admin, plan);
+    let started = start_all(scope, rt, alloc, store, seats, plan)?;
+    let seats = end_all(rt, alloc, started)?;
+    mover?.join(rt)?;
+    Ok(seats)
+}
+
+// A thread for each seat, the last seat first.
+fn start_all<'s, E, L: StoreName + Send + Sync, R: Threads + Wait + Sync>(
+    scope: &Scope<'s, E>,
+    rt: &'s R,
+    alloc: Global,
+    store: &'s Store<L>,
+    mut seats: Vec<Seat<L>>,
+    plan: Plan,
+) -> Result<Vec<Started<L>>, Refusal>
+    requires { AllByRecursion IsNew seats.items }
+    ensures { IfOk result (λ started. AllByRecursion (λ client. IfOk client (λ handle. handle.promise.0 ≡ plan.calls)) started.items) }
+{
+    let mut started = Vec::with_capacity(alloc, seats.len())?;
     while let Some(seat) = seats.pop() {
         started.push(start_calls(scope, rt, alloc, store, seat, plan))?;
     }
-    while let Some(client) = started.pop() {
-        ended.push(end_of(rt, client))?;
-    }
-    let moved = match mover {
-        Ok(handle) => handle.join(rt),
-        Err(refusal) => Err(refusal),
-    };
-    let seats = all_seats(alloc, ended)?;
-    moved?;
-    Ok(seats)
+    Ok(started)
 }
 
 fn start_calls<'s, E, L: StoreName + Send + Sync, R: Threads + Wait + Sync>(
@@ -65,8 +98,15 @@ fn start_calls<'s, E, L: StoreName + Send + Sync, R: Threads + Wait + Sync>(
     store: &'s Store<L>,
     seat: Seat<L>,
     plan: Plan,
-) -> Result<JoinHandle<Ended<L>>, Refusal> {
-    match scope.spawn(move || make_calls(rt, alloc, store, seat, plan)) {
+) -> Started<L>
+    requires { IsNew seat }
+    ensures { IfOk result (λ handle. handle.promise.0 ≡ plan.calls) }
+{
+    let client = move || -> Ended<L>
+        requires { IsNew seat }
+        ensures { IfOk result (λ seat. HasMade plan.calls seat) }
+    { make_calls(rt, alloc, store, seat, plan) };
+    match scope.spawn_with(CallsMade(plan.calls), client) {
         Ok(handle) => Ok(handle),
         Err(_) => Err(Refusal::NoMemory),
     }
@@ -85,20 +125,24 @@ fn start_moves<'s, E, L: StoreName + Send + Sync, R: Threads + Wait + Sync>(
     }
 }
 
-fn end_of<L: StoreName, R: Threads>(
+// Waits for the threads of the clients, the last first.
+fn end_all<L: StoreName, R: Threads>(
     rt: &R,
-    client: Result<JoinHandle<Ended<L>>, Refusal>,
-) -> Ended<L> {
-    match client {
-        Ok(handle) => handle.join(rt),
-        Err(refusal) => Err(refusal),
-    }
-}
-
-fn all_seats<L: StoreName>(alloc: Global, ended: Vec<Ended<L>>) -> Result<Vec<Seat<L>>, Refusal> {
-    let mut seats = Vec::with_capacity(alloc, ended.len())?;
-    for client in ended {
-        seats.push(client?)?;
+    alloc: Global,
+    mut started: Vec<Started<L>>,
+) -> Result<Vec<Seat<L>>, Refusal>
+    ensures { IfOk result (λ seats. (calls : ℕ) → AllByRecursion (λ client. IfOk client (λ handle. handle.promise.0 ≡ calls)) started.items
+        → AllByRecursion (HasMade calls) seats.items) }
+{
+    let mut seats = Vec::with_capacity(alloc, started.len())?;
+    while let Some(client) = started.pop() {
+        seats.push(end_of(rt, client)?)?;
     }
     Ok(seats)
+}
+
+fn end_of<L: StoreName, R: Threads>(rt: &R, client: Started<L>) -> Ended<L>
+    ensures { IfOk result (λ seat. (calls : ℕ) → IfOk client (λ handle. handle.promise.0 ≡ calls) → HasMade calls seat) }
+{
+    client?.join(rt)
 }

@@ -1,5 +1,5 @@
 //! A whole soak.
-ghost use Rattle.std.specs.Prelude.{◌≡◌, ◌+◌, IfOk};
+ghost use Rattle.std.specs.Prelude.{◌≡◌, ◌+◌, ◌*◌, IfOk};
 ghost use Rattle.soak.specs.Closed.{IsOfClosed};
 
 use crate::crew::work_all;
@@ -18,14 +18,15 @@ use tag::Refusal;
 const WORKERS: usize = 2;
 
 /// Lets the clients and the administrator of a plan work through one store at once, closes it once all have ended, and
-/// says what it comes to: the summary is of a cluster whose reads and writes are those that the clients' seats recorded,
-/// each once. Where a call is refused, or a thread cannot be started, it passes that on in place of a summary.
+/// says what it comes to: each client has made all its calls, each with a receipt, and the summary is of a cluster whose
+/// reads and writes are those that the clients' seats recorded, each once. Where a call is refused, or a thread cannot be started, it passes that on in place of a summary.
 pub fn run_plan<R: Threads + Wait + Sync>(
     rt: &R,
     alloc: Global,
     plan: Plan,
 ) -> Result<Summary, Refusal>
-    ensures { IfOk result (λ summary. IsOfClosed plan.clients summary) }
+    ensures closed { IfOk result (λ summary. IsOfClosed plan.clients plan.calls summary) }
+    ensures receipts { IfOk result (λ summary. summary.receipts ≡ plan.clients * plan.calls) }
 {
     let parts = plan.clients as u64 + 1;
     soak_named::<Brand, R>(rt, alloc, Blank::new(parts), plan)
@@ -40,7 +41,7 @@ fn soak_named<L: StoreName + Send + Sync, R: Threads + Wait + Sync>(
 ) -> Result<Summary, Refusal>
     requires name { blank.name ≡ L.name }
     requires parts { (blank.parts ≡ L.parts) × (blank.parts ≡ L.seats + 1) × (plan.clients ≡ L.seats) }
-    ensures { IfOk result (λ summary. IsOfClosed plan.clients summary) }
+    ensures { IfOk result (λ summary. IsOfClosed plan.clients plan.calls summary) }
 {
     let (store, seats, admin) = Store::<L>::open(
         alloc,

@@ -1,0 +1,28 @@
+-- What the calls that a client makes leave in its seat.
+use Rattle.std.specs.Prelude.{◌≡◌, ℕ, zero, suc, ◌%◌, ◌==◌, if◌then◌else◌}
+use Rattle.register.specs.declared.receipt.Receipt.{Receipt}
+use Rattle.sections.specs.Seats.{SeatState, AddsAnswered, new_seat}
+use Rattle.sections.specs.declared.call_record.Begin.{Begin}
+use Rattle.sections.specs.declared.call_record.Begin.TheVariants as begin
+use Rattle.soak.specs.Call.{object_of, value_of}
+
+-- what a client begins in its call of this number: a write where that is even, and else a read
+abbrev pub begin_of : (client call : ℕ) → Begin
+begin_of client call = if (call % 2) == 0 then begin.Write (value_of client call) else begin.Read
+
+-- the seat has one record more, of the call of this number, with a receipt
+abbrev pub Makes : (call : ℕ) → SeatState → SeatState → Type 0
+Makes call s t = (receipt : Receipt) × AddsAnswered s (object_of call) (begin_of s.number call) receipt t
+
+-- so many calls are made, one after another, from the call 0 on
+abbrev pub MakesAll : (count : ℕ) → SeatState → SeatState → Type 0
+MakesAll zero s t = t ≡ s
+MakesAll (suc n) s t = (between : SeatState) × MakesAll n s between × Makes n between t
+
+-- no call was made with the seat
+abbrev pub IsNew : SeatState → Type 0
+IsNew s = s ≡ new_seat s.number
+
+-- the seat was new, and so many calls were made with it
+abbrev pub HasMade : (count : ℕ) → SeatState → Type 0
+HasMade count t = (number : ℕ) × MakesAll count (new_seat number) t
