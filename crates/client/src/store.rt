@@ -69,6 +69,9 @@ impl<L: StoreName> Store<L> {
     }
 
     /// One message of an object that can be handled is served or taken, the chosen one. It answers whether there is one.
+    ///
+    /// `NoObject` where there is none of this name, and else as the step is refused: `Full` where the limit of steps is met,
+    /// or `NoMemory`.
     pub fn stir<R: Wait, C: Chooser>(
         &self,
         rt: &R,
@@ -82,6 +85,9 @@ impl<L: StoreName> Store<L> {
     }
 
     /// One waiting message of an object, the chosen one, is lost or repeated, as is chosen. It answers whether there is one.
+    ///
+    /// `NoObject` where there is none of this name, and else as the step is refused: `Full` where the limit of the steps or
+    /// of the messages is met, or `NoMemory`.
     pub fn disturb<R: Wait, C: Chooser>(
         &self,
         rt: &R,
@@ -95,6 +101,9 @@ impl<L: StoreName> Store<L> {
     }
 
     /// Closes the store with all its seats, once all clients have ended.
+    ///
+    /// `Stranger` where the seats are not those of the store, or their records do not fit its history; `NoMemory` may come
+    /// before. Both hand the cluster and the seats back.
     pub fn close(self, seats: Vec<Seat<L>>) -> Result<Closed, NotClosed<L>>
         ensures accounted { IfOk result (λ closed. IsAccounted closed.cluster seats.items) }
         ensures fit { IfOk result (λ closed. Fit L.seats closed.cluster seats.items) }

@@ -1,6 +1,6 @@
 //! Whole reads and writes.
 
-ghost use Rattle.std.specs.Prelude.{◌≡◌, ◌⊎◌, IfErr, IfOk, OnErr};
+ghost use Rattle.std.specs.Prelude.{◌≡◌, ◌⊎◌, None, IfErr, IfOk, OnErr};
 ghost use Rattle.sections.specs.Seats.{AddsAnswered, AddsPending, BeginsNot, Settles};
 ghost use Rattle.sections.specs.declared.call_record.Begin.TheVariants as begins;
 
@@ -16,6 +16,11 @@ use tag::Refusal;
 
 impl<L: StoreName> Store<L> {
     /// Writes a value, in at most so many turns beside the call step.
+    ///
+    /// Where the call does not begin, the seat is as it was: `Stranger` where it has seen a later step than there was,
+    /// `NoObject` where there is none of this name, `NotNow` where it has a pending call, `TooLong` where the value is too
+    /// long, `Full` where a limit of the steps, of the calls or of the messages is met, and else `NoMemory`. A refusal after
+    /// that leaves the call pending, as of `resume`.
     pub fn write<R: Threads + Wait + Sync, C: Chooser>(
         &self,
         rt: &R,
@@ -32,7 +37,7 @@ impl<L: StoreName> Store<L> {
         self.call(rt, &NoGate, seat, name, Begin::Write(value), chooser, turns)
     }
 
-    /// Reads, in at most so many turns beside the call step.
+    /// Reads, in at most so many turns beside the call step. Refused as `write`, but for the value.
     pub fn read<R: Threads + Wait + Sync, C: Chooser>(
         &self,
         rt: &R,
@@ -49,6 +54,9 @@ impl<L: StoreName> Store<L> {
     }
 
     /// Goes on with the seat's pending call, in at most so many turns.
+    ///
+    /// `NoCall` where the seat has none; `GaveUp` once the turns are used up; `Stuck` where the call wants replies and none
+    /// of its messages can be handled; `Full` where a limit is met; and `NoMemory`. The call stays pending.
     pub fn resume<R: Threads + Wait + Sync, C: Chooser>(
         &self,
         rt: &R,
@@ -58,6 +66,7 @@ impl<L: StoreName> Store<L> {
     ) -> Result<Receipt, Refusal>
         ensures ok { IfOk result (λ receipt. Settles seat.old.pending seat.old receipt seat.new) }
         ensures err { OnErr result (seat.new ≡ seat.old) }
+        ensures without_call { IfErr result (λ r. (seat.old.pending ≡ None) → (r ≡ Refusal.NoCall) ⊎ (r ≡ Refusal.Stranger)) }
     {
         self.drive(rt, &NoGate, seat, true, chooser, turns)
     }

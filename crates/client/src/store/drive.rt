@@ -1,6 +1,6 @@
 //! The driver of a whole call through the lock.
 
-ghost use Rattle.std.specs.Prelude.{◌≡◌, IfOk, OnErr};
+ghost use Rattle.std.specs.Prelude.{◌≡◌, ◌⊎◌, None, IfErr, IfOk, OnErr};
 ghost use Rattle.sections.specs.Seats.{Settles};
 
 use crate::store::Store;
@@ -26,6 +26,7 @@ impl<L: StoreName> Store<L> {
     ) -> Result<Receipt, Refusal>
         ensures ok { IfOk result (λ receipt. Settles seat.old.pending seat.old receipt seat.new) }
         ensures err { OnErr result (seat.new ≡ seat.old) }
+        ensures without_call { IfErr result (λ r. (seat.old.pending ≡ None) → (r ≡ Refusal.NoCall) ⊎ (r ≡ Refusal.Stranger)) }
     {
         let mut asks_again = resumed;
         let mut left = turns;

@@ -1,7 +1,7 @@
 //! What the administrator does through the lock.
 
-ghost use Rattle.std.specs.Prelude.{◌≡◌, ◌⊎◌, IfOk, OnErr};
-ghost use Rattle.client.specs.Locked.{AddsLayout, BeginsMove, Creates, Moves, SetsServer};
+ghost use Rattle.std.specs.Prelude.{◌≡◌, ◌⊎◌, None, IfErr, IfOk, OnErr};
+ghost use Rattle.client.specs.Locked.{AddsLayout, BeginsMove, Creates, Moves, MovesNot, SetsServer};
 ghost use Rattle.sections.specs.Moves.{Ends};
 
 use crate::store::Store;
@@ -16,7 +16,9 @@ use std::thread::Threads;
 use tag::Refusal;
 
 impl<L: StoreName> Store<L> {
-    /// One more layout.
+    /// One more layout, whose number it answers.
+    ///
+    /// `BadLayout` where a member is no server, and `Full` where the limit of steps or of layouts is met.
     pub fn add_layout<R: Wait>(
         &self,
         rt: &R,
@@ -33,7 +35,10 @@ impl<L: StoreName> Store<L> {
         }
     }
 
-    /// One more object.
+    /// One more object, with one position of this layout.
+    ///
+    /// `ObjectExists` where an object has this name, `BadLayout` where there is no such layout, `TooLong` where the name is
+    /// too long, and `Full` where the limit of steps or of objects is met.
     pub fn create<R: Wait>(
         &self,
         rt: &R,
@@ -49,7 +54,7 @@ impl<L: StoreName> Store<L> {
         Ok(())
     }
 
-    /// A server goes up or down.
+    /// A server goes up or down. `BadLayout` where there is no such server, and `Full` where the limit of steps is met.
     pub fn set_server<R: Wait>(
         &self,
         rt: &R,
@@ -66,6 +71,10 @@ impl<L: StoreName> Store<L> {
     }
 
     /// Moves an object to a layout, in at most so many turns beside the call step.
+    ///
+    /// Where the move does not begin: `NoObject` where there is none of this name, `MovePending` where the object or the
+    /// administrator has a move without an answer, `BadLayout` where there is no such layout, `Full` where a limit is met,
+    /// and else `NoMemory`. A refusal after that leaves the move pending, as of `resume_move`.
     pub fn move_object<R: Threads + Wait + Sync, C: Chooser>(
         &self,
         rt: &R,
@@ -75,14 +84,16 @@ impl<L: StoreName> Store<L> {
         chooser: &mut C,
         turns: u64,
     ) -> Result<Receipt, Refusal>
-        ensures ok { IfOk result (λ receipt. Moves admin.old name.now receipt admin.new) }
-        ensures err { OnErr result ((admin.new ≡ admin.old) ⊎ BeginsMove admin.old name.now admin.new) }
+        ensures ok { IfOk result (λ receipt. Moves admin.old name.now layout receipt admin.new) }
+        ensures err { IfErr result (λ r. ((admin.new ≡ admin.old) × MovesNot admin.old name.now layout r)
+            ⊎ BeginsMove admin.old name.now layout admin.new) }
     {
         begin_move_in(&mut *self.booked.lock(rt), admin, name, layout)?;
         self.drive_move(rt, admin, false, chooser, turns)
     }
 
-    /// Goes on with the administrator's pending move, in at most so many turns.
+    /// Goes on with the administrator's pending move, in at most so many turns. Refused as `resume`: `NoCall` where there is
+    /// none.
     pub fn resume_move<R: Threads + Wait + Sync, C: Chooser>(
         &self,
         rt: &R,
@@ -92,6 +103,7 @@ impl<L: StoreName> Store<L> {
     ) -> Result<Receipt, Refusal>
         ensures ok { IfOk result (λ receipt. Ends admin.old receipt admin.new) }
         ensures err { OnErr result (admin.new ≡ admin.old) }
+        ensures without_move { IfErr result (λ r. (admin.old ≡ None) → r ≡ Refusal.NoCall) }
     {
         self.drive_move(rt, admin, true, chooser, turns)
     }
@@ -107,6 +119,7 @@ impl<L: StoreName> Store<L> {
     ) -> Result<Receipt, Refusal>
         ensures ok { IfOk result (λ receipt. Ends admin.old receipt admin.new) }
         ensures err { OnErr result (admin.new ≡ admin.old) }
+        ensures without_move { IfErr result (λ r. (admin.old ≡ None) → r ≡ Refusal.NoCall) }
     {
         let mut asks_again = resumed;
         let mut left = turns;
