@@ -17,14 +17,14 @@ use std::thread::Threads;
 use tag::Refusal;
 
 /// More turns than any call here takes.
-pub const TURNS: u64 = 100_000;
+pub(crate) const TURNS: u64 = 100_000;
 
-pub const HELLO: &[u8] = b"hello";
+pub(crate) const HELLO: &[u8] = b"hello";
 
-pub type Answer = Result<Receipt, Refusal>;
+pub(crate) type Answer = Result<Receipt, Refusal>;
 
 /// Four servers, one layout of all with k 2, and the object `a`: two steps.
-pub fn four_servers(alloc: Global) -> Result<Cluster, Refusal> {
+pub(crate) fn four_servers(alloc: Global) -> Result<Cluster, Refusal> {
     let mut cluster = Cluster::new(alloc, 4);
     let layout = cluster.add_layout(Layout::new(2, &[0, 1, 2, 3])?)?;
     cluster.create(alloc, "a", layout)?;
@@ -32,7 +32,7 @@ pub fn four_servers(alloc: Global) -> Result<Cluster, Refusal> {
 }
 
 /// A store over them, with its seats.
-pub fn open_store<L: StoreName>(
+pub(crate) fn open_store<L: StoreName>(
     alloc: Global,
     blank: Blank,
     seats: u32,
@@ -46,11 +46,11 @@ pub fn open_store<L: StoreName>(
     Ok((store, seats))
 }
 
-pub fn take_seat<L: StoreName>(seats: &mut Vec<Seat<L>>) -> Result<Seat<L>, Refusal> {
+pub(crate) fn take_seat<L: StoreName>(seats: &mut Vec<Seat<L>>) -> Result<Seat<L>, Refusal> {
     seats.pop().ok_or(Refusal::Stranger)
 }
 
-pub fn write<L: StoreName, R: Threads + Wait + Sync>(
+pub(crate) fn write<L: StoreName, R: Threads + Wait + Sync>(
     rt: &R,
     store: &Store<L>,
     seat: &mut Seat<L>,
@@ -60,7 +60,7 @@ pub fn write<L: StoreName, R: Threads + Wait + Sync>(
     store.write(rt, seat, "a", Bytes::from_static(value), &mut First, turns)
 }
 
-pub fn read<L: StoreName, R: Threads + Wait + Sync>(
+pub(crate) fn read<L: StoreName, R: Threads + Wait + Sync>(
     rt: &R,
     store: &Store<L>,
     seat: &mut Seat<L>,
@@ -69,7 +69,7 @@ pub fn read<L: StoreName, R: Threads + Wait + Sync>(
     store.read(rt, seat, "a", &mut First, turns)
 }
 
-pub fn resume<L: StoreName, R: Threads + Wait + Sync>(
+pub(crate) fn resume<L: StoreName, R: Threads + Wait + Sync>(
     rt: &R,
     store: &Store<L>,
     seat: &mut Seat<L>,
@@ -78,7 +78,7 @@ pub fn resume<L: StoreName, R: Threads + Wait + Sync>(
 }
 
 /// Gives both seats back to the list.
-pub fn put_both<L: StoreName>(
+pub(crate) fn put_both<L: StoreName>(
     seats: &mut Vec<Seat<L>>,
     first: Seat<L>,
     second: Seat<L>,
@@ -89,7 +89,7 @@ pub fn put_both<L: StoreName>(
 }
 
 /// Closes a store, whose seats are to have so many receipts of so many calls.
-pub fn close<L: StoreName, R: Abort>(
+pub(crate) fn close<L: StoreName, R: Abort>(
     rt: &R,
     store: Store<L>,
     seats: Vec<Seat<L>>,
@@ -109,10 +109,10 @@ fn close_all<L: StoreName>(store: Store<L>, seats: Vec<Seat<L>>) -> Result<Close
     }
 }
 
-pub fn is_refused<R: Abort>(rt: &R, answer: Answer, refusal: Refusal) {
+pub(crate) fn is_refused<R: Abort>(rt: &R, answer: Answer, refusal: Refusal) {
     assert_eq!(rt; answer, Err(refusal));
 }
 
-pub fn has_value<R: Abort>(rt: &R, receipt: &Receipt, value: &'static [u8]) {
+pub(crate) fn has_value<R: Abort>(rt: &R, receipt: &Receipt, value: &'static [u8]) {
     assert_eq!(rt; receipt.value, Some(Bytes::from_static(value)));
 }
