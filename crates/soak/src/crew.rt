@@ -125,7 +125,7 @@ fn start_moves<'s, E, L: StoreName + Send + Sync, R: Threads + Wait + Sync>(
     }
 }
 
-// Waits for the threads of the clients, the last first.
+// Waits for the threads of the clients, from the end of the list: the first client's thread is the last in it.
 fn end_all<L: StoreName, R: Threads>(
     rt: &R,
     alloc: Global,

@@ -55,8 +55,9 @@ impl<L: StoreName> Store<L> {
 
     /// Goes on with the seat's pending call, in at most so many turns.
     ///
-    /// `NoCall` where the seat has none; `GaveUp` once the turns are used up; `Stuck` where the call wants replies and none
-    /// of its messages can be handled; `Full` where a limit is met; and `NoMemory`. The call stays pending.
+    /// `Stranger` where the seat has seen a later step than there was; `NoCall` where it has no pending call; `GaveUp` once
+    /// the turns are used up; `Stuck` where the call wants replies and none of its messages can be handled; `Full` where a
+    /// limit is met; and `NoMemory`. The seat stays as it was, its call pending.
     pub fn resume<R: Threads + Wait + Sync, C: Chooser>(
         &self,
         rt: &R,

@@ -92,8 +92,8 @@ impl<L: StoreName> Store<L> {
         self.drive_move(rt, admin, false, chooser, turns)
     }
 
-    /// Goes on with the administrator's pending move, in at most so many turns. Refused as `resume`: `NoCall` where there is
-    /// none.
+    /// Goes on with the administrator's pending move, in at most so many turns. Refused as `resume`, but never as a stranger:
+    /// `NoCall` where there is no move.
     pub fn resume_move<R: Threads + Wait + Sync, C: Chooser>(
         &self,
         rt: &R,
