@@ -5,9 +5,11 @@ use Rattle.tag.specs.Tag.{opening_tag}
 use Rattle.bank.specs.declared.status.Status.TheVariants.{Pending, Final}
 use Rattle.bank.specs.declared.kind.Kind.{Kind}
 use Rattle.bank.specs.declared.kind.Kind.TheVariants.{Spread, Query, PreWrite, Finalize, Fetch}
+use Rattle.phase.specs.declared.phase.Taken.{Taken}
 use Rattle.phase.specs.Phase.{Phase}
 use Rattle.record.specs.declared.call.CallKind.TheVariants.{Move}
-use Rattle.record.specs.declared.stage.Stage.TheVariants.{MoveSpread}
+use Rattle.record.specs.declared.stage.Stage.{Stage}
+use Rattle.record.specs.declared.stage.Stage.TheVariants.{MoveSpread, MoveQuery, MoveFetch, MovePreWrite, MoveFinalize, MoveFinal, Moved}
 use Rattle.record.specs.Courses.{greatest_tag, due, stage_after, IsCourse}
 use Rattle.successor.specs.Laws.{AreComplete}
 
@@ -30,3 +32,13 @@ MovesAreInOrder =
     (number from : ℕ) (phases : List Phase)
     → IsCourse Move number (MoveSpread from) phases → due (stage_after Move number (MoveSpread from) phases) ≡ None
     → AreComplete phases × (map (λ (phase : Phase). (phase.kind, phase.position)) phases ≡ move_phases from (queried_tag phases))
+
+-- where the replies of a move's phase lead; any other stage is left as it is
+abbrev pub after_move : Stage → List Taken → Stage
+after_move (MoveSpread position) replies = MoveQuery position
+after_move (MoveQuery position) replies = MoveFetch position (greatest_tag replies)
+after_move (MoveFetch position tag) replies = MovePreWrite position tag
+after_move (MovePreWrite position tag) replies = MoveFinalize position tag
+after_move (MoveFinalize position tag) replies = MoveFinal position tag
+after_move (MoveFinal position tag) replies = Moved position tag
+after_move stage replies = stage

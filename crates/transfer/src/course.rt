@@ -1,14 +1,16 @@
+//! The stages of a call, one after another.
+
 ghost use Rattle.std.specs.Prelude.{◌≡◌};
-ghost use Rattle.record.specs.Courses.{due, after, passed, tagged};
+ghost use Rattle.record.specs.Courses.{due, passed};
 ghost use Rattle.record.specs.Legal.{first_stage};
 ghost use Rattle.record.specs.Journals.{stage_tag};
-ghost use Rattle.successor.specs.Reading.{first_of, again_of};
-ghost use Rattle.transfer.specs.Limits.{IsBelowLimit, IsTaggable, HasNextTag};
+ghost use Rattle.transfer.specs.Limits.{IsBelowLimit, HasNextTag};
 
+use crate::replies::{after, first};
 use bank::{Kind, Status};
-use phase::{Phase, Taken};
+use phase::Phase;
 use record::{CallKind, Stage};
-use successor::{Reading, greatest_status, greatest_tag};
+use successor::Reading;
 use tag::Tag;
 
 /// Where a call stands that begins. A move leads from the position `from`; a read or a write begins at position 0.
@@ -87,186 +89,5 @@ pub fn stage_tag(stage: Stage) -> Option<Tag>
         | Stage::MoveFinal { tag, .. }
         | Stage::Ended { tag, .. }
         | Stage::Moved { tag, .. } => Some(tag),
-    }
-}
-
-// Where the replies of a complete phase lead call number `number`.
-fn after(kind: &CallKind, number: u64, stage: Stage, replies: &[Taken]) -> Stage
-    requires room { IsBelowLimit stage }
-    requires tags { HasNextTag kind.now stage replies.now }
-    ensures { result ≡ after kind.now number stage replies.now }
-{
-    match stage {
-        Stage::ReadNext {
-            position,
-            finalized,
-        } => {
-            let reading = Reading::Next {
-                position,
-                finalized,
-            };
-            first(reading.found(greatest_status(replies)))
-        }
-        Stage::ReadSpread {
-            position,
-            finalized,
-            status,
-        } => {
-            let reading = Reading::Spread {
-                position,
-                finalized,
-                status,
-            };
-            first(reading.spread())
-        }
-        Stage::QueryFrom {
-            position,
-            last,
-            greatest,
-            shown_at,
-        } => {
-            // Of the positions that showed the greatest tag, the last one counts.
-            let found = greatest_tag(replies);
-            let shown_at = if found.is_below(greatest) {
-                shown_at
-            } else {
-                position
-            };
-            let greatest = greatest.later(found);
-            if position == last {
-                tagged(kind, number, shown_at, last, greatest)
-            } else {
-                Stage::QueryFrom {
-                    position: position + 1,
-                    last,
-                    greatest,
-                    shown_at,
-                }
-            }
-        }
-        // What the last position's own quorum finalized by its fetch need not be put there again.
-        Stage::FetchAt {
-            shown_at,
-            last,
-            tag,
-        } => {
-            if shown_at == last {
-                again(last, tag, Reading::start(last))
-            } else {
-                Stage::PreWriteAt { last, tag }
-            }
-        }
-        Stage::PreWriteAt { last, tag } => Stage::FinalizeAt { last, tag },
-        Stage::FinalizeAt { last, tag } => again(last, tag, Reading::start(last)),
-        Stage::AgainNext {
-            last,
-            position,
-            tag,
-        } => {
-            let reading = Reading::start(position);
-            again(last, tag, reading.found(greatest_status(replies)))
-        }
-        Stage::AgainSpread {
-            last,
-            position,
-            tag,
-            status,
-        } => {
-            let reading = Reading::Spread {
-                position,
-                finalized: last,
-                status,
-            };
-            again(last, tag, reading.spread())
-        }
-        Stage::MoveSpread { position } => Stage::MoveQuery { position },
-        Stage::MoveQuery { position } => Stage::MoveFetch {
-            position,
-            tag: greatest_tag(replies),
-        },
-        Stage::MoveFetch { position, tag } => Stage::MovePreWrite { position, tag },
-        Stage::MovePreWrite { position, tag } => Stage::MoveFinalize { position, tag },
-        Stage::MoveFinalize { position, tag } => Stage::MoveFinal { position, tag },
-        Stage::MoveFinal { position, tag } => Stage::Moved { position, tag },
-        Stage::Ended { .. } | Stage::Moved { .. } => stage,
-    }
-}
-
-// Where a call stands in its first reading. The queries that follow begin at the last position known to be finalized.
-fn first(reading: Reading) -> Stage
-    ensures { result ≡ first_of reading }
-{
-    match reading {
-        Reading::Next {
-            position,
-            finalized,
-        } => Stage::ReadNext {
-            position,
-            finalized,
-        },
-        Reading::Spread {
-            position,
-            finalized,
-            status,
-        } => Stage::ReadSpread {
-            position,
-            finalized,
-            status,
-        },
-        Reading::Ended { last, finalized } => Stage::QueryFrom {
-            position: finalized,
-            last,
-            greatest: Tag::OPENING,
-            shown_at: finalized,
-        },
-    }
-}
-
-// Where a call stands in a later reading, which began at the position `last`. Where it found a later last position, the
-// tag is put there too.
-fn again(last: u32, tag: Tag, reading: Reading) -> Stage
-    ensures { result ≡ again_of last tag reading }
-{
-    match reading {
-        Reading::Next { position, .. } => Stage::AgainNext {
-            last,
-            position,
-            tag,
-        },
-        Reading::Spread {
-            position,
-            status,
-            ..
-        } => Stage::AgainSpread {
-            last,
-            position,
-            tag,
-            status,
-        },
-        Reading::Ended { last: end, .. } => {
-            if end == last {
-                Stage::Ended { last, tag }
-            } else {
-                Stage::PreWriteAt { last: end, tag }
-            }
-        }
-    }
-}
-
-// Once the queries are complete: a read fetches the greatest tag, and a write takes the next one.
-fn tagged(kind: &CallKind, number: u64, shown_at: u32, last: u32, greatest: Tag) -> Stage
-    requires { IsTaggable kind.now greatest }
-    ensures { result ≡ tagged kind.now number shown_at last greatest }
-{
-    match kind {
-        CallKind::Read | CallKind::Move => Stage::FetchAt {
-            shown_at,
-            last,
-            tag: greatest,
-        },
-        CallKind::Write(_) => Stage::PreWriteAt {
-            last,
-            tag: greatest.next(number),
-        },
     }
 }

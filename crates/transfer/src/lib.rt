@@ -8,6 +8,7 @@ pub use order::next_phase;
 
 mod course;
 mod order;
+mod replies;
 #[cfg(test)]
 mod tests;
 

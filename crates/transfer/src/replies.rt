@@ -1,0 +1,232 @@
+//! Where the replies of a complete phase lead.
+
+ghost use Rattle.std.specs.Prelude.{◌≡◌, ◌+◌, ◌<◌, ◌^◌};
+ghost use Rattle.tag.specs.Tag.{later_tag};
+ghost use Rattle.record.specs.Courses.{after, after_next, after_spread, after_query, after_fetch, after_again, greatest_status, greatest_tag, tagged};
+ghost use Rattle.successor.specs.Reading.{first_of, again_of, spread_by};
+ghost use Rattle.successor.specs.declared.reading.Reading.TheVariants.{Spread};
+ghost use Rattle.transfer.specs.Limits.{IsBelowLimit, IsTaggable, HasNextTag};
+ghost use Rattle.transfer.specs.Moves.{after_move};
+
+use bank::Status;
+use phase::Taken;
+use record::{CallKind, Stage};
+use successor::{Reading, greatest_status, greatest_tag};
+use tag::Tag;
+
+/// Where the replies of a complete phase lead call number `number`.
+pub(crate) fn after(kind: &CallKind, number: u64, stage: Stage, replies: &[Taken]) -> Stage
+    requires room { IsBelowLimit stage }
+    requires tags { HasNextTag kind.now stage replies.now }
+    ensures { result ≡ after kind.now number stage replies.now }
+{
+    match stage {
+        Stage::ReadNext {
+            position,
+            finalized,
+        } => after_next(replies, position, finalized),
+        Stage::ReadSpread {
+            position,
+            finalized,
+            status,
+        } => first(spread(position, finalized, status)),
+        Stage::QueryFrom {
+            position,
+            last,
+            greatest,
+            shown_at,
+        } => after_query(kind, number, replies, position, last, greatest, shown_at),
+        Stage::FetchAt {
+            shown_at,
+            last,
+            tag,
+        } => after_fetch(shown_at, last, tag),
+        Stage::PreWriteAt { last, tag } => Stage::FinalizeAt { last, tag },
+        Stage::FinalizeAt { last, tag } => again(last, tag, Reading::start(last)),
+        Stage::AgainNext {
+            last,
+            position,
+            tag,
+        } => after_again(replies, last, position, tag),
+        Stage::AgainSpread {
+            last,
+            position,
+            tag,
+            status,
+        } => again(last, tag, spread(position, last, status)),
+        _ => after_move(stage, replies),
+    }
+}
+
+// Where the replies of a move's phase lead. Any other stage is left as it is.
+fn after_move(stage: Stage, replies: &[Taken]) -> Stage
+    ensures { result ≡ after_move stage replies.now }
+{
+    match stage {
+        Stage::MoveSpread { position } => Stage::MoveQuery { position },
+        Stage::MoveQuery { position } => Stage::MoveFetch {
+            position,
+            tag: greatest_tag(replies),
+        },
+        Stage::MoveFetch { position, tag } => Stage::MovePreWrite { position, tag },
+        Stage::MovePreWrite { position, tag } => Stage::MoveFinalize { position, tag },
+        Stage::MoveFinalize { position, tag } => Stage::MoveFinal { position, tag },
+        Stage::MoveFinal { position, tag } => Stage::Moved { position, tag },
+        _ => stage,
+    }
+}
+
+// A first reading ends where there is no pointer; else the status that was found is spread.
+fn after_next(replies: &[Taken], position: u32, finalized: u32) -> Stage
+    ensures { result ≡ after_next (greatest_status replies.now) position finalized }
+{
+    let reading = Reading::Next {
+        position,
+        finalized,
+    };
+    first(reading.found(greatest_status(replies)))
+}
+
+// The reading that has spread a status at a position, and goes on at the next one.
+fn spread(position: u32, finalized: u32, status: Status) -> Reading
+    requires { position + 1 < 2 ^ 32 }
+    ensures { result ≡ spread_by (Spread position finalized status) }
+{
+    let reading = Reading::Spread {
+        position,
+        finalized,
+        status,
+    };
+    reading.spread()
+}
+
+// The next position is queried, up to the last one. Of the positions that showed the greatest tag, the last one counts.
+fn after_query(
+    kind: &CallKind,
+    number: u64,
+    replies: &[Taken],
+    position: u32,
+    last: u32,
+    greatest: Tag,
+    shown_at: u32,
+) -> Stage
+    requires room { position + 1 < 2 ^ 32 }
+    requires tags { IsTaggable kind.now (later_tag greatest (greatest_tag replies.now)) }
+    ensures { result ≡ after_query kind.now number (greatest_tag replies.now) position last greatest shown_at }
+{
+    let found = greatest_tag(replies);
+    let shown_at = if found.is_below(greatest) {
+        shown_at
+    } else {
+        position
+    };
+    let greatest = greatest.later(found);
+    if position == last {
+        tagged(kind, number, shown_at, last, greatest)
+    } else {
+        Stage::QueryFrom {
+            position: position + 1,
+            last,
+            greatest,
+            shown_at,
+        }
+    }
+}
+
+// What the last position's own quorum finalized by its fetch need not be put there again.
+fn after_fetch(shown_at: u32, last: u32, tag: Tag) -> Stage
+    ensures { result ≡ after_fetch shown_at last tag }
+{
+    if shown_at == last {
+        again(last, tag, Reading::start(last))
+    } else {
+        Stage::PreWriteAt { last, tag }
+    }
+}
+
+// A later reading ends where there is no pointer; else the status that was found is spread.
+fn after_again(replies: &[Taken], last: u32, position: u32, tag: Tag) -> Stage
+    ensures { result ≡ after_again (greatest_status replies.now) last position tag }
+{
+    let reading = Reading::start(position);
+    again(last, tag, reading.found(greatest_status(replies)))
+}
+
+/// Where a call stands in its first reading. The queries that follow begin at the last position known to be finalized.
+pub(crate) fn first(reading: Reading) -> Stage
+    ensures { result ≡ first_of reading }
+{
+    match reading {
+        Reading::Next {
+            position,
+            finalized,
+        } => Stage::ReadNext {
+            position,
+            finalized,
+        },
+        Reading::Spread {
+            position,
+            finalized,
+            status,
+        } => Stage::ReadSpread {
+            position,
+            finalized,
+            status,
+        },
+        Reading::Ended { last, finalized } => Stage::QueryFrom {
+            position: finalized,
+            last,
+            greatest: Tag::OPENING,
+            shown_at: finalized,
+        },
+    }
+}
+
+// Where a call stands in a later reading, which began at the position `last`. Where it found a later last position, the
+// tag is put there too.
+fn again(last: u32, tag: Tag, reading: Reading) -> Stage
+    ensures { result ≡ again_of last tag reading }
+{
+    match reading {
+        Reading::Next { position, .. } => Stage::AgainNext {
+            last,
+            position,
+            tag,
+        },
+        Reading::Spread {
+            position,
+            status,
+            ..
+        } => Stage::AgainSpread {
+            last,
+            position,
+            tag,
+            status,
+        },
+        Reading::Ended { last: end, .. } => {
+            if end == last {
+                Stage::Ended { last, tag }
+            } else {
+                Stage::PreWriteAt { last: end, tag }
+            }
+        }
+    }
+}
+
+// Once the queries are complete: a read fetches the greatest tag, and a write takes the next one.
+fn tagged(kind: &CallKind, number: u64, shown_at: u32, last: u32, greatest: Tag) -> Stage
+    requires { IsTaggable kind.now greatest }
+    ensures { result ≡ tagged kind.now number shown_at last greatest }
+{
+    match kind {
+        CallKind::Read | CallKind::Move => Stage::FetchAt {
+            shown_at,
+            last,
+            tag: greatest,
+        },
+        CallKind::Write(_) => Stage::PreWriteAt {
+            last,
+            tag: greatest.next(number),
+        },
+    }
+}
