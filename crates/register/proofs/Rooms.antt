@@ -16,6 +16,9 @@ use Rattle.register.specs.Kept.{HasRoomIfFew}
 pub is_lt : (n m : ℕ) → n < m → nat_lt n m ≡ true
 is_lt n m below = grind (arith, nat_tests, below)
 
+pub lt_of : (n m : ℕ) → nat_lt n m ≡ true → n < m
+lt_of n m is = grind (arith, nat_tests, is)
+
 pub not_lt : (n m : ℕ) → m ≤ n → nat_lt n m ≡ false
 not_lt n m most = grind (arith, nat_tests, most)
 

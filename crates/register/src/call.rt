@@ -1,11 +1,12 @@
-ghost use Rattle.std.specs.Prelude.{◌≡◌, ℕ, ◌++◌, suc, nat_lt, List, length, is_some, IsSome, Option, option_copied, Some, IfOk, IfErr, OnOk, OnErr};
+//! One call of an object.
+
+ghost use Rattle.std.specs.Prelude.{◌≡◌, ℕ, ◌++◌, suc, nat_lt, List, length, IsSome, option_copied, Some, OnOk, OnErr};
 ghost use Rattle.tag.specs.declared.limits.TheConstants.{MOST_PHASES};
-ghost use Rattle.tag.specs.declared.refusal.Refusal.TheVariants.{Full, NoMemory};
+ghost use Rattle.tag.specs.declared.refusal.Refusal.TheVariants.{Full};
 ghost use Rattle.tag.specs.Refusal.{IsByCause};
 ghost use Rattle.mail.specs.Mail.{mail_cause};
 ghost use Rattle.phase.specs.Phase.{Phase as Asking, after_take};
-ghost use Rattle.record.specs.Journals.{operation_of, entry_of, entry_value};
-ghost use Rattle.record.specs.Steps.{new_call, requests, sent_value};
+ghost use Rattle.record.specs.Steps.{new_call, requests};
 ghost use Rattle.record.specs.Wants.{current_phase};
 ghost use Rattle.register.specs.Causes.{unless};
 ghost use Rattle.register.specs.Kept.{HasRoomIfFew};
@@ -20,11 +21,13 @@ use encoder::Coded;
 use layout::Layout;
 use mail::{Mail, Message};
 use phase::{Ask, Phase, Took};
-use record::{CallKind, Entry, Operation, Stage};
+use record::{CallKind, Stage};
 use std::alloc::Global;
 use std::marker::Model;
 use tag::{MOST_PHASES, Refusal, Stamp};
 use transfer::passed;
+
+mod views;
 
 /// A call of an object, with its phases.
 #[derive(Debug, Drop)]
@@ -185,97 +188,5 @@ impl Call {
         ensures { self.new ≡ record { call = record self.old.call { answered = Some now }; stage = self.old.stage } }
     {
         self.answered = Some(now);
-    }
-
-    /// What the call does.
-    pub(crate) fn operation(&self) -> Operation
-        ensures { result ≡ operation_of self.now.call.kind }
-    {
-        match &self.kind {
-            CallKind::Read => Operation::Read,
-            CallKind::Write(_) => Operation::Write,
-            CallKind::Move => Operation::Move,
-        }
-    }
-
-    /// The step of the call.
-    pub(crate) fn called(&self) -> Stamp
-        ensures { result ≡ self.now.call.called }
-    {
-        self.called
-    }
-
-    /// Whether the call is answered.
-    pub(crate) fn is_answered(&self) -> bool
-        ensures { result ≡ is_some self.now.call.answered }
-    {
-        self.answered.is_some()
-    }
-
-    /// Whether the call has settled a value.
-    pub(crate) fn is_settled(&self) -> bool
-        ensures { result ≡ is_some self.now.call.settled }
-    {
-        self.settled.is_some()
-    }
-
-    /// The value that the call writes, or has settled so far.
-    pub(crate) fn value(&self) -> Option<&Bytes>
-        ensures { option_copied result ≡ sent_value self.now.call.kind self.now.call.settled }
-    {
-        match &self.kind {
-            CallKind::Write(value) => Some(value),
-            CallKind::Read | CallKind::Move => self.settled.as_ref(),
-        }
-    }
-
-    /// A copy, which shares its bytes, of the value that the call writes, or that a read returns once it is answered.
-    pub(crate) fn returned(&self, is_answered: bool) -> Result<Option<Bytes>, Refusal>
-        ensures value { (answered : Option ℕ) → is_answered ≡ is_some answered
-            → IfOk result (λ v. v ≡ entry_value self.now.call.kind answered self.now.call.settled) }
-        ensures refused { IfErr result (λ e. e ≡ NoMemory) }
-    {
-        match &self.kind {
-            CallKind::Write(value) => Ok(Some(value.clone()?)),
-            CallKind::Read => {
-                if !is_answered {
-                    return Ok(None);
-                }
-                match &self.settled {
-                    Some(value) => Ok(Some(value.clone()?)),
-                    None => Ok(None),
-                }
-            }
-            CallKind::Move => Ok(None),
-        }
-    }
-
-    /// The entry of the call, whose number this is, in the object's history.
-    pub(crate) fn entry(&self, number: u64) -> Result<Entry, Refusal>
-        ensures entry { IfOk result (λ e. e ≡ entry_of number self.now.call) }
-        ensures refused { IfErr result (λ e. e ≡ NoMemory) }
-    {
-        let value = self.returned(self.answered.is_some())?;
-        Ok(Entry {
-            call: number,
-            operation: self.operation(),
-            called: self.called,
-            answered: self.answered,
-            value,
-        })
-    }
-
-    /// The phase that began last.
-    pub(crate) fn current(&self) -> Option<&Phase>
-        ensures { option_copied result ≡ current_phase self.now.call.phases }
-    {
-        self.phases.last()
-    }
-
-    /// Where the phases lead.
-    pub(crate) fn stage(&self) -> Stage
-        ensures { result ≡ self.now.stage }
-    {
-        self.stage
     }
 }

@@ -6,6 +6,7 @@ pub use receipt::{CallView, Receipt};
 pub use register::Register;
 
 mod call;
+mod pieces;
 mod position;
 mod receipt;
 mod register;

@@ -18,12 +18,11 @@ use crate::position::Position;
 use crate::receipt::Receipt;
 use crate::register::Register;
 use crate::register::phases::{index_of, want_of};
-use crate::requests::has_room;
 use bank::{Kind, Status};
 use bytes::Bytes;
 use layout::Layout;
 use record::{CallKind, Operation, Want};
-use tag::{LONGEST_VALUE, MOST_CALLS, MOST_POSITIONS, MOST_STEPS, Refusal, Stamp};
+use tag::{LONGEST_VALUE, MOST_STEPS, Refusal, Stamp};
 use transfer::first_stage;
 
 impl Register {
@@ -66,21 +65,12 @@ impl Register {
             (mail_cause (called_object self.old.object kind now).mail))) result }
         ensures unchanged { OnErr result (self.new ≡ self.old) }
     {
-        let members = usize::from(self.positions[0].layout().n());
-        if now > MOST_STEPS {
-            return Err(Refusal::Full);
-        }
-        if self.calls.len() >= MOST_CALLS {
-            return Err(Refusal::Full);
-        }
-        if !has_room(&self.mail, members) {
-            return Err(Refusal::Full);
-        }
+        self.may_call(now)?;
         let stage = first_stage(&kind, 0);
         let number = self.calls.len() as u64 + 1;
         let mut call = Call::new(*self.calls.allocator(), kind, stage, now);
         self.calls.reserve(1)?;
-        match call.begin(
+        call.begin(
             number,
             Kind::Next,
             0,
@@ -88,14 +78,10 @@ impl Register {
             None,
             &mut self.mail,
             now,
-        ) {
-            Ok(()) => {
-                self.calls.push_reserved(call);
-                self.last = now;
-                Ok(number)
-            }
-            Err(refusal) => Err(refusal),
-        }
+        )?;
+        self.calls.push_reserved(call);
+        self.last = now;
+        Ok(number)
     }
 
     /// A move to a layout begins, with its first phase: the next position is there from now on, with its banks. It answers
@@ -110,29 +96,12 @@ impl Register {
         ensures cause { IsByCause (move_cause layout now self.old.object) result }
         ensures unchanged { OnErr result (self.new ≡ self.old) }
     {
-        if self.is_moving {
-            return Err(Refusal::MovePending);
-        }
-        let positions = self.positions.len();
-        let calls = self.calls.len();
-        let last = positions - 1;
-        let members = usize::from(self.positions[last].layout().n());
-        if now > MOST_STEPS {
-            return Err(Refusal::Full);
-        }
-        if positions >= MOST_POSITIONS {
-            return Err(Refusal::Full);
-        }
-        if calls >= MOST_CALLS {
-            return Err(Refusal::Full);
-        }
-        if !has_room(&self.mail, members) {
-            return Err(Refusal::Full);
-        }
+        self.may_move(now)?;
         let alloc = *self.calls.allocator();
         let next = Position::new(alloc, layout, now)?;
+        let last = self.positions.len() - 1;
         let position = last as u32;
-        let number = calls as u64 + 1;
+        let number = self.calls.len() as u64 + 1;
         let mut call = Call::new(
             alloc,
             CallKind::Move,
@@ -141,7 +110,7 @@ impl Register {
         );
         self.positions.reserve(1)?;
         self.calls.reserve(1)?;
-        match call.begin(
+        call.begin(
             number,
             Kind::Spread(Status::Pending),
             position,
@@ -149,16 +118,12 @@ impl Register {
             None,
             &mut self.mail,
             now,
-        ) {
-            Ok(()) => {
-                self.positions.push_reserved(next);
-                self.calls.push_reserved(call);
-                self.is_moving = true;
-                self.last = now;
-                Ok(number)
-            }
-            Err(refusal) => Err(refusal),
-        }
+        )?;
+        self.positions.push_reserved(next);
+        self.calls.push_reserved(call);
+        self.is_moving = true;
+        self.last = now;
+        Ok(number)
     }
 
     /// The call of this number is answered. `object` is the object's place for the receipt.

@@ -1,7 +1,6 @@
 //! The values that calls code, and those that they settle.
 
 ghost use Rattle.std.specs.Prelude.{◌≡◌, ◌≤◌, ◌<◌, pred, [], length, option_copied, OnOk, OnErr, IfOk, Some};
-ghost use Rattle.std.specs.List.{list_all};
 ghost use Rattle.tag.specs.Refusal.{IsByCause, IsExactlyByCause};
 ghost use Rattle.record.specs.Steps.{Step};
 ghost use Rattle.record.specs.Courses.{due};
@@ -9,21 +8,19 @@ ghost use Rattle.record.specs.Wants.{current_phase};
 ghost use Rattle.register.specs.State.{made, object_of};
 ghost use Rattle.tag.specs.declared.limits.TheConstants.{MOST_POSITIONS};
 ghost use Rattle.register.specs.Tracked.{IsBelow, tracked_want};
-ghost use Rattle.register.specs.Coding.{pieces_position, sending_position, bytes_eq, is_coded_for, same_piece, is_recorded, piece_by};
+ghost use Rattle.register.specs.Coding.{pieces_position, sending_position};
 ghost use Rattle.register.specs.Causes.{value_cause, supply_cause, pieces_cause, settle_cause, is_replied};
 ghost use Rattle.register.specs.View.{coding_at, pieces_at};
 
 use crate::call::Call;
+use crate::pieces::{are_recorded, is_coded_for, piece_by};
 use crate::position::Position;
 use crate::register::Register;
 use crate::register::phases::{index_of, is_pre_write, want_of};
-use bank::Answer;
 use bytes::Bytes;
 use decoder::Decoded;
 use encoder::{Coded, Piece};
-use lane_kernel::same;
-use layout::Layout;
-use phase::{Phase, Taken};
+use phase::Phase;
 use record::Want;
 use tag::{MOST_STEPS, Refusal, Stamp};
 use transfer::due;
@@ -80,7 +77,7 @@ impl Register {
             let Some((kind, position)) = due(tracked.stage()) else {
                 unreachable!();
             };
-            match self.calls[index].begin(
+            self.calls[index].begin(
                 call,
                 kind,
                 position,
@@ -88,21 +85,13 @@ impl Register {
                 Some(&coded),
                 &mut self.mail,
                 now,
-            ) {
-                Ok(()) => {
-                    self.last = now;
-                    Ok(())
-                }
-                Err(refusal) => Err(refusal),
-            }
+            )?;
+            self.last = now;
+            Ok(())
         } else {
-            match self.calls[index].ask_again(call, Some(&coded), &mut self.mail) {
-                Ok(()) => {
-                    self.last = now;
-                    Ok(())
-                }
-                Err(refusal) => Err(refusal),
-            }
+            self.calls[index].ask_again(call, Some(&coded), &mut self.mail)?;
+            self.last = now;
+            Ok(())
         }
     }
 
@@ -206,68 +195,4 @@ fn is_replied(phase: Option<&Phase>) -> bool
         Some(phase) => phase.complete(),
         None => false,
     }
-}
-
-// Whether two slices hold the same bytes.
-fn are_same(a: &[u8], b: &[u8]) -> bool
-    ensures { result ≡ bytes_eq a.now b.now }
-{
-    a.len() == b.len() && same(a, b)
-}
-
-// Whether a coded value is this value, coded for a layout.
-fn is_coded_for(layout: &Layout, value: &Bytes, coded: &Coded) -> bool
-    ensures { result ≡ is_coded_for layout.now value.now coded.now }
-{
-    are_same(coded.value().as_slice(), value.as_slice())
-        && coded.k() == layout.k()
-        && coded.n() == layout.n()
-}
-
-// Whether the first piece is the second.
-fn is_same(a: &Piece, b: &Piece) -> bool
-    ensures { result ≡ same_piece a.now b.now }
-{
-    a.point == b.point && a.len == b.len && are_same(a.bytes.as_slice(), b.bytes.as_slice())
-}
-
-// Whether a reply with this piece was recorded.
-fn is_recorded(replies: &[Taken], piece: &Piece) -> bool
-    ensures { result ≡ is_recorded replies.now piece.now }
-{
-    for taken in replies {
-        if let Answer::Piece(Some(other)) = &taken.reply.answer
-            && is_same(piece, other.piece())
-        {
-            return true;
-        }
-    }
-    false
-}
-
-// Whether each piece was recorded.
-fn are_recorded(replies: &[Taken], pieces: &[Piece]) -> bool
-    ensures { result ≡ list_all (is_recorded replies.now) pieces.now }
-{
-    for piece in pieces {
-        if !is_recorded(replies, piece) {
-            return false;
-        }
-    }
-    true
-}
-
-// The piece that a member replied.
-fn piece_by(replies: &[Taken], member: u8) -> Option<&Piece>
-    ensures { option_copied result ≡ piece_by replies.now member }
-{
-    for taken in replies {
-        if taken.member == member {
-            return match &taken.reply.answer {
-                Answer::Piece(Some(held)) => Some(held.piece()),
-                _ => None,
-            };
-        }
-    }
-    None
 }

@@ -1,7 +1,7 @@
 use Rattle.std.proofs.Common.{◌≡◌, drop}
 use Rattle.std.specs.List.{list_all}
 use Rattle.register.specs.Coding.{is_recorded}
-use Rattle.register.proofs.register.coding.are_recorded.Given as goal
+use Rattle.register.proofs.pieces.are_recorded.Given as goal
 
 abbrev pub invariant-loop-piece : goal.invariant-loop-piece
 invariant-loop-piece l =

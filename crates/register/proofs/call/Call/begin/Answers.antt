@@ -1,4 +1,4 @@
-use Rattle.std.proofs.Common.{◌≡◌, ◌⊎◌, ℕ, suc, ◌+◌, ◌<◌, ◌++◌, nat_lt, true, false, length, Option, Some, None, sym, ap, subst, ◌∙◌, inl, arith}
+use Rattle.std.proofs.Common.{◌≡◌, ◌⊎◌, ℕ, suc, ◌+◌, ◌<◌, ◌++◌, nat_lt, length, Option, Some, None, sym, ap, subst, ◌∙◌, inl, arith}
 use Rattle.std.specs.Option.{option_copied}
 use Rattle.tag.specs.declared.limits.TheConstants.{MOST_PHASES}
 use Rattle.tag.specs.declared.refusal.Refusal.{Refusal}

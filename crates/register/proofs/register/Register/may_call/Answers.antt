@@ -1,22 +1,13 @@
-use Rattle.std.proofs.Common.{◌≡◌, ◌+◌, ◌<◌, ◌⊎◌, ◌++◌, ◌∷◌, ℕ, nat_lt, suc, length, [], Option, None, Some, inl, refl, sym, subst, subst₂, ap, ◌∙◌, arith}
+use Rattle.std.proofs.Common.{◌≡◌, ◌<◌, ℕ, suc, length, inl, refl, sym, subst, ap, ◌∙◌, arith}
 use Rattle.record.specs.declared.call.CallKind.TheVariants.{Read}
 use Rattle.std.proofs.lemmas.Option.{slice_get_read}
-use Rattle.tag.specs.declared.limits.TheConstants.{MOST_CALLS, MOST_PHASES}
-use Rattle.tag.specs.declared.refusal.Refusal.{Refusal}
-use Rattle.tag.specs.declared.refusal.Refusal.TheVariants.{Full, NoMemory}
-use Rattle.bank.specs.Bank.{empty_piece}
-use Rattle.bank.specs.declared.kind.Kind.TheVariants.{Next}
-use Rattle.mail.specs.Mail.{mail_cause}
+use Rattle.tag.specs.declared.limits.TheConstants.{MOST_CALLS}
 use Rattle.record.specs.Records.{layout_at}
-use Rattle.record.specs.Steps.{new_call, requests, called_object}
-use Rattle.register.specs.Causes.{unless}
-use Rattle.register.specs.Kept.{HasRoomIfFew, IsKept}
 use Rattle.register.specs.State.{Contents, State, state_of}
-use Rattle.register.specs.Tracked.{Tracked, with_begun}
 use Rattle.register.proofs.Calling.{layout_is}
-use Rattle.register.proofs.Rooms.{few_room, many_full, for_memory}
+use Rattle.register.proofs.Rooms.{few_room, many_full}
 use Rattle.register.proofs.Calling.{sound_room}
-use Rattle.register.proofs.Reading.{fresh, reading, called_is, called_sound, called_kept, reading_first, some_position, reading_cause, reading_mail, reading_past, many_calls, reading_cause_is, reading_room}
+use Rattle.register.proofs.Reading.{called_sound, some_position, reading_cause, reading_mail, reading_past, many_calls, reading_cause_is, reading_room}
 use Rattle.register.proofs.register.Register.may_call.Goals as goal
 
 pub returns-then-now-gt-MOST_STEPS : goal.returns-then-now-gt-MOST_STEPS

@@ -2,7 +2,7 @@ use Rattle.std.proofs.Common.{◌≡◌, ◌-◌, ◌<◌, length, sym, subst, a
 use Rattle.tag.specs.declared.limits.TheConstants.{MOST_CALLS, MOST_POSITIONS}
 use Rattle.layout.specs.Layout.{Layout}
 use Rattle.register.specs.Causes.{move_cause}
-use Rattle.register.specs.State.{Contents, State, state_of}
+use Rattle.register.specs.State.{Contents, State}
 use Rattle.register.proofs.Moving.{IsLast, last_of}
 use Rattle.register.proofs.Refusing.{many_messages, no_cause}
 use Rattle.register.proofs.register.Register.may_move.Goals as goal

@@ -1,5 +1,4 @@
-use Rattle.std.proofs.Common.{◌≡◌, pred, ◌<◌, ◌⊎◌, List, [], length, set, Option, Some, None, sym, ap, subst, ◌∙◌, inl, arith}
-use Rattle.std.proofs.lemmas.List.{set-get_or}
+use Rattle.std.proofs.Common.{◌≡◌, pred, ◌<◌, ◌⊎◌, List, [], length, Option, Some, None, sym, ap, subst, ◌∙◌, inl, arith}
 use Rattle.tag.specs.declared.refusal.Refusal.{Refusal}
 use Rattle.tag.specs.declared.refusal.Refusal.TheVariants.{NoMemory}
 use Rattle.record.specs.Courses.{due}
@@ -9,7 +8,6 @@ use Rattle.record.specs.Wants.{current_phase}
 use Rattle.transfer.specs.Limits.{IsBelowLimit}
 use Rattle.register.specs.Causes.{supply_cause}
 use Rattle.register.specs.Coding.{pieces_position}
-use Rattle.register.specs.Kept.{IsKept}
 use Rattle.register.specs.State.{Contents, State, made, object_of, state_of}
 use Rattle.register.specs.Tracked.{Tracked, IsBelow, tracked_want}
 use Rattle.register.proofs.Beginning.{beginning, begin_room, begin_cause, begin_step, begin_kept}
@@ -131,44 +129,25 @@ begin-requires-clause-room c =
     let after : k.last < c.args.now = subst (λ (s : State). s.last < c.args.now) (sym c.self.view_is) c.requires.after in
     begin_room b c.args.now after
 
-pub invariant_of-self : goal.invariant_of-self
-invariant_of-self c =
+pub invariant_of-self-then-is_replied : goal.invariant_of-self-then-is_replied
+invariant_of-self-then-is_replied c =
     let r = c.self.inside in
     let k : Contents = record { positions = r.positions.items; mail = r.mail; calls = r.calls.items; is_moving = r.is_moving; stored = r.stored; last = r.last } in
     let s = supplied k c.args.coded c.self.invariant c.in_ok-index.ensures.place c.deref.ensures.value c.index-tracked.ensures c.deref-2.ensures.value
     c.pieces_position.ensures c.in-Some.is c.index.ensures c.layout-layout.ensures c.in-Some-value.ensures c.is_coded_for.ensures c.if-not-is_coded_for.false in
     let b = beginning s c.current.ensures c.is_replied.ensures c.if-is_replied.true c.stage.ensures c.due.ensures c.in-Some-due.is c.index_mut.ensures.value in
     let after : k.last < c.args.now = subst (λ (s : State). s.last < c.args.now) (sym c.self.view_is) c.requires.after in
-    begin_kept b c.args.now c.begin.new.mail c.begin.new.self c.in-Ok.ensures.mail c.in-Ok.ensures.call after c.in-Ok.ensures.cause
+    begin_kept b c.args.now c.begin.new.mail c.begin.new.self c.in_ok-begin.ensures.mail c.in_ok-begin.ensures.call after c.in_ok-begin.ensures.cause
 
-pub invariant_of-self-in-Err : goal.invariant_of-self-in-Err
-invariant_of-self-in-Err c =
-    let r = c.self.inside in
-    let k : Contents = record { positions = r.positions.items; mail = r.mail; calls = r.calls.items; is_moving = r.is_moving; stored = r.stored; last = r.last } in
-    let i = c.in_ok-index.index in
-    let same : set k.calls i c.begin.new.self ≡ k.calls =
-    ap (λ (t : Tracked). set k.calls i t) (c.in-Err.ensures.unchanged ∙ c.index_mut.ensures.value) ∙ set-get_or k.calls i c.index_mut.result.now in
-    subst (λ ms. IsKept (record k { mail = ms; calls = set k.calls i c.begin.new.self })) (sym c.in-Err.ensures.kept)
-    (subst (λ (ts : List Tracked). IsKept (record k { calls = ts })) (sym same) c.self.invariant)
-
-pub returns-in-Ok-clause-step : goal.returns-in-Ok-clause-step
-returns-in-Ok-clause-step c =
+pub returns-then-is_replied-clause-step : goal.returns-then-is_replied-clause-step
+returns-then-is_replied-clause-step c =
     let r = c.self.inside in
     let k : Contents = record { positions = r.positions.items; mail = r.mail; calls = r.calls.items; is_moving = r.is_moving; stored = r.stored; last = r.last } in
     let s = supplied k c.args.coded c.self.invariant c.in_ok-index.ensures.place c.deref.ensures.value c.index-tracked.ensures c.deref-2.ensures.value
     c.pieces_position.ensures c.in-Some.is c.index.ensures c.layout-layout.ensures c.in-Some-value.ensures c.is_coded_for.ensures c.if-not-is_coded_for.false in
     let b = beginning s c.current.ensures c.is_replied.ensures c.if-is_replied.true c.stage.ensures c.due.ensures c.in-Some-due.is c.index_mut.ensures.value in
-    begin_step b c.args.now c.begin.new.mail c.begin.new.self c.in-Ok.ensures.mail c.in-Ok.ensures.call
+    begin_step b c.args.now c.begin.new.mail c.begin.new.self c.in_ok-begin.ensures.mail c.in_ok-begin.ensures.call
     ∙ ap (λ (s : State). made (Step.Supply (pred c.args.call)) c.args.now s) c.self.view_is
-
-pub returns-in-Ok-clause-cause : goal.returns-in-Ok-clause-cause
-returns-in-Ok-clause-cause c =
-    let r = c.self.inside in
-    let k : Contents = record { positions = r.positions.items; mail = r.mail; calls = r.calls.items; is_moving = r.is_moving; stored = r.stored; last = r.last } in
-    let s = supplied k c.args.coded c.self.invariant c.in_ok-index.ensures.place c.deref.ensures.value c.index-tracked.ensures c.deref-2.ensures.value
-    c.pieces_position.ensures c.in-Some.is c.index.ensures c.layout-layout.ensures c.in-Some-value.ensures c.is_coded_for.ensures c.if-not-is_coded_for.false in
-    let b = beginning s c.current.ensures c.is_replied.ensures c.if-is_replied.true c.stage.ensures c.due.ensures c.in-Some-due.is c.index_mut.ensures.value in
-    ap (λ (s : State). supply_cause c.args.now s.object c.args.call c.args.coded) (sym c.self.view_is) ∙ begin_cause b c.args.now c.if-now-gt-MOST_STEPS.false ∙ c.in-Ok.ensures.cause
 
 pub returns-then-is_replied-clause-cause : goal.returns-then-is_replied-clause-cause
 returns-then-is_replied-clause-cause c =
@@ -177,8 +156,18 @@ returns-then-is_replied-clause-cause c =
     let s = supplied k c.args.coded c.self.invariant c.in_ok-index.ensures.place c.deref.ensures.value c.index-tracked.ensures c.deref-2.ensures.value
     c.pieces_position.ensures c.in-Some.is c.index.ensures c.layout-layout.ensures c.in-Some-value.ensures c.is_coded_for.ensures c.if-not-is_coded_for.false in
     let b = beginning s c.current.ensures c.is_replied.ensures c.if-is_replied.true c.stage.ensures c.due.ensures c.in-Some-due.is c.index_mut.ensures.value in
-    subst (λ (cause : Option Refusal). (cause ≡ Some c.in-Err.refusal) ⊎ ((cause ≡ None) × (c.in-Err.refusal ≡ NoMemory)))
-    (sym (ap (λ (s : State). supply_cause c.args.now s.object c.args.call c.args.coded) (sym c.self.view_is) ∙ begin_cause b c.args.now c.if-now-gt-MOST_STEPS.false)) c.in-Err.ensures.cause
+    ap (λ (s : State). supply_cause c.args.now s.object c.args.call c.args.coded) (sym c.self.view_is) ∙ begin_cause b c.args.now c.if-now-gt-MOST_STEPS.false ∙ c.in_ok-begin.ensures.cause
+
+pub returns-in_err-begin-clause-cause : goal.returns-in_err-begin-clause-cause
+returns-in_err-begin-clause-cause c =
+    let r = c.self.inside in
+    let k : Contents = record { positions = r.positions.items; mail = r.mail; calls = r.calls.items; is_moving = r.is_moving; stored = r.stored; last = r.last } in
+    let s = supplied k c.args.coded c.self.invariant c.in_ok-index.ensures.place c.deref.ensures.value c.index-tracked.ensures c.deref-2.ensures.value
+    c.pieces_position.ensures c.in-Some.is c.index.ensures c.layout-layout.ensures c.in-Some-value.ensures c.is_coded_for.ensures c.if-not-is_coded_for.false in
+    let b = beginning s c.current.ensures c.is_replied.ensures c.if-is_replied.true c.stage.ensures c.due.ensures c.in-Some-due.is c.index_mut.ensures.value in
+    same_cause (supply_cause c.args.now c.args.self.now.object c.args.call c.args.coded) c.from_residual-in_err-begin.result _ c.from_residual-in_err-begin.ensures.1
+    (subst (λ (cause : Option Refusal). (cause ≡ Some c.in_err-begin.field-0.0) ⊎ ((cause ≡ None) × (c.in_err-begin.field-0.0 ≡ NoMemory)))
+    (sym (ap (λ (s : State). supply_cause c.args.now s.object c.args.call c.args.coded) (sym c.self.view_is) ∙ begin_cause b c.args.now c.if-now-gt-MOST_STEPS.false)) c.in_err-begin.ensures.cause)
 
 -- The current phase asks again
 
@@ -201,33 +190,24 @@ ask_again-requires-clause-room c =
     let after : k.last < c.args.now = subst (λ (s : State). s.last < c.args.now) (sym c.self.view_is) c.requires.after in
     again_room a c.args.now after
 
-pub invariant_of-self-in-Ok-ask_again : goal.invariant_of-self-in-Ok-ask_again
-invariant_of-self-in-Ok-ask_again c =
+pub invariant_of-self-else-is_replied : goal.invariant_of-self-else-is_replied
+invariant_of-self-else-is_replied c =
     let r = c.self.inside in
     let k : Contents = record { positions = r.positions.items; mail = r.mail; calls = r.calls.items; is_moving = r.is_moving; stored = r.stored; last = r.last } in
     let s = supplied k c.args.coded c.self.invariant c.in_ok-index.ensures.place c.deref.ensures.value c.index-tracked.ensures c.deref-2.ensures.value
     c.pieces_position.ensures c.in-Some.is c.index.ensures c.layout-layout.ensures c.in-Some-value.ensures c.is_coded_for.ensures c.if-not-is_coded_for.false in
     let a = asking s c.current.ensures c.is_replied.ensures c.if-is_replied.false c.index-else-is_replied.ensures in
     let after : k.last < c.args.now = subst (λ (s : State). s.last < c.args.now) (sym c.self.view_is) c.requires.after in
-    again_kept a c.args.now c.ask_again.new.mail c.in-Ok-ask_again.ensures.mail after
+    again_kept a c.args.now c.ask_again.new.mail c.in_ok-ask_again.ensures.mail after
 
-pub returns-in-Ok-ask_again-clause-step : goal.returns-in-Ok-ask_again-clause-step
-returns-in-Ok-ask_again-clause-step c =
+pub returns-clause-step : goal.returns-clause-step
+returns-clause-step c =
     let r = c.self.inside in
     let k : Contents = record { positions = r.positions.items; mail = r.mail; calls = r.calls.items; is_moving = r.is_moving; stored = r.stored; last = r.last } in
     let s = supplied k c.args.coded c.self.invariant c.in_ok-index.ensures.place c.deref.ensures.value c.index-tracked.ensures c.deref-2.ensures.value
     c.pieces_position.ensures c.in-Some.is c.index.ensures c.layout-layout.ensures c.in-Some-value.ensures c.is_coded_for.ensures c.if-not-is_coded_for.false in
     let a = asking s c.current.ensures c.is_replied.ensures c.if-is_replied.false c.index-else-is_replied.ensures in
-    again_step a c.args.now c.ask_again.new.mail c.in-Ok-ask_again.ensures.mail ∙ ap (λ (s : State). made (Step.Supply (pred c.args.call)) c.args.now s) c.self.view_is
-
-pub returns-in-Ok-ask_again-clause-cause : goal.returns-in-Ok-ask_again-clause-cause
-returns-in-Ok-ask_again-clause-cause c =
-    let r = c.self.inside in
-    let k : Contents = record { positions = r.positions.items; mail = r.mail; calls = r.calls.items; is_moving = r.is_moving; stored = r.stored; last = r.last } in
-    let s = supplied k c.args.coded c.self.invariant c.in_ok-index.ensures.place c.deref.ensures.value c.index-tracked.ensures c.deref-2.ensures.value
-    c.pieces_position.ensures c.in-Some.is c.index.ensures c.layout-layout.ensures c.in-Some-value.ensures c.is_coded_for.ensures c.if-not-is_coded_for.false in
-    let a = asking s c.current.ensures c.is_replied.ensures c.if-is_replied.false c.index-else-is_replied.ensures in
-    ap (λ (s : State). supply_cause c.args.now s.object c.args.call c.args.coded) (sym c.self.view_is) ∙ again_by a c.args.now c.if-now-gt-MOST_STEPS.false (λ cause. cause ≡ None) c.in-Ok-ask_again.ensures.cause
+    again_step a c.args.now c.ask_again.new.mail c.in_ok-ask_again.ensures.mail ∙ ap (λ (s : State). made (Step.Supply (pred c.args.call)) c.args.now s) c.self.view_is
 
 pub returns-clause-cause : goal.returns-clause-cause
 returns-clause-cause c =
@@ -236,7 +216,17 @@ returns-clause-cause c =
     let s = supplied k c.args.coded c.self.invariant c.in_ok-index.ensures.place c.deref.ensures.value c.index-tracked.ensures c.deref-2.ensures.value
     c.pieces_position.ensures c.in-Some.is c.index.ensures c.layout-layout.ensures c.in-Some-value.ensures c.is_coded_for.ensures c.if-not-is_coded_for.false in
     let a = asking s c.current.ensures c.is_replied.ensures c.if-is_replied.false c.index-else-is_replied.ensures in
-    subst (λ (cause : Option Refusal). (cause ≡ Some c.in-Err-ask_again.refusal) ⊎ ((cause ≡ None) × (c.in-Err-ask_again.refusal ≡ NoMemory)))
+    ap (λ (s : State). supply_cause c.args.now s.object c.args.call c.args.coded) (sym c.self.view_is) ∙ again_by a c.args.now c.if-now-gt-MOST_STEPS.false (λ cause. cause ≡ None) c.in_ok-ask_again.ensures.cause
+
+pub returns-in_err-ask_again-clause-cause : goal.returns-in_err-ask_again-clause-cause
+returns-in_err-ask_again-clause-cause c =
+    let r = c.self.inside in
+    let k : Contents = record { positions = r.positions.items; mail = r.mail; calls = r.calls.items; is_moving = r.is_moving; stored = r.stored; last = r.last } in
+    let s = supplied k c.args.coded c.self.invariant c.in_ok-index.ensures.place c.deref.ensures.value c.index-tracked.ensures c.deref-2.ensures.value
+    c.pieces_position.ensures c.in-Some.is c.index.ensures c.layout-layout.ensures c.in-Some-value.ensures c.is_coded_for.ensures c.if-not-is_coded_for.false in
+    let a = asking s c.current.ensures c.is_replied.ensures c.if-is_replied.false c.index-else-is_replied.ensures in
+    same_cause (supply_cause c.args.now c.args.self.now.object c.args.call c.args.coded) c.from_residual-in_err-ask_again.result _ c.from_residual-in_err-ask_again.ensures.1
+    (subst (λ (cause : Option Refusal). (cause ≡ Some c.in_err-ask_again.field-0.0) ⊎ ((cause ≡ None) × (c.in_err-ask_again.field-0.0 ≡ NoMemory)))
     (sym (ap (λ (s : State). supply_cause c.args.now s.object c.args.call c.args.coded) (sym c.self.view_is)))
-    (again_by a c.args.now c.if-now-gt-MOST_STEPS.false (λ (cause : Option Refusal). (cause ≡ Some c.in-Err-ask_again.refusal) ⊎ ((cause ≡ None) × (c.in-Err-ask_again.refusal ≡ NoMemory)))
-    c.in-Err-ask_again.ensures.cause)
+    (again_by a c.args.now c.if-now-gt-MOST_STEPS.false (λ (cause : Option Refusal). (cause ≡ Some c.in_err-ask_again.field-0.0) ⊎ ((cause ≡ None) × (c.in_err-ask_again.field-0.0 ≡ NoMemory)))
+    c.in_err-ask_again.ensures.cause))

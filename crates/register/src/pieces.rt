@@ -1,0 +1,76 @@
+//! Pieces as they were coded, and as a phase took them.
+
+ghost use Rattle.std.specs.Prelude.{◌≡◌, option_copied};
+ghost use Rattle.std.specs.List.{list_all};
+ghost use Rattle.register.specs.Coding.{bytes_eq, is_coded_for, same_piece, is_recorded, piece_by};
+
+use bank::Answer;
+use bytes::Bytes;
+use encoder::{Coded, Piece};
+use lane_kernel::same;
+use layout::Layout;
+use phase::Taken;
+
+// Whether two slices hold the same bytes.
+fn are_same(a: &[u8], b: &[u8]) -> bool
+    ensures { result ≡ bytes_eq a.now b.now }
+{
+    a.len() == b.len() && same(a, b)
+}
+
+/// Whether a coded value is this value, coded for a layout.
+pub(crate) fn is_coded_for(layout: &Layout, value: &Bytes, coded: &Coded) -> bool
+    ensures { result ≡ is_coded_for layout.now value.now coded.now }
+{
+    are_same(coded.value().as_slice(), value.as_slice())
+        && coded.k() == layout.k()
+        && coded.n() == layout.n()
+}
+
+// Whether the first piece is the second.
+fn is_same(a: &Piece, b: &Piece) -> bool
+    ensures { result ≡ same_piece a.now b.now }
+{
+    a.point == b.point && a.len == b.len && are_same(a.bytes.as_slice(), b.bytes.as_slice())
+}
+
+// Whether a reply with this piece was recorded.
+fn is_recorded(replies: &[Taken], piece: &Piece) -> bool
+    ensures { result ≡ is_recorded replies.now piece.now }
+{
+    for taken in replies {
+        if let Answer::Piece(Some(other)) = &taken.reply.answer
+            && is_same(piece, other.piece())
+        {
+            return true;
+        }
+    }
+    false
+}
+
+/// Whether each piece was recorded.
+pub(crate) fn are_recorded(replies: &[Taken], pieces: &[Piece]) -> bool
+    ensures { result ≡ list_all (is_recorded replies.now) pieces.now }
+{
+    for piece in pieces {
+        if !is_recorded(replies, piece) {
+            return false;
+        }
+    }
+    true
+}
+
+/// The piece that a member replied.
+pub(crate) fn piece_by(replies: &[Taken], member: u8) -> Option<&Piece>
+    ensures { option_copied result ≡ piece_by replies.now member }
+{
+    for taken in replies {
+        if taken.member == member {
+            return match &taken.reply.answer {
+                Answer::Piece(Some(held)) => Some(held.piece()),
+                _ => None,
+            };
+        }
+    }
+    None
+}
