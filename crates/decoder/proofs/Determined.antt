@@ -1,14 +1,13 @@
 -- Values that have the same fragments at k points.
-use Rattle.std.proofs.Common.{◌≡◌, ℕ, zero, suc, ◌≤◌, ◌<◌, List, [], ◌∷◌, length, map, get_or, All, refl, sym, ap, subst, ◌∙◌, arith}
+use Rattle.std.proofs.Common.{◌≡◌, ℕ, ◌≤◌, List, [], ◌∷◌, length, map, get_or, All, refl, sym, ap, subst, ◌∙◌}
 use Rattle.std.proofs.lemmas.List.{length-map}
 use Rattle.std.proofs.lemmas.List.Elements.{All-map}
 use Rattle.tag.specs.declared.limits.TheConstants.{LONGEST_VALUE, MOST_MEMBERS}
 use Rattle.gf256.specs.Polynomial.{AreBytes, AreDistinct}
 use Rattle.encoder.specs.Fragment.{fragment, piece_of}
 use Rattle.encoder.specs.declared.fragment.Piece.{Piece}
-use Rattle.encoder.proofs.Columns.{length-fragment, AreBytes-fragment}
+use Rattle.encoder.proofs.Columns.{AreBytes-fragment}
 use Rattle.decoder.specs.Pieces.{points_of, AreLawful, AreOfBytes, ArePiecesOf, IsInterpolated}
-use Rattle.decoder.proofs.Whole.{blocks_of}
 use Rattle.decoder.proofs.Cut.{value-blocks_of, AreLawful-pieces_of, IsInterpolated-pieces_of}
 
 -- the pieces of a value at these points

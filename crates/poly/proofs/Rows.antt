@@ -5,8 +5,7 @@ use Rattle.std.proofs.lemmas.Bool.{cases_lt}
 use Rattle.std.proofs.lemmas.Grind.{same_number_lists}
 use Rattle.std.specs.Int.Bits.{xor_zero_l, xor_self, xor_lt}
 use Rattle.std.specs.List.{refill}
-use Rattle.std.proofs.lemmas.List.{length-map, get_or_append_left, get_or_past}
-use Rattle.std.proofs.Math.Seq.{get_or-append_seam}
+use Rattle.std.proofs.lemmas.List.{length-map, get_or_append_left}
 use Rattle.gf256.proofs.FieldLaws.{product-zero_left, product-zero_right, product_lt, zero_from_product, product_comm}
 use Rattle.gf256.proofs.Additive.{eq-xor_zero}
 use Rattle.gf256.specs.Field.{field_product}

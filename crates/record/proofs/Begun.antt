@@ -4,7 +4,7 @@ use Rattle.std.proofs.Common.{subst, ap, ◌∙◌, arith, le_refl, eqb-true, eq
 use Rattle.record.proofs.Grammar.{IsPath, asks_of, due_of, later_place, query_last, query_on}
 use Rattle.record.proofs.Whole.{IsLast, whole_of_path, path_of_whole, move_of_path, path_of_move}
 use Rattle.tag.specs.declared.tag.Tag.{Tag}
-use Rattle.tag.specs.Tag.{opening_tag, next_tag, later_tag, tag_lt}
+use Rattle.tag.specs.Tag.{opening_tag, next_tag, later_tag}
 use Rattle.bank.specs.declared.status.Status.{Status}
 use Rattle.bank.specs.declared.status.Status.TheVariants.{Unset, Pending, Final}
 use Rattle.bank.specs.declared.kind.Kind.{Kind}

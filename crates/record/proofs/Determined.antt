@@ -1,17 +1,15 @@
 -- The encoder's fragments are a code.
-use Rattle.std.proofs.Common.{◌≡◌, ◌≢◌, ℕ, zero, suc, ◌+◌, ◌<◌, ◌≤◌, nat_eq, Bool, false, List, [], ◌∷◌, length, take, min, refl, ap₂, ◌∙◌, arith, All}
+use Rattle.std.proofs.Common.{◌≡◌, ℕ, zero, suc, ◌+◌, ◌<◌, ◌≤◌, nat_eq, false, List, [], ◌∷◌, length, take, min, refl, ap₂, ◌∙◌, arith}
 use Rattle.std.specs.List.{AllByRecursion, IsDistinct}
 use Rattle.std.proofs.lemmas.Bool.Decides.{Decides-eqb}
 use Rattle.std.proofs.lemmas.List.Elements.{All-from_recursion}
 use Rattle.std.proofs.lemmas.List.{nil_from_length}
 use Rattle.std.proofs.lemmas.Map.Made.{AllPairs-from_IsDistinct}
 use Rattle.std.proofs.Math.Nat.{zero-div, zero-mod}
-use Rattle.tag.specs.declared.limits.TheConstants.{MOST_MEMBERS}
 use Rattle.encoder.specs.Fragment.{fragment, fragment_len}
 use Rattle.encoder.proofs.Columns.{length-fragment}
 use Rattle.decoder.proofs.Determined.{determined}
-use Rattle.decoder.proofs.Cut.{IsInterpolated-pieces_of}
-use Rattle.record.specs.Fragments.{AreBytes, Determines, IsCode, IsValue}
+use Rattle.record.specs.Fragments.{Determines, IsCode}
 
 all_take : (P : ℕ → Type 0) (k : ℕ) (xs : List ℕ) → AllByRecursion P xs → AllByRecursion P (take k xs)
 all_take P zero xs all = tt

@@ -1,5 +1,5 @@
 -- A round of a call begins neither a read nor a write; where it answers, what it tells is the call's value.
-use Rattle.std.proofs.Common.{◌≡◌, ℕ, zero, suc, pred, ◌<◌, ◌≤◌, ◌+◌, ◌⊎◌, inl, inr, nat_le, Bool, true, false, if◌then◌else◌, is_some, List, [], ◌∷◌, Option, Some, None, slice_get, Result, Ok, Err, OnOk, OnErr, refl, sym, ap, subst, ◌∙◌, arith}
+use Rattle.std.proofs.Common.{◌≡◌, ℕ, zero, suc, pred, ◌<◌, ◌≤◌, inr, Bool, true, false, if◌then◌else◌, is_some, List, [], ◌∷◌, Option, Some, None, slice_get, Result, Ok, Err, OnOk, OnErr, refl, sym, ap, subst, ◌∙◌, arith}
 use Rattle.std.specs.Prelude.{option_map}
 use Rattle.std.specs.List.{AllByRecursion}
 use Rattle.tag.specs.declared.limits.TheConstants.{MOST_STEPS}
@@ -7,7 +7,6 @@ use Rattle.tag.specs.declared.refusal.Refusal.{Refusal}
 use Rattle.tag.specs.declared.refusal.Refusal.TheVariants.{NoMemory, NotNow}
 use Rattle.mail.specs.declared.message.Body.{Body}
 use Rattle.mail.specs.declared.message.Body.TheVariants as body
-use Rattle.phase.specs.Phase.{Phase}
 use Rattle.record.specs.declared.call.CallKind.{CallKind}
 use Rattle.record.specs.declared.call.CallKind.TheVariants.{Read, Write, Move}
 use Rattle.record.specs.declared.stage.Want.{Want}
@@ -27,7 +26,7 @@ use Rattle.cluster.specs.Cluster.{Cluster, named, if_named, place_of}
 use Rattle.cluster.specs.Steps as of
 use Rattle.sections.specs.Calls.{client_calls}
 use Rattle.driver.specs.Choices.{handling}
-use Rattle.driver.specs.Driver.{wanted, asking, IsAsking, IsWaitingStep, IsNext, IsDue, IsTurn, IsAnswer, IsRefused}
+use Rattle.driver.specs.Driver.{wanted, asking, IsWaitingStep, IsNext, IsTurn, IsRefused}
 use Rattle.driver.specs.Rounds.{IsRound}
 use Rattle.sections.specs.Sections.{Goes, Copies, tells}
 use Rattle.driver.specs.declared.round.Round.{Round}

@@ -8,15 +8,13 @@ use Rattle.mail.specs.declared.message.Message.{Message}
 use Rattle.mail.specs.declared.message.Body.{Body}
 use Rattle.mail.specs.declared.message.Body.TheVariants as body
 use Rattle.record.specs.Records.{Object}
-use Rattle.record.specs.Steps.{Step}
 use Rattle.register.specs.Causes.{lose_cause, repeat_cause}
 use Rattle.register.specs.State.{State}
 use Rattle.register.proofs.Lists.{same_some}
 use Rattle.cluster.specs.Causes.{next, object_cause}
 use Rattle.cluster.specs.Cluster.{Cluster, named, if_named}
-use Rattle.cluster.specs.Steps.{stepped}
 use Rattle.driver.specs.Choices.{places, Picks, handling, handled_as, handled_at, step_of}
-use Rattle.sections.specs.Sections.{any_choice, any_choices, IsStirred, IsDisturbed, disturbing, disturb_cause}
+use Rattle.sections.specs.Sections.{any_choice, any_choices, IsStirred, IsDisturbed, disturb_cause}
 use Rattle.driver.specs.declared.messages.Handled.{Handled}
 use Rattle.driver.proofs.Named.{cause_there, is_there, one_state}
 

@@ -1,5 +1,5 @@
 -- What each locked section does.
-use Rattle.std.specs.Prelude.{◌≡◌, ◌≢◌, ◌⊎◌, ℕ, zero, suc, pred, ◌<◌, ◌%◌, ◌==◌, nat_lt, not, Bool, true, false, is_some, if◌then◌else◌, List, [], length, Option, Some, None, slice_get}
+use Rattle.std.specs.Prelude.{◌≡◌, ◌≢◌, ◌⊎◌, ℕ, suc, pred, ◌<◌, ◌%◌, ◌==◌, nat_lt, not, Bool, true, false, is_some, if◌then◌else◌, List, [], length, Option, Some, None, slice_get}
 use Rattle.tag.specs.declared.refusal.Refusal.{Refusal}
 use Rattle.tag.specs.declared.refusal.Refusal.TheVariants.{NoMemory, NoCall, NotNow, MovePending, GaveUp}
 use Rattle.mail.specs.declared.message.Message.{Message}
@@ -10,7 +10,6 @@ use Rattle.record.specs.declared.stage.Want.TheVariants as want
 use Rattle.register.specs.Causes.{unless, supply_cause, settle_cause, lose_cause, repeat_cause}
 use Rattle.register.specs.State.{State}
 use Rattle.register.specs.View.{want_at}
-use Rattle.register.specs.declared.receipt.Receipt.{Receipt}
 use Rattle.cluster.specs.Cluster.{Cluster, named}
 use Rattle.cluster.specs.Causes.{next, object_cause, can_handle, layout_cause, create_cause, server_cause, moving_cause}
 use Rattle.cluster.specs.Steps.{stepped, with_layout, with_server, created}

@@ -1,6 +1,6 @@
-use Rattle.std.proofs.Common.{◌≡◌, ap, sym, subst, ◌∙◌}
+use Rattle.std.proofs.Common.{ap, sym, subst, ◌∙◌}
 use Rattle.gf256.specs.Polynomial.{AreBytes, evaluate}
-use Rattle.gf256.proofs.Interpolation.{times_root, AreBytes-times_root, evaluate-times_root}
+use Rattle.gf256.proofs.Interpolation.{AreBytes-times_root, evaluate-times_root}
 use Rattle.poly.proofs.Rows.{refill-times_root, AreBytes-from_padded}
 use Rattle.poly.proofs.multiply_by_root.Goals as goal
 

@@ -1,6 +1,6 @@
-use Rattle.std.proofs.Common.{◌≡◌, ◌+◌, ◌-◌, ◌<◌, ◌≤◌, length, slice_get, drop, sym, ap, ◌∙◌, arith}
+use Rattle.std.proofs.Common.{◌+◌, ◌<◌, ◌≤◌, length, slice_get, drop, ap, ◌∙◌, arith}
 use Rattle.driver.specs.Choices.{places}
-use Rattle.sections.specs.Sections.{any_choice, any_choices}
+use Rattle.sections.specs.Sections.{any_choice}
 use Rattle.driver.proofs.Chosen.{here, passed, skipped, past_last}
 use Rattle.sections.proofs.messages.choice_at.Goals as goal
 use Rattle.sections.proofs.messages.choice_at.Goals.{then-is_choice+else-left-eq0, else-is_choice}

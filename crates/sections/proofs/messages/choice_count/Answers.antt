@@ -1,4 +1,4 @@
-use Rattle.std.proofs.Common.{◌≡◌, ◌+◌, ◌<◌, length, drop, sym, ap, ◌∙◌, arith}
+use Rattle.std.proofs.Common.{◌+◌, ◌<◌, length, drop, ap, ◌∙◌, arith}
 use Rattle.driver.specs.Choices.{places}
 use Rattle.sections.specs.Sections.{any_choice, any_choices}
 use Rattle.driver.proofs.Chosen.{counted, uncounted, few, choices_few}

@@ -1,6 +1,5 @@
-use Rattle.std.proofs.Common.{inr, refl, ap, ◌∙◌}
+use Rattle.std.proofs.Common.{inr, ap, ◌∙◌}
 use Rattle.cluster.specs.Steps.{stepped}
-use Rattle.driver.specs.Choices.{step_of}
 use Rattle.sections.proofs.Going.{kept_step, quiet_handling}
 use Rattle.driver.proofs.Refusing.{err_of}
 use Rattle.sections.proofs.Stirring.{stirred, handled_step}

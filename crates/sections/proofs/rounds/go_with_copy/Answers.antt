@@ -1,6 +1,5 @@
 use Rattle.std.proofs.Common.{inr, ap, subst, sym, ◌∙◌, Some}
 use Rattle.sections.specs.Sections.{Copies, GoesNot}
-use Rattle.sections.specs.declared.rounds.Hand.TheVariants as hands
 use Rattle.sections.proofs.Going.{copies, memory_refused}
 use Rattle.sections.proofs.Stirring.{err_match}
 use Rattle.sections.proofs.rounds.go_with_copy.Goals as goal

@@ -1,4 +1,4 @@
-use Rattle.std.proofs.Common.{◌≡◌, ◌≤◌, sym, subst, arith}
+use Rattle.std.proofs.Common.{◌≤◌, subst, arith}
 use Rattle.std.specs.List.{AllByRecursion}
 use Rattle.record.specs.Records.{Call}
 use Rattle.record.specs.Sound.{IsCallPast}

@@ -1,4 +1,4 @@
-use Rattle.std.proofs.Common.{◌≡◌, ◌<◌, ◌≤◌, ◌+◌, length, refl, sym, ap, subst, ◌∙◌, arith}
+use Rattle.std.proofs.Common.{◌<◌, ◌≤◌, length, refl, sym, subst, ◌∙◌, arith}
 use Rattle.tag.specs.Refusal.{IsExactlyByCause}
 use Rattle.register.proofs.Lists.{found}
 use Rattle.cluster.specs.Causes.{moving_cause}
