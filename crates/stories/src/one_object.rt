@@ -35,6 +35,18 @@ fn refuses_in_order(rt: HostRuntime) -> Result<(), Fail> {
         (Act::Take(0), None),
     ];
     play(&rt, alloc, &mut object, &acts)?;
+    Ok(())
+}
+
+#[test]
+fn refuses_pieces_of_another_value(rt: HostRuntime) -> Result<(), Fail> {
+    let alloc = rt.alloc();
+    let mut object = object(alloc)?;
+    let acts = [
+        (Act::Write(HELLO), None),
+        (Act::Move(3, &[0, 1, 2, 3, 4]), None),
+    ];
+    play(&rt, alloc, &mut object, &acts)?;
     go_on(&rt, alloc, &mut object, 1, 1)?;
     deliver(&rt, &mut object)?;
     let acts = [
@@ -45,13 +57,21 @@ fn refuses_in_order(rt: HostRuntime) -> Result<(), Fail> {
         (Act::Post(1), Some(Refusal::NotNow)),
     ];
     play(&rt, alloc, &mut object, &acts)?;
-    assert!(rt; object.is_moving());
     // The next position has a fifth member, and there is no third position.
+    assert!(rt; object.is_moving());
     assert!(rt; object.server(1, 4) == Some(4) && object.server(2, 0) == None);
     assert!(rt; object.tag_view(1) == Some(Tag { number: 1, call: 1 }));
+    Ok(())
+}
+
+#[test]
+fn refuses_a_value_that_is_too_long(rt: HostRuntime) -> Result<(), Fail> {
+    let alloc = rt.alloc();
+    let mut object = object(alloc)?;
     let long = Bytes::from_vec(vec![in alloc; 0; LONGEST_VALUE + 1]?)?;
     let refused = object.call_write(long, next(&rt, &object));
     assert!(rt; refused.err() == Some(Refusal::TooLong));
+    assert!(rt; object.want(1).err() == Some(Refusal::NoCall));
     Ok(())
 }
 
