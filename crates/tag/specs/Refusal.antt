@@ -2,7 +2,9 @@
 use Rattle.std.specs.Prelude.{◌≡◌, ◌⊎◌, ℕ, List, ◌∷◌, ◌++◌, Option, Some, None, Result, MatchResult, codes}
 use Rattle.std.specs.Fmt.{decimal}
 use Rattle.tag.specs.declared.refusal.Refusal.{Refusal}
-use Rattle.tag.specs.declared.refusal.Refusal.TheVariants.{NoMemory, BadLayout, NoObject, ObjectExists, TooLong, NoCall, NotNow, NoMessage, Down, WrongCode, MovePending, Full, Stuck, GaveUp, BadPieces, Collected, Stranger}
+use Rattle.tag.specs.declared.refusal.Refusal.TheVariants.{NoMemory, BadLayout, NoObject, ObjectExists, TooLong, NoCall}
+use Rattle.tag.specs.declared.refusal.Refusal.TheVariants.{NotNow, NoMessage, Down, WrongCode, MovePending, Full, Stuck}
+use Rattle.tag.specs.declared.refusal.Refusal.TheVariants.{GaveUp, BadPieces, Collected, Stranger}
 
 -- the number of each refusal
 abbrev pub number_of : Refusal → ℕ

@@ -3,8 +3,8 @@ ghost use Rattle.tag.specs.Tag.{later_tag, next_tag, opening_tag, tag_lt, tag_eq
 
 use std::fmt;
 
-/// The name of a version of an object's value, after the tags of Coded Atomic Storage (Cadambe, Lynch, Médard and Musial,
-/// 2014): tags are ordered by number, and then by the call that wrote the version.
+/// The name of a version of an object's value, after the tags of Coded Atomic Storage (Cadambe, Lynch, Médard and
+/// Musial, 2014): tags are ordered by number, and then by the call that wrote the version.
 #[derive(Clone, Copy, Debug, PartialEq, Eq, PartialOrd, Ord, Hash)]
 pub struct Tag {
     /// One more than the greatest number that the writing call found.
