@@ -1,16 +1,20 @@
 -- The laws of the field.
-use Rattle.std.proofs.Common.{◌≡◌, ℕ, zero, suc, ◌+◌, ◌*◌, ◌^◌, ◌<◌, bit_xor, refl, sym, ap, ap₂, ◌∙◌, true, Bool, eqb, eqb-true, ltb, ltb-true, arith, lit<, zero-add, suc-add}
+use Rattle.std.proofs.Common.{◌≡◌, ℕ, zero, suc, ◌+◌, ◌*◌, ◌^◌, ◌<◌, bit_xor, refl, sym, ap, ap₂, ◌∙◌}
+use Rattle.std.proofs.Common.{true, Bool, eqb, eqb-true, ltb, ltb-true, arith, lit<, zero-add, suc-add}
 use Rattle.std.specs.Int.{bit_at}
 use Rattle.std.specs.Int.Bits.{xor_lt}
 use Rattle.std.proofs.lemmas.Nat.Bits.{bit_at-lt}
 use Rattle.gf256.specs.Field.{modulus, field_product, field_power, remainder, polynomial_product}
-use Rattle.gf256.proofs.Additive.{IsAdditive, IsAdditive-none, IsAdditive-same, IsAdditive-xor, IsAdditive-compose, IsAdditive-bit_times, IsAdditive-times_bit, IsAdditive-times_pow, IsAdditive-zero, IsAdditive-unique, polynomial_ind, all_below, all_below-at}
+use Rattle.gf256.proofs.Additive.{IsAdditive, IsAdditive-none, IsAdditive-same, IsAdditive-xor, IsAdditive-compose}
+use Rattle.gf256.proofs.Additive.{IsAdditive-bit_times, IsAdditive-times_bit, IsAdditive-times_pow}
+use Rattle.gf256.proofs.Additive.{IsAdditive-zero, IsAdditive-unique, polynomial_ind, all_below, all_below-at}
 
 polynomial_product_left : (n b : ℕ) → IsAdditive (λ a. polynomial_product n a b)
 unfolding polynomial_product
 polynomial_product_left zero b = IsAdditive-none
 polynomial_product_left (suc n) b =
-    IsAdditive-xor (λ a. polynomial_product n a b) (λ a. bit_at a n * (b * 2 ^ n)) (polynomial_product_left n b) (IsAdditive-bit_times n (b * 2 ^ n))
+    IsAdditive-xor (λ a. polynomial_product n a b) (λ a. bit_at a n * (b * 2 ^ n)) (polynomial_product_left n b)
+    (IsAdditive-bit_times n (b * 2 ^ n))
 
 polynomial_product_right : (n a : ℕ) → IsAdditive (λ b. polynomial_product n a b)
 unfolding polynomial_product
@@ -28,11 +32,13 @@ IsAdditive-remainder (suc n) =
 
 pub field_product_left : (b : ℕ) → IsAdditive (λ a. field_product a b)
 unfolding field_product
-field_product_left b = IsAdditive-compose (remainder 7) (λ a. polynomial_product 8 a b) (IsAdditive-remainder 7) (polynomial_product_left 8 b)
+field_product_left b =
+    IsAdditive-compose (remainder 7) (λ a. polynomial_product 8 a b) (IsAdditive-remainder 7) (polynomial_product_left 8 b)
 
 pub field_product_right : (a : ℕ) → IsAdditive (λ b. field_product a b)
 unfolding field_product
-field_product_right a = IsAdditive-compose (remainder 7) (λ b. polynomial_product 8 a b) (IsAdditive-remainder 7) (polynomial_product_right 8 a)
+field_product_right a =
+    IsAdditive-compose (remainder 7) (λ b. polynomial_product 8 a b) (IsAdditive-remainder 7) (polynomial_product_right 8 a)
 
 -- the laws at the powers x^i, by computing
 commutes : all_below 8 (λ i. all_below 8 (λ j. eqb (field_product (2 ^ i) (2 ^ j)) (field_product (2 ^ j) (2 ^ i)))) ≡ true
@@ -84,7 +90,8 @@ product_lt a b ha hb =
 pub product_comm : (a b : ℕ) → a < 256 → b < 256 → field_product a b ≡ field_product b a
 product_comm a b ha hb =
     IsAdditive-unique (λ x. field_product x b) (λ x. field_product b x) (field_product_left b) (field_product_right b) 8
-    (λ i hi. IsAdditive-unique (λ y. field_product (2 ^ i) y) (λ y. field_product y (2 ^ i)) (field_product_right (2 ^ i)) (field_product_left (2 ^ i)) 8
+    (λ i hi. IsAdditive-unique (λ y. field_product (2 ^ i) y)
+    (λ y. field_product y (2 ^ i)) (field_product_right (2 ^ i)) (field_product_left (2 ^ i)) 8
     (λ j hj. eqb-true _ _ (both_below 8 (λ i j. eqb (field_product (2 ^ i) (2 ^ j)) (field_product (2 ^ j) (2 ^ i))) commutes i j hi hj))
     b hb)
     a ha
@@ -99,7 +106,8 @@ product_assoc a b c ha hb hc =
     (IsAdditive-compose (λ x. field_product (2 ^ i) x) (λ y. field_product y c) (field_product_right (2 ^ i)) (field_product_left c)) 8
     (λ j hj. IsAdditive-unique (λ z. field_product (field_product (2 ^ i) (2 ^ j)) z) (λ z. field_product (2 ^ i) (field_product (2 ^ j) z))
     (field_product_right (field_product (2 ^ i) (2 ^ j)))
-    (IsAdditive-compose (λ x. field_product (2 ^ i) x) (λ z. field_product (2 ^ j) z) (field_product_right (2 ^ i)) (field_product_right (2 ^ j))) 8
+    (IsAdditive-compose (λ x. field_product (2 ^ i) x) (λ z. field_product (2 ^ j) z)
+    (field_product_right (2 ^ i)) (field_product_right (2 ^ j))) 8
     (λ k hk. eqb-true _ _
     (all_below-at 8 (associates_at i j) (both_below 8 (λ i j. all_below 8 (associates_at i j)) associates i j hi hj) k hk))
     c hc)
@@ -115,7 +123,8 @@ product-one_left a ha =
 pub product-one_right : (a : ℕ) → a < 256 → field_product a 1 ≡ a
 product-one_right a ha = product_comm a 1 ha (lit< tt) ∙ product-one_left a ha
 
-pub product_left_comm : (a b c : ℕ) → a < 256 → b < 256 → c < 256 → field_product a (field_product b c) ≡ field_product b (field_product a c)
+pub product_left_comm : (a b c : ℕ) → a < 256 → b < 256 → c < 256 →
+    field_product a (field_product b c) ≡ field_product b (field_product a c)
 product_left_comm a b c ha hb hc =
     sym (product_assoc a b c ha hb hc) ∙ ap (λ x. field_product x c) (product_comm a b ha hb) ∙ product_assoc b a c hb ha hc
 
@@ -204,7 +213,8 @@ product-inverse (suc i) some ha =
 pub product_left_cancel : (a b c : ℕ) → 0 < a → a < 256 → b < 256 → c < 256 → field_product a b ≡ field_product a c → b ≡ c
 product_left_cancel a b c some ha hb hc same =
     let cancels : (x : ℕ) → x < 256 → field_product (inverse a) (field_product a x) ≡ x =
-    λ x hx. sym (product_assoc (inverse a) a x (inverse_lt a ha) ha hx) ∙ ap (λ y. field_product y x) (product-inverse a some ha) ∙ product-one_left x hx in
+    λ x hx. sym (product_assoc (inverse a) a x (inverse_lt a ha) ha hx) ∙ ap (λ y. field_product y x) (product-inverse a some ha)
+    ∙ product-one_left x hx in
     sym (cancels b hb) ∙ ap (field_product (inverse a)) same ∙ cancels c hc
 
 -- there are no zero divisors

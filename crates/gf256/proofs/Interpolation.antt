@@ -1,6 +1,7 @@
 -- The polynomial that has given values at distinct points: there is exactly one with as many coefficients as points, and it
 -- is the sum of the values times the rows of Lagrange's basis.
-use Rattle.std.proofs.Common.{◌≡◌, ◌≢◌, ℕ, zero, suc, ◌+◌, ◌-◌, ◌<◌, ◌≤◌, List, [], ◌∷◌, length, get_or, bit_xor, All, refl, sym, ap, ap₂, ◌∙◌, subst, arith, lit<, ⊎_elim, pos_of_ne-zero}
+use Rattle.std.proofs.Common.{◌≡◌, ◌≢◌, ℕ, zero, suc, ◌+◌, ◌-◌, ◌<◌, ◌≤◌, List, [], ◌∷◌, length, get_or}
+use Rattle.std.proofs.Common.{bit_xor, All, refl, sym, ap, ap₂, ◌∙◌, subst, arith, lit<, ⊎_elim, pos_of_ne-zero}
 use Rattle.std.specs.Int.Bits.{xor_self, xor_zero_r, xor_lt}
 use Rattle.std.proofs.lemmas.Bool.{cases_lt, cases_eq}
 use Rattle.std.proofs.lemmas.List.{length-map}
@@ -10,7 +11,8 @@ use Rattle.std.proofs.lemmas.List.Elements.{All-nil, All-cons, All-head, All-tai
 use Rattle.gf256.specs.Field.{field_product, field_sum}
 use Rattle.gf256.specs.Polynomial.{AreBytes, AreDistinct, evaluate, sum_of, scaled, Interpolates, IsBasisRow}
 use Rattle.gf256.proofs.Additive.{eq-xor_zero}
-use Rattle.gf256.proofs.FieldLaws.{product_lt, product-zero_left, product-zero_right, product-one_right, product-sum_left, product-inverse, inverse_lt, inverse}
+use Rattle.gf256.proofs.FieldLaws.{product_lt, product-zero_left, product-zero_right, product-one_right}
+use Rattle.gf256.proofs.FieldLaws.{product-sum_left, product-inverse, inverse_lt, inverse}
 use Rattle.gf256.proofs.Sums.{field_sum_one}
 use Rattle.gf256.proofs.Roots.{IsByte, evaluate-sum_of, evaluate-scaled, same_from_values, length-sum_of, AreBytes-sum_of}
 
@@ -19,8 +21,9 @@ pub combination : ℕ → (ℕ → ℕ) → (ℕ → List ℕ) → List ℕ
 combination zero y row = []
 combination (suc n) y row = sum_of (combination n y row) (scaled (y n) (row n))
 
-evaluate-combination : (n : ℕ) (y : ℕ → ℕ) (row : ℕ → List ℕ) (x : ℕ) → ((i : ℕ) → i < n → y i < 256) → ((i : ℕ) → i < n → AreBytes (row i)) → x < 256
-    → evaluate (combination n y row) x ≡ field_sum n (λ i. field_product (y i) (evaluate (row i) x))
+evaluate-combination : (n : ℕ) (y : ℕ → ℕ) (row : ℕ → List ℕ) (x : ℕ) →
+    ((i : ℕ) → i < n → y i < 256) → ((i : ℕ) → i < n → AreBytes (row i)) → x < 256 →
+    evaluate (combination n y row) x ≡ field_sum n (λ i. field_product (y i) (evaluate (row i) x))
 unfolding evaluate combination field_sum
 evaluate-combination zero y row x hy hr hx = refl
 evaluate-combination (suc n) y row x hy hr hx =
@@ -62,12 +65,14 @@ AreBytes-combination (suc n) y row hy hr =
     AreBytes-sum_of _ _ (AreBytes-combination n y row (λ i hi. hy i (omega arith)) (λ i hi. hr i (omega arith)))
     (AreBytes-scaled (y n) (row n) (hy n (omega arith)) (hr n (omega arith)))
 
-length-combination : (n k : ℕ) (y : ℕ → ℕ) (row : ℕ → List ℕ) → ((i : ℕ) → i < suc n → length (row i) ≡ k) → length (combination (suc n) y row) ≡ k
+length-combination : (n k : ℕ) (y : ℕ → ℕ) (row : ℕ → List ℕ) → ((i : ℕ) → i < suc n → length (row i) ≡ k) →
+    length (combination (suc n) y row) ≡ k
 unfolding combination sum_of
 length-combination zero k y row h = length-map (row 0) (field_product (y 0)) ∙ h 0 (omega arith)
 length-combination (suc n) k y row h =
     let before : length (combination (suc n) y row) ≡ k = length-combination n k y row (λ i hi. h i (omega arith)) in
-    let last : length (scaled (y (suc n)) (row (suc n))) ≡ k = length-map (row (suc n)) (field_product (y (suc n))) ∙ h (suc n) (omega arith) in
+    let last : length (scaled (y (suc n)) (row (suc n))) ≡ k = length-map (row (suc n)) (field_product (y (suc n)))
+    ∙ h (suc n) (omega arith) in
     length-sum_of (combination (suc n) y row) (scaled (y (suc n)) (row (suc n))) (omega arith) ∙ before
 
 -- x + q times a polynomial
@@ -110,8 +115,8 @@ AreBytes-basis_over (q ∷ qs) p hqs hp =
     AreBytes-scaled _ _ (inverse_lt (bit_xor p q) (xor_lt 8 p q hp hq))
     (AreBytes-times_root q _ hq (AreBytes-basis_over qs p (All-tail IsByte q qs hqs) hp))
 
-evaluate-basis_over : (q : ℕ) (qs : List ℕ) (p x : ℕ) → AreBytes (q ∷ qs) → p < 256 → x < 256
-    → evaluate (basis_over (q ∷ qs) p) x ≡ field_product (inverse (bit_xor p q)) (field_product (bit_xor x q) (evaluate (basis_over qs p) x))
+evaluate-basis_over : (q : ℕ) (qs : List ℕ) (p x : ℕ) → AreBytes (q ∷ qs) → p < 256 → x < 256 →
+    evaluate (basis_over (q ∷ qs) p) x ≡ field_product (inverse (bit_xor p q)) (field_product (bit_xor x q) (evaluate (basis_over qs p) x))
 unfolding basis_over
 evaluate-basis_over q qs p x hqs hp hx =
     let hq : q < 256 = All-head IsByte q qs hqs in
@@ -133,7 +138,8 @@ basis_over_one (q ∷ qs) p hqs hp apart =
     ∙ ap (field_product (inverse (bit_xor p q))) (product-one_right (bit_xor p q) hpq)
     ∙ product-inverse (bit_xor p q) pq hpq
 
-basis_over_zero : (qs : List ℕ) (p : ℕ) → AreBytes qs → p < 256 → All (λ s. p ≢ s) qs → (k : ℕ) → k < length qs → evaluate (basis_over qs p) (get_or qs k 0) ≡ 0
+basis_over_zero : (qs : List ℕ) (p : ℕ) → AreBytes qs → p < 256 → All (λ s. p ≢ s) qs → (k : ℕ) → k < length qs →
+    evaluate (basis_over qs p) (get_or qs k 0) ≡ 0
 basis_over_zero [] p hqs hp apart k hk = absurd (omega arith)
 basis_over_zero (q ∷ qs) p hqs hp apart zero hk =
     evaluate-basis_over q qs p q hqs hp (All-head IsByte q qs hqs)
@@ -147,7 +153,8 @@ basis_over_zero (q ∷ qs) p hqs hp apart (suc k) hk =
     ∙ ap (field_product (inverse (bit_xor p q))) (product-zero_right (bit_xor (get_or qs k 0) q))
     ∙ product-zero_right (inverse (bit_xor p q))
 
-distinct_at : (points : List ℕ) → AreDistinct points → (i j : ℕ) → i < length points → j < length points → i ≢ j → get_or points i 0 ≢ get_or points j 0
+distinct_at : (points : List ℕ) → AreDistinct points → (i j : ℕ) → i < length points → j < length points → i ≢ j →
+    get_or points i 0 ≢ get_or points j 0
 distinct_at points distinct i j hi hj apart e =
     ⊎_elim (λ low. distinct i j 0 low hj e) (λ high. distinct j i 0 (omega arith) hi (sym e)) (cases_lt i j)
 
@@ -159,24 +166,27 @@ basis_row points i = basis_over (remove points i) (get_or points i 0)
 pub interpolation : List ℕ → List ℕ → List ℕ
 interpolation points values = combination (length points) (λ i. get_or values i 0) (basis_row points)
 
-pub get_or-interpolation : (points values : List ℕ) (j : ℕ)
-    → get_or (interpolation points values) j 0 ≡ field_sum (length points) (λ i. field_product (get_or values i 0) (get_or (basis_row points i) j 0))
+pub get_or-interpolation : (points values : List ℕ) (j : ℕ) → get_or (interpolation points values) j 0
+    ≡ field_sum (length points) (λ i. field_product (get_or values i 0) (get_or (basis_row points i) j 0))
 unfolding interpolation
 get_or-interpolation points values j = get_or-combination (length points) (λ i. get_or values i 0) (basis_row points) j
 
 module _ (points : List ℕ) (bytes : AreBytes points) (distinct : AreDistinct points) where
   -- what holds at each other point holds of each other element
-  All-others : (P : ℕ → Type 0) (i : ℕ) → i < length points → ((j : ℕ) → j < length points → j ≢ i → P (get_or points j 0)) → All P (remove points i)
+  All-others : (P : ℕ → Type 0) (i : ℕ) → i < length points → ((j : ℕ) → j < length points → j ≢ i → P (get_or points j 0)) →
+      All P (remove points i)
   All-others P i hi h =
       All-from_get_or P (remove points i) 0
       (λ k hk.
       ⊎_elim
       (λ low. subst P (sym (get_or-remove_below points i 0 k low hi)) (h k (omega arith) (omega arith)))
-      (λ high. subst P (sym (get_or-remove_above points i 0 k high hi)) (h (k + 1) (omega (arith, length-remove points i hi)) (omega arith)))
+      (λ high. subst P (sym (get_or-remove_above points i 0 k high hi))
+      (h (k + 1) (omega (arith, length-remove points i hi)) (omega arith)))
       (cases_lt k i))
 
   others_apart : (i : ℕ) → i < length points → All (λ q. get_or points i 0 ≢ q) (remove points i)
-  others_apart i hi = All-others (λ q. get_or points i 0 ≢ q) i hi (λ j hj apart. distinct_at points distinct i j hi hj (λ e. apart (sym e)))
+  others_apart i hi =
+      All-others (λ q. get_or points i 0 ≢ q) i hi (λ j hj apart. distinct_at points distinct i j hi hj (λ e. apart (sym e)))
 
   others_bytes : (i : ℕ) → i < length points → AreBytes (remove points i)
   others_bytes i hi = All-others (λ q. q < 256) i hi (λ j hj apart. bytes j 0 hj)
@@ -188,7 +198,8 @@ module _ (points : List ℕ) (bytes : AreBytes points) (distinct : AreDistinct p
   pub IsBasisRow-basis_row : (i : ℕ) → i < length points → IsBasisRow points i (basis_row points i)
   unfolding basis_row
   IsBasisRow-basis_row i hi =
-      let zero_at : (k : ℕ) → k < length (remove points i) → evaluate (basis_over (remove points i) (get_or points i 0)) (get_or (remove points i) k 0) ≡ 0 =
+      let zero_at : (k : ℕ) → k < length (remove points i) →
+      evaluate (basis_over (remove points i) (get_or points i 0)) (get_or (remove points i) k 0) ≡ 0 =
       basis_over_zero (remove points i) (get_or points i 0) (others_bytes i hi) (bytes i 0 hi) (others_apart i hi) in
       record {
         len = omega (arith, length-basis_over (remove points i) (get_or points i 0), length-remove points i hi);
@@ -214,11 +225,13 @@ module _ (points : List ℕ) (bytes : AreBytes points) (distinct : AreDistinct p
       same_from_values r s points row.bytes other.bytes bytes distinct row.len other.len
       (All-from_get_or (λ p. evaluate r p ≡ evaluate s p) points 0
       (λ k hk.
-      ⊎_elim (λ same. ap (λ j. evaluate r (get_or points j 0)) same ∙ row.one ∙ sym other.one ∙ ap (λ j. evaluate s (get_or points j 0)) (sym same))
+      ⊎_elim (λ same. ap (λ j. evaluate r (get_or points j 0)) same ∙ row.one ∙ sym other.one
+      ∙ ap (λ j. evaluate s (get_or points j 0)) (sym same))
       (λ apart. row.zero k hk apart ∙ sym (other.zero k hk apart))
       (cases_eq k i)))
 
-  combination_len : (values : List ℕ) (n : ℕ) → n ≡ length points → length (combination n (λ i. get_or values i 0) (basis_row points)) ≡ length points
+  combination_len : (values : List ℕ) (n : ℕ) → n ≡ length points →
+      length (combination n (λ i. get_or values i 0) (basis_row points)) ≡ length points
   unfolding combination
   combination_len values zero e = e
   combination_len values (suc n) e =

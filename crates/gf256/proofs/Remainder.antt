@@ -1,5 +1,7 @@
 -- `remainder` is the remainder: it has degree below 8, and the polynomial is a multiple of the modulus plus it.
-use Rattle.std.proofs.Common.{◌≡◌, ℕ, zero, suc, ◌+◌, ◌*◌, ◌/◌, ◌%◌, ◌^◌, ◌<◌, ◌≤◌, bit_xor, refl, sym, ap, ap₂, subst, ◌∙◌, arith, lit<, pow-suc, pow_pos, zero-mul, one-mul, zero-add, mul-le-mul_right, le_refl, mod-eq_of_lt, mod-lt, div-lt_iff_lt-mul, div-add-mod', ⊎_elim}
+use Rattle.std.proofs.Common.{◌≡◌, ℕ, zero, suc, ◌+◌, ◌*◌, ◌/◌, ◌%◌, ◌^◌, ◌<◌, ◌≤◌, bit_xor, refl, sym, ap, ap₂, subst}
+use Rattle.std.proofs.Common.{◌∙◌, arith, lit<, pow-suc, pow_pos, zero-mul, one-mul, zero-add, mul-le-mul_right}
+use Rattle.std.proofs.Common.{le_refl, mod-eq_of_lt, mod-lt, div-lt_iff_lt-mul, div-add-mod', ⊎_elim}
 use Rattle.std.proofs.Math.Nat.{sub_self, mul-lt-mul_of_pos_right}
 use Rattle.std.proofs.lemmas.Bool.{cases_lt}
 use Rattle.std.specs.Int.{bit_at}
@@ -64,16 +66,20 @@ reduced_lt n p fits =
     ⊎_elim
     (λ clear.
     let none : p / 2 ^ h ≡ 0 = omega arith in
-    let low : p < 2 ^ h = subst (λ x. x < 2 ^ h) (sym (ap (λ d. d * 2 ^ h + p % 2 ^ h) none ∙ zero_times (2 ^ h) (p % 2 ^ h)) ∙ split) rest in
-    subst (λ x. x < 2 ^ h) (sym (ap (λ d. bit_xor p (d * (modulus * 2 ^ n))) (bit ∙ none) ∙ ap (bit_xor p) (zero-mul (modulus * 2 ^ n)) ∙ xor_zero_r p)) low)
+    let low : p < 2 ^ h = subst (λ x. x < 2 ^ h)
+    (sym (ap (λ d. d * 2 ^ h + p % 2 ^ h) none ∙ zero_times (2 ^ h) (p % 2 ^ h)) ∙ split) rest in
+    subst (λ x. x < 2 ^ h)
+    (sym (ap (λ d. bit_xor p (d * (modulus * 2 ^ n))) (bit ∙ none) ∙ ap (bit_xor p) (zero-mul (modulus * 2 ^ n)) ∙ xor_zero_r p)) low)
     (λ set.
     let one : p / 2 ^ h ≡ 1 = omega arith in
     let below : 29 * 2 ^ n < 2 ^ h = omega (arith, pow-add 2 8 n, pow_pos n) in
     let apart : modulus * 2 ^ n ≡ 1 * 2 ^ h + 29 * 2 ^ n = omega (arith, pow-add 2 8 n) in
     let is : reduced n p ≡ 0 * 2 ^ h + bit_xor (p % 2 ^ h) (29 * 2 ^ n) =
-    ap₂ bit_xor (sym split ∙ ap (λ d. d * 2 ^ h + p % 2 ^ h) one) (ap (λ d. d * (modulus * 2 ^ n)) (bit ∙ one) ∙ one-mul (modulus * 2 ^ n) ∙ apart)
+    ap₂ bit_xor (sym split ∙ ap (λ d. d * 2 ^ h + p % 2 ^ h) one)
+    (ap (λ d. d * (modulus * 2 ^ n)) (bit ∙ one) ∙ one-mul (modulus * 2 ^ n) ∙ apart)
     ∙ xor_block h 1 1 (p % 2 ^ h) (29 * 2 ^ n) rest below in
-    subst (λ x. x < 2 ^ h) (sym (is ∙ zero_times (2 ^ h) (bit_xor (p % 2 ^ h) (29 * 2 ^ n)))) (xor_lt h (p % 2 ^ h) (29 * 2 ^ n) rest below))
+    subst (λ x. x < 2 ^ h) (sym (is ∙ zero_times (2 ^ h) (bit_xor (p % 2 ^ h) (29 * 2 ^ n))))
+    (xor_lt h (p % 2 ^ h) (29 * 2 ^ n) rest below))
     (cases_lt (p / 2 ^ h) 1)
 
 pub remainder_lt : (n p : ℕ) → p < 2 ^ (8 + n) → remainder n p < 2 ^ 8

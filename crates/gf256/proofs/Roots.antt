@@ -1,12 +1,14 @@
 -- A polynomial with as many roots as coefficients is zero, so two polynomials of one length that agree at as many points
 -- are equal.
-use Rattle.std.proofs.Common.{◌≡◌, ◌≢◌, ℕ, zero, suc, ◌<◌, ◌≤◌, List, [], ◌∷◌, length, get_or, bit_xor, All, AllPairs, refl, sym, ap, ap₂, ◌∙◌, arith, lit<, suc-le-suc, zero-le, pos_of_ne-zero}
+use Rattle.std.proofs.Common.{◌≡◌, ◌≢◌, ℕ, zero, suc, ◌<◌, ◌≤◌, List, [], ◌∷◌, length, get_or, bit_xor, All}
+use Rattle.std.proofs.Common.{AllPairs, refl, sym, ap, ap₂, ◌∙◌, arith, lit<, suc-le-suc, zero-le, pos_of_ne-zero}
 use Rattle.std.specs.Int.Bits.{xor_comm, xor_self, xor_zero_r, xor_lt}
 use Rattle.std.proofs.lemmas.List.Elements.{All-nil, All-cons, All-head, All-tail}
 use Rattle.gf256.specs.Field.{field_product}
 use Rattle.gf256.specs.Polynomial.{AreBytes, AreDistinct, evaluate, sum_of, scaled}
 use Rattle.gf256.proofs.Additive.{xor-xor, eq-xor_zero}
-use Rattle.gf256.proofs.FieldLaws.{product_lt, product_left_comm, product-zero_right, product-sum_left, product-sum_right, zero_from_product}
+use Rattle.gf256.proofs.FieldLaws.{product_lt, product_left_comm, product-zero_right}
+use Rattle.gf256.proofs.FieldLaws.{product-sum_left, product-sum_right, zero_from_product}
 
 pub AllPairs-tail : {X : Type 0} (R : X → X → Type 0) (x : X) (xs : List X) → AllPairs R (x ∷ xs) → AllPairs R xs
 AllPairs-tail R x xs h i j d hi hj = h (suc i) (suc j) d (suc-le-suc hi) (suc-le-suc hj)
@@ -34,7 +36,8 @@ evaluate-sum_of (c ∷ cs) (d ∷ ds) x =
     ∙ ap (bit_xor (bit_xor c d)) (product-sum_right x (evaluate cs x) (evaluate ds x))
     ∙ xor-xor c d (field_product x (evaluate cs x)) (field_product x (evaluate ds x))
 
-pub evaluate-scaled : (y : ℕ) (cs : List ℕ) (x : ℕ) → y < 256 → AreBytes cs → x < 256 → evaluate (scaled y cs) x ≡ field_product y (evaluate cs x)
+pub evaluate-scaled : (y : ℕ) (cs : List ℕ) (x : ℕ) → y < 256 → AreBytes cs → x < 256 →
+    evaluate (scaled y cs) x ≡ field_product y (evaluate cs x)
 unfolding evaluate
 evaluate-scaled y [] x hy hc hx = sym (product-zero_right y)
 evaluate-scaled y (c ∷ cs) x hy hc hx =
@@ -44,16 +47,16 @@ evaluate-scaled y (c ∷ cs) x hy hc hx =
     ∙ sym (product-sum_right y c (field_product x (evaluate cs x)))
 
 -- the values at r of the polynomial without its first coefficients: the quotient of (c ∷ cs) by x + r
-suffix_values : List ℕ → ℕ → List ℕ
+unfoldable pub suffix_values : List ℕ → ℕ → List ℕ
 suffix_values [] r = []
 suffix_values (c ∷ cs) r = evaluate (c ∷ cs) r ∷ suffix_values cs r
 
-length-suffix_values : (cs : List ℕ) (r : ℕ) → length (suffix_values cs r) ≡ length cs
+pub length-suffix_values : (cs : List ℕ) (r : ℕ) → length (suffix_values cs r) ≡ length cs
 unfolding suffix_values
 length-suffix_values [] r = refl
 length-suffix_values (c ∷ cs) r = ap suc (length-suffix_values cs r)
 
-AreBytes-suffix_values : (cs : List ℕ) (r : ℕ) → AreBytes cs → r < 256 → AreBytes (suffix_values cs r)
+pub AreBytes-suffix_values : (cs : List ℕ) (r : ℕ) → AreBytes cs → r < 256 → AreBytes (suffix_values cs r)
 unfolding suffix_values
 AreBytes-suffix_values [] r hc hr = All-nil IsByte
 AreBytes-suffix_values (c ∷ cs) r hc hr =
@@ -65,7 +68,7 @@ xor_middle p q s =
     ∙ xor_zero_r (bit_xor q s) ∙ xor_comm q s
 
 -- the polynomial less its value at r is x + r times the quotient
-factors : (c : ℕ) (cs : List ℕ) (x r : ℕ) → AreBytes cs → x < 256 → r < 256
+pub factors : (c : ℕ) (cs : List ℕ) (x r : ℕ) → AreBytes cs → x < 256 → r < 256
     → bit_xor (evaluate (c ∷ cs) x) (evaluate (c ∷ cs) r) ≡ field_product (bit_xor x r) (evaluate (suffix_values cs r) x)
 unfolding evaluate suffix_values
 factors c [] x r hc hx hr =
@@ -78,8 +81,10 @@ factors c (d ∷ ds) x r hc hx hr =
     let es = evaluate (suffix_values ds r) x in
     let hes : es < 256 = evaluate_lt (suffix_values ds r) x (AreBytes-suffix_values ds r rest hr) hx in
     let hxr : bit_xor x r < 256 = xor_lt 8 x r hx hr in
-    let left : bit_xor (bit_xor c (field_product x ex)) (bit_xor c (field_product r er)) ≡ bit_xor (field_product x ex) (field_product r er) =
-    xor-xor c (field_product x ex) c (field_product r er) ∙ ap (λ z. bit_xor z (bit_xor (field_product x ex) (field_product r er))) (xor_self c) in
+    let left : bit_xor (bit_xor c (field_product x ex)) (bit_xor c (field_product r er))
+    ≡ bit_xor (field_product x ex) (field_product r er) =
+    xor-xor c (field_product x ex) c (field_product r er)
+    ∙ ap (λ z. bit_xor z (bit_xor (field_product x ex) (field_product r er))) (xor_self c) in
     let right : field_product (bit_xor x r) (bit_xor er (field_product x es)) ≡ bit_xor (field_product x ex) (field_product r er) =
     product-sum_right (bit_xor x r) er (field_product x es)
     ∙ ap₂ bit_xor (product-sum_left x r er)
@@ -158,4 +163,5 @@ pub same_from_values : (cs ds points : List ℕ) → AreBytes cs → AreBytes ds
 same_from_values cs ds points hc hd hp distinct lc ld agree =
     same_from_sum cs ds (omega arith)
     (zero_from_roots (sum_of cs ds) points (AreBytes-sum_of cs ds hc hd) hp distinct (length-sum_of cs ds (omega arith) ∙ lc)
-    (λ k d hk. evaluate-sum_of cs ds _ ∙ ap (bit_xor (evaluate cs (get_or points k d))) (sym (agree k d hk)) ∙ xor_self (evaluate cs (get_or points k d))))
+    (λ k d hk. evaluate-sum_of cs ds _ ∙ ap (bit_xor (evaluate cs (get_or points k d))) (sym (agree k d hk))
+    ∙ xor_self (evaluate cs (get_or points k d))))

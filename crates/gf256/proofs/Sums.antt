@@ -23,7 +23,8 @@ unfolding field_sum
 field_sum_one zero f j hj h = absurd (omega arith)
 field_sum_one (suc n) f j hj h =
     ⊎_elim
-    (λ low. ap₂ bit_xor (field_sum_one n f j low (λ i hi apart. h i (omega arith) apart)) (h n (omega arith) (omega arith)) ∙ xor_zero_r (f j))
+    (λ low. ap₂ bit_xor (field_sum_one n f j low (λ i hi apart. h i (omega arith) apart)) (h n (omega arith) (omega arith))
+    ∙ xor_zero_r (f j))
     (λ high. let e : n ≡ j = omega arith in
     ap (λ x. bit_xor x (f n)) (field_sum_zero n f (λ i hi. h i (omega arith) (omega arith))) ∙ ap f e)
     (cases_lt j n)
@@ -43,7 +44,8 @@ field_sum_first (suc n) f =
 field_product-field_sum : (x n : ℕ) (f : ℕ → ℕ) → field_product x (field_sum n f) ≡ field_sum n (λ i. field_product x (f i))
 unfolding field_sum
 field_product-field_sum x zero f = product-zero_right x
-field_product-field_sum x (suc n) f = product-sum_right x (field_sum n f) (f n) ∙ ap (λ y. bit_xor y (field_product x (f n))) (field_product-field_sum x n f)
+field_product-field_sum x (suc n) f =
+    product-sum_right x (field_sum n f) (f n) ∙ ap (λ y. bit_xor y (field_product x (f n))) (field_product-field_sum x n f)
 
 -- the value of a polynomial is the sum of its coefficients times the powers of x
 pub evaluate-field_sum : (cs : List ℕ) (x : ℕ) → AreBytes cs → x < 256
@@ -52,7 +54,8 @@ unfolding evaluate field_sum
 evaluate-field_sum [] x hc hx = refl
 evaluate-field_sum (c ∷ cs) x hc hx =
     let rest : AreBytes cs = All-tail IsByte c cs hc in
-    let first : field_product (field_power x 0) c ≡ c = ap (λ y. field_product y c) (power-zero x) ∙ product-one_left c (All-head IsByte c cs hc) in
+    let first : field_product (field_power x 0) c ≡ c = ap (λ y. field_product y c) (power-zero x)
+    ∙ product-one_left c (All-head IsByte c cs hc) in
     ap (λ y. bit_xor c (field_product x y)) (evaluate-field_sum cs x rest hx)
     ∙ ap₂ bit_xor (sym first)
     (field_product-field_sum x (length cs) (λ j. field_product (field_power x j) (get_or cs j 0))

@@ -10,4 +10,5 @@ doubles = refl
 
 pub returns : goal.returns
 returns c =
-    eqb-true _ _ (all_below-at 256 (λ a. eqb (bit_xor (bit_and a 127 * 2 % 256) (a / 128 * 29)) (field_product 2 a)) doubles c.args.a c.ranges.a.fits)
+    eqb-true _ _ (all_below-at 256
+    (λ a. eqb (bit_xor (bit_and a 127 * 2 % 256) (a / 128 * 29)) (field_product 2 a)) doubles c.args.a c.ranges.a.fits)

@@ -1,6 +1,6 @@
 use Rattle.std.proofs.Common.{◌≡◌, ℕ, ◌<◌, ◌≤◌, get_or}
 use Rattle.gf256.specs.Field.{field_product}
-use Rattle.poly.proofs.scale.Given as goal
+use Rattle.poly.proofs.quotient.scale.Given as goal
 
 -- the coefficients so far, and those that are left
 abbrev pub invariant-loop-coefficient : goal.invariant-loop-coefficient

@@ -1,6 +1,6 @@
 use Rattle.std.proofs.Common.{◌≡◌, ℕ, ◌+◌, ◌<◌, ◌≤◌, length, get_or, bit_xor}
 use Rattle.gf256.specs.Field.{field_product}
-use Rattle.poly.proofs.multiply_in_place.Given as goal
+use Rattle.poly.proofs.product.multiply_in_place.Given as goal
 
 -- the coefficients from m on, and those that are left
 abbrev pub invariant-loop-m : goal.invariant-loop-m

@@ -1,0 +1,56 @@
+//! The product of `x + point` over points.
+ghost use Rattle.std.specs.Prelude.{◌≡◌, ℕ, ◌+◌, ◌<◌, ◌≤◌, length, bit_xor, slice_index};
+ghost use Rattle.gf256.specs.Field.{field_product};
+ghost use Rattle.gf256.specs.Polynomial.{AreBytes, evaluate};
+ghost use Rattle.arrayvec.specs.ArrayVec.{array_vec_len};
+ghost use Rattle.poly.specs.Basis.{IsProduct};
+
+use arrayvec::ArrayVec;
+use gf256::mul;
+use tag::MOST_MEMBERS;
+
+/// The most coefficients of a product over the points of a layout's members.
+pub(crate) const MOST_COEFFICIENTS: usize = MOST_MEMBERS + 1;
+
+/// The product of `x + point` over the points, the constant coefficient first.
+pub(crate) fn product_over(points: &[u8]) -> ArrayVec<u8, MOST_COEFFICIENTS>
+    requires { length points.now ≤ MOST_MEMBERS }
+    ensures { IsProduct points.now (length points.now) result.items }
+{
+    let mut product = ArrayVec::new();
+    product.push(1);
+    for &point in points {
+        multiply_by_root(&mut product, point);
+    }
+    product
+}
+
+/// Makes the polynomial `row` be `x + root` times itself.
+fn multiply_by_root(row: &mut ArrayVec<u8, MOST_COEFFICIENTS>, root: u8)
+    requires { array_vec_len row.old < MOST_COEFFICIENTS }
+    ensures len { array_vec_len row.new ≡ array_vec_len row.old + 1 }
+    ensures bytes { AreBytes row.new.items }
+    ensures highest { (m : ℕ) → array_vec_len row.old ≡ m + 1 →
+        slice_index row.new.items (m + 1) ≡ slice_index row.old.items m }
+
+    ensures value { (x : ℕ) → x < 256 →
+        evaluate row.new.items x ≡ field_product (bit_xor x root) (evaluate row.old.items x) }
+{
+    row.push(0);
+    multiply_in_place(row.as_mut_slice(), root);
+}
+
+/// Makes the polynomial `row`, whose highest coefficient is 0, be `x + root` times itself.
+fn multiply_in_place(row: &mut [u8], root: u8)
+    requires { 0 < length row.old }
+    // What the type of `row` says, for a caller that holds no slice of it.
+    ensures bytes { AreBytes row.old }
+    ensures constant { slice_index row.new 0 ≡ field_product (slice_index row.old 0) root }
+    ensures others { (m : ℕ) → m + 1 < length row.old → slice_index row.new (m + 1)
+        ≡ bit_xor (slice_index row.old m) (field_product (slice_index row.old (m + 1)) root) }
+{
+    for m in (1..row.len()).rev() {
+        row[m] = row[m - 1] ^ mul(row[m], root);
+    }
+    row[0] = mul(row[0], root);
+}

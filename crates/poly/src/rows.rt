@@ -1,0 +1,56 @@
+ghost use Rattle.std.specs.Prelude.{◌≡◌, ◌<◌, ◌≤◌, length};
+ghost use Rattle.gf256.specs.Polynomial.{AreDistinct, IsBasisRow};
+
+use crate::product::{MOST_COEFFICIENTS, product_over};
+use crate::quotient::{quotient, scale, value_at};
+use arrayvec::ArrayVec;
+use gf256::inv;
+use std::marker::Model;
+use tag::MOST_MEMBERS;
+
+/// Lagrange's rows for some points. For `k` points they take about `k * k / 2` products to make, and then `3 * k` for
+/// each row. They take no memory.
+#[derive(Drop)]
+pub struct Rows {
+    points: ArrayVec<u8, MOST_MEMBERS>,
+    // The product of `x + point` over the points, the constant coefficient first.
+    product: ArrayVec<u8, MOST_COEFFICIENTS>,
+}
+
+impl Model for Rows {
+    ghost use Rattle.poly.specs.Basis.{Basis, AreRows};
+
+    ghost Value = { Basis };
+
+    ghost view = { λ r. record { points = r.points.items } };
+
+    ghost invariant = { λ r. AreRows r.points.items r.product.items };
+}
+
+impl Rows {
+    /// The rows for these points.
+    pub fn new(points: &[u8]) -> Rows
+        requires distinct { AreDistinct points.now }
+        requires fits { length points.now ≤ MOST_MEMBERS }
+        ensures { result.points ≡ points.now }
+    {
+        let product = product_over(points);
+        let Ok(points) = ArrayVec::try_from(points) else {
+            unreachable!()
+        };
+        Rows { points, product }
+    }
+
+    /// Row `i`: the coefficients of the polynomial that is 1 at point `i` and 0 at the others, as many as there are
+    /// points, the constant one first.
+    pub fn row(&self, i: usize) -> ArrayVec<u8, MOST_MEMBERS>
+        requires { i < length self.now.points }
+        ensures { IsBasisRow self.now.points i result.items }
+    {
+        let point = self.points[i];
+        let mut row = quotient(self.product.as_slice(), point);
+        let value = value_at(row.as_slice(), point);
+        scale(row.as_mut_slice(), inv(value));
+        row
+    }
+}
