@@ -42,18 +42,20 @@ block_sum a b start xs ys = zip2 bit_xor (scaled a (chunk start 32 xs)) (scaled 
 length-scaled_chunk : (a start : ℕ) (xs : List ℕ) → start + 32 ≤ length xs → length (scaled a (chunk start 32 xs)) ≡ 32
 length-scaled_chunk a start xs fits = length-map (chunk start 32 xs) (field_product a) ∙ length-chunk start 32 xs fits
 
-get_or-scaled_chunk : (a start : ℕ) (xs : List ℕ) (n : ℕ) → n < 32 → get_or (scaled a (chunk start 32 xs)) n 0 ≡ field_product a (get_or xs (start + n) 0)
+get_or-scaled_chunk : (a start : ℕ) (xs : List ℕ) (n : ℕ) → n < 32 →
+    get_or (scaled a (chunk start 32 xs)) n 0 ≡ field_product a (get_or xs (start + n) 0)
 get_or-scaled_chunk a start xs n hn = get_or-scaled a (chunk start 32 xs) n ∙ ap (field_product a) (get_or-chunk start 32 xs n 0 hn)
 
-pub length-block_sum : (a b start : ℕ) (xs ys : List ℕ) → start + 32 ≤ length xs → start + 32 ≤ length ys → length (block_sum a b start xs ys) ≡ 32
+pub length-block_sum : (a b start : ℕ) (xs ys : List ℕ) → start + 32 ≤ length xs → start + 32 ≤ length ys →
+    length (block_sum a b start xs ys) ≡ 32
 unfolding block_sum
 length-block_sum a b start xs ys fx fy =
     length-zip2 bit_xor (scaled a (chunk start 32 xs)) (scaled b (chunk start 32 ys))
     (length-scaled_chunk a start xs fx ∙ sym (length-scaled_chunk b start ys fy))
     ∙ length-scaled_chunk a start xs fx
 
-pub get_or-block_sum : (a b start : ℕ) (xs ys : List ℕ) (n : ℕ) → start + 32 ≤ length xs → start + 32 ≤ length ys → n < 32
-    → get_or (block_sum a b start xs ys) n 0 ≡ bit_xor (field_product a (get_or xs (start + n) 0)) (field_product b (get_or ys (start + n) 0))
+pub get_or-block_sum : (a b start : ℕ) (xs ys : List ℕ) (n : ℕ) → start + 32 ≤ length xs → start + 32 ≤ length ys → n < 32 →
+    get_or (block_sum a b start xs ys) n 0 ≡ bit_xor (field_product a (get_or xs (start + n) 0)) (field_product b (get_or ys (start + n) 0))
 unfolding block_sum
 get_or-block_sum a b start xs ys n fx fy hn =
     get_or-zip2 bit_xor (scaled a (chunk start 32 xs)) (scaled b (chunk start 32 ys)) n 0 0 0

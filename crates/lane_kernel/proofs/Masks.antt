@@ -1,5 +1,6 @@
 -- The mask of the lanes in which two vectors are equal.
-use Rattle.std.proofs.Common.{◌≡◌, ℕ, suc, ◌+◌, ◌*◌, ◌%◌, ◌^◌, length, map, List, [], ◌∷◌, Bool, true, false, cond, eqb, eqb-true, eq-eqb, refl, sym, ap, ap₂, subst, ◌∙◌, arith, pow-suc}
+use Rattle.std.proofs.Common.{◌≡◌, ℕ, suc, ◌+◌, ◌*◌, ◌%◌, ◌^◌, length, map, List, [], ◌∷◌, Bool, true, false}
+use Rattle.std.proofs.Common.{cond, eqb, eqb-true, eq-eqb, refl, sym, ap, ap₂, subst, ◌∙◌, arith, pow-suc}
 use Rattle.std.proofs.lemmas.List.{length-map}
 use Rattle.std.proofs.lemmas.Simd.{length-zip2, mask_l-mod}
 use lib.Lanes.{zip2, top, mask_l}
@@ -38,12 +39,14 @@ mask_fits xs ys hx hy =
     mask_l-mod (equal_lanes xs ys) 64
     (omega (arith, length-map (zip2 lane_mask xs ys) (top 7), length-zip2 lane_mask xs ys (hx ∙ sym hy)))
 
-pub same_from_full : (xs ys : List ℕ) → length xs ≡ 32 → length ys ≡ 32 → eqb (mask_l (equal_lanes xs ys) % 2 ^ 64) 4294967295 ≡ true → xs ≡ ys
+pub same_from_full : (xs ys : List ℕ) → length xs ≡ 32 → length ys ≡ 32 →
+    eqb (mask_l (equal_lanes xs ys) % 2 ^ 64) 4294967295 ≡ true → xs ≡ ys
 same_from_full xs ys hx hy full =
     same_from_mask xs ys (hx ∙ sym hy)
     (ap (λ m. m + 1) (sym (mask_fits xs ys hx hy) ∙ eqb-true _ _ full) ∙ ap (λ n. 2 ^ n) (sym hx))
 
-pub full_from_same : (xs ys : List ℕ) → length xs ≡ 32 → length ys ≡ 32 → xs ≡ ys → eqb (mask_l (equal_lanes xs ys) % 2 ^ 64) 4294967295 ≡ true
+pub full_from_same : (xs ys : List ℕ) → length xs ≡ 32 → length ys ≡ 32 → xs ≡ ys →
+    eqb (mask_l (equal_lanes xs ys) % 2 ^ 64) 4294967295 ≡ true
 full_from_same xs ys hx hy e =
     let whole : mask_l (equal_lanes xs xs) + 1 ≡ 4294967296 = mask_from_same xs ∙ ap (λ n. 2 ^ n) hx in
     let is : mask_l (equal_lanes xs ys) % 2 ^ 64 ≡ 4294967295 =

@@ -21,7 +21,8 @@ loop-block-preserved c =
           let Is : ℕ → Type 0 = λ m. get_or new m 0 ≡ sum m in
           subst Is place
           (block.inside b (omega arith)
-          ∙ ap (λ y. bit_xor (field_product c.args.own y) (field_product c.args.other (get_or src (start + b) 0))) (known.left (start + b) (omega arith))))
+          ∙ ap (λ y. bit_xor (field_product c.args.own y) (field_product c.args.other (get_or src (start + b) 0)))
+          (known.left (start + b) (omega arith))))
           (cases_lt n start);
       left = λ n hn. block.after n (omega arith) ∙ known.left n (omega arith);
       bytes = known.bytes;

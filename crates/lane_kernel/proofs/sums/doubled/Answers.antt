@@ -1,5 +1,6 @@
 -- By computing it for each byte.
-use Rattle.std.proofs.Common.{◌≡◌, ℕ, ◌+◌, ◌%◌, length, map, List, [], ◌∷◌, true, cond, eqb, eqb-true, leb, replicate, bit_xor, refl, sym, ap, ap₂, ◌∙◌}
+use Rattle.std.proofs.Common.{◌≡◌, ℕ, ◌+◌, ◌%◌, length, map, List, [], ◌∷◌, true, cond, eqb}
+use Rattle.std.proofs.Common.{eqb-true, leb, replicate, bit_xor, refl, sym, ap, ap₂, ◌∙◌}
 use Rattle.std.proofs.lemmas.List.Elements.{All-head, All-tail}
 use Rattle.gf256.specs.Polynomial.{AreBytes, scaled}
 use Rattle.gf256.specs.Field.{field_product, remainder, polynomial_product}
@@ -31,4 +32,5 @@ doubles (x ∷ xs) bytes =
     (doubles xs (All-tail IsByte x xs bytes))
 
 pub returns : goal.returns
-returns c = ap (λ n. doubled_lanes n c.args.lanes) (sym c.fits-lanes.0) ∙ doubles c.args.lanes (AreBytes-from_lanes c.args.lanes c.fits-lanes.1)
+returns c = ap (λ n. doubled_lanes n c.args.lanes) (sym c.fits-lanes.0)
+    ∙ doubles c.args.lanes (AreBytes-from_lanes c.args.lanes c.fits-lanes.1)

@@ -1,0 +1,134 @@
+//! Sums of products, of several rows of coefficients in one pass over the sources.
+
+ghost use Rattle.std.specs.Prelude.{◌≡◌, ℕ, ◌+◌, ◌*◌, ◌<◌, ◌≤◌, [], length, slice_index, slice_index_or};
+ghost use Rattle.std.specs.Prelude.{EachIndex, IsTrue};
+ghost use Rattle.dot_kernel.specs.Dot.{AreDots, bytes_of, dot_byte, row, lanes_from};
+
+use crate::Tables;
+use crate::blocks::{BLOCK, load, store};
+use std::simd::prelude::*;
+
+/// The most rows of one pass. With more than some six, their sums no longer fit the registers.
+pub const MOST_ROWS: usize = 16;
+
+/// Makes byte b of `out` be the sum of the bytes b of the sources, each times its coefficient. Past the end of a source
+/// its bytes are zero.
+pub fn dot(out: &mut [u8], tables: &[Tables], sources: &[&[u8]])
+    requires { length tables.now ≡ length sources.now }
+    ensures { EachIndex out.new (λ b. slice_index out.new b
+        ≡ dot_byte (slice_index tables.now) (bytes_of sources.now) b) }
+{
+    dots_of::<1>(out, tables, sources, out.len());
+}
+
+/// `dot` for `R` rows of coefficients, in one pass over the sources. Row r goes to the `size` bytes of `out` from
+/// `r * size` on, and its coefficient of source j stands at `j * R + r` in `tables`.
+pub fn dots_of<const R: usize>(out: &mut [u8], tables: &[Tables], sources: &[&[u8]], size: usize)
+    requires few { R ≤ MOST_ROWS }
+    requires coefficients { length tables.now ≡ length sources.now * R }
+    requires rows { length out.old ≡ R * size }
+    ensures { AreDots out.new tables.now R (bytes_of sources.now) size size }
+{
+    if size < BLOCK {
+        write_block::<R>(out, tables, sources, size, 0, size, false);
+        return;
+    }
+    let whole = shortest(sources, size) / BLOCK;
+    for block in 0..whole {
+        write_block::<R>(out, tables, sources, size, block * BLOCK, BLOCK, true);
+    }
+    for block in whole..size / BLOCK {
+        write_block::<R>(out, tables, sources, size, block * BLOCK, BLOCK, false);
+    }
+    if size % BLOCK > 0 {
+        // It overlaps the one before it: `out` is written and never read.
+        write_block::<R>(out, tables, sources, size, size - BLOCK, BLOCK, false);
+    }
+}
+
+/// The length of the shortest source, and `most` where each is longer.
+fn shortest(sources: &[&[u8]], most: usize) -> usize
+    ensures most { result ≤ most }
+    ensures each { (j : ℕ) → j < length sources.now → result ≤ length (slice_index_or (bytes_of sources.now) j []) }
+{
+    let mut shortest = most;
+    for j in 0..sources.len() {
+        let source = sources[j];
+        shortest = shortest.min(source.len());
+    }
+    shortest
+}
+
+/// Makes the rows, whose bytes up to `start` are made, go on for `width` bytes.
+#[inline(always)]
+fn write_block<const R: usize>(
+    out: &mut [u8],
+    tables: &[Tables],
+    sources: &[&[u8]],
+    size: usize,
+    start: usize,
+    width: usize,
+    whole: bool,
+)
+    requires few { R ≤ MOST_ROWS }
+    requires coefficients { length tables.now ≡ length sources.now * R }
+    requires rows { length out.old ≡ R * size }
+    requires block { width ≤ BLOCK }
+    requires within { start + width ≤ size }
+    requires whole { IsTrue whole → (j : ℕ) → j < length sources.now
+        → start + BLOCK ≤ length (slice_index_or (bytes_of sources.now) j []) }
+    ensures { AreDots out.old tables.now R (bytes_of sources.now) size start
+        → AreDots out.new tables.now R (bytes_of sources.now) size (start + width) }
+{
+    let sums = row_lanes::<R>(tables, sources, start, whole);
+    store_rows::<R>(out, size, start, width, sums);
+}
+
+/// 32 bytes of each row's sum, from byte `start` on.
+#[inline(always)]
+fn row_lanes<const R: usize>(
+    tables: &[Tables],
+    sources: &[&[u8]],
+    start: usize,
+    whole: bool,
+) -> [u8x32; R]
+    requires few { R ≤ MOST_ROWS }
+    requires coefficients { length tables.now ≡ length sources.now * R }
+    requires whole { IsTrue whole → (j : ℕ) → j < length sources.now
+        → start + BLOCK ≤ length (slice_index_or (bytes_of sources.now) j []) }
+    ensures { (r : ℕ) → r < R
+        → slice_index_or result r [] ≡ lanes_from (dot_byte (row tables.now R r) (bytes_of sources.now)) start }
+{
+    let mut sums = [u8x32::splat(0); R];
+    for j in 0..sources.len() {
+        let source = sources[j];
+        let lanes = load(source, start, whole);
+        for r in 0..R {
+            sums[r] = sums[r] ^ tables[j * R + r].times(lanes);
+        }
+    }
+    sums
+}
+
+/// Writes the first `width` lanes of each row over its bytes from `start` on.
+#[inline(always)]
+fn store_rows<const R: usize>(
+    out: &mut [u8],
+    size: usize,
+    start: usize,
+    width: usize,
+    sums: [u8x32; R],
+)
+    requires few { R ≤ MOST_ROWS }
+    requires block { width ≤ BLOCK }
+    requires within { start + width ≤ size }
+    requires rows { length out.old ≡ R * size }
+    ensures inside { (r i : ℕ) → r < R → i < width
+        → slice_index out.new (r * size + (start + i)) ≡ slice_index (slice_index_or sums.entry r []) i }
+    ensures before { (r b : ℕ) → r < R → b < start
+        → slice_index out.new (r * size + b) ≡ slice_index out.old (r * size + b) }
+{
+    for r in 0..R {
+        store(out, r * size + start, width, sums[r]);
+    }
+}
