@@ -11,9 +11,9 @@ use encoder::Piece;
 use std::alloc::{AllocError, Global};
 use tag::Refusal;
 
-/// Decodes the fragments at these points, which stand one after another, each of `len.div_ceil(k)` bytes, and writes the
-/// value to `room` where it has its length. It asks for the memory of a copy of the fragments first, and answers 1, for
-/// `NoMemory`, wherever memory is refused.
+/// Decodes the fragments at these points, which stand one after another, each of `len.div_ceil(k)` bytes, and writes
+/// the value to `room` where it has its length. It asks for the memory of a copy of the fragments first, and answers 1,
+/// for `NoMemory`, wherever memory is refused.
 #[unsafe(no_mangle)]
 pub extern "C" fn coding_exports_decode(
     alloc: Global,

@@ -1,5 +1,6 @@
 -- Sorted pieces, one at each point.
-use Rattle.std.proofs.Common.{◌≡◌, ℕ, zero, suc, ◌+◌, ◌<◌, ◌≤◌, List, [], ◌∷◌, length, Some, map, slice_get, All, IsPermutation, refl, ap, ◌∙◌, arith}
+use Rattle.std.proofs.Common.{◌≡◌, ℕ, zero, suc, ◌+◌, ◌<◌, ◌≤◌, List, [], ◌∷◌}
+use Rattle.std.proofs.Common.{length, Some, map, slice_get, All, IsPermutation, refl, ap, ◌∙◌, arith}
 use Rattle.std.proofs.lemmas.Bool.Decides.{nat_tests}
 use Rattle.std.proofs.lemmas.List.Elements.{All-head, All-tail}
 use Rattle.std.proofs.lemmas.List.Sorted.{All-permutation, IsPermutation-map, sum_by-IsPermutation}
@@ -19,7 +20,8 @@ another : (x job : ℕ) → job < x → times job (x ∷ []) ≡ 0
 another x job below = grind (arith, nat_tests)
 
 -- a job below each of the points is at none
-none_below : (x job : ℕ) (pieces : List Piece) → job < x → All (λ p. x ≤ point_of p) pieces → times job (map point_of pieces) ≡ 0
+none_below : (x job : ℕ) (pieces : List Piece) → job < x → All (λ p. x ≤ point_of p) pieces →
+    times job (map point_of pieces) ≡ 0
 none_below x job [] below h = refl
 none_below x job (p ∷ ps) below h =
     let first : x ≤ point_of p = All-head (λ q. x ≤ point_of q) p ps h in
@@ -41,20 +43,23 @@ least : (a n x t : ℕ) → (a < x → t ≡ 0) → t + once_below a a ≡ once_
 least a n x t none each low high = grind (arith, nat_tests)
 
 -- the first of sorted pieces at the points from a on, n of them, each once
-first_at : (a n : ℕ) (p : Piece) (ps : List Piece) → IsNonDecreasingBy point_of (p ∷ ps) → ((job : ℕ) → times job (map point_of (p ∷ ps)) + once_below a job ≡ once_below (a + n) job)
-    → (point_of p ≡ a) × (point_of p < a + n)
+first_at : (a n : ℕ) (p : Piece) (ps : List Piece) → IsNonDecreasingBy point_of (p ∷ ps) →
+    ((job : ℕ) → times job (map point_of (p ∷ ps)) + once_below a job ≡ once_below (a + n) job) →
+    (point_of p ≡ a) × (point_of p < a + n)
 first_at a n p ps up each =
     let x : ℕ = point_of p in
-    let here : (1 + times x (map point_of ps)) + once_below a x ≡ once_below (a + n) x = omega (arith, each x, times-append x (x ∷ []) (map point_of ps), itself x) in
+    let here : (1 + times x (map point_of ps)) + once_below a x
+    ≡ once_below (a + n) x = omega (arith, each x, times-append x (x ∷ []) (map point_of ps), itself x) in
     let low = from a n x _ here in
     let high = below a n x _ here in
     let all : All (λ q. x ≤ point_of q) (p ∷ ps) = λ j d less. up 0 j d (omega arith) less in
     (least a n x (times a (map point_of (p ∷ ps))) (λ less. none_below x a (p ∷ ps) less all) (each a) low high, high)
 
 -- they stand in their places
-in_place : (value : List ℕ) (k a : ℕ) (pieces : List Piece) (n : ℕ) → IsNonDecreasingBy point_of pieces → All (λ p. p ≡ piece_of value k p.point) pieces
-    → ((job : ℕ) → times job (map point_of pieces) + once_below a job ≡ once_below (a + n) job)
-    → (length pieces ≡ n) × ((i : ℕ) → i < length pieces → slice_get pieces i ≡ Some (piece_of value k (a + i)))
+in_place : (value : List ℕ) (k a : ℕ) (pieces : List Piece) (n : ℕ) →
+    IsNonDecreasingBy point_of pieces → All (λ p. p ≡ piece_of value k p.point) pieces →
+    ((job : ℕ) → times job (map point_of pieces) + once_below a job ≡ once_below (a + n) job) →
+    (length pieces ≡ n) × ((i : ℕ) → i < length pieces → slice_get pieces i ≡ Some (piece_of value k (a + i)))
 in_place value k a [] n up made each = (no_more a n (each a), λ i less. absurd (omega (arith, less)))
 in_place value k a (p ∷ ps) zero up made each =
     let first = first_at a zero p ps up each in absurd (omega (arith, first.0, first.1))
@@ -70,7 +75,9 @@ in_place value k a (p ∷ ps) (suc m) up made each =
     omega (arith, each job, parts, same, more, to)) in
     (omega (arith, after.0), λ i less. places i less after.1)
   where
-    places : (i : ℕ) → i < length (p ∷ ps) → ((j : ℕ) → j < length ps → slice_get ps j ≡ Some (piece_of value k ((a + 1) + j))) → slice_get (p ∷ ps) i ≡ Some (piece_of value k (a + i))
+    places : (i : ℕ) → i < length (p ∷ ps) →
+        ((j : ℕ) → j < length ps → slice_get ps j ≡ Some (piece_of value k ((a + 1) + j))) →
+        slice_get (p ∷ ps) i ≡ Some (piece_of value k (a + i))
     places zero less after =
         let first = first_at a (suc m) p ps up each in
         let at : point_of p ≡ a + 0 = omega (arith, first.0) in
@@ -81,11 +88,13 @@ in_place value k a (p ∷ ps) (suc m) up made each =
         after i (omega (arith, less)) ∙ ap (λ (z : ℕ). Some (piece_of value k z)) at
 
 -- what was made in any order, each piece once, is in order once it is sorted
-pub sorted_pieces : (value : List ℕ) (k n : ℕ) (made pieces : List Piece) → IsPermutation made pieces → IsNonDecreasingBy point_of pieces → IsEach n made → All (λ p. p ≡ piece_of value k p.point) made
-    → (length pieces ≡ n) × ArePieces value k pieces
+pub sorted_pieces : (value : List ℕ) (k n : ℕ) (made pieces : List Piece) → IsPermutation made pieces →
+    IsNonDecreasingBy point_of pieces → IsEach n made → All (λ p. p ≡ piece_of value k p.point) made →
+    (length pieces ≡ n) × ArePieces value k pieces
 sorted_pieces value k n made pieces moved up each all =
     let found = in_place value k 0 pieces n up (All-permutation (λ p. p ≡ piece_of value k p.point) made pieces moved all) (λ job.
-    let same = sum_by-IsPermutation (λ j. if j == job then 1 else 0) (map point_of made) (map point_of pieces) (IsPermutation-map point_of made pieces moved) in
+    let same = sum_by-IsPermutation (λ j. if j == job then 1 else 0) (map point_of made) (map point_of pieces)
+    (IsPermutation-map point_of made pieces moved) in
     let reach : 0 + n ≡ n = omega arith in
     let to = ap (λ (z : ℕ). once_below z job) reach in
     let none : once_below 0 job ≡ 0 = grind (arith, nat_tests) in

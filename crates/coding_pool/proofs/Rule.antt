@@ -1,5 +1,6 @@
 -- Each step keeps the rule of the queue.
-use Rattle.std.proofs.Common.{◌≡◌, ℕ, zero, suc, ◌+◌, ◌-◌, ◌<◌, ◌≤◌, ◌==◌, List, [], ◌∷◌, ◌++◌, length, set, refl, sym, ap, ◌∙◌, arith, length-append}
+use Rattle.std.proofs.Common.{◌≡◌, ℕ, zero, suc, ◌+◌, ◌-◌, ◌<◌, ◌≤◌, ◌==◌, List, []}
+use Rattle.std.proofs.Common.{◌∷◌, ◌++◌, length, set, refl, sym, ap, ◌∙◌, arith, length-append}
 use Rattle.std.specs.Prelude.{if◌then◌else◌, sum_by}
 use Rattle.std.proofs.lemmas.List.Sums.{sum_by-cons, sum_by-append}
 use Rattle.std.proofs.lemmas.Bool.Decides.{nat_tests}
@@ -10,7 +11,8 @@ use Rattle.coding_pool.specs.declared.jobs.Known.{Known}
 use Rattle.coding_pool.specs.Jobs.{known, PARTS, times, once_below, IsIdle, AreIdle, AreOnce, IsWhole, HasNoMore}
 
 -- the sum after a change of one view
-sum_set : (f : Known → ℕ) (views : List Known) (pass : ℕ) (v w : Known) → get_elem? views pass ≡ some v → sum_by f (set views pass w) + f v ≡ sum_by f views + f w
+sum_set : (f : Known → ℕ) (views : List Known) (pass : ℕ) (v w : Known) → get_elem? views pass ≡ some v →
+    sum_by f (set views pass w) + f v ≡ sum_by f views + f w
 sum_set f [] pass v w at = absurd (some-ne-none v (sym at))
 sum_set f (u ∷ us) zero v w at =
     let e = ap f (some-injective _ _ at) in omega (arith, e, sum_by-cons f u us, sum_by-cons f w us)
@@ -46,7 +48,8 @@ has_part v part none = absurd (omega (arith, part, none))
 abbrev IsOfParts : (Known → ℕ) → Type 0
 IsOfParts f = (v : Known) → v.parts ≡ 0 → IsIdle v → f v ≡ 0
 
-sum_idle : (f : Known → ℕ) → IsOfParts f → (views : List Known) → AreIdle views → sum_by (λ v. v.parts) views ≡ 0 → sum_by f views ≡ 0
+sum_idle : (f : Known → ℕ) → IsOfParts f → (views : List Known) → AreIdle views → sum_by (λ v. v.parts) views ≡ 0 →
+    sum_by f views ≡ 0
 sum_idle f z [] h n = refl
 sum_idle f z (v ∷ vs) h n =
     let split = sum_by-cons (λ (u : Known). u.parts) v vs in
@@ -55,7 +58,8 @@ sum_idle f z (v ∷ vs) h n =
     omega (arith, a, b, sum_by-cons f v vs)
 
 -- the view with every part has the whole sum
-sum_alone : (f : Known → ℕ) → IsOfParts f → (views : List Known) (pass : ℕ) (v : Known) → AreIdle views → get_elem? views pass ≡ some v → sum_by (λ u. u.parts) views ≡ v.parts → sum_by f views ≡ f v
+sum_alone : (f : Known → ℕ) → IsOfParts f → (views : List Known) (pass : ℕ) (v : Known) → AreIdle views →
+    get_elem? views pass ≡ some v → sum_by (λ u. u.parts) views ≡ v.parts → sum_by f views ≡ f v
 sum_alone f z [] pass v h at n = absurd (some-ne-none v (sym at))
 sum_alone f z (u ∷ us) zero v h at n =
     let e = some-injective _ _ at in
@@ -88,14 +92,16 @@ begins = record {
   idle = (has_part (known PARTS 0 []) (omega arith), tt);
 }
   where
-    none : (job : ℕ) → times job [] + sum_by (λ v. times job v.popped) (known PARTS 0 [] ∷ []) ≡ once_below (sum_by (λ v. v.pushed) (known PARTS 0 [] ∷ [])) job
+    none : (job : ℕ) → times job [] + sum_by (λ v. times job v.popped) (known PARTS 0 [] ∷ [])
+        ≡ once_below (sum_by (λ v. v.pushed) (known PARTS 0 [] ∷ [])) job
     none job = grind (arith, nat_tests)
 
 pub once_more : (job n : ℕ) → once_below (n + 1) job ≡ once_below n job + times job (n ∷ [])
 once_more job n = grind (arith, nat_tests)
 
 -- the next job is pushed by the pass with every part
-pub pushes : (n pass : ℕ) (v : Known) (job : ℕ) → v.parts ≡ PARTS → job ≡ v.pushed → Pushes AreOnce n pass v job (λ w. w ≡ known v.parts (v.pushed + 1) v.popped)
+pub pushes : (n pass : ℕ) (v : Known) (job : ℕ) → v.parts ≡ PARTS → job ≡ v.pushed →
+    Pushes AreOnce n pass v job (λ w. w ≡ known v.parts (v.pushed + 1) v.popped)
 pushes n pass v job whole next items views room b at =
     let w = known v.parts (v.pushed + 1) v.popped in
     let alone = sum_alone (λ u. u.pushed) pushed_of_parts views pass v b.idle at (b.parts ∙ sym whole) in
@@ -121,7 +127,8 @@ pushes n pass v job whole next items views room b at =
       refl,
     )
 
-pub pops : (pass : ℕ) (v : Known) → 0 < v.parts → Pops AreOnce pass v (λ job w. w ≡ known v.parts v.pushed (v.popped ++ job ∷ []))
+pub pops : (pass : ℕ) (v : Known) → 0 < v.parts →
+    Pops AreOnce pass v (λ job w. w ≡ known v.parts v.pushed (v.popped ++ job ∷ []))
 pops pass v part job items views b at =
     let w = known v.parts v.pushed (v.popped ++ job ∷ []) in
     let p = sum_set (λ u. u.pushed) views pass v w at in
@@ -173,7 +180,8 @@ forks pass v more items views b at =
       idle = idle_more vs r (has_part r (omega arith)) (idle_set views pass l (has_part l (omega (arith, more))) b.idle);
     }
 
-pub merges : (pass : ℕ) (v : Known) (other : ℕ) (u : Known) → 0 < v.parts → Merges AreOnce pass v other u (known (v.parts + u.parts) (v.pushed + u.pushed) (v.popped ++ u.popped)) (known 0 0 [])
+pub merges : (pass : ℕ) (v : Known) (other : ℕ) (u : Known) → 0 < v.parts →
+    Merges AreOnce pass v other u (known (v.parts + u.parts) (v.pushed + u.pushed) (v.popped ++ u.popped)) (known 0 0 [])
 merges pass v other u part items views b at apart there =
     let w = known (v.parts + u.parts) (v.pushed + u.pushed) (v.popped ++ u.popped) in
     let z = known 0 0 [] in

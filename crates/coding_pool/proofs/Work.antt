@@ -12,7 +12,8 @@ none_in job [] none = refl
 none_in job (x ∷ items) none = absurd (omega (arith, none))
 
 -- where a pop with every part finds no job, each was popped, once
-pub each_popped : (v : Known) (parts pushed : ℕ) (popped : List ℕ) → v.parts ≡ parts → v.pushed ≡ pushed → v.popped ≡ popped → Held 0 (IsWhole v) → parts ≡ PARTS → (job : ℕ) → times job popped ≡ once_below pushed job
+pub each_popped : (v : Known) (parts pushed : ℕ) (popped : List ℕ) → v.parts ≡ parts → v.pushed ≡ pushed →
+    v.popped ≡ popped → Held 0 (IsWhole v) → parts ≡ PARTS → (job : ℕ) → times job popped ≡ once_below pushed job
 each_popped v parts pushed popped p q e (items, none, learned) whole job =
     let t = learned (p ∙ whole) job in
     let a = ap (times job) e in
@@ -21,6 +22,8 @@ each_popped v parts pushed popped p q e (items, none, learned) whole job =
     omega (arith, t, a, n, b)
 
 -- the job of a new piece is popped last
-pub popped_more : (v w : Known) (pieces : List Piece) (p : Piece) (job : ℕ) → v.popped ≡ map point_of pieces → w ≡ known v.parts v.pushed (v.popped ++ job ∷ []) → point_of p ≡ job → w.popped ≡ map point_of (pieces ++ p ∷ [])
+pub popped_more : (v w : Known) (pieces : List Piece) (p : Piece) (job : ℕ) → v.popped ≡ map point_of pieces →
+    w ≡ known v.parts v.pushed (v.popped ++ job ∷ []) → point_of p ≡ job → w.popped ≡ map point_of (pieces ++ p ∷ [])
 popped_more v w pieces p job old new at =
-    ap (λ (u : Known). u.popped) new ∙ ap (λ (l : List ℕ). l ++ job ∷ []) old ∙ ap (λ (j : ℕ). map point_of pieces ++ j ∷ []) (sym at) ∙ sym (map-append point_of pieces (p ∷ []))
+    ap (λ (u : Known). u.popped) new ∙ ap (λ (l : List ℕ). l ++ job ∷ []) old
+    ∙ ap (λ (j : ℕ). map point_of pieces ++ j ∷ []) (sym at) ∙ sym (map-append point_of pieces (p ∷ []))

@@ -1,5 +1,6 @@
 -- The rule of the queue of jobs. A job's number is the point of the piece that it makes.
-use Rattle.std.specs.Prelude.{◌≡◌, ℕ, ◌+◌, ◌≤◌, ◌==◌, nat_lt, List, [], ◌∷◌, length, sum_by, count_by, if◌then◌else◌}
+use Rattle.std.specs.Prelude.{◌≡◌, ℕ, ◌+◌, ◌≤◌, ◌==◌, nat_lt, List}
+use Rattle.std.specs.Prelude.{[], ◌∷◌, length, sum_by, count_by, if◌then◌else◌}
 use Rattle.coding_pool.specs.declared.jobs.Known.{Known}
 
 abbrev pub known : ℕ → ℕ → List ℕ → Known
@@ -29,7 +30,8 @@ AreIdle (v ∷ vs) = IsIdle v × AreIdle vs
 -- the jobs in the queue and in all views together are those below the number pushed, each once
 pub record AreOnce (items : List ℕ) (views : List Known) : Type 0 where
   pub parts : sum_by (λ v. v.parts) views ≡ PARTS
-  pub each : (job : ℕ) → times job items + sum_by (λ v. times job v.popped) views ≡ once_below (sum_by (λ v. v.pushed) views) job
+  pub each : (job : ℕ) →
+      times job items + sum_by (λ v. times job v.popped) views ≡ once_below (sum_by (λ v. v.pushed) views) job
   pub count : length items + sum_by (λ v. length v.popped) views ≡ sum_by (λ v. v.pushed) views
   pub idle : AreIdle views
 
@@ -37,6 +39,7 @@ pub record AreOnce (items : List ℕ) (views : List Known) : Type 0 where
 abbrev pub HasNoMore : Known → List ℕ → Type 0
 HasNoMore v items = v.parts ≡ PARTS → length items ≤ v.pushed
 
--- what a pop learns: with every part, the jobs popped and those in the queue are those below the number pushed, each once
+-- what a pop learns: with every part, the jobs popped and those
+-- in the queue are those below the number pushed, each once
 abbrev pub IsWhole : Known → List ℕ → Type 0
 IsWhole v items = v.parts ≡ PARTS → (job : ℕ) → times job v.popped + times job items ≡ once_below v.pushed job

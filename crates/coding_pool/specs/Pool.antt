@@ -10,7 +10,8 @@ abbrev pub first_cause : Option Refusal → Option Refusal → Option Refusal
 first_cause None other = other
 first_cause (Some r) other = Some r
 
--- why a value of len bytes is not coded with k and n by that many workers: as `encode` refuses it, and else for the workers
+-- why a value of len bytes is not coded with k and n by that
+-- many workers: as `encode` refuses it, and else for the workers
 abbrev pub encode_all_cause : ℕ → ℕ → ℕ → ℕ → Option Refusal
 encode_all_cause workers k n len =
     first_cause (encode_cause k n len) (if nat_lt MOST_WORKERS workers then Some Full else None)

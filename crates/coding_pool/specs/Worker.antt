@@ -24,8 +24,8 @@ pub record IsErrand (errand : Errand) : Type 0 where
   pub some : 1 ≤ errand.k
   pub longest : length errand.value.now ≤ LONGEST_VALUE
 
--- a worker of the errand: its pass is one of the queue's, the jobs that it popped are those of its pieces, in that order,
--- and each is the value's piece at its point
+-- a worker of the errand: its pass is one of the queue's, the jobs that it popped
+-- are those of its pieces, in that order, and each is the value's piece at its point
 pub record IsWorker (errand : Errand) (w : Worker) : Type 0 where
   pub pass : IsPassOf errand.jobs.now w.pass
   pub popped : (view w.pass).popped ≡ map point_of w.pieces.items

@@ -37,9 +37,11 @@ pub fn work_all<G: Gate, R: Threads + Wait + Sync>(
         rt,
         |scope| -> Result<Vec<Answer>, Refusal>
             requires errand { IsErrand (record { alloc = alloc; jobs = jobs; k = k; value = value }) }
-            requires crew { All (λ w. IsHand (record { alloc = alloc; jobs = jobs; k = k; value = value }) w) crew.items }
+            requires crew { All
+                (λ w. IsHand (record { alloc = alloc; jobs = jobs; k = k; value = value }) w) crew.items }
             ensures count { IfOk result (λ v. vec_len v ≡ vec_len crew) }
-            ensures answers { IfOk result (λ v. All (λ a. IsAnswer (record { alloc = alloc; jobs = jobs.entry; k = k; value = value.entry }) a) v.items) }
+            ensures answers { IfOk result (λ v. All
+                (λ a. IsAnswer (record { alloc = alloc; jobs = jobs.entry; k = k; value = value.entry }) a) v.items) }
             ensures refused { IfErr result (λ r. r ≡ NoMemory) }
         {
             let errand = Errand {

@@ -93,7 +93,8 @@ fn hire(errand: Errand, pass: &mut JobPass, workers: usize) -> Result<Vec<Worker
     requires workers { workers ≤ MOST_WORKERS }
     requires first { view pass.old ≡ known PARTS (view pass.old).pushed (view pass.old).popped }
     ensures pass { IsPassOf errand.entry.jobs.now pass.new }
-    ensures view { IfOk result (λ _. view pass.new ≡ known (PARTS - workers) (view pass.old).pushed (view pass.old).popped) }
+    ensures view { IfOk result
+        (λ _. view pass.new ≡ known (PARTS - workers) (view pass.old).pushed (view pass.old).popped) }
     ensures count { IfOk result (λ crew. vec_len crew ≡ workers) }
     ensures crew { IfOk result (λ crew. All (λ w. IsHand errand.entry w) crew.items) }
     ensures refused { IfErr result (λ r. r ≡ NoMemory) }

@@ -61,7 +61,8 @@ impl Worker {
         ensures worker { IfOk result (λ w. IsWorker errand.entry w) }
         ensures parts { IfOk result (λ w. (view w.pass).parts ≡ (view self.pass).parts) }
         ensures pushed { IfOk result (λ w. (view w.pass).pushed ≡ (view self.pass).pushed) }
-        ensures whole { IfOk result (λ w. (view self.pass).parts ≡ PARTS → IsEach (view self.pass).pushed w.pieces.items) }
+        ensures whole { IfOk result
+            (λ w. (view self.pass).parts ≡ PARTS → IsEach (view self.pass).pushed w.pieces.items) }
         ensures refused { IfErr result (λ r. r ≡ NoMemory) }
     {
         for _ in rt.forever() {

@@ -32,7 +32,8 @@ byte_at value n bytes =
 pub AreBytes-column : (value : List ℕ) (k f b : ℕ) → AreBytes value → AreBytes (column value k f b)
 AreBytes-column value k f b bytes =
     All-from_get_or (λ x. x < 256) (column value k f b) 0
-    (λ j hj. subst (λ x. x < 256) (sym (get_or-column value k f b j (omega (arith, length-column value k f b)))) (byte_at value (j * f + b) bytes))
+    (λ j hj. subst (λ x. x < 256) (sym (get_or-column value k f b j (omega (arith, length-column value k f b)))) (byte_at value
+    (j * f + b) bytes))
 
 pub fragment_byte-column : (value : List ℕ) (k x b : ℕ) → AreBytes value → x < 256
     → fragment_byte value k x b ≡ evaluate (column value k (fragment_len k (length value)) b) x
@@ -50,9 +51,11 @@ pub length-fragment : (value : List ℕ) (k x : ℕ) → length (fragment value 
 unfolding fragment
 length-fragment value k x = length-map-range_with_len (fragment_byte value k x) 0 (fragment_len k (length value))
 
-pub get_or-fragment : (value : List ℕ) (k x b : ℕ) → b < fragment_len k (length value) → get_or (fragment value k x) b 0 ≡ fragment_byte value k x b
+pub get_or-fragment : (value : List ℕ) (k x b : ℕ) → b < fragment_len k (length value)
+    → get_or (fragment value k x) b 0 ≡ fragment_byte value k x b
 unfolding fragment
-get_or-fragment value k x b hb = get_or-map-range_with_len (fragment_byte value k x) 0 (fragment_len k (length value)) b b 0 hb (omega arith)
+get_or-fragment value k x b hb = get_or-map-range_with_len (fragment_byte value k x) 0 (fragment_len k (length value)) b b 0 hb
+    (omega arith)
 
 -- what has each byte of the fragment is the fragment
 pub same_as_fragment : (value : List ℕ) (k x : ℕ) (sum : List ℕ) → AreBytes value → x < 256 → length sum ≡ fragment_len k (length value)

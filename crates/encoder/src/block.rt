@@ -1,13 +1,17 @@
-ghost use Rattle.std.specs.Prelude.{◌≡◌, ℕ, ◌*◌, ◌<◌, ◌≤◌, ◌^◌, bit_xor};
+ghost use Rattle.std.specs.Prelude.{◌≡◌, ℕ, ◌+◌, ◌*◌, ◌<◌, ◌≤◌, ◌^◌};
 ghost use Rattle.std.specs.Prelude.{length, take, drop, slice_index, IfOk, IfErr};
-ghost use Rattle.gf256.specs.Field.{field_product};
-ghost use Rattle.encoder.specs.Fragment.{fragment, piece_of};
+ghost use Rattle.dot_kernel.specs.Dot.{bytes_of};
+ghost use Rattle.encoder.specs.Fragment.{fragment, fragment_len, piece_of};
+ghost use Rattle.encoder.specs.Points.{AreBlocks, AreFragments};
 
 use crate::Piece;
+use crate::points::write_points;
 use bytes::Bytes;
-use lane_kernel::scale_add;
 use std::alloc::{AllocError, Global};
 use tag::{LONGEST_VALUE, Refusal};
+
+/// The most blocks of a value, one for each element of the field but one.
+const MOST_BLOCKS: usize = 255;
 
 /// The piece of `value` at the point `i`, with `value.len().div_ceil(k)` bytes. `NoMemory` is the only refusal.
 pub fn piece(alloc: Global, k: u8, i: u8, value: &[u8]) -> Result<Piece, Refusal>
@@ -19,25 +23,65 @@ pub fn piece(alloc: Global, k: u8, i: u8, value: &[u8]) -> Result<Piece, Refusal
     Ok(Piece {
         point: i,
         len: value.len() as u32,
-        bytes: Bytes::from_vec(sum_of_blocks(alloc, k, i, value)?)?,
+        bytes: Bytes::from_vec(fragments_from(alloc, k, i, 1, value)?)?,
     })
 }
 
-/// The fragment of `value` at the point `x`, by Horner's rule: from the last block to the first, `x` times the sum so
-/// far, plus the block. A short block comes before all full ones, so the bytes that it does not reach are still zero.
-fn sum_of_blocks(alloc: Global, k: u8, x: u8, value: &[u8]) -> Result<Vec<u8>, AllocError>
+/// Writes the fragments of `value` at the points below `n` to `out`, one after another, each of
+/// `value.len().div_ceil(k)` bytes. It takes no memory.
+pub fn encode_into(k: u8, n: u8, value: &[u8], out: &mut [u8])
     requires threshold { 1 ≤ k }
     requires longest { length value.now ≤ LONGEST_VALUE }
-    ensures { IfOk result (λ sum. sum.items ≡ fragment value.now k x) }
+    requires room { length out.old ≡ n * fragment_len k (length value.now) }
+    ensures { AreFragments out.new n value.now k 0 }
+{
+    write_fragments(k, 0, n as usize, value, out);
+}
+
+/// The fragments of `value` at the `n` points from `first` on, one after another.
+pub(crate) fn fragments_from(
+    alloc: Global,
+    k: u8,
+    first: u8,
+    n: u8,
+    value: &[u8],
+) -> Result<Vec<u8>, AllocError>
+    requires threshold { 1 ≤ k }
+    requires points { first + n ≤ 256 }
+    requires longest { length value.now ≤ LONGEST_VALUE }
+    ensures len { IfOk result (λ out. length out.items ≡ n * fragment_len k (length value.now)) }
+    ensures fragments { IfOk result (λ out. AreFragments out.items n value.now k first) }
 {
     let block_len = value.len().div_ceil(k as usize);
-    let mut sum = Vec::with_capacity(alloc, block_len)?;
-    sum.extend_from_slice(block(value, block_len, k - 1))?;
-    sum.resize(block_len, 0)?;
-    for j in (0..k - 1).rev() {
-        add_block(&mut sum, x, block(value, block_len, j));
+    let mut out = vec![in alloc; 0u8; n as usize * block_len]?;
+    write_fragments(k, first as usize, n as usize, value, &mut out);
+    Ok(out)
+}
+
+/// Writes the fragments of `value` at the `n` points from `first` on to `out`, one after another.
+fn write_fragments(k: u8, first: usize, n: usize, value: &[u8], out: &mut [u8])
+    requires threshold { 1 ≤ k }
+    requires points { first + n ≤ 256 }
+    requires longest { length value.now ≤ LONGEST_VALUE }
+    requires room { length out.old ≡ n * fragment_len k (length value.now) }
+    ensures { AreFragments out.new n value.now k first }
+{
+    let block_len = value.len().div_ceil(k as usize);
+    let blocks = blocks(value, block_len, k);
+    write_points(out, &blocks[..k as usize], block_len, first, n);
+}
+
+/// The first `k` blocks of `value`, as far as the value goes.
+fn blocks<'a>(value: &'a [u8], block_len: usize, k: u8) -> [&'a [u8]; MOST_BLOCKS]
+    requires { k * block_len < 2 ^ 64 }
+    ensures len { length result ≡ MOST_BLOCKS }
+    ensures blocks { AreBlocks (bytes_of result) k block_len value.now }
+{
+    let mut blocks: [&[u8]; MOST_BLOCKS] = [&[]; MOST_BLOCKS];
+    for j in 0..k {
+        blocks[j as usize] = block(value, block_len, j);
     }
-    Ok(sum)
+    blocks
 }
 
 /// Block `j` of `value`, as far as the value goes.
@@ -47,14 +91,4 @@ fn block(value: &[u8], block_len: usize, j: u8) -> &[u8]
 {
     let rest = &value[(j as usize * block_len).min(value.len())..];
     &rest[..block_len.min(rest.len())]
-}
-
-/// Makes each byte of `sum`, as far as `block` goes, be `x` times itself plus the byte of `block`.
-fn add_block(sum: &mut [u8], x: u8, block: &[u8])
-    requires { length block.now ≤ length sum.old }
-    ensures front { (b : ℕ) → b < length block.now → slice_index sum.new b
-        ≡ bit_xor (field_product x (slice_index sum.old b)) (slice_index block.now b) }
-    ensures rest { (b : ℕ) → length block.now ≤ b → slice_index sum.new b ≡ slice_index sum.old b }
-{
-    scale_add(&mut sum[..block.len()], x, block);
 }

@@ -1,11 +1,13 @@
-ghost use Rattle.std.specs.Prelude.{◌≡◌, ◌<◌, length, IfOk};
+ghost use Rattle.std.specs.Prelude.{◌≡◌, ◌*◌, ◌<◌, ◌≤◌, length, IfOk, IfErr};
 ghost use Rattle.tag.specs.Refusal.{IsByCause};
-ghost use Rattle.encoder.specs.Fragment.{piece_of};
+ghost use Rattle.encoder.specs.Fragment.{fragment_len, piece_of};
+ghost use Rattle.encoder.specs.Points.{AreFragments};
 ghost use Rattle.encoder.specs.Coded.{IsLawful, ArePieces, encode_cause};
 
-use crate::{Piece, piece};
+use crate::Piece;
+use crate::block::fragments_from;
 use bytes::Bytes;
-use std::alloc::Global;
+use std::alloc::{AllocError, Global};
 use std::marker::Model;
 use tag::{LONGEST_VALUE, MOST_MEMBERS, Refusal};
 
@@ -79,11 +81,43 @@ pub fn encode(alloc: Global, k: u8, n: u8, value: Bytes) -> Result<Coded, Refusa
     if value.len() > LONGEST_VALUE {
         return Err(Refusal::TooLong);
     }
-    let mut pieces = Vec::with_capacity(alloc, n as usize)?;
-    for i in 0..n {
-        pieces.push(piece(alloc, k, i, value.as_slice())?)?;
-    }
+    let pieces = pieces(alloc, k, n, value.as_slice())?;
     Ok(assemble(k, n, value, pieces))
+}
+
+/// The pieces of `value` at the points below `n`. Their fragments share one block of memory.
+fn pieces(alloc: Global, k: u8, n: u8, value: &[u8]) -> Result<Vec<Piece>, Refusal>
+    requires threshold { 1 ≤ k }
+    requires longest { length value.now ≤ LONGEST_VALUE }
+    ensures count { IfOk result (λ pieces. length pieces.items ≡ n) }
+    ensures pieces { IfOk result (λ pieces. ArePieces value.now k pieces.items) }
+    ensures refused { IfErr result (λ r. r ≡ Refusal.NoMemory) }
+{
+    let mut pieces = Vec::with_capacity(alloc, n as usize)?;
+    let fragments = Bytes::from_vec(fragments_from(alloc, k, 0, n, value)?)?;
+    for i in 0..n {
+        pieces.push(piece_in(&fragments, k, n, i, value)?)?;
+    }
+    Ok(pieces)
+}
+
+/// Piece `i` of the `n` whose fragments stand one after another.
+fn piece_in(fragments: &Bytes, k: u8, n: u8, i: u8, value: &[u8]) -> Result<Piece, AllocError>
+    requires threshold { 1 ≤ k }
+    requires longest { length value.now ≤ LONGEST_VALUE }
+    requires within { i < n }
+    requires len { length fragments.now ≡ n * fragment_len k (length value.now) }
+    requires fragments { AreFragments fragments.now n value.now k 0 }
+    ensures { IfOk result (λ p. p ≡ piece_of value.now k i) }
+{
+    let block_len = value.len().div_ceil(k as usize);
+    let start = i as usize * block_len;
+    let bytes = fragments.slice(start..start + block_len)?;
+    Ok(Piece {
+        point: i,
+        len: value.len() as u32,
+        bytes,
+    })
 }
 
 /// Puts a value together with its `n` pieces, each made by `piece`. It takes no memory.

@@ -1,12 +1,13 @@
 //! The pieces of a value: the values of a polynomial at n points, any k of which determine it (Reed and Solomon, 1960).
 #![tactic(auto)]
 
-pub use block::piece;
+pub use block::{encode_into, piece};
 pub use coded::{Coded, assemble, encode};
 pub use fragment::Piece;
 
 mod block;
 mod coded;
 mod fragment;
+mod points;
 #[cfg(test)]
 mod tests;

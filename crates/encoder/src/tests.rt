@@ -119,6 +119,14 @@ fn meets_the_definition_at_each_length(rt: HostRuntime) -> Result<(), Fail> {
     Ok(())
 }
 
+// By `cuts_small_values`.
+#[test]
+fn encodes_into_the_caller_s_bytes(rt: HostRuntime) {
+    let mut out = [0xAA; 12];
+    encode_into(2, 4, b"hello", &mut out);
+    assert_eq!(rt; out, *b"hel\x04\x0a\x6c\xb0\xbb\x6c\xdc\xd4\x6c");
+}
+
 #[test]
 fn refuses_bad_numbers(rt: HostRuntime) -> Result<(), Fail> {
     for (k, n) in [(0, 3), (4, 3), (0, 0)] {

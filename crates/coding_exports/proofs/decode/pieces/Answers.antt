@@ -1,4 +1,5 @@
-use Rattle.std.proofs.Common.{◌≡◌, ℕ, ◌+◌, ◌<◌, List, [], ◌∷◌, ◌++◌, length, get_or, take, drop, append_assoc, append-nil, sym, ap, ◌∙◌, arith}
+use Rattle.std.proofs.Common.{◌≡◌, ℕ, ◌+◌, ◌<◌, List, [], ◌∷◌, ◌++◌, length, get_or}
+use Rattle.std.proofs.Common.{take, drop, append_assoc, append-nil, sym, ap, ◌∙◌, arith}
 use Rattle.std.proofs.lemmas.List.{drop_more, take_min, drop_min}
 use Rattle.std.proofs.Math.ListN.{drop_of_length-le}
 use Rattle.encoder.specs.declared.fragment.Piece.{Piece}
@@ -20,7 +21,8 @@ loop-point-preserved c =
     let rest = c.loop-point.rest.now in
     let front = c.in_ok-copy_from_slice.ensures ∙ c.split_at.ensures.front ∙ ap (λ n. take n rest) c.min.ensures ∙ take_min len rest in
     let behind = c.split_at.ensures.back ∙ ap (λ n. drop n rest) c.min.ensures ∙ drop_min len rest in
-    rw (c.in_ok-push.ensures.items, front, behind) (piece_more c.args.len len c.loop-point.point-index c.args.points.now rest _ _ (omega arith) c.loop-point.invariant)
+    rw (c.in_ok-push.ensures.items, front, behind)
+    (piece_more c.args.len len c.loop-point.point-index c.args.points.now rest _ _ (omega arith) c.loop-point.invariant)
 
 pub returns : goal.returns
 unfolding pieces_from

@@ -11,12 +11,14 @@ pub loop-handle-preserved : goal.loop-handle-preserved
 loop-handle-preserved g c =
     let P : PromisedHandle (Result Worker Refusal) Errand → Type 0 = λ h. h.promise ≡ c.args.errand in
     let popped : c.loop-handle.started.items ≡ c.pop-in-loop-handle.new.self.items ++ c.in-Some-pop.handle ∷ [] = search rules in
-    let both = All-pop P c.loop-handle.started.items c.pop-in-loop-handle.new.self.items (Some c.in-Some-pop.handle) popped c.loop-handle.invariant.started in
+    let both = All-pop P c.loop-handle.started.items c.pop-in-loop-handle.new.self.items
+    (Some c.in-Some-pop.handle) popped c.loop-handle.invariant.started in
     let is : c.in-Some-pop.handle.promise ≡ c.args.errand = both.1 in
     let answer = subst (λ (e : Errand). IsAnswer e c.join.result) is c.join.ensures in
     let items : c.push-in-Some-pop.new.self.items ≡ c.loop-handle.answers.items ++ c.join.result ∷ [] = search rules in
     record {
       count = search rules;
       started = both.0;
-      answers = subst (λ (l : List (Result Worker Refusal)). All (IsAnswer c.args.errand) l) (sym items) (All-push (IsAnswer c.args.errand) _ _ c.loop-handle.invariant.answers answer);
+      answers = subst (λ (l : List (Result Worker Refusal)). All (IsAnswer c.args.errand) l) (sym items)
+          (All-push (IsAnswer c.args.errand) _ _ c.loop-handle.invariant.answers answer);
     }

@@ -25,13 +25,15 @@ loop-preserved g c =
     let made : c.in_ok-made.field-0 ≡ piece_of c.args.errand.value.now c.args.errand.k c.in-Some-pop_as.job = search rules in
     let at = ap point_of made in
     let v = view c.loop.self.pass in
-    let step : view c.pop_as.new.pass ≡ known v.parts v.pushed (v.popped ++ c.in-Some-pop_as.job ∷ []) = c.in-Some-pop_as.ensures.rule in
+    let step : view c.pop_as.new.pass
+    ≡ known v.parts v.pushed (v.popped ++ c.in-Some-pop_as.job ∷ []) = c.in-Some-pop_as.ensures.rule in
     let parts : (view c.pop_as.new.pass).parts ≡ v.parts = ap (λ (u : Known). u.parts) step in
     let pushed : (view c.pop_as.new.pass).pushed ≡ v.pushed = ap (λ (u : Known). u.pushed) step in
     let ok : IsPassOf c.args.errand.jobs.now c.pop_as.new.pass = search rules in
     let items : c.push.new.self.items ≡ c.loop.self.pieces.items ++ c.in_ok-made.field-0 ∷ [] = search rules in
     let P : Piece → Type 0 = λ p. p ≡ piece_of c.args.errand.value.now c.args.errand.k p.point in
-    let is : P c.in_ok-made.field-0 = subst (λ (i : ℕ). c.in_ok-made.field-0 ≡ piece_of c.args.errand.value.now c.args.errand.k i) (sym at) made in
+    let is : P c.in_ok-made.field-0 = subst (λ (i : ℕ). c.in_ok-made.field-0 ≡ piece_of c.args.errand.value.now c.args.errand.k i)
+    (sym at) made in
     record {
       worker = record {
         pass = ok;

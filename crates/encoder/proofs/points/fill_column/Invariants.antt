@@ -1,0 +1,12 @@
+use Rattle.std.proofs.Common.{◌≡◌, ◌≢◌, ℕ, ◌+◌, ◌*◌, ◌<◌, get_or}
+use Rattle.gf256.specs.Field.{field_power}
+use Rattle.encoder.proofs.points.fill_column.Given as goal
+
+-- the powers so far, and the next one
+abbrev pub invariant-loop-j : goal.invariant-loop-j
+invariant-loop-j l =
+    record {
+      power : l.power ≡ field_power l.point l.j;
+      inside : (i : ℕ) → i < l.j → get_or l.tables (i * l.rows + l.r) 0 ≡ field_power l.point i;
+      others : (i q : ℕ) → q < l.rows → q ≢ l.r → get_or l.tables (i * l.rows + q) 0 ≡ get_or l.initial.tables (i * l.rows + q) 0;
+    }

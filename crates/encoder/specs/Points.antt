@@ -1,0 +1,21 @@
+-- Sums of sources by the powers of points.
+use Rattle.std.specs.Prelude.{◌≡◌, ℕ, ◌+◌, ◌*◌, ◌<◌, List, [], length, take, drop, slice_index, slice_index_or}
+use Rattle.gf256.specs.Field.{field_power}
+use Rattle.dot_kernel.specs.Dot.{dot_byte}
+use Rattle.encoder.specs.Fragment.{fragment_len, fragment_byte}
+
+-- source j is block j of the value, as far as the value goes
+abbrev pub AreBlocks : List (List ℕ) → ℕ → ℕ → List ℕ → Type 0
+AreBlocks sources k size value =
+    (j : ℕ) → j < k → slice_index_or sources j [] ≡ take size (drop (j * size) value)
+
+-- in each of the first rows, of `size` bytes each, stand the sums by the powers of its point, from the first point on
+abbrev pub ArePoints : List ℕ → ℕ → List (List ℕ) → ℕ → ℕ → Type 0
+ArePoints out rows sources size first =
+    (r b : ℕ) → r < rows → b < size → slice_index out (r * size + b) ≡ dot_byte (field_power (first + r)) sources b
+
+-- in each of the first rows stands the value's fragment at its point, from the first point on
+abbrev pub AreFragments : List ℕ → ℕ → List ℕ → ℕ → ℕ → Type 0
+AreFragments out rows value k first =
+    (r b : ℕ) → r < rows → b < fragment_len k (length value)
+    → slice_index out (r * fragment_len k (length value) + b) ≡ fragment_byte value k (first + r) b
