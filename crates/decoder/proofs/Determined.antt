@@ -18,8 +18,10 @@ points-pieces_at : (value : List ℕ) (k : ℕ) (points : List ℕ) → points_o
 points-pieces_at value k [] = refl
 points-pieces_at value k (x ∷ xs) = ap (λ ys. x ∷ ys) (points-pieces_at value k xs)
 
-module _ (k : ℕ) (points v w : List ℕ) (some : 1 ≤ k) (most : k ≤ MOST_MEMBERS) (count : length points ≡ k) (distinct : AreDistinct points) (bytes : AreBytes points)
-    (first : AreBytes v) (second : AreBytes w) (longest : length v ≤ LONGEST_VALUE) (lens : length v ≡ length w) (same : All (λ x. fragment v k x ≡ fragment w k x) points) where
+module _ (k : ℕ) (points v w : List ℕ) (some : 1 ≤ k) (most : k ≤ MOST_MEMBERS) (count : length points ≡ k) (distinct : AreDistinct points)
+    (bytes : AreBytes points)
+    (first : AreBytes v) (second : AreBytes w) (longest : length v ≤ LONGEST_VALUE) (lens : length v ≡ length w)
+    (same : All (λ x. fragment v k x ≡ fragment w k x) points) where
   abbrev pieces : List Piece
   pieces = pieces_at v k points
 
@@ -37,7 +39,8 @@ module _ (k : ℕ) (points v w : List ℕ) (some : 1 ≤ k) (most : k ≤ MOST_M
   of_bytes : AreOfBytes pieces
   of_bytes = record {
     points = subst AreBytes (sym (points-pieces_at v k points)) bytes;
-    fragments = All-map (λ p. AreBytes p.bytes) (λ x. piece_of v k x) points (λ i d hi. AreBytes-fragment v k (get_or points i d) first (bytes i d hi));
+    fragments = All-map (λ p. AreBytes p.bytes) (λ x. piece_of v k x) points
+        (λ i d hi. AreBytes-fragment v k (get_or points i d) first (bytes i d hi));
   }
 
   lawful : AreLawful k (length v) pieces

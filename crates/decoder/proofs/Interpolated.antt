@@ -9,7 +9,8 @@ use Rattle.gf256.specs.Polynomial.{AreBytes, AreDistinct, Interpolates, evaluate
 use Rattle.gf256.proofs.Sums.{field_sum_same}
 use Rattle.gf256.proofs.Interpolation.{basis_row, interpolation, get_or-interpolation, Interpolates-interpolation, Interpolates-unique}
 use Rattle.encoder.specs.Fragment.{fragment_len, fragment}
-use Rattle.encoder.proofs.Columns.{column, length-column, get_or-column, AreBytes-column, fragment_byte-column, length-fragment, get_or-fragment}
+use Rattle.encoder.proofs.Columns.{column, length-column, get_or-column, AreBytes-column}
+use Rattle.encoder.proofs.Columns.{fragment_byte-column, length-fragment, get_or-fragment}
 
 -- byte b of each of k fragments
 values_at : ℕ → (ℕ → List ℕ) → ℕ → List ℕ
@@ -42,7 +43,8 @@ module _ (k len : ℕ) (points : List ℕ) (part : ℕ → List ℕ) (count : le
   -- the bytes b of the blocks, as the coefficients of a polynomial
   interpolates : (b : ℕ) → b < fragment_len k len → Interpolates points (values_at k part b) (interpolation points (values_at k part b))
   interpolates b hb =
-      Interpolates-interpolation points bytes distinct (values_at k part b) (AreBytes-values_at b hb) (length-values_at k part b ∙ sym count)
+      Interpolates-interpolation points bytes distinct (values_at k part b) (AreBytes-values_at b hb)
+      (length-values_at k part b ∙ sym count)
 
   get_or-interpolation_at : (j b : ℕ) → get_or (interpolation points (values_at k part b)) j 0 ≡ partly_interpolated k points part j b
   unfolding partly_interpolated

@@ -1,5 +1,7 @@
 -- The whole blocks that lawful pieces stand for.
-use Rattle.std.proofs.Common.{◌≡◌, ℕ, suc, ◌+◌, ◌*◌, ◌/◌, ◌%◌, ◌<◌, ◌≤◌, List, [], length, get_or, map, min, sym, ap, ap₂, subst, ◌∙◌, arith, mod-lt, div-add-mod', div-lt_iff_lt-mul, mul_comm, pos_of_ne-zero, mul-le-mul_right, add-one, bit_xor, refl, take, replicate, ⊎_elim, get_or-take, length-take}
+use Rattle.std.proofs.Common.{◌≡◌, ℕ, suc, ◌+◌, ◌*◌, ◌/◌, ◌%◌, ◌<◌, ◌≤◌, List, [], length, get_or, map, min, sym, ap, ap₂}
+use Rattle.std.proofs.Common.{subst, ◌∙◌, arith, mod-lt, div-add-mod', div-lt_iff_lt-mul, mul_comm, pos_of_ne-zero}
+use Rattle.std.proofs.Common.{mul-le-mul_right, add-one, bit_xor, refl, take, replicate, ⊎_elim, get_or-take, length-take}
 use Rattle.std.specs.List.{range_with_len}
 use Rattle.std.proofs.Math.Nat.{mul-div_cancel_left, mul-mod_right}
 use Rattle.std.proofs.lemmas.Nat.{div-mul-add, mod-mul-add}
@@ -72,8 +74,8 @@ unfolding part_of
 part_of-at pieces i d hi = get_or-map (λ q. q.bytes) pieces i d [] hi
 
 -- the row of the points that are those of the pieces
-pub row_of-points : (pieces : List Piece) (i : ℕ) (points items row : List ℕ) → points ≡ points_of pieces → row ≡ items → IsBasisRow points i items
-    → IsBasisRow (points_of pieces) i row
+pub row_of-points : (pieces : List Piece) (i : ℕ) (points items row : List ℕ) → points ≡ points_of pieces → row ≡ items →
+    IsBasisRow points i items → IsBasisRow (points_of pieces) i row
 row_of-points pieces i points items row same_points same_row is_row =
     subst (IsBasisRow (points_of pieces) i) (sym same_row) (subst (λ ps. IsBasisRow ps i items) same_points is_row)
 
@@ -136,10 +138,9 @@ module _ (k len : ℕ) (pieces : List Piece) (lawful : AreLawful k len pieces) (
   length-part i part hi is_part = ap length is_part ∙ part_len i (omega (arith, lawful.count))
 
   -- piece i times its row, added to byte n
-  pub byte_below-more : (i n : ℕ) (row part : List ℕ) → i < length pieces → n < k * fragment_len k len
-      → IsBasisRow (points_of pieces) i row → part ≡ part_of pieces i
-      → bit_xor (byte_below pieces (fragment_len k len) i n) (field_product (get_or row (n / fragment_len k len) 0) (get_or part (n % fragment_len k len) 0))
-      ≡ byte_below pieces (fragment_len k len) (i + 1) n
+  pub byte_below-more : (i n : ℕ) (row part : List ℕ) → i < length pieces → n < k * fragment_len k len →
+      IsBasisRow (points_of pieces) i row → part ≡ part_of pieces i → bit_xor (byte_below pieces (fragment_len k len) i n) (field_product
+      (get_or row (n / fragment_len k len) 0) (get_or part (n % fragment_len k len) 0)) ≡ byte_below pieces (fragment_len k len) (i + 1) n
   unfolding byte_below partly_interpolated
   byte_below-more i n row part hi hn is_row is_part =
       let points = points_of pieces in
@@ -155,7 +156,8 @@ module _ (k len : ℕ) (pieces : List Piece) (lawful : AreLawful k len pieces) (
       let in_row : j < length row = omega (arith, is_row.len, count, block_lt k f n hn) in
       let in_part : b < length part = omega (arith, place_lt k f n hn, ap length is_part, part_len i in_k) in
       ap (bit_xor (field_sum i term))
-      (product_comm (get_or row j 0) (get_or part b 0) (is_row.bytes j 0 in_row) (subst AreBytes (sym is_part) (part_bytes i in_k) b 0 in_part)
+      (product_comm (get_or row j 0) (get_or part b 0) (is_row.bytes j 0 in_row)
+      (subst AreBytes (sym is_part) (part_bytes i in_k) b 0 in_part)
       ∙ ap₂ (λ ys xs. field_product (get_or ys b 0) (get_or xs j 0)) is_part same_row)
       ∙ sym (field_sum-suc i term) ∙ ap (λ m. field_sum m term) (sym (add-one i))
 
@@ -205,7 +207,8 @@ module _ (k len : ℕ) (pieces : List Piece) (lawful : AreLawful k len pieces) (
       value known.bytes (ap (fragment_len k) known.value_len ∙ same_len)
       (λ i hi.
       let within : i < length pieces = omega (arith, lawful.count) in
-      ap (fragment value k) (point-at pieces i no_piece within) ∙ known.fragments i no_piece within ∙ sym (part_of-at pieces i no_piece within))
+      ap (fragment value k) (point-at pieces i no_piece within) ∙ known.fragments i no_piece within
+      ∙ sym (part_of-at pieces i no_piece within))
       (n / f) (n % f) (block_lt k f n hn) (place_lt k f n hn)
       ∙ sym (get_or-blocks_of k len pieces n hn)
 
@@ -213,4 +216,5 @@ module _ (k len : ℕ) (pieces : List Piece) (lawful : AreLawful k len pieces) (
   pub blocks_of-only : (blocks : List ℕ) → IsInterpolated k (k * fragment_len k len) pieces blocks → blocks ≡ blocks_of k len pieces
   blocks_of-only blocks known =
       same_number_lists blocks (blocks_of k len pieces) (known.value_len ∙ sym (length-blocks_of k len pieces))
-      (λ n hn. byte_in_blocks (k * fragment_len k len) blocks known (fragment_len-whole k len lawful.some) n (omega (arith, known.value_len)))
+      (λ n hn. byte_in_blocks (k * fragment_len k len) blocks known (fragment_len-whole k len lawful.some) n
+      (omega (arith, known.value_len)))

@@ -61,10 +61,10 @@ impl Decoded {
     }
 }
 
-/// The value of `len` bytes whose fragments the pieces are, cut into `k` blocks of `len.div_ceil(k)` bytes. Refused with
-/// `BadPieces` where the pieces are not `k` pieces at distinct points of a value of `len` bytes, within the limits, or
-/// where no such value has these fragments: then a byte past `len` in the interpolated blocks is not 0. Else refused
-/// with `NoMemory`, which is told only where there is such a value.
+/// The value of `len` bytes whose fragments the pieces are, cut into `k` blocks of `len.div_ceil(k)` bytes. Refused
+/// with `BadPieces` where the pieces are not `k` pieces at distinct points of a value of `len` bytes, within the
+/// limits, or where no such value has these fragments: then a byte past `len` in the interpolated blocks is not 0. Else
+/// refused with `NoMemory`, which is told only where there is such a value.
 pub fn decode(alloc: Global, k: u8, len: u32, pieces: Vec<Piece>) -> Result<Decoded, Refusal>
     ensures kept { IfOk result (λ d. (d.k ≡ k) × (d.pieces ≡ pieces.items)) }
     ensures lawful { OnOk result (AreLawful k len pieces.items) }

@@ -4,7 +4,8 @@ use Rattle.gf256.specs.Field.{field_product}
 use Rattle.gf256.specs.Polynomial.{IsBasisRow}
 use Rattle.encoder.specs.Fragment.{fragment_len}
 use Rattle.decoder.specs.Pieces.{points_of, IsInterpolated}
-use Rattle.decoder.proofs.Whole.{part_of-read, blocks_of, length-blocks_of, get_or-blocks_of, byte_below, byte_below-none, byte_below-more, at_place, row_of-points, length-row, length-part, IsInterpolated-blocks_of}
+use Rattle.decoder.proofs.Whole.{part_of-read, blocks_of, length-blocks_of, get_or-blocks_of, byte_below, byte_below-none}
+use Rattle.decoder.proofs.Whole.{byte_below-more, at_place, row_of-points, length-row, length-part, IsInterpolated-blocks_of}
 use Rattle.decoder.proofs.blocks.add_pieces.Goals as goal
 
 pub loop-i-init : goal.loop-i-init
@@ -41,5 +42,6 @@ returns c =
     let all : c.loop-i.i ≡ k = omega (arith, c.requires.lawful.count) in
     subst (IsInterpolated k (k * fragment_len k len) pieces)
     (sym (same_number_lists c.loop-i.blocks (blocks_of k len pieces) (size ∙ sym whole)
-    (λ n hn. c.loop-i.invariant n hn ∙ ap (λ m. byte_below pieces (fragment_len k len) m n) all ∙ sym (get_or-blocks_of k len pieces n (omega arith)))))
+    (λ n hn. c.loop-i.invariant n hn ∙ ap (λ m. byte_below pieces (fragment_len k len) m n) all
+    ∙ sym (get_or-blocks_of k len pieces n (omega arith)))))
     (IsInterpolated-blocks_of k len pieces c.requires.lawful c.requires.bytes)

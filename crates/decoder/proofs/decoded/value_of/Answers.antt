@@ -21,8 +21,10 @@ returns-in_default-clause-refused c =
     let bytes = c.requires.bytes in
     let read = c.is_padding_zero.ensures (blocks_of k len pieces) (IsInterpolated-blocks_of k len pieces lawful bytes) in
     elim c.if-is_padding_zero.branch [
-      | then-is_padding_zero w ↦ inr (w.result-is, some_value k len pieces lawful bytes c.is_padding_zero.result read w.if-is_padding_zero.true)
-      | else-is_padding_zero w ↦ inl (w.result-is, no_value k len pieces lawful bytes c.is_padding_zero.result read w.if-is_padding_zero.false)
+      | then-is_padding_zero w ↦
+          inr (w.result-is, some_value k len pieces lawful bytes c.is_padding_zero.result read w.if-is_padding_zero.true)
+      | else-is_padding_zero w ↦
+          inl (w.result-is, no_value k len pieces lawful bytes c.is_padding_zero.result read w.if-is_padding_zero.false)
     ]
 
 pub returns-then-not-is_zero-clause-refused : goal.returns-then-not-is_zero-clause-refused
@@ -33,7 +35,8 @@ returns-then-not-is_zero-clause-refused c =
     let lawful = c.requires.lawful in
     let bytes = c.requires.bytes in
     let read =
-    padding_read k len pieces lawful bytes c.deref.result.now c.in-Ok.blocks.items c.is_zero.result c.deref.ensures.value c.in-Ok.ensures c.is_zero.ensures in
+    padding_read k len pieces lawful bytes c.deref.result.now c.in-Ok.blocks.items c.is_zero.result c.deref.ensures.value c.in-Ok.ensures
+    c.is_zero.ensures in
     inl (refl, no_value k len pieces lawful bytes c.is_zero.result read c.if-not-is_zero.true)
 
 pub returns-in_err-from_vec-clause-refused : goal.returns-in_err-from_vec-clause-refused
@@ -44,9 +47,11 @@ returns-in_err-from_vec-clause-refused c =
     let lawful = c.requires.lawful in
     let bytes = c.requires.bytes in
     let read =
-    padding_read k len pieces lawful bytes c.deref.result.now c.in-Ok.blocks.items c.is_zero.result c.deref.ensures.value c.in-Ok.ensures c.is_zero.ensures in
+    padding_read k len pieces lawful bytes c.deref.result.now c.in-Ok.blocks.items c.is_zero.result c.deref.ensures.value c.in-Ok.ensures
+    c.is_zero.ensures in
     let some = some_value k len pieces lawful bytes c.is_zero.result read c.if-not-is_zero.false in
-    only_no_memory c.from_residual.result (λ e. ((e ≡ BadPieces) × HaveNoValue k len pieces) ⊎ ((e ≡ NoMemory) × (¬ HaveNoValue k len pieces)))
+    only_no_memory c.from_residual.result
+    (λ e. ((e ≡ BadPieces) × HaveNoValue k len pieces) ⊎ ((e ≡ NoMemory) × (¬ HaveNoValue k len pieces)))
     c.from_residual.ensures.1 (inr (refl, some))
 
 pub returns-clause-interpolated : goal.returns-clause-interpolated
@@ -57,9 +62,11 @@ returns-clause-interpolated c =
     let lawful = c.requires.lawful in
     let bytes = c.requires.bytes in
     let read =
-    padding_read k len pieces lawful bytes c.deref.result.now c.in-Ok.blocks.items c.is_zero.result c.deref.ensures.value c.in-Ok.ensures c.is_zero.ensures in
+    padding_read k len pieces lawful bytes c.deref.result.now c.in-Ok.blocks.items c.is_zero.result c.deref.ensures.value c.in-Ok.ensures
+    c.is_zero.ensures in
     let made =
-    c.in_ok-from_vec.ensures.ok ∙ c.truncate.ensures.items ∙ ap (take len) (blocks_of-only k len pieces lawful bytes c.in-Ok.blocks.items c.in-Ok.ensures) in
+    c.in_ok-from_vec.ensures.ok ∙ c.truncate.ensures.items
+    ∙ ap (take len) (blocks_of-only k len pieces lawful bytes c.in-Ok.blocks.items c.in-Ok.ensures) in
     subst (IsInterpolated k len pieces) (sym made) (IsInterpolated-cut k len pieces lawful bytes (read.0 c.if-not-is_zero.false))
 
 pub returns-clause-only : goal.returns-clause-only
@@ -70,5 +77,6 @@ returns-clause-only c v known =
     let lawful = c.requires.lawful in
     let bytes = c.requires.bytes in
     let made =
-    c.in_ok-from_vec.ensures.ok ∙ c.truncate.ensures.items ∙ ap (take len) (blocks_of-only k len pieces lawful bytes c.in-Ok.blocks.items c.in-Ok.ensures) in
+    c.in_ok-from_vec.ensures.ok ∙ c.truncate.ensures.items
+    ∙ ap (take len) (blocks_of-only k len pieces lawful bytes c.in-Ok.blocks.items c.in-Ok.ensures) in
     value-blocks_of k len pieces lawful bytes v known ∙ sym made

@@ -4,7 +4,8 @@ use Rattle.gf256.specs.Field.{field_product}
 use Rattle.gf256.specs.Polynomial.{IsBasisRow}
 use Rattle.encoder.specs.Fragment.{fragment_len}
 use Rattle.decoder.specs.Pieces.{points_of}
-use Rattle.decoder.proofs.Whole.{part_of-read, blocks_of, length-blocks_of, get_or-blocks_of, byte_below, byte_below-none, byte_below-more, row_of-points, length-part, blocks_of-only}
+use Rattle.decoder.proofs.Whole.{part_of-read, blocks_of, length-blocks_of, get_or-blocks_of, byte_below}
+use Rattle.decoder.proofs.Whole.{byte_below-none, byte_below-more, row_of-points, length-part, blocks_of-only}
 use Rattle.decoder.proofs.padding.add_padding.Goals as goal
 
 pub loop-i-init : goal.loop-i-init
