@@ -1,5 +1,6 @@
 -- How a request changes the bytes of a bank.
-use Rattle.std.proofs.Common.{◌≡◌, ℕ, ◌+◌, ◌∷◌, [], length, map, true, false, cond, Option, Some, None, is_some, option_map, sum_by, sym, ap, ◌∙◌, refl, arith}
+use Rattle.std.proofs.Common.{◌≡◌, ℕ, ◌+◌, ◌∷◌, [], length, map, true, false, cond, Option, Some, None, is_some, option_map, sum_by, sym}
+use Rattle.std.proofs.Common.{ap, ◌∙◌, refl, arith}
 use Rattle.std.specs.FinMap as map
 use Rattle.std.specs.FinMap.Entries.{below_all, by_order}
 use Rattle.std.specs.declared.cmp.Ordering.TheVariants.{Less, Equal, Greater}
@@ -43,7 +44,9 @@ less_than x y is = (ap is_eq is, sym (is_lt-tag x y) ∙ ap is_lt is)
 -- the bytes of the rows are those of the entries
 pub rows_bytes : (es : Rows) → sum_by row_bytes (map (λ e. e.1) es) ≡ sum_by entry_bytes es
 rows_bytes [] = refl
-rows_bytes (e ∷ es) = let rest = rows_bytes es in omega (arith, sum_by-cons row_bytes e.1 (map (λ (e : Tag × Row). e.1) es), sum_by-cons entry_bytes e es, rest)
+rows_bytes (e ∷ es) =
+    let rest =
+    rows_bytes es in omega (arith, sum_by-cons row_bytes e.1 (map (λ (e : Tag × Row). e.1) es), sum_by-cons entry_bytes e es, rest)
 
 -- the bytes after a new value comes in the place of an old one
 put_bytes : (k : Tag) (v : Row) (es : Rows) → map.is_sorted tag_cmp es ≡ true
@@ -57,7 +60,8 @@ put_bytes k v (e ∷ es) sorted =
           let none : there_bytes (map.find tag_cmp k es) ≡ 0 = ap there_bytes (find-below k e.0 es (less_than k e.0 is).1 parts.0) in
           omega (arith, sum_by-cons entry_bytes (k, v) (e ∷ es), none)
       | Equal ↦ λ is. omega (arith, sum_by-cons entry_bytes (e.0, v) es, sum_by-cons entry_bytes e es)
-      | Greater ↦ λ is. omega (arith, sum_by-cons entry_bytes e (map.put tag_cmp k v es), sum_by-cons entry_bytes e es, put_bytes k v es parts.1)
+      | Greater ↦ λ is.
+          omega (arith, sum_by-cons entry_bytes e (map.put tag_cmp k v es), sum_by-cons entry_bytes e es, put_bytes k v es parts.1)
     ] refl
   where
     parts : (below_all tag_cmp e.0 es ≡ true) × (map.is_sorted tag_cmp es ≡ true)
@@ -103,7 +107,8 @@ pub opened_bytes : (point now : ℕ) → bank_bytes (opened_bank point now) ≡ 
 opened_bytes point now =
     ap (sum_by entry_bytes) (map.entries-insert tag_cmp_total (map.empty {X = Row} {R = tag_cmp}) opening_tag
     (opening_row point now))
-    ∙ first (map.entries (map.empty {X = Row} {R = tag_cmp})) (sym (map.len-entries (map.empty {X = Row} {R = tag_cmp})) ∙ map.len-empty tag_cmp Row)
+    ∙ first (map.entries (map.empty {X = Row} {R = tag_cmp})) (sym (map.len-entries (map.empty {X = Row} {R = tag_cmp}))
+    ∙ map.len-empty tag_cmp Row)
   where
     first : (es : Rows) → length es ≡ 0 → sum_by entry_bytes
         (map.put tag_cmp opening_tag (opening_row point now) es) ≡ 0

@@ -1,5 +1,6 @@
 -- What each request makes of the steps that a bank keeps: each stays, or comes now where there was none.
-use Rattle.std.proofs.Common.{◌≡◌, ℕ, ◌<◌, ◌⊎◌, inl, inr, Bool, true, false, cond, Option, Some, None, is_some, option_map, sym, ap, ◌∙◌, refl, arith}
+use Rattle.std.proofs.Common.{◌≡◌, ℕ, ◌<◌, ◌⊎◌, inl, inr, Bool, true, false, cond, Option, Some, None, is_some, option_map, sym, ap, ◌∙◌}
+use Rattle.std.proofs.Common.{refl, arith}
 use Rattle.std.specs.FinMap as map
 use Rattle.std.proofs.lemmas.Bool.{lt-leb, le-leb}
 use Rattle.tag.specs.declared.tag.Tag.{Tag}
@@ -19,7 +20,8 @@ use Rattle.bank.specs.declared.request.Request.TheVariants as request
 use Rattle.bank.specs.Pointer.{raised}
 use Rattle.bank.specs.Bank.{Bank, finalized_label, filled_arrival, row_after_pre_write, row_after_finalize, pre_written, finalized}
 use Rattle.bank.specs.Serve.{served_bank}
-use Rattle.bank.specs.Knowledge.{came_by, since, final_step, row_finalized, row_arrived, finalized_at, arrived_at, pending_since, final_since}
+use Rattle.bank.specs.Knowledge.{came_by, since, final_step, row_finalized, row_arrived, finalized_at, arrived_at, pending_since}
+use Rattle.bank.specs.Knowledge.{final_since}
 use Rattle.bank.specs.Facts.{IsEarlier}
 
 some_inj : (x y : ℕ) → Some x ≡ Some y → x ≡ y
@@ -72,7 +74,8 @@ module _ (rows : Table) (tag : Tag) (f : Option Row → Row) where
   changes : (g : Option Row → Option ℕ) (h : Option ℕ → Option ℕ) → g (Some (f (map.get rows tag))) ≡ h (g (map.get rows tag)) → (t : Tag)
       → g (map.get (with_row rows tag f) t) ≡ cond (tag_eq t tag) (h (g (map.get rows t))) (g (map.get rows t))
   changes g h made t = ap g (get-with_row t) ∙ elim (tag_eq t tag)
-      as (λ c. tag_eq t tag ≡ c → g (cond c (Some (f (map.get rows tag))) (map.get rows t)) ≡ cond c (h (g (map.get rows t))) (g (map.get rows t))) [
+      as (λ c. tag_eq t tag ≡ c → g (cond c (Some (f (map.get rows tag))) (map.get rows t))
+      ≡ cond c (h (g (map.get rows t))) (g (map.get rows t))) [
         | true ↦ λ same. made ∙ ap (λ u. h (g (map.get rows u))) (sym (tag_eq-true t tag same))
         | false ↦ λ _. refl
       ] refl
@@ -121,7 +124,8 @@ module _ (b : Bank) (tag : Tag) (now : ℕ) (t : Tag) where
 
   -- a request to pre-write a tag brings a piece of that tag, and finalizes nothing
   pub finalized_at-pre_written : (p : Piece) → finalized_at (pre_written b tag p now) t ≡ finalized_at b t
-  finalized_at-pre_written p = leaves b.rows tag (λ o. row_after_pre_write o p now) row_finalized (pre_write_finalizes (map.get b.rows tag) p now) t
+  finalized_at-pre_written p =
+      leaves b.rows tag (λ o. row_after_pre_write o p now) row_finalized (pre_write_finalizes (map.get b.rows tag) p now) t
 
   pub arrived_at-pre_written : (p : Piece) → arrived_at (pre_written b tag p now) t
       ≡ cond (tag_eq t tag) (since (arrived_at b t) now) (arrived_at b t)
@@ -185,7 +189,9 @@ served_grows b (request.Spread s) now = record {
 served_grows b request.Query now = grows_same b now
 served_grows b (request.PreWrite tag piece) now = record {
   finalized = λ t. inl (finalized_at-pre_written b tag now t piece);
-  arrived = λ t. either now (arrived_at b t) (arrived_at (pre_written b tag piece now) t) (tag_eq t tag) (arrived_at-pre_written b tag now t piece);
+  arrived =
+      λ t. either now (arrived_at b t) (arrived_at (pre_written b tag piece now) t) (tag_eq t tag)
+      (arrived_at-pre_written b tag now t piece);
   pending = inl refl;
   final = inl refl;
 }

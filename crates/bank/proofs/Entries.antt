@@ -1,5 +1,6 @@
 -- Entries in the order of their tags, as an ordered map keeps them.
-use Rattle.std.proofs.Common.{◌≡◌, ℕ, zero, suc, ◌<◌, Bool, true, false, cond, ◌&&◌, List, [], ◌∷◌, length, get_or, Option, Some, None, is_some, slice_get, T, sym, ap, ◌∙◌, subst}
+use Rattle.std.proofs.Common.{◌≡◌, ℕ, zero, suc, ◌<◌, Bool, true, false, cond, ◌&&◌, List, [], ◌∷◌, length, get_or, Option, Some, None}
+use Rattle.std.proofs.Common.{is_some, slice_get, T, sym, ap, ◌∙◌, subst}
 use Rattle.std.proofs.Common.{refl, arith}
 use Rattle.std.specs.FinMap as map
 use Rattle.std.specs.FinMap.Entries.{below_all}
@@ -43,7 +44,8 @@ is_lt-tag s t = grind (arith, nat_tests)
 below_at : (x : Tag) (es : Rows) (i : ℕ) (d : Tag × Row) → below_all tag_cmp x es ≡ true → i < length es → tag_lt x (get_or es i d).0 ≡ true
 below_at x [] i d below within = absurd (omega arith)
 below_at x (e ∷ es) zero d below within = sym (is_lt-tag x e.0) ∙ (and_parts (is_lt (tag_cmp x e.0)) (below_all tag_cmp x es) below).0
-below_at x (e ∷ es) (suc i) d below within = below_at x es i d (and_parts (is_lt (tag_cmp x e.0)) (below_all tag_cmp x es) below).1 (omega arith)
+below_at x (e ∷ es) (suc i) d below within =
+    below_at x es i d (and_parts (is_lt (tag_cmp x e.0)) (below_all tag_cmp x es) below).1 (omega arith)
 
 lt-apart : (s t : Tag) → tag_lt s t ≡ true → eq_by_cmp tag_cmp t s ≡ false
 lt-apart s t less = grind (arith, nat_tests)
@@ -55,7 +57,8 @@ find_sorted [] i d sorted within = absurd (omega arith)
 find_sorted (e ∷ es) zero d sorted within = ap (λ b. cond b (Some e.1) (map.find tag_cmp e.0 es)) (eq_by_cmp-tag e.0 e.0 ∙ tag_eq-same e.0)
 find_sorted (e ∷ es) (suc i) d sorted within =
     let parts = and_parts (below_all tag_cmp e.0 es) (map.is_sorted tag_cmp es) sorted in
-    ap (λ b. cond b (Some e.1) (map.find tag_cmp (get_or es i d).0 es)) (lt-apart e.0 (get_or es i d).0 (below_at e.0 es i d parts.0 (omega arith)))
+    ap (λ b. cond b (Some e.1) (map.find tag_cmp (get_or es i d).0 es))
+    (lt-apart e.0 (get_or es i d).0 (below_at e.0 es i d parts.0 (omega arith)))
     ∙ find_sorted es i d parts.1 (omega arith)
 
 -- the tags of the entries rise

@@ -17,7 +17,8 @@ use Rattle.bank.specs.Serve.{greatest_final}
 use Rattle.bank.specs.Kept.{bank_of, IsKept}
 use Rattle.bank.proofs.Entries.{Rows, is_final, Rise, entries-rise, get-rise, insert-rise}
 use Rattle.bank.proofs.Account.{served_bytes, opened_bytes}
-use Rattle.bank.proofs.Query.{greatest-finalized, greatest-pre_written, opening-finalized, opening-pre_written, greatest-opened, opening-opened}
+use Rattle.bank.proofs.Query.{greatest-finalized, greatest-pre_written, opening-finalized, opening-pre_written, greatest-opened}
+use Rattle.bank.proofs.Query.{opening-opened}
 
 -- a bank with what f makes of a tag's row
 abbrev changed : Bank → Tag → (Option Row → Row) → Bank
@@ -35,7 +36,8 @@ bank_of-changed es fs p tag f rise risen updates =
     ap (λ m. let b : Bank = record { rows = m; pointer = p } in b) (insert-rise es fs rise risen tag (f (found es tag)) updates
     ∙ ap (λ r. map.insert (map.from_sorted es) tag (f r)) (sym (get-rise es rise tag)))
 
-counted_more : (n new total added : ℕ) → n ≡ min total (2 ^ 64 - 1) → new ≡ min (n + added) (2 ^ 64 - 1) → new ≡ min (total + added) (2 ^ 64 - 1)
+counted_more : (n new total added : ℕ) → n ≡ min total (2 ^ 64 - 1) → new ≡ min (n + added) (2 ^ 64 - 1)
+    → new ≡ min (total + added) (2 ^ 64 - 1)
 counted_more n new total added is more = omega (arith, is, more)
 
 -- a tag that no search finds is not known
@@ -66,7 +68,8 @@ module _ (es fs : Rows) (p : Pointer) (g : Tag) (n : ℕ) (kept : IsKept es p g 
         }
 
   -- after a request to finalize a tag
-  module _ (updates : (q : Tag) → found fs q ≡ cond (is_at (tag_cmp tag) q) (Some (row_after_finalize (found es tag) now)) (found es q)) where
+  module _ (updates : (q : Tag)
+      → found fs q ≡ cond (is_at (tag_cmp tag) q) (Some (row_after_finalize (found es tag) now)) (found es q)) where
     pub bank_finalized : bank_of fs p ≡ finalized (bank_of es p) tag now
     bank_finalized = bank_of-changed es fs p tag (λ o. row_after_finalize o now) kept.sorted risen updates
 

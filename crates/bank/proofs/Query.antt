@@ -1,5 +1,6 @@
 -- The greatest finalized tag of a bank.
-use Rattle.std.proofs.Common.{◌≡◌, ℕ, suc, ◌<◌, Bool, true, false, cond, [], ◌∷◌, length, get_or, Option, Some, None, IsSome, is_some, sym, ap, ◌∙◌, refl, arith}
+use Rattle.std.proofs.Common.{◌≡◌, ℕ, suc, ◌<◌, Bool, true, false, cond, [], ◌∷◌, length, get_or, Option, Some, None, IsSome, is_some, sym}
+use Rattle.std.proofs.Common.{ap, ◌∙◌, refl, arith}
 use Rattle.std.specs.FinMap as map
 use Rattle.std.specs.Ordering.{eq_by_cmp}
 use Rattle.tag.specs.declared.tag.Tag.{Tag}
@@ -25,7 +26,8 @@ among_above (e ∷ es) tag r found final =
       | true ↦ λ same is.
           let here : is_finalized e.1.label ≡ true = ap is_finalized (ap (λ (x : Row). x.label) (some_inj e.1 r is)) ∙ final in
           ap (λ b. tag_lt (cond b (cond (tag_lt (greatest_among es) e.0) e.0 (greatest_among es)) (greatest_among es)) tag) here
-          ∙ ap (tag_lt (cond (tag_lt (greatest_among es) e.0) e.0 (greatest_among es))) (tag_eq-true tag e.0 (sym (eq_by_cmp-tag tag e.0) ∙ same))
+          ∙ ap (tag_lt (cond (tag_lt (greatest_among es) e.0) e.0 (greatest_among es))) (tag_eq-true tag e.0 (sym (eq_by_cmp-tag tag e.0)
+          ∙ same))
           ∙ later-second (greatest_among es) e.0
       | false ↦ λ _ is. either (is_finalized e.1.label) (among_above es tag r is final)
     ] refl found
@@ -67,7 +69,8 @@ greatest_is b tag is =
       where
         no : false ≡ true → ⊥
         no h = cc
-    row (Some r) got final = among_above (map.entries b.rows) tag r (sym (map.get-entries b.rows tag) ∙ got) (sym (ap is_final_row got) ∙ final)
+    row (Some r) got final = among_above (map.entries b.rows) tag r (sym (map.get-entries b.rows tag) ∙ got) (sym (ap is_final_row got)
+        ∙ final)
 
 -- where the opening tag is finalized, the greatest tag is
 pub greatest_final_is : (b : Bank) → IsSome (finalized_at b opening_tag) → IsGreatest b (greatest_final b)
@@ -95,7 +98,8 @@ greatest_final_is b opening = record {
       where
         no : false ≡ true → ⊥
         no h = cc
-    row other (Some r) got final = among_above (map.entries b.rows) other r (sym (map.get-entries b.rows other) ∙ got) (sym (ap is_final_row got)
+    row other (Some r) got final = among_above (map.entries b.rows) other r (sym (map.get-entries b.rows other)
+        ∙ got) (sym (ap is_final_row got)
         ∙ final)
 
 module _ (b : Bank) (tag : Tag) (now : ℕ) (opening : IsSome (finalized_at b opening_tag)) where
@@ -117,7 +121,8 @@ module _ (b : Bank) (tag : Tag) (now : ℕ) (opening : IsSome (finalized_at b op
       there (Some step) = refl
 
   none_above : (t : Tag) → is_final (finalized b tag now) t ≡ true → tag_lt (later_tag (greatest_final b) tag) t ≡ false
-  none_above t final = elim (tag_eq t tag) as (λ c. tag_eq t tag ≡ c → is_some (cond c (since (finalized_at b t) now) (finalized_at b t)) ≡ true
+  none_above t final =
+      elim (tag_eq t tag) as (λ c. tag_eq t tag ≡ c → is_some (cond c (since (finalized_at b t) now) (finalized_at b t)) ≡ true
       → tag_lt (later_tag (greatest_final b) tag) t ≡ false) [
         | true ↦ λ same _. ap (tag_lt (later_tag (greatest_final b) tag)) (tag_eq-true t tag same) ∙ later-second (greatest_final b) tag
         | false ↦ λ _ before. later-above (greatest_final b) tag t ((greatest_final_is b opening).greatest t before)

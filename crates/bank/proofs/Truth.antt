@@ -1,5 +1,6 @@
 -- The answer to a request at a step after all that a bank keeps is true of the bank that it leaves.
-use Rattle.std.proofs.Common.{◌≡◌, ℕ, ◌<◌, Bool, true, false, cond, Option, Some, None, IsSome, is_some, option_map, sym, ap, ◌∙◌, subst, refl, arith}
+use Rattle.std.proofs.Common.{◌≡◌, ℕ, ◌<◌, Bool, true, false, cond, Option, Some, None, IsSome, is_some, option_map, sym, ap, ◌∙◌, subst}
+use Rattle.std.proofs.Common.{refl, arith}
 use Rattle.std.specs.FinMap as map
 use Rattle.tag.specs.declared.tag.Tag.{Tag}
 use Rattle.tag.specs.Tag.{tag_cmp, tag_eq, opening_tag}
@@ -16,10 +17,12 @@ use Rattle.bank.specs.declared.request.Request.TheVariants as request
 use Rattle.bank.specs.Pointer.{status_of, raised}
 use Rattle.bank.specs.Bank.{Bank, opening_row, opened_bank, finalized, with_pointer, piece_of, piece_of_row}
 use Rattle.bank.specs.Serve.{kind_of, served_bank, answer_to, greatest_final}
-use Rattle.bank.specs.Knowledge.{came_by, since, row_finalized, row_arrived, finalized_at, arrived_at, pending_since, final_since, pointer_at, status_le}
+use Rattle.bank.specs.Knowledge.{came_by, since, row_finalized, row_arrived, finalized_at, arrived_at, pending_since, final_since}
+use Rattle.bank.specs.Knowledge.{pointer_at, status_le}
 use Rattle.bank.specs.Knowledge.{HasFinalized, IsTrueAnswer}
 use Rattle.bank.specs.Facts.{IsEarlier, IsBefore, SameBefore, IsServed}
-use Rattle.bank.proofs.Changes.{earlier_by, since_by, comes_past, comes_earlier, finalized_at-finalized, arrived_at-finalized, arrived_at-pre_written}
+use Rattle.bank.proofs.Changes.{earlier_by, since_by, comes_past, comes_earlier, finalized_at-finalized, arrived_at-finalized}
+use Rattle.bank.proofs.Changes.{arrived_at-pre_written}
 use Rattle.bank.proofs.Changes.{get-with_row, Grows, served_grows}
 use Rattle.bank.proofs.Query.{greatest_final_is}
 
@@ -41,7 +44,8 @@ grows_past old new now grows = record {
 
 pub grows_order : (old new : Bank) (now later : ℕ) → Grows now old new → now < later → IsBefore old now → IsBefore new later
 grows_order old new now later grows after before = record {
-  finalized = λ tag. comes_earlier now (finalized_at old tag) (finalized_at new tag) (grows.finalized tag) later after (before.finalized tag);
+  finalized =
+      λ tag. comes_earlier now (finalized_at old tag) (finalized_at new tag) (grows.finalized tag) later after (before.finalized tag);
   arrived = λ tag. comes_earlier now (arrived_at old tag) (arrived_at new tag) (grows.arrived tag) later after (before.arrived tag);
   pending = comes_earlier now (pending_since old.pointer) (pending_since new.pointer) grows.pending later after before.pending;
   final = comes_earlier now (final_since old.pointer) (final_since new.pointer) grows.final later after before.final;
@@ -56,7 +60,8 @@ pointer_now b now before =
     (earlier_by (pending_since b.pointer) now before.pending)
     ∙ has b.pointer
   where
-    has : (q : Pointer) → cond (is_some (final_since q)) status.Final (cond (is_some (pending_since q)) status.Pending status.Unset) ≡ status_of q
+    has : (q : Pointer)
+        → cond (is_some (final_since q)) status.Final (cond (is_some (pending_since q)) status.Pending status.Unset) ≡ status_of q
     has Unset = refl
     has (Pending came) = refl
     has (Final pending came) = refl
@@ -66,11 +71,14 @@ at_least : (s : Status) (c d : Bool) → (s ≡ status.Final → c ≡ true) →
 at_least status.Unset c d final pending = refl
 at_least status.Pending true d final pending = refl
 at_least status.Pending false d final pending = ap (λ d. status_le status.Pending (cond d status.Pending status.Unset)) (pending refl)
-at_least status.Final c d final pending = ap (λ c. status_le status.Final (cond c status.Final (cond d status.Pending status.Unset))) (final refl)
+at_least status.Final c d final pending =
+    ap (λ c. status_le status.Final (cond c status.Final (cond d status.Pending status.Unset))) (final refl)
 
 -- a pointer that is raised reaches the status
-raised_reaches : (b : Bank) (s : Status) (now : ℕ) → IsBefore b now → status_le s (pointer_at (with_pointer b (raised b.pointer s now)) now) ≡ true
-raised_reaches b s now before = at_least s (came_by (final_since (raised b.pointer s now)) now) (came_by (pending_since (raised b.pointer s now)) now)
+raised_reaches : (b : Bank) (s : Status) (now : ℕ) → IsBefore b now
+    → status_le s (pointer_at (with_pointer b (raised b.pointer s now)) now) ≡ true
+raised_reaches b s now before =
+    at_least s (came_by (final_since (raised b.pointer s now)) now) (came_by (pending_since (raised b.pointer s now)) now)
     (λ is. ap (λ s. came_by (final_since (raised b.pointer s now)) now) is ∙ ap (λ o. came_by o now) (at_final b.pointer)
     ∙ since_by (final_since b.pointer) now before.final)
     (λ is. ap (λ s. came_by (pending_since (raised b.pointer s now)) now) is ∙ ap (λ o. came_by o now) (at_pending b.pointer)
@@ -152,8 +160,10 @@ opened_before point now later after = record {
 
     first : (g : Option Row → Option ℕ) → g (Some (opening_row point now)) ≡ Some now → (tag : Tag) → g None ≡ None
         → IsEarlier (g (map.get (opened_bank point now).rows tag)) later
-    first g here tag none step is = pick (tag_eq tag opening_tag) (sym (ap g (get-with_row map.empty opening_tag (λ o. opening_row point now) tag)) ∙ is)
+    first g here tag none step is =
+        pick (tag_eq tag opening_tag) (sym (ap g (get-with_row map.empty opening_tag (λ o. opening_row point now) tag)) ∙ is)
       where
-        pick : (c : Bool) → g (cond c (Some (opening_row point now)) (map.get (map.empty {X = Row} {R = tag_cmp}) tag)) ≡ Some step → step < later
+        pick : (c : Bool) → g (cond c (Some (opening_row point now)) (map.get (map.empty {X =
+            Row} {R = tag_cmp}) tag)) ≡ Some step → step < later
         pick true is = let now_is = some_inj now step (sym here ∙ is) in omega arith
         pick false is = absurd (let no : None ≡ Some step = sym none ∙ sym (ap g (map.get-empty tag_cmp tag)) ∙ is in cc)

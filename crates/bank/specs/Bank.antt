@@ -29,7 +29,8 @@ empty_piece point = record { point = point; len = 0; bytes = [] }
 
 -- the row of the opening tag: finalized at the opening, with the fragment of the empty value
 abbrev pub opening_row : ℕ → ℕ → Row
-opening_row point now = record { label = Finalized now; arrival = Some (record { piece = empty_piece point; step = now }) }
+opening_row point now =
+    record { label = Finalized now; arrival = Some (record { piece = empty_piece point; step = now }) }
 
 -- a bank that was opened at a step
 abbrev pub opened_bank : ℕ → ℕ → Bank

@@ -1,4 +1,5 @@
-ghost use Rattle.std.specs.Prelude.{◌≡◌, ◌-◌, ◌^◌, min, sum_by, length, is_some, if◌then◌else◌, Some, None, IfOk, IfErr, OnOk, OnErr};
+ghost use Rattle.std.specs.Prelude.{◌≡◌, ◌-◌, ◌^◌, min, sum_by, length, is_some, if◌then◌else◌, Some, None, IfOk};
+ghost use Rattle.std.specs.Prelude.{IfErr, OnOk, OnErr};
 ghost use Rattle.std.specs.BTreeMap.{get, Updates, IsOrdered, IsUnchanged};
 ghost use Rattle.tag.specs.Tag.{tag_cmp};
 ghost use Rattle.tag.specs.declared.refusal.Refusal.TheVariants.{NoMemory};
@@ -30,8 +31,12 @@ pub fn fill(
     piece: Piece,
     now: Stamp,
 ) -> Result<u64, Refusal>
-    ensures rows { OnOk result (Updates tag_cmp rows.old rows.new tag (Some (row_after_pre_write (get tag_cmp rows.old tag) piece now))) }
-    ensures added { IfOk result (λ n. n ≡ (if is_some (piece_of_row (get tag_cmp rows.old tag)) then 0 else length piece.bytes)) }
+    ensures rows { OnOk result (Updates tag_cmp rows.old rows.new tag
+        (Some (row_after_pre_write (get tag_cmp rows.old tag) piece now))) }
+
+    ensures added { IfOk result (λ n.
+        n ≡ (if is_some (piece_of_row (get tag_cmp rows.old tag)) then 0 else length piece.bytes)) }
+
     ensures refused { IfErr result (λ e. e ≡ NoMemory) }
     ensures unchanged { OnErr result (IsUnchanged rows.old rows.new) }
     ensures absent { OnErr result (get tag_cmp rows.old tag ≡ None) }
@@ -51,7 +56,9 @@ pub fn fill(
 
 // Makes `tag` final. A new tag is finalized without a piece.
 pub fn finalize(rows: &mut BTreeMap<Tag, Row>, tag: Tag, now: Stamp) -> Result<(), Refusal>
-    ensures rows { OnOk result (Updates tag_cmp rows.old rows.new tag (Some (row_after_finalize (get tag_cmp rows.old tag) now))) }
+    ensures rows { OnOk result (Updates tag_cmp rows.old rows.new tag
+        (Some (row_after_finalize (get tag_cmp rows.old tag) now))) }
+
     ensures refused { IfErr result (λ e. e ≡ NoMemory) }
     ensures unchanged { OnErr result (IsUnchanged rows.old rows.new) }
     ensures absent { OnErr result (get tag_cmp rows.old tag ≡ None) }

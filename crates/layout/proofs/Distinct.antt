@@ -38,7 +38,8 @@ abbrev pub size : List ℕ → ℕ
 size xs = sets.len (sets.from_list {R = nat_cmp} xs)
 
 size-cons : (x : ℕ) (xs : List ℕ) → size (x ∷ xs) ≡ cond (has xs x) (size xs) (size xs + 1)
-size-cons x xs = sets.len-insert nat_cmp_total (sets.from_list xs) x ∙ ap (λ b. cond b (size xs) (size xs + 1)) (sets.contains-from_list_nat xs x)
+size-cons x xs = sets.len-insert nat_cmp_total (sets.from_list xs) x
+    ∙ ap (λ b. cond b (size xs) (size xs + 1)) (sets.contains-from_list_nat xs x)
 
 size-le : (xs : List ℕ) → size xs ≤ length xs
 size-le [] = omega (arith, sets.len-empty nat_cmp)

@@ -1,5 +1,6 @@
 -- What the set of the marked places contains, and how large it is.
-use Rattle.std.proofs.Common.{◌≡◌, ℕ, zero, suc, ◌+◌, ◌<◌, ◌≤◌, ◌||◌, Bool, true, false, cond, eqb, List, [], ◌∷◌, length, get_or, set, sym, ap, ◌∙◌, refl, arith, zero-add}
+use Rattle.std.proofs.Common.{◌≡◌, ℕ, zero, suc, ◌+◌, ◌<◌, ◌≤◌, ◌||◌, Bool, true, false, cond, eqb, List, [], ◌∷◌, length, get_or, set, sym}
+use Rattle.std.proofs.Common.{ap, ◌∙◌, refl, arith, zero-add}
 use Rattle.std.specs.FinSet as sets
 use Rattle.std.specs.Ordering.{nat_cmp, eq_by_cmp}
 use Rattle.std.specs.Cmp.{nat_cmp_total}
@@ -35,8 +36,10 @@ pub len-marked-le : (bs : List Bool) → sets.len (marked bs) ≤ length bs
 len-marked-le bs = len_places_le bs 0
 
 -- what an insert has, by the marks
-contains-insert-marked : (bs : List Bool) (m q : ℕ) → sets.contains (sets.insert (marked bs) m) q ≡ (eq_by_cmp nat_cmp q m || get_or bs q false)
-contains-insert-marked bs m q = sets.contains-insert nat_cmp_total (marked bs) m q ∙ ap (λ b. eq_by_cmp nat_cmp q m || b) (contains-marked bs q)
+contains-insert-marked : (bs : List Bool) (m q : ℕ)
+    → sets.contains (sets.insert (marked bs) m) q ≡ (eq_by_cmp nat_cmp q m || get_or bs q false)
+contains-insert-marked bs m q = sets.contains-insert nat_cmp_total (marked bs) m q
+    ∙ ap (λ b. eq_by_cmp nat_cmp q m || b) (contains-marked bs q)
 
 -- a mark more is a member more
 pub marked-set : (bs : List Bool) (m : ℕ) → m < length bs → marked (set bs m true) ≡ sets.insert (marked bs) m
@@ -55,7 +58,9 @@ insert_present bs m there = sets.same_set nat_cmp_total sets.nat_cmp-IsAntisymme
     same q = grind (arith, nat_tests, λ (e : q ≡ m). ap (λ k. get_or bs k false) e)
 
 -- the number of members after one more
-pub len-marked-set : (bs : List Bool) (m : ℕ) → m < length bs → get_or bs m false ≡ false → sets.len (marked (set bs m true)) ≡ sets.len (marked bs) + 1
+pub len-marked-set : (bs : List Bool) (m : ℕ) → m < length bs → get_or bs m false ≡ false
+    → sets.len (marked (set bs m true)) ≡ sets.len (marked bs) + 1
 len-marked-set bs m within absent =
     let s = marked bs in
-    ap sets.len (marked-set bs m within) ∙ sets.len-insert nat_cmp_total s m ∙ ap (λ b. cond b (sets.len s) (sets.len s + 1)) (contains-marked bs m ∙ absent)
+    ap sets.len (marked-set bs m within) ∙ sets.len-insert nat_cmp_total s m
+    ∙ ap (λ b. cond b (sets.len s) (sets.len s + 1)) (contains-marked bs m ∙ absent)

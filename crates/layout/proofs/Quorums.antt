@@ -1,5 +1,6 @@
 -- Two quorums share k members: what they have in common is what their lengths together are above n.
-use Rattle.std.proofs.Common.{◌≡◌, ℕ, suc, ◌+◌, ◌<◌, ◌≤◌, Bool, true, false, cond, IsTrue, nat_eq, List, [], ◌∷◌, length, arith, le_trans, eq-eqb, get_or, refl}
+use Rattle.std.proofs.Common.{◌≡◌, ℕ, suc, ◌+◌, ◌<◌, ◌≤◌, Bool, true, false, cond, IsTrue, nat_eq, List, [], ◌∷◌, length, arith, le_trans}
+use Rattle.std.proofs.Common.{eq-eqb, get_or, refl}
 use Rattle.std.specs.List.{AllByRecursion, All, IsDistinct, list_any, filter}
 use Rattle.std.proofs.lemmas.Bool.{cond_both}
 use Rattle.std.proofs.lemmas.Bool.Decides.{nat_tests}
@@ -40,7 +41,8 @@ length-joined : (xs ys : List ℕ) → length (joined xs ys) + length (filter (h
 length-joined [] ys = omega arith
 length-joined (x ∷ xs) ys =
     let rest = length-joined xs ys in
-    elim (has ys x) as (λ b. length (cond b (joined xs ys) (x ∷ joined xs ys)) + length (cond b (x ∷ filter (has ys) xs) (filter (has ys) xs))
+    elim (has ys x) as (λ b. length (cond b (joined xs ys) (x ∷ joined xs ys))
+    + length (cond b (x ∷ filter (has ys) xs) (filter (has ys) xs))
     ≡ suc (length xs) + length ys) [
       | true ↦ omega arith
       | false ↦ omega arith

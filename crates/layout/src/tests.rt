@@ -5,8 +5,21 @@ use tag::Refusal;
 // The sizes are half of n + k, rounded up, counted by hand.
 #[test]
 fn gives_quorums(rt: HostRuntime) -> Result<(), Fail> {
-    for (n, k, quorum) in [(3, 1, 2), (4, 2, 3), (5, 3, 4), (2, 2, 2), (1, 1, 1)] {
-        let servers = [0, 1, 2, 3, 4];
+    let mut servers = Vec::new(rt.alloc());
+    for server in 0..u8::MAX {
+        servers.push(server)?;
+    }
+    for (n, k, quorum) in [
+        (3, 1, 2),
+        (4, 2, 3),
+        (5, 3, 4),
+        (2, 2, 2),
+        (1, 1, 1),
+        (33, 2, 18),
+        (255, 1, 128),
+        (255, 100, 178),
+        (255, 255, 255),
+    ] {
         let Some(members) = servers.get(..n) else {
             return Err(Fail::from("more members than servers"));
         };

@@ -1,17 +1,20 @@
 -- After lawful takes, a phase that ended has replies of a quorum.
-use Rattle.std.proofs.Common.{◌≡◌, ℕ, ◌<◌, ◌≤◌, Bool, true, false, List, [], ◌∷◌, ◌++◌, Option, Some, None, is_some, unwrap_or, sym, ap, ◌∙◌, subst, refl, arith}
+use Rattle.std.proofs.Common.{◌≡◌, ℕ, ◌<◌, ◌≤◌, Bool, true, false, List, [], ◌∷◌, ◌++◌, Option, Some, None, is_some, unwrap_or, sym, ap}
+use Rattle.std.proofs.Common.{◌∙◌, subst, refl, arith}
 use Rattle.std.specs.Prelude.{if◌then◌else◌}
 use Rattle.std.specs.List.{All, Contains, IsDistinct}
 use Rattle.std.proofs.lemmas.Bool.Decides.{nat_tests}
 use Rattle.std.proofs.lemmas.List.{length-map}
-use Rattle.std.proofs.lemmas.List.Elements.{All-push, All-nil, All-weaker, All-map, All-head, All-tail, All-contains_itself, recursion_from_All}
+use Rattle.std.proofs.lemmas.List.Elements.{All-push, All-nil, All-weaker, All-map, All-head, All-tail, All-contains_itself}
+use Rattle.std.proofs.lemmas.List.Elements.{recursion_from_All}
 use Rattle.bank.specs.declared.kind.Kind.{Kind}
 use Rattle.bank.specs.declared.reply.Reply.{Reply}
 use Rattle.mail.specs.declared.message.Message.{Message}
 use Rattle.mail.specs.declared.message.Body.{Body}
 use Rattle.mail.specs.declared.message.Body.TheVariants as body
 use Rattle.phase.specs.declared.phase.Taken.{Taken}
-use Rattle.phase.specs.Phase.{Phase, IsRecord, is_current, has_taken, makes_quorum, members_of, with_reply, after_reply, after_body, after_take}
+use Rattle.phase.specs.Phase.{Phase, IsRecord, is_current, has_taken, makes_quorum, members_of, with_reply, after_reply, after_body}
+use Rattle.phase.specs.Phase.{after_take}
 use Rattle.phase.specs.Complete.{Take, Rise, IsNew, IsReply, IsLawful, CameBy, IsComplete, after_takes}
 use Rattle.phase.proofs.Takes.{record_more, is_some-if}
 

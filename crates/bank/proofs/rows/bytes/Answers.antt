@@ -6,5 +6,6 @@ use Rattle.bank.proofs.rows.bytes.Goals as goal
 
 pub returns : goal.returns
 returns c =
-    let none : sum_by row_bytes c.loop-row.row-iterator ≡ 0 = ap (sum_by row_bytes) (rest_all deref _ _ _ c.in-None.is c.next.ensures.steps) in
+    let none : sum_by row_bytes c.loop-row.row-iterator ≡ 0 =
+    ap (sum_by row_bytes) (rest_all deref _ _ _ c.in-None.is c.next.ensures.steps) in
     omega (arith, c.loop-row.invariant.0, c.loop-row.invariant.1, none)

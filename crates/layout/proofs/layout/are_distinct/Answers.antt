@@ -13,7 +13,8 @@ loop-member-preserved c =
     let i = c.loop-member.member-index in
     let x = get_or xs i 0 in
     c.insert.ensures.inserted ∙ ap (λ s. set.insert s x) c.loop-member.invariant
-    ∙ sym (ap (set.from_list {R = nat_cmp}) (take_more xs i 0 c.loop-member-test.true) ∙ set.from_list_push nat_cmp_total set.nat_cmp-IsAntisymmetric (take i xs) x)
+    ∙ sym (ap (set.from_list {R = nat_cmp}) (take_more xs i 0 c.loop-member-test.true)
+    ∙ set.from_list_push nat_cmp_total set.nat_cmp-IsAntisymmetric (take i xs) x)
 
 pub returns : goal.returns
 returns c =

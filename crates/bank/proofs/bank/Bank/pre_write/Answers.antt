@@ -28,5 +28,6 @@ returns-clause-bank c =
     ∙ ap (λ (b : Bank). pre_written b c.args.tag c.args.piece c.args.now) c.self.view_is
 
 pub returns-clause-served : goal.returns-clause-served
-returns-clause-served c = served_as c.args.self.now _ (request.PreWrite c.args.tag c.args.piece) c.args.now answer.Done (returns-clause-bank c) refl
+returns-clause-served c =
+    served_as c.args.self.now _ (request.PreWrite c.args.tag c.args.piece) c.args.now answer.Done (returns-clause-bank c) refl
     (λ is. absurd (cc))

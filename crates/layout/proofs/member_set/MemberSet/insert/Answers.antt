@@ -9,7 +9,8 @@ returns-then-self-place-clause-inserted c =
 
 pub returns-then-self-place-clause-was_new : goal.returns-then-self-place-clause-was_new
 returns-then-self-place-clause-was_new c =
-    rw (← c.self.view_is, ← c.from-place.ensures) (sym (ap not (contains-marked c.self.inside.present c.from-place.result ∙ c.if-self-place.true)))
+    rw (← c.self.view_is, ← c.from-place.ensures) (sym (ap not (contains-marked c.self.inside.present c.from-place.result
+    ∙ c.if-self-place.true)))
 
 -- the member is new
 pub overflow_add-self : goal.overflow_add-self
@@ -28,4 +29,5 @@ returns-clause-inserted c =
 
 pub returns-clause-was_new : goal.returns-clause-was_new
 returns-clause-was_new c =
-    rw (← c.self.view_is, ← c.from-place.ensures) (sym (ap not (contains-marked c.self.inside.present c.from-place.result ∙ c.if-self-place.false)))
+    rw (← c.self.view_is, ← c.from-place.ensures) (sym (ap not (contains-marked c.self.inside.present c.from-place.result
+    ∙ c.if-self-place.false)))
