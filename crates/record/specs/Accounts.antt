@@ -1,5 +1,6 @@
 -- What the pieces weigh, in bytes, and what each step changes of it.
-use Rattle.std.specs.Prelude.{ℕ, zero, suc, ◌+◌, ◌==◌, is_some, if◌then◌else◌, List, [], ◌∷◌, length, get_or, Option, Some, None, slice_get}
+use Rattle.std.specs.Prelude.{ℕ, zero, suc, ◌+◌, ◌==◌, is_some, if◌then◌else◌}
+use Rattle.std.specs.Prelude.{List, [], ◌∷◌, length, get_or, Option, Some, None, slice_get}
 use Rattle.layout.specs.Layout.{Layout}
 use Rattle.bank.specs.Answer.{answer_bytes}
 use Rattle.bank.specs.Bank.{Bank}
@@ -30,7 +31,8 @@ position_bytes server (member ∷ members) (bank ∷ banks) =
 abbrev pub stored_bytes : (server : ℕ) → List Layout → List (List Bank) → ℕ
 stored_bytes server [] banks = 0
 stored_bytes server (layout ∷ layouts) [] = 0
-stored_bytes server (layout ∷ layouts) (banks ∷ later) = position_bytes server layout.members banks + stored_bytes server layouts later
+stored_bytes server (layout ∷ layouts) (banks ∷ later) =
+    position_bytes server layout.members banks + stored_bytes server layouts later
 
 -- what a server stores of the object
 abbrev pub stored : Object → (server : ℕ) → ℕ
@@ -61,44 +63,54 @@ some_bytes (Some x) f = f x
 -- what a server stores more once this is served
 abbrev pub stored_by_body : Object → Message → Body → (server : ℕ) → ℕ
 stored_by_body object message (body.Request asked) server =
-    for_server server (server_at object message.position message.member) (added_bytes (bank_at object message.position message.member) asked)
+    for_server server (server_at object message.position message.member)
+    (added_bytes (bank_at object message.position message.member) asked)
 stored_by_body object message (body.Reply kind made) server = 0
 
 -- what a step adds to the bytes that a server stores
 abbrev pub stored_by : Object → Step → (server : ℕ) → ℕ
-stored_by object (Step.Serve place) server = some_bytes (slice_get object.mail place) (λ message. stored_by_body object message message.body server)
+stored_by object (Step.Serve place) server =
+    some_bytes (slice_get object.mail place) (λ message. stored_by_body object message message.body server)
 stored_by object s server = 0
 
 -- the bytes of the reply to what is served
 abbrev pub reply_bytes : Object → Message → Body → ℕ
-reply_bytes object message (body.Request asked) = answer_bytes (answer_to (bank_at object message.position message.member) asked)
+reply_bytes object message (body.Request asked) =
+    answer_bytes (answer_to (bank_at object message.position message.member) asked)
 reply_bytes object message (body.Reply kind made) = 0
 
 -- the bytes that a phase which is due sends to all members
 abbrev pub due_bytes : Code → Object → Call → Option (Kind × ℕ) → ℕ
 due_bytes fragment object call None = 0
 due_bytes fragment object call (Some next) =
-    member_sum (λ i. request_bytes (request_to next.0 (sent_pieces fragment object call next.1 i))) 0 (length (layout_at object next.1).members)
+    member_sum (λ i. request_bytes (request_to next.0 (sent_pieces fragment object call next.1 i))) 0
+    (length (layout_at object next.1).members)
 
 -- the bytes of requests that go out again
 abbrev pub again_bytes : Code → Object → Call → Option Phase → ℕ
 again_bytes fragment object call None = 0
-again_bytes fragment object call (Some phase) = mail_bytes (missing_requests object phase (sent_pieces fragment object call phase.position))
+again_bytes fragment object call (Some phase) =
+    mail_bytes (missing_requests object phase (sent_pieces fragment object call phase.position))
 
 -- the bytes that a supply sends: of the phase that is due, or of requests that go out again
 abbrev pub supply_bytes : Code → Object → (index : ℕ) → Call → Option Phase → ℕ
 supply_bytes fragment object index call None = 0
 supply_bytes fragment object index call (Some phase) =
-    if is_some phase.end then due_bytes fragment object call (due (stage_of object index call)) else again_bytes fragment object call (Some phase)
+    if is_some phase.end then due_bytes fragment object call (due (stage_of object index call))
+    else again_bytes fragment object call (Some phase)
 
 -- what a step adds to the bytes in the mail
 abbrev pub mailed_by : Code → Object → Step → ℕ
 mailed_by fragment object (Step.Advance index) =
-    some_bytes (slice_get object.calls index) (λ call. due_bytes fragment object call (due (stage_of object index call)))
+    some_bytes (slice_get object.calls index)
+    (λ call. due_bytes fragment object call (due (stage_of object index call)))
 mailed_by fragment object (Step.Supply index) =
-    some_bytes (slice_get object.calls index) (λ call. supply_bytes fragment object index call (current_phase call.phases))
-mailed_by fragment object (Step.Post index) = some_bytes (slice_get object.calls index) (λ call. again_bytes fragment object call (current_phase call.phases))
-mailed_by fragment object (Step.Serve place) = some_bytes (slice_get object.mail place) (λ message. reply_bytes object message message.body)
+    some_bytes (slice_get object.calls index)
+    (λ call. supply_bytes fragment object index call (current_phase call.phases))
+mailed_by fragment object (Step.Post index) =
+    some_bytes (slice_get object.calls index) (λ call. again_bytes fragment object call (current_phase call.phases))
+mailed_by fragment object (Step.Serve place) =
+    some_bytes (slice_get object.mail place) (λ message. reply_bytes object message message.body)
 mailed_by fragment object (Step.Repeat place) = some_bytes (slice_get object.mail place) message_bytes
 mailed_by fragment object s = 0
 

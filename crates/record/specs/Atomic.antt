@@ -1,5 +1,6 @@
 -- What atomic means of the calls of one object: it knows their entries alone.
-use Rattle.std.specs.Prelude.{nat_eq, ◌≡◌, ℕ, zero, suc, ◌<◌, ◌≢◌, true, List, [], ◌∷◌, map, Option, Some, None, IsSome, get_or}
+use Rattle.std.specs.Prelude.{nat_eq, ◌≡◌, ℕ, zero, suc, ◌<◌, ◌≢◌, true}
+use Rattle.std.specs.Prelude.{List, [], ◌∷◌, map, Option, Some, None, IsSome, get_or}
 use Rattle.std.specs.List.{AllByRecursion, IsDistinct}
 use Rattle.layout.specs.Quorum.{has}
 use Rattle.record.specs.declared.call.Entry.{Entry}
@@ -24,7 +25,8 @@ Leaves operation.Move value current next = ⊥
 -- one register: each read has the value of the nearest write before it, or the current one where there is none
 abbrev pub IsRegister : (current : List ℕ) → List Entry → Type 0
 IsRegister current [] = Unit {0}
-IsRegister current (entry ∷ later) = (next : List ℕ) × Leaves entry.operation entry.value current next × IsRegister next later
+IsRegister current (entry ∷ later) =
+    (next : List ℕ) × Leaves entry.operation entry.value current next × IsRegister next later
 
 -- a was answered before b was called
 abbrev pub IsAnsweredBefore : Entry → Entry → Type 0
@@ -43,10 +45,12 @@ MayStand entry = (entry.operation ≢ operation.Move) × (entry.operation ≡ op
 pub record IsSequence (entries : List Entry) (order : List ℕ) : Type 0 where
   pub distinct : IsDistinct nat_eq order
   pub fitting : AllByRecursion (λ number. MayStand (entry_at entries number)) order
-  pub complete : (number : ℕ) → (entry_at entries number).operation ≢ operation.Move → IsSome (entry_at entries number).answered → has order number ≡ true
+  pub complete : (number : ℕ) → (entry_at entries number).operation ≢ operation.Move →
+      IsSome (entry_at entries number).answered → has order number ≡ true
   pub one_register : IsRegister [] (map (λ number. entry_at entries number) order)
   pub in_order : KeepsOrder (map (λ number. entry_at entries number) order)
 
--- all answered reads and writes, and some unanswered writes, follow one register in an order that keeps answer before call
+-- all answered reads and writes, and some unanswered writes,
+-- follow one register in an order that keeps answer before call
 abbrev pub IsAtomic : List Entry → Type 0
 IsAtomic entries = (order : List ℕ) × IsSequence entries order

@@ -1,5 +1,7 @@
--- The order of a call's phases: which phase is due at each stage of a read, a write or a move, and where its replies lead.
-use Rattle.std.specs.Prelude.{◌≡◌, ℕ, suc, ◌<◌, ◌==◌, if◌then◌else◌, List, [], ◌∷◌, Option, Some, None}
+-- The order of a call's phases: which phase is due at each stage
+-- of a read, a write or a move, and where its replies lead.
+use Rattle.std.specs.Prelude.{◌≡◌, ℕ, suc, ◌<◌, ◌==◌, if◌then◌else◌}
+use Rattle.std.specs.Prelude.{List, [], ◌∷◌, Option, Some, None}
 use Rattle.tag.specs.declared.tag.Tag.{Tag}
 use Rattle.tag.specs.Tag.{opening_tag, next_tag, later_tag, tag_lt}
 use Rattle.bank.specs.declared.status.Status.{Status}
@@ -14,8 +16,10 @@ use Rattle.phase.specs.Phase.{Phase}
 use Rattle.record.specs.declared.call.CallKind.{CallKind}
 use Rattle.record.specs.declared.call.CallKind.TheVariants.{Read, Write, Move}
 use Rattle.record.specs.declared.stage.Stage.{Stage}
-use Rattle.record.specs.declared.stage.Stage.TheVariants.{ReadNext, ReadSpread, QueryFrom, FetchAt, PreWriteAt, FinalizeAt, AgainNext, AgainSpread}
-use Rattle.record.specs.declared.stage.Stage.TheVariants.{MoveSpread, MoveQuery, MoveFetch, MovePreWrite, MoveFinalize, MoveFinal, Ended, Moved}
+use Rattle.record.specs.declared.stage.Stage.TheVariants.{ReadNext, ReadSpread, QueryFrom, FetchAt}
+use Rattle.record.specs.declared.stage.Stage.TheVariants.{PreWriteAt, FinalizeAt, AgainNext, AgainSpread}
+use Rattle.record.specs.declared.stage.Stage.TheVariants.{MoveSpread, MoveQuery, MoveFetch, MovePreWrite}
+use Rattle.record.specs.declared.stage.Stage.TheVariants.{MoveFinalize, MoveFinal, Ended, Moved}
 
 -- the pointer's status that an answer shows
 abbrev pub shown_status : Answer → Status
@@ -78,8 +82,10 @@ tagged Read number shown_at last greatest = FetchAt shown_at last greatest
 tagged (Write value) number shown_at last greatest = PreWriteAt last (next_tag greatest number)
 tagged Move number shown_at last greatest = FetchAt shown_at last greatest
 
--- a query that found a tag: it counts where it is not below the greatest so far, and the next position follows up to the last
-abbrev pub after_query : CallKind → (number : ℕ) → Tag → (position last : ℕ) → Tag → (shown_at : ℕ) → Stage
+-- a query that found a tag: it counts where it is not below the
+-- greatest so far, and the next position follows up to the last
+abbrev pub after_query : CallKind → (number : ℕ) → Tag → (position last : ℕ) → Tag →
+    (shown_at : ℕ) → Stage
 after_query kind number found position last greatest shown_at =
     let later = later_tag greatest found in
     let place = if tag_lt found greatest then shown_at else position in
@@ -99,7 +105,8 @@ after_again Final last position tag = AgainSpread last position tag Final
 abbrev pub after : CallKind → (number : ℕ) → Stage → List Taken → Stage
 after kind number (ReadNext position finalized) replies = after_next (greatest_status replies) position finalized
 after kind number (ReadSpread position finalized status) replies = after_spread status position finalized
-after kind number (QueryFrom position last greatest shown_at) replies = after_query kind number (greatest_tag replies) position last greatest shown_at
+after kind number (QueryFrom position last greatest shown_at) replies =
+    after_query kind number (greatest_tag replies) position last greatest shown_at
 after kind number (FetchAt shown_at last tag) replies = after_fetch shown_at last tag
 after kind number (PreWriteAt last tag) replies = FinalizeAt last tag
 after kind number (FinalizeAt last tag) replies = AgainNext last last tag
@@ -122,7 +129,8 @@ passed kind number stage (Some end) replies = after kind number stage replies
 -- the stage after these phases
 abbrev pub stage_after : CallKind → (number : ℕ) → Stage → List Phase → Stage
 stage_after kind number stage [] = stage
-stage_after kind number stage (phase ∷ phases) = stage_after kind number (passed kind number stage phase.end phase.replies) phases
+stage_after kind number stage (phase ∷ phases) =
+    stage_after kind number (passed kind number stage phase.end phase.replies) phases
 
 -- each phase but the current one is complete before the next begins
 abbrev pub IsEndedBefore : Phase → List Phase → Type 0

@@ -1,5 +1,6 @@
 -- Which pieces are fragments of the journal's values, and which values are settled.
-use Rattle.std.specs.Prelude.{◌≡◌, ℕ, suc, ◌<◌, ◌≤◌, nat_eq, true, List, [], length, Option, Some, None, IsSome, slice_get}
+use Rattle.std.specs.Prelude.{◌≡◌, ℕ, suc, ◌<◌, ◌≤◌, nat_eq, true}
+use Rattle.std.specs.Prelude.{List, [], length, Option, Some, None, IsSome, slice_get}
 use Rattle.std.specs.List.{AllByRecursion, IsDistinct}
 use Rattle.tag.specs.declared.tag.Tag.{Tag}
 use Rattle.tag.specs.declared.limits.TheConstants.{LONGEST_VALUE, MOST_MEMBERS}
@@ -32,10 +33,13 @@ AreBytes value = AllByRecursion (λ b. b < 256) value
 abbrev pub IsValue : List ℕ → Type 0
 IsValue value = AreBytes value × (length value ≤ LONGEST_VALUE)
 
--- k fragments at distinct points determine a value of their length, where k is no more than the members of a layout may be
+-- k fragments at distinct points determine a value of their
+-- length, where k is no more than the members of a layout may be
 abbrev pub Determines : Code → Type 0
-Determines fragment = (k : ℕ) (points : List ℕ) (v w : List ℕ) → 1 ≤ k → k ≤ MOST_MEMBERS → k ≤ length points → IsDistinct nat_eq points → AreBytes points →
-    IsValue v → IsValue w → length v ≡ length w → AllByRecursion (λ i. fragment v k i ≡ fragment w k i) points → v ≡ w
+Determines fragment = (k : ℕ) (points : List ℕ) (v w : List ℕ) → 1 ≤ k → k ≤ MOST_MEMBERS →
+    k ≤ length points → IsDistinct nat_eq points → AreBytes points →
+    IsValue v → IsValue w → length v ≡ length w →
+    AllByRecursion (λ i. fragment v k i ≡ fragment w k i) points → v ≡ w
 
 -- the code is a code: k fragments determine a value, and the empty value's fragments are empty
 pub record IsCode (fragment : Code) : Type 0 where
@@ -43,16 +47,19 @@ pub record IsCode (fragment : Code) : Type 0 where
   pub empty : (k point : ℕ) → fragment [] k point ≡ []
 
 -- a piece is the member's fragment of the value
-pub record IsFragment (fragment : Code) (layout : Layout) (member : ℕ) (value : List ℕ) (piece : Piece) : Type 0 where
+pub record IsFragment (fragment : Code) (layout : Layout) (member : ℕ) (value : List ℕ)
+    (piece : Piece) : Type 0 where
   pub point : piece.point ≡ member
   pub len : piece.len ≡ length value
   pub bytes : piece.bytes ≡ fragment value layout.k member
 
 -- the tag is in the journal, and a piece of it is the member's fragment of the journal's value
-pub record IsCoded (fragment : Code) (object : Object) (position member : ℕ) (tag : Tag) (piece : Option Piece) : Type 0 where
+pub record IsCoded (fragment : Code) (object : Object) (position member : ℕ) (tag : Tag)
+    (piece : Option Piece) : Type 0 where
   pub value : List ℕ
   pub journaled : IsJournaled object tag value
-  pub fits : (kept : Piece) → piece ≡ Some kept → IsFragment fragment (layout_at object position) member value kept
+  pub fits : (kept : Piece) → piece ≡ Some kept →
+      IsFragment fragment (layout_at object position) member value kept
 
 -- a tag, where there is one, is in the journal, with its piece
 abbrev pub IfCoded : Code → Object → (position member : ℕ) → Option Tag → Option Piece → Type 0
@@ -102,10 +109,13 @@ body_piece (body.Reply kind made) = answer_piece made.answer
 pub record AreCoded (fragment : Code) (object : Object) : Type 0 where
   pub banks : (position member : ℕ) (tag : Tag) → knows (bank_at object position member) tag ≡ true →
       IsCoded fragment object position member tag (piece_of (bank_at object position member) tag)
-  pub mail : AllByRecursion (λ message. IfCoded fragment object message.position message.member (body_tag message.body) (body_piece message.body)) object.mail
-  pub phases : (index place : ℕ) (call : Call) (phase : Phase) → slice_get object.calls index ≡ Some call → slice_get call.phases place ≡ Some phase →
-      AllByRecursion
-      (λ taken. IfCoded fragment object phase.position taken.member (answer_tag phase.kind taken.reply.answer) (answer_piece taken.reply.answer)) phase.replies
+  pub mail : AllByRecursion (λ message. IfCoded fragment object message.position message.member (body_tag message.body)
+      (body_piece message.body)) object.mail
+  pub phases : (index place : ℕ) (call : Call) (phase : Phase) → slice_get object.calls index ≡ Some call →
+      slice_get call.phases place ≡ Some phase → AllByRecursion
+      (λ taken. IfCoded fragment object phase.position taken.member
+      (answer_tag phase.kind taken.reply.answer) (answer_piece taken.reply.answer))
+      phase.replies
 
 -- the phase took a piece from this member, and it is the member's fragment of the value
 pub record HasPiece (fragment : Code) (object : Object) (phase : Phase) (value : List ℕ) (member : ℕ) : Type 0 where
@@ -134,21 +144,26 @@ pub record IsSettled (fragment : Code) (object : Object) (call : Call) (value : 
   pub phase : Phase
   pub within : slice_get call.phases place ≡ Some phase
   pub fetch : IsFetch phase.kind
-  pub latest : (later : ℕ) (other : Phase) → slice_get call.phases later ≡ Some other → place < later → IsFetch other.kind → ⊥
+  pub latest : (later : ℕ) (other : Phase) → slice_get call.phases later ≡ Some other → place < later →
+      IsFetch other.kind → ⊥
   pub pieces : HasPieces fragment object phase value
 
 -- what a call settled; a phase after a fetch begins, and a read is answered, once it has
 pub record AreSettled (fragment : Code) (object : Object) : Type 0 where
-  pub settled : (index : ℕ) (call : Call) (value : List ℕ) → slice_get object.calls index ≡ Some call → call.settled ≡ Some value →
-      IsSettled fragment object call value
-  pub before_next : (index place : ℕ) (call : Call) (phase next : Phase) → slice_get object.calls index ≡ Some call → slice_get call.phases place ≡ Some phase →
+  pub settled : (index : ℕ) (call : Call) (value : List ℕ) → slice_get object.calls index ≡ Some call →
+      call.settled ≡ Some value → IsSettled fragment object call value
+  pub before_next : (index place : ℕ) (call : Call) (phase next : Phase) →
+      slice_get object.calls index ≡ Some call → slice_get call.phases place ≡ Some phase →
       IsFetch phase.kind → slice_get call.phases (suc place) ≡ Some next → IsSome call.settled
-  pub before_answer : (index : ℕ) (call : Call) → slice_get object.calls index ≡ Some call → call.kind ≡ Read → IsSome call.answered → IsSome call.settled
+  pub before_answer : (index : ℕ) (call : Call) → slice_get object.calls index ≡ Some call →
+      call.kind ≡ Read → IsSome call.answered → IsSome call.settled
 
 -- what calls write and settle are values
 pub record AreValues (object : Object) : Type 0 where
-  pub written : (index : ℕ) (call : Call) (value : List ℕ) → slice_get object.calls index ≡ Some call → call.kind ≡ Write value → IsValue value
-  pub settled : (index : ℕ) (call : Call) (value : List ℕ) → slice_get object.calls index ≡ Some call → call.settled ≡ Some value → IsValue value
+  pub written : (index : ℕ) (call : Call) (value : List ℕ) → slice_get object.calls index ≡ Some call →
+      call.kind ≡ Write value → IsValue value
+  pub settled : (index : ℕ) (call : Call) (value : List ℕ) → slice_get object.calls index ≡ Some call →
+      call.settled ≡ Some value → IsValue value
 
 -- the phase took a piece from this member
 pub record TookPiece (phase : Phase) (member : ℕ) : Type 0 where

@@ -1,6 +1,7 @@
--- The phases of a call in whole. Of a read or a write: a reading of the sequence, the queries, a read's fetch, and puts with
--- later readings. Of a move: six phases.
-use Rattle.std.specs.Prelude.{◌≡◌, ◌≢◌, ◌⊎◌, ◌↔◌, ℕ, suc, if◌then◌else◌, List, [], ◌∷◌, ◌++◌, Some, None, IsSome, slice_get}
+-- The phases of a call in whole. Of a read or a write: a reading of the sequence,
+-- the queries, a read's fetch, and puts with later readings. Of a move: six phases.
+use Rattle.std.specs.Prelude.{◌≡◌, ◌≢◌, ◌⊎◌, ◌↔◌, ℕ, suc, if◌then◌else◌}
+use Rattle.std.specs.Prelude.{List, [], ◌∷◌, ◌++◌, Some, None, IsSome, slice_get}
 use Rattle.tag.specs.declared.tag.Tag.{Tag}
 use Rattle.tag.specs.Tag.{opening_tag, next_tag, later_tag, tag_eq}
 use Rattle.bank.specs.declared.status.Status.{Status}
@@ -26,13 +27,15 @@ finalized_after Final position finalized = suc position
 finalized_after Pending position finalized = finalized
 finalized_after Unset position finalized = finalized
 
--- a reading of the sequence from a position: each pointer that is found is spread, up to the position where none is found
+-- a reading of the sequence from a position: each pointer that
+-- is found is spread, up to the position where none is found
 abbrev pub IsReading : (position finalized : ℕ) → List Phase → (last to : ℕ) → Type 0
 IsReading position finalized [] last to = ⊥
 IsReading position finalized (next ∷ []) last to =
     Asks next Next position × (greatest_status next.replies ≡ Unset) × (last ≡ position) × (to ≡ finalized)
 IsReading position finalized (next ∷ spread ∷ later) last to =
-    Asks next Next position × (greatest_status next.replies ≢ Unset) × Asks spread (Spread (greatest_status next.replies)) position
+    Asks next Next position × (greatest_status next.replies ≢ Unset)
+    × Asks spread (Spread (greatest_status next.replies)) position
     × IsReading (suc position) (finalized_after (greatest_status next.replies) position finalized) later last to
 
 -- queries of the positions from one to the last, in order
@@ -51,7 +54,8 @@ TakesTag Read number greatest tag = tag ≡ greatest
 TakesTag (Write value) number greatest tag = tag ≡ next_tag greatest number
 TakesTag Move number greatest tag = ⊥
 
--- a read or a write that has its tag: a reading, then the queries from the last finalized position to the last, then the rest
+-- a read or a write that has its tag: a reading, then the queries
+-- from the last finalized position to the last, then the rest
 pub record FindsTag (kind : CallKind) (number : ℕ) (phases : List Phase) (tag : Tag) : Type 0 where
   pub first : List Phase
   pub queries : List Phase
@@ -63,7 +67,8 @@ pub record FindsTag (kind : CallKind) (number : ℕ) (phases : List Phase) (tag 
   pub asked : AreQueries finalized last queries
   pub takes : TakesTag kind number (greatest_shown opening_tag queries) tag
 
--- the position of the last of these queries that shows the tag, the first of them at `position`; `place` where none does
+-- the position of the last of these queries that shows the tag,
+-- the first of them at `position`; `place` where none does
 abbrev pub place_shown : Tag → (position place : ℕ) → List Phase → ℕ
 place_shown tag position place [] = place
 place_shown tag position place (query ∷ later) =
@@ -88,9 +93,11 @@ round_phases (round ∷ later) = round.pre_write ∷ round.finalize ∷ (round.r
 -- a round puts the tag into a position, and reads the sequence from there
 abbrev pub IsRound : Tag → (position : ℕ) → Round → Type 0
 IsRound tag position round =
-    Asks round.pre_write (PreWrite tag) position × Asks round.finalize (Finalize tag) position × IsReadingTo position round.reading round.last
+    Asks round.pre_write (PreWrite tag) position × Asks round.finalize (Finalize tag) position
+    × IsReadingTo position round.reading round.last
 
--- what follows a reading from one position that ended at another: nothing where it ended where it began, else a round there
+-- what follows a reading from one position that ended at another:
+-- nothing where it ended where it began, else a round there
 abbrev pub AreRounds : Tag → (from to : ℕ) → List Round → Type 0
 AreRounds tag from to [] = to ≡ from
 AreRounds tag from to (round ∷ later) = (to ≢ from) × IsRound tag to round × AreRounds tag to round.last later
@@ -114,12 +121,13 @@ pub record IsPut (tag : Tag) (position : ℕ) (phases : List Phase) : Type 0 whe
   pub finalizes : Asks finalize (Finalize tag) position
   pub again : IsReread tag position later
 
--- a read fetches its tag at the last position that showed it, and puts it into the last position where that is another; a write
--- puts its tag into the last position
+-- a read fetches its tag at the last position that showed it, and puts it into the
+-- last position where that is another; a write puts its tag into the last position
 abbrev pub IsRest : CallKind → Tag → (place last : ℕ) → List Phase → Type 0
 IsRest Read tag place last [] = ⊥
 IsRest Read tag place last (fetch ∷ later) =
-    Asks fetch (Fetch tag) place × (((place ≡ last) × IsReread tag last later) ⊎ ((place ≢ last) × IsPut tag last later))
+    Asks fetch (Fetch tag) place
+    × (((place ≡ last) × IsReread tag last later) ⊎ ((place ≢ last) × IsPut tag last later))
 IsRest (Write value) tag place last phases = IsPut tag last phases
 IsRest Move tag place last phases = ⊥
 
@@ -128,8 +136,8 @@ pub record IsWhole (kind : CallKind) (number : ℕ) (phases : List Phase) (tag :
   pub finds : FindsTag kind number phases tag
   pub rest : IsRest kind tag (place_shown tag finds.finalized finds.finalized finds.queries) finds.last finds.rest
 
--- the phases of a whole move from a position: the next one is spread as pending, the greatest tag is found, fetched and put into
--- the next position, and that one is spread as final
+-- the phases of a whole move from a position: the next one is spread as pending, the greatest
+-- tag is found, fetched and put into the next position, and that one is spread as final
 pub record IsWholeMove (position : ℕ) (phases : List Phase) (tag : Tag) : Type 0 where
   pub spread : Phase
   pub query : Phase
@@ -168,7 +176,8 @@ pub record IsFinished (kind : CallKind) (number : ℕ) (stage : Stage) (phases :
 abbrev pub FinishedAreWhole : Type 0
 FinishedAreWhole =
     (kind : CallKind) (number from : ℕ) (phases : List Phase) (tag : Tag) →
-    IsFinished kind number (first_stage kind from) phases tag ↔ (AreInTurn phases × IsSentence kind number from phases tag)
+    IsFinished kind number (first_stage kind from) phases tag
+    ↔ (AreInTurn phases × IsSentence kind number from phases tag)
 
 -- an answered call has a tag, and its phases are those of a whole call
 pub record IsAnsweredWhole (object : Object) (index : ℕ) (call : Call) : Type 0 where
@@ -180,7 +189,8 @@ pub record IsAnsweredWhole (object : Object) (index : ℕ) (call : Call) : Type 
 -- each answered call of a legal record has the phases of a whole call
 abbrev pub AnsweredAreWhole : Type 0
 AnsweredAreWhole =
-    (object : Object) (index : ℕ) (call : Call) (step : ℕ) → IsLegal object → slice_get object.calls index ≡ Some call → call.answered ≡ Some step →
+    (object : Object) (index : ℕ) (call : Call) (step : ℕ) → IsLegal object →
+    slice_get object.calls index ≡ Some call → call.answered ≡ Some step →
     IsAnsweredWhole object index call
 
 -- each phase but the last is complete before the next one begins

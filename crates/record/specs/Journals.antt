@@ -6,8 +6,10 @@ use Rattle.record.specs.declared.call.CallKind.{CallKind}
 use Rattle.record.specs.Records.{Call, Object}
 use Rattle.record.specs.declared.call.CallKind.TheVariants.{Read, Write, Move}
 use Rattle.record.specs.declared.stage.Stage.{Stage}
-use Rattle.record.specs.declared.stage.Stage.TheVariants.{ReadNext, ReadSpread, QueryFrom, FetchAt, PreWriteAt, FinalizeAt, AgainNext, AgainSpread}
-use Rattle.record.specs.declared.stage.Stage.TheVariants.{MoveSpread, MoveQuery, MoveFetch, MovePreWrite, MoveFinalize, MoveFinal, Ended, Moved}
+use Rattle.record.specs.declared.stage.Stage.TheVariants.{ReadNext, ReadSpread, QueryFrom, FetchAt}
+use Rattle.record.specs.declared.stage.Stage.TheVariants.{PreWriteAt, FinalizeAt, AgainNext, AgainSpread}
+use Rattle.record.specs.declared.stage.Stage.TheVariants.{MoveSpread, MoveQuery, MoveFetch, MovePreWrite}
+use Rattle.record.specs.declared.stage.Stage.TheVariants.{MoveFinalize, MoveFinal, Ended, Moved}
 use Rattle.record.specs.Legal.{stage_of}
 use Rattle.record.specs.declared.call.Operation.{Operation}
 use Rattle.record.specs.declared.call.Entry.{Entry}
@@ -50,8 +52,10 @@ IsJournaled object tag value = ((tag ≡ opening_tag) × (value ≡ [])) ⊎ IsW
 
 -- each answered read returns the journal's value of its tag
 abbrev pub ReadsJournaled : Object → Type 0
-ReadsJournaled object = (index : ℕ) (call : Call) (step : ℕ) → slice_get object.calls index ≡ Some call → call.kind ≡ Read → call.answered ≡ Some step →
-    (value : List ℕ) × (tag : Tag) × (call.settled ≡ Some value) × (tag_of object index call ≡ Some tag) × IsJournaled object tag value
+ReadsJournaled object = (index : ℕ) (call : Call) (step : ℕ) → slice_get object.calls index ≡ Some call →
+    call.kind ≡ Read → call.answered ≡ Some step →
+    (value : List ℕ) × (tag : Tag) × (call.settled ≡ Some value) × (tag_of object index call ≡ Some tag)
+    × IsJournaled object tag value
 
 -- what an answered call returned
 abbrev pub returned : Option ℕ → Option (List ℕ) → Option (List ℕ)

@@ -7,7 +7,8 @@ use Rattle.phase.specs.declared.phase.Taken.{Taken}
 use Rattle.phase.specs.Phase.{Phase, members_of}
 use Rattle.record.specs.Records.{Object, layout_at, bank_at}
 
--- a member of the phase's position made the reply after the phase began and before it was taken, and it says what was so
+-- a member of the phase's position made the reply after the
+-- phase began and before it was taken, and it says what was so
 pub record IsTrueReply (object : Object) (phase : Phase) (taken : Taken) : Type 0 where
   pub within : taken.member < length (layout_at object phase.position).members
   pub after_start : phase.start < taken.reply.step
@@ -26,4 +27,5 @@ pub record IsTruePhase (object : Object) (phase : Phase) : Type 0 where
   pub replies : AllByRecursion (IsTrueReply object phase) phase.replies
   pub one_each : IsDistinct nat_eq (members_of phase.replies)
   pub complete : (end : ℕ) → phase.end ≡ Some end →
-      (quorum_of (layout_at object phase.position) ≤ length phase.replies) × AllByRecursion (λ taken. taken.step ≤ end) phase.replies
+      (quorum_of (layout_at object phase.position) ≤ length phase.replies)
+      × AllByRecursion (λ taken. taken.step ≤ end) phase.replies

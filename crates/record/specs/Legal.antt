@@ -1,5 +1,6 @@
 -- Which records of an object are legal, as far as labels, pointers and steps go.
-use Rattle.std.specs.Prelude.{◌≡◌, ℕ, suc, ◌<◌, ◌≤◌, ◌⊎◌, Bool, true, false, if◌then◌else◌, List, [], ◌∷◌, length, take, Some, None, slice_get}
+use Rattle.std.specs.Prelude.{◌≡◌, ℕ, suc, ◌<◌, ◌≤◌, ◌⊎◌, Bool, true, false}
+use Rattle.std.specs.Prelude.{if◌then◌else◌, List, [], ◌∷◌, length, take, Some, None, slice_get}
 use Rattle.std.specs.List.{AllByRecursion}
 use Rattle.tag.specs.declared.tag.Tag.{Tag}
 use Rattle.tag.specs.Tag.{opening_tag}
@@ -41,25 +42,29 @@ source_of object index = moves_in (take index object.calls)
 
 -- where the call at this place stands
 abbrev pub stage_of : Object → (index : ℕ) → Call → Stage
-stage_of object index call = stage_after call.kind (suc index) (first_stage call.kind (source_of object index)) call.phases
+stage_of object index call =
+    stage_after call.kind (suc index) (first_stage call.kind (source_of object index)) call.phases
 
 -- phases are numbered from `number` on, and name their call
 abbrev pub AreNumbered : (call number : ℕ) → List Phase → Type 0
 AreNumbered call number [] = Unit {0}
-AreNumbered call number (phase ∷ phases) = (phase.call ≡ call) × (phase.number ≡ number) × AreNumbered call (suc number) phases
+AreNumbered call number (phase ∷ phases) =
+    (phase.call ≡ call) × (phase.number ≡ number) × AreNumbered call (suc number) phases
 
 -- the call step begins phase 1
 abbrev pub BeginsAt : List Phase → ℕ → Type 0
 BeginsAt [] step = ⊥
 BeginsAt (phase ∷ phases) step = phase.start ≡ step
 
--- a call's phases are true, and those of a read, a write or a move as far as it has come. It is answered after the last of all
+-- a call's phases are true, and those of a read, a write or a move
+-- as far as it has come. It is answered after the last of all
 pub record IsLegalCall (object : Object) (index : ℕ) (call : Call) : Type 0 where
   pub numbered : AreNumbered (suc index) 1 call.phases
   pub begins : BeginsAt call.phases call.called
   pub phases : AllByRecursion (IsTruePhase object) call.phases
   pub course : IsCourse call.kind (suc index) (first_stage call.kind (source_of object index)) call.phases
-  pub answer : (step : ℕ) → call.answered ≡ Some step → (due (stage_of object index call) ≡ None) × EndsBefore call.phases step
+  pub answer : (step : ℕ) → call.answered ≡ Some step →
+      (due (stage_of object index call) ≡ None) × EndsBefore call.phases step
 
 -- a phase of this kind began at the position before the step
 pub record HasBegun (object : Object) (kind : Kind) (position step : ℕ) : Type 0 where
@@ -75,9 +80,10 @@ pub record HasBegun (object : Object) (kind : Kind) (position step : ℕ) : Type
 
 -- what a bank knows beyond the opening tag, a phase has asked of it
 pub record IsCaused (object : Object) (position : ℕ) (bank : Bank) : Type 0 where
-  pub finalized : (tag : Tag) (step : ℕ) → finalized_at bank tag ≡ Some step →
-      (tag ≡ opening_tag) ⊎ (HasBegun object (Finalize tag) position step ⊎ HasBegun object (Fetch tag) position step)
-  pub arrived : (tag : Tag) (step : ℕ) → arrived_at bank tag ≡ Some step → (tag ≡ opening_tag) ⊎ HasBegun object (PreWrite tag) position step
+  pub finalized : (tag : Tag) (step : ℕ) → finalized_at bank tag ≡ Some step → (tag ≡ opening_tag)
+      ⊎ (HasBegun object (Finalize tag) position step ⊎ HasBegun object (Fetch tag) position step)
+  pub arrived : (tag : Tag) (step : ℕ) → arrived_at bank tag ≡ Some step →
+      (tag ≡ opening_tag) ⊎ HasBegun object (PreWrite tag) position step
   pub pending : (step : ℕ) → pending_since bank.pointer ≡ Some step →
       HasBegun object (Spread Pending) position step ⊎ HasBegun object (Spread Final) position step
   pub final : (step : ℕ) → final_since bank.pointer ≡ Some step → HasBegun object (Spread Final) position step
@@ -98,15 +104,19 @@ AreOpened object phase = (member : ℕ) → member < length (layout_at object ph
 
 -- every phase began in open banks
 abbrev pub BeginInOpen : Object → Type 0
-BeginInOpen object = (index place : ℕ) (call : Call) (phase : Phase) → slice_get object.calls index ≡ Some call →
+BeginInOpen object =
+    (index place : ℕ) (call : Call) (phase : Phase) → slice_get object.calls index ≡ Some call →
     slice_get call.phases place ≡ Some phase → AreOpened object phase
 
--- layouts are lawful, and calls; calls are numbered as they came; a move is called after the one before it was answered; what
--- banks know, phases have asked
+-- layouts are lawful, and calls; calls are numbered as they came; a move is
+-- called after the one before it was answered; what banks know, phases have asked
 pub record IsLegal (object : Object) : Type 0 where
   pub layouts : AllByRecursion IsLawful object.layouts
-  pub calls : (index : ℕ) (call : Call) → slice_get object.calls index ≡ Some call → IsLegalCall object index call
-  pub in_turn : (i j : ℕ) (a b : Call) → slice_get object.calls i ≡ Some a → slice_get object.calls j ≡ Some b → i < j → a.called < b.called
-  pub moves : (i j : ℕ) (a b : Call) → slice_get object.calls i ≡ Some a → slice_get object.calls j ≡ Some b → i < j → a.kind ≡ Move → b.kind ≡ Move →
+  pub calls : (index : ℕ) (call : Call) → slice_get object.calls index ≡ Some call →
+      IsLegalCall object index call
+  pub in_turn : (i j : ℕ) (a b : Call) → slice_get object.calls i ≡ Some a →
+      slice_get object.calls j ≡ Some b → i < j → a.called < b.called
+  pub moves : (i j : ℕ) (a b : Call) → slice_get object.calls i ≡ Some a →
+      slice_get object.calls j ≡ Some b → i < j → a.kind ≡ Move → b.kind ≡ Move →
       (step : ℕ) × (a.answered ≡ Some step) × (step < b.called)
   pub banks : (position member : ℕ) → IsCaused object position (bank_at object position member)

@@ -58,16 +58,19 @@ pub record MaySettle (fragment : Code) (object : Object) (index : ℕ) (value : 
 
 -- no move is open
 abbrev pub NoOpenMove : Object → Type 0
-NoOpenMove object = (index : ℕ) (call : Call) → slice_get object.calls index ≡ Some call → call.kind ≡ Move → IsSome call.answered
+NoOpenMove object = (index : ℕ) (call : Call) → slice_get object.calls index ≡ Some call →
+    call.kind ≡ Move → IsSome call.answered
 
 -- the message at this place is a request
 abbrev pub IsRequestAt : Object → (place : ℕ) → Message → Type 0
-IsRequestAt object place message = (slice_get object.mail place ≡ Some message) × ((asked : Request) × (message.body ≡ body.Request asked))
+IsRequestAt object place message =
+    (slice_get object.mail place ≡ Some message) × ((asked : Request) × (message.body ≡ body.Request asked))
 
 -- the message at this place is a reply
 abbrev pub IsReplyAt : Object → (place : ℕ) → Message → Type 0
 IsReplyAt object place message =
-    (slice_get object.mail place ≡ Some message) × ((kind : Kind) × (made : Reply) × (message.body ≡ body.Reply kind made))
+    (slice_get object.mail place ≡ Some message)
+    × ((kind : Kind) × (made : Reply) × (message.body ≡ body.Reply kind made))
 
 -- the step may be made
 abbrev pub MayStep : Code → Object → Step → Type 0
@@ -87,4 +90,5 @@ MayStep fragment object (Step.Repeat place) = (message : Message) × (slice_get 
 -- each of these steps may be made, the first one with number now
 abbrev pub MayRun : Code → List Step → (now : ℕ) → Object → Type 0
 MayRun fragment [] now object = Unit {0}
-MayRun fragment (step ∷ steps) now object = MayStep fragment object step × MayRun fragment steps (suc now) (stepped fragment step now object)
+MayRun fragment (step ∷ steps) now object =
+    MayStep fragment object step × MayRun fragment steps (suc now) (stepped fragment step now object)

@@ -1,4 +1,5 @@
--- What every step keeps of the record: it is legal, its messages are true, its steps are past, and its pieces are fragments.
+-- What every step keeps of the record: it is legal, its messages
+-- are true, its steps are past, and its pieces are fragments.
 use Rattle.std.specs.Prelude.{◌≡◌, ℕ, suc, ◌<◌, ◌≤◌, length, get_or, [], Option, Some, slice_get}
 use Rattle.std.specs.List.{AllByRecursion}
 use Rattle.tag.specs.declared.tag.Tag.{Tag}
@@ -29,8 +30,8 @@ pub record IsPosted (object : Object) (message : Message) : Type 0 where
   pub same_kind : body_kind message.body ≡ phase.kind
   pub same_position : message.position ≡ phase.position
   pub member : message.member < length (layout_at object message.position).members
-  pub reply : (kind : Kind) (made : Reply) → message.body ≡ body.Reply kind made →
-      (phase.start < made.step) × IsTrueAnswer (bank_at object message.position message.member) made.step kind made.answer
+  pub reply : (kind : Kind) (made : Reply) → message.body ≡ body.Reply kind made → (phase.start < made.step)
+      × IsTrueAnswer (bank_at object message.position message.member) made.step kind made.answer
 
 -- it came by the step, if it came
 abbrev pub UpTo : ℕ → Option ℕ → Type 0
@@ -51,22 +52,26 @@ pub record IsCallPast (step : ℕ) (call : Call) : Type 0 where
 -- no step of the record is later than this one, and no tag has a greater number
 pub record IsPast (step : ℕ) (object : Object) : Type 0 where
   pub banks : (position member : ℕ) → IsBefore (bank_at object position member) (suc step)
-  pub mail : AllByRecursion (λ message. (kind : Kind) (made : Reply) → message.body ≡ body.Reply kind made → made.step ≤ step) object.mail
+  pub mail : AllByRecursion (λ message. (kind : Kind) (made : Reply) → message.body ≡ body.Reply kind made →
+      made.step ≤ step) object.mail
   pub calls : AllByRecursion (IsCallPast step) object.calls
-  pub tags : (index : ℕ) (call : Call) (tag : Tag) → slice_get object.calls index ≡ Some call → tag_of object index call ≡ Some tag → tag.number ≤ step
+  pub tags : (index : ℕ) (call : Call) (tag : Tag) → slice_get object.calls index ≡ Some call →
+      tag_of object index call ≡ Some tag → tag.number ≤ step
 
 -- a pointer of a position names one of `count` positions
 pub record HasNext (count position : ℕ) (bank : Bank) : Type 0 where
   pub pending : (step : ℕ) → pending_since bank.pointer ≡ Some step → suc position < count
   pub final : (step : ℕ) → final_since bank.pointer ≡ Some step → suc position < count
 
--- a position for the first layout and for each move, a bank for each member that begins with the opening tag, and no pointer
--- to a position that is not there
+-- a position for the first layout and for each move, a bank for each member that
+-- begins with the opening tag, and no pointer to a position that is not there
 pub record HasShape (object : Object) : Type 0 where
   pub positions : length object.layouts ≡ suc (moves_in object.calls)
   pub banks : length object.banks ≡ length object.layouts
-  pub members : (position : ℕ) → position < length object.layouts → length (get_or object.banks position []) ≡ length (layout_at object position).members
-  pub opened : (position member : ℕ) → position < length object.layouts → member < length (layout_at object position).members →
+  pub members : (position : ℕ) → position < length object.layouts →
+      length (get_or object.banks position []) ≡ length (layout_at object position).members
+  pub opened : (position member : ℕ) → position < length object.layouts →
+      member < length (layout_at object position).members →
       (step : ℕ) × IsOpenedAt (bank_at object position member) step
   pub next : (position member : ℕ) → HasNext (length object.layouts) position (bank_at object position member)
 

@@ -1,5 +1,6 @@
 -- What each step leaves of the record. `now` is the step's number.
-use Rattle.std.specs.Prelude.{ℕ, suc, pred, Bool, false, ◌==◌, ◌&&◌, ◌||◌, is_some, if◌then◌else◌, List, [], ◌∷◌, ◌++◌, length, get_or, Option, Some, None}
+use Rattle.std.specs.Prelude.{ℕ, suc, pred, Bool, false, ◌==◌, ◌&&◌, ◌||◌, is_some}
+use Rattle.std.specs.Prelude.{if◌then◌else◌, List, [], ◌∷◌, ◌++◌, length, get_or, Option, Some, None}
 use Rattle.std.specs.Prelude.{slice_get, slice_set}
 use Rattle.std.specs.List.{remove}
 use Rattle.layout.specs.Layout.{Layout}
@@ -41,7 +42,8 @@ value_or_empty (Some value) = value
 
 -- the piece of a member: its fragment of the value
 abbrev pub fragment_piece : Code → Layout → (value : List ℕ) → (member : ℕ) → Piece
-fragment_piece fragment layout value member = record { point = member; len = length value; bytes = fragment value layout.k member }
+fragment_piece fragment layout value member =
+    record { point = member; len = length value; bytes = fragment value layout.k member }
 
 -- the pieces that a call sends to the members of a position
 abbrev pub sent_pieces : Code → Object → Call → (position : ℕ) → (member : ℕ) → Piece
@@ -69,23 +71,35 @@ request_to (Finalize tag) piece = request.Finalize tag
 request_to (Fetch tag) piece = request.Fetch tag
 
 -- the messages of a phase, one request to each member from `member` on
-abbrev pub requests : (call phase : ℕ) → Kind → (position : ℕ) → List ℕ → (member : ℕ) → (ℕ → Piece) → List Message
+abbrev pub requests : (call phase : ℕ) → Kind → (position : ℕ) → List ℕ → (member : ℕ) →
+    (ℕ → Piece) → List Message
 requests call phase kind position [] member piece = []
 requests call phase kind position (server ∷ servers) member piece =
-    record { call = call; phase = phase; position = position; member = member; body = body.Request (request_to kind (piece member)) }
+    record {
+      call = call;
+      phase = phase;
+      position = position;
+      member = member;
+      body = body.Request (request_to kind (piece member));
+    }
     ∷ requests call phase kind position servers (suc member) piece
 
 -- a phase of this kind begins at a position with this layout
 abbrev pub new_phase : (call number : ℕ) → Kind → (position : ℕ) → Layout → (now : ℕ) → Phase
-new_phase call number kind position layout now = begun call number kind position (length layout.members) (quorum_of layout) now
+new_phase call number kind position layout now =
+    begun call number kind position (length layout.members) (quorum_of layout) now
 
 -- the call at this place begins a phase, whose requests go to the end of the mail
-abbrev pub with_phase : Object → (index : ℕ) → Call → Kind → (position now : ℕ) → (ℕ → Piece) → Object
+abbrev pub with_phase : Object → (index : ℕ) → Call → Kind → (position now : ℕ) →
+    (ℕ → Piece) → Object
 with_phase object index call kind position now piece =
     let number = suc (length call.phases) in
     record object {
       calls = slice_set object.calls index
-          (record call { phases = call.phases ++ new_phase (suc index) number kind position (layout_at object position) now ∷ [] });
+          (record call {
+            phases = call.phases
+                ++ new_phase (suc index) number kind position (layout_at object position) now ∷ [];
+          });
       mail = object.mail ++ requests (suc index) number kind position (layout_at object position).members 0 piece;
     }
 
@@ -98,7 +112,8 @@ opened_banks (server ∷ servers) member now = opened_bank member now ∷ opened
 
 -- an object that begins with this layout
 abbrev pub opened_object : Layout → ℕ → Object
-opened_object layout now = record { layouts = layout ∷ []; banks = opened_banks layout.members 0 now ∷ []; mail = []; calls = [] }
+opened_object layout now =
+    record { layouts = layout ∷ []; banks = opened_banks layout.members 0 now ∷ []; mail = []; calls = [] }
 
 -- Calls
 
@@ -110,7 +125,8 @@ new_call kind now = record { kind = kind; called = now; answered = None; settled
 abbrev pub called_object : Object → CallKind → (now : ℕ) → Object
 called_object object kind now =
     let index = length object.calls in
-    with_phase (record object { calls = object.calls ++ new_call kind now ∷ [] }) index (new_call kind now) Next 0 now empty_piece
+    with_phase (record object { calls = object.calls ++ new_call kind now ∷ [] }) index
+    (new_call kind now) Next 0 now empty_piece
 
 -- a move appends the next position with its banks, and begins with its first phase
 abbrev pub moving_object : Object → Layout → (now : ℕ) → Object
@@ -127,11 +143,13 @@ moving_object object layout now =
 -- the phase that is due begins
 abbrev pub begun_object : Code → Object → (index : ℕ) → Call → Option (Kind × ℕ) → (now : ℕ) → Object
 begun_object fragment object index call None now = object
-begun_object fragment object index call (Some next) now = with_phase object index call next.0 next.1 now (sent_pieces fragment object call next.1)
+begun_object fragment object index call (Some next) now =
+    with_phase object index call next.0 next.1 now (sent_pieces fragment object call next.1)
 
 -- the call at this place begins the phase that is due
 abbrev pub advanced_object : Code → Object → (index : ℕ) → Call → (now : ℕ) → Object
-advanced_object fragment object index call now = begun_object fragment object index call (due (stage_of object index call)) now
+advanced_object fragment object index call now =
+    begun_object fragment object index call (due (stage_of object index call)) now
 
 -- the call at this place settles a value
 abbrev pub settled_object : Object → (index : ℕ) → Call → List ℕ → Object
@@ -195,7 +213,8 @@ repeated_object object message = record object { mail = object.mail ++ message �
 -- a message of this phase to or from the member is waiting
 abbrev pub waits : List Message → (call phase member : ℕ) → Bool
 waits [] call phase member = false
-waits (message ∷ mail) call phase member = (message.call == call && (message.phase == phase && message.member == member)) || waits mail call phase member
+waits (message ∷ mail) call phase member =
+    (message.call == call && (message.phase == phase && message.member == member)) || waits mail call phase member
 
 -- of these requests, those to members without a recorded reply and without a waiting message
 abbrev pub missing : (mail : List Message) → (replied : List ℕ) → List Message → List Message
@@ -215,13 +234,17 @@ missing_requests object phase piece =
 abbrev pub asked_again : Code → Object → Call → Option Phase → Object
 asked_again fragment object call None = object
 asked_again fragment object call (Some phase) =
-    record object { mail = object.mail ++ missing_requests object phase (sent_pieces fragment object call phase.position) }
+    record object {
+      mail = object.mail
+          ++ missing_requests object phase (sent_pieces fragment object call phase.position);
+    }
 
 -- the pieces of a call begin the phase that is due, or go out again where that phase has begun
 abbrev pub supplied_by : Code → Object → (index : ℕ) → Call → (now : ℕ) → Option Phase → Object
 supplied_by fragment object index call now None = object
 supplied_by fragment object index call now (Some phase) =
-    if is_some phase.end then advanced_object fragment object index call now else asked_again fragment object call (Some phase)
+    if is_some phase.end then advanced_object fragment object index call now
+    else asked_again fragment object call (Some phase)
 
 -- the call at this place is supplied with the pieces of its value
 abbrev pub supplied_object : Code → Object → (index : ℕ) → Call → (now : ℕ) → Object
@@ -259,16 +282,24 @@ abbrev pub stepped : Code → Step → ℕ → Object → Object
 stepped fragment Step.CallRead now object = called_object object Read now
 stepped fragment (Step.CallWrite value) now object = called_object object (Write value) now
 stepped fragment (Step.CallMove layout) now object = moving_object object layout now
-stepped fragment (Step.Advance index) now object = on_call object (slice_get object.calls index) (λ call. advanced_object fragment object index call now)
-stepped fragment (Step.Supply index) now object = on_call object (slice_get object.calls index) (λ call. supplied_object fragment object index call now)
+stepped fragment (Step.Advance index) now object =
+    on_call object (slice_get object.calls index) (λ call. advanced_object fragment object index call now)
+stepped fragment (Step.Supply index) now object =
+    on_call object (slice_get object.calls index) (λ call. supplied_object fragment object index call now)
 stepped fragment (Step.Post index) now object =
-    on_call object (slice_get object.calls index) (λ call. asked_again fragment object call (current_phase call.phases))
-stepped fragment (Step.Settle index value) now object = on_call object (slice_get object.calls index) (λ call. settled_object object index call value)
-stepped fragment (Step.AnswerCall index) now object = on_call object (slice_get object.calls index) (λ call. answered_object object index call now)
-stepped fragment (Step.Serve place) now object = on_message object (slice_get object.mail place) (λ message. served_by object place message message.body now)
-stepped fragment (Step.Take place) now object = on_message object (slice_get object.mail place) (λ message. taken_by object place message message.body now)
+    on_call object (slice_get object.calls index)
+    (λ call. asked_again fragment object call (current_phase call.phases))
+stepped fragment (Step.Settle index value) now object =
+    on_call object (slice_get object.calls index) (λ call. settled_object object index call value)
+stepped fragment (Step.AnswerCall index) now object =
+    on_call object (slice_get object.calls index) (λ call. answered_object object index call now)
+stepped fragment (Step.Serve place) now object =
+    on_message object (slice_get object.mail place) (λ message. served_by object place message message.body now)
+stepped fragment (Step.Take place) now object =
+    on_message object (slice_get object.mail place) (λ message. taken_by object place message message.body now)
 stepped fragment (Step.Lose place) now object = lost_object object place
-stepped fragment (Step.Repeat place) now object = on_message object (slice_get object.mail place) (λ message. repeated_object object message)
+stepped fragment (Step.Repeat place) now object =
+    on_message object (slice_get object.mail place) (λ message. repeated_object object message)
 
 -- the record after these steps, the first one with number now
 abbrev pub run : Code → List Step → (now : ℕ) → Object → Object

@@ -1,5 +1,6 @@
 -- What a call wants next.
-use Rattle.std.specs.Prelude.{◌≡◌, ℕ, Bool, true, false, is_some, if◌then◌else◌, List, [], ◌∷◌, length, Option, Some, None, slice_get}
+use Rattle.std.specs.Prelude.{◌≡◌, ℕ, Bool, true, false, is_some, if◌then◌else◌}
+use Rattle.std.specs.Prelude.{List, [], ◌∷◌, length, Option, Some, None, slice_get}
 use Rattle.layout.specs.Layout.{Layout}
 use Rattle.encoder.specs.declared.fragment.Piece.{Piece}
 use Rattle.bank.specs.declared.kind.Kind.{Kind}
@@ -50,14 +51,16 @@ want_after object next settled None = want.Replies
 want_after object next settled (Some phase) =
     if is_some phase.end
     then (if is_fetch phase.kind
-    then (if is_some settled then want_for object next else want.Settle (layout_at object phase.position).k (value_len phase.replies))
+    then (if is_some settled then want_for object next
+    else want.Settle (layout_at object phase.position).k (value_len phase.replies))
     else want_for object next)
     else want.Replies
 
 -- what the call at this place wants
 abbrev pub want_of : Object → (index : ℕ) → Call → Want
 want_of object index call =
-    if is_some call.answered then want.Done else want_after object (due (stage_of object index call)) call.settled (current_phase call.phases)
+    if is_some call.answered then want.Done
+    else want_after object (due (stage_of object index call)) call.settled (current_phase call.phases)
 
 -- the call is there, and wants this
 abbrev pub Wants : Object → (index : ℕ) → Call → Want → Type 0

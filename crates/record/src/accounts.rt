@@ -15,5 +15,6 @@ pub fn stored_bytes_grow_by_new_pieces()
 /// What waits in messages grows by the pieces that a step posts or answers, and falls by those that it takes out.
 pub fn mailed_bytes_come_and_go()
     ensures { (fragment : Code) (object : Object) (now : ℕ) (step : Step)
-        → mailed (stepped fragment step now object) + unmailed_by object step ≡ mailed object + mailed_by fragment object step }
+        → mailed (stepped fragment step now object) + unmailed_by object step
+        ≡ mailed object + mailed_by fragment object step }
 {}

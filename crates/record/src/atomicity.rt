@@ -20,8 +20,8 @@ pub fn sound_records_are_atomic()
 
 /// So every list of steps, with any number of moves, leaves an atomic history.
 pub fn runs_are_atomic()
-    ensures { (fragment : Code) (layout : Layout) (start : ℕ) (steps : List Step) → IsCode fragment → IsLawful layout
-        → MayRun fragment steps (suc start) (opened_object layout start)
+    ensures { (fragment : Code) (layout : Layout) (start : ℕ) (steps : List Step) → IsCode fragment
+        → IsLawful layout → MayRun fragment steps (suc start) (opened_object layout start)
         → IsAtomic (entries (run fragment steps (suc start) (opened_object layout start))) }
 {}
 
@@ -40,13 +40,14 @@ pub fn reads_return_journaled_values()
 
 /// What a call of a sound record has settled is the journal's value of the tag that it fetched.
 pub fn settled_values_are_journaled()
-    ensures { (fragment : Code) (object : Object) (last index : ℕ) (call : Call) (value : List ℕ) → IsCode fragment
-        → IsSound fragment object last → slice_get object.calls index ≡ Some call → call.settled ≡ Some value
+    ensures { (fragment : Code) (object : Object) (last index : ℕ) (call : Call) (value : List ℕ)
+        → IsCode fragment → IsSound fragment object last
+        → slice_get object.calls index ≡ Some call → call.settled ≡ Some value
         → (settled : IsSettled fragment object call value) × IsJournaled object settled.fetch.0 value }
 {}
 
 /// The journal of a sound record has one value for a tag.
 pub fn journaled_values_are_unique()
-    ensures { (fragment : Code) (object : Object) (last : ℕ) (tag : Tag) (v w : List ℕ) → IsSound fragment object last
-        → IsJournaled object tag v → IsJournaled object tag w → v ≡ w }
+    ensures { (fragment : Code) (object : Object) (last : ℕ) (tag : Tag) (v w : List ℕ)
+        → IsSound fragment object last → IsJournaled object tag v → IsJournaled object tag w → v ≡ w }
 {}

@@ -1,6 +1,6 @@
 //! What a call of an object does, and its entry in the object's history.
 use bytes::Bytes;
-use tag::Stamp;
+use tag::{Stamp, Tag};
 
 /// What a call does to its object.
 #[derive(Clone, Debug, PartialEq, Eq, Drop)]
@@ -33,4 +33,17 @@ pub struct Entry {
     pub answered: Option<Stamp>,
     /// The value written, or returned by an answered read.
     pub value: Option<Bytes>,
+}
+
+/// What places a call in the order of the tags.
+#[derive(Clone, Copy, Debug, PartialEq, Eq)]
+pub struct TaggedCall {
+    /// The call's number in its object, from 1.
+    pub call: u64,
+    pub operation: Operation,
+    /// The tag, once the call has one.
+    pub tag: Option<Tag>,
+    /// The step of the call.
+    pub called: Stamp,
+    pub is_answered: bool,
 }

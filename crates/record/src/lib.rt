@@ -1,8 +1,9 @@
 //! The record of a coded atomic object: what a reader has to believe, and the laws of it.
 //!
 //! The definitions stand in `specs/`; each law is the contract of a function with an empty body. The protocol is Coded
-//! Atomic Storage (Cadambe, Lynch, Médard and Musial, 2014), its layouts change after ARES (Nicolaou, Cadambe, Prakash,
-//! Trigeorgi, Konwar, Médard and Lynch, 2019), and atomicity is that of Lynch's Distributed Algorithms (1996).
+//! Atomic Storage (Cadambe, Lynch, Médard and Musial, 2014), its layouts change after ARES (Nicolaou, Cadambe,
+//! Prakash, Trigeorgi, Konwar, Médard and Lynch, 2019), and atomicity is that of Lynch's Distributed Algorithms
+//! (1996).
 #![tactic(auto)]
 
 pub use accounts::{mailed_bytes_come_and_go, stored_bytes_grow_by_new_pieces};
@@ -10,7 +11,7 @@ pub use atomicity::{
     journaled_values_are_unique, reads_return_journaled_values, runs_are_atomic,
     settled_values_are_journaled, sound_records_are_atomic, tag_sequences_are_sequences,
 };
-pub use call::{CallKind, Entry, Operation};
+pub use call::{CallKind, Entry, Operation, TaggedCall};
 pub use code::fragments_are_a_code;
 pub use shape::{
     answered_calls_are_whole, courses_are_beginnings, due_positions_are_there,

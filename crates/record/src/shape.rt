@@ -28,8 +28,8 @@ pub fn due_positions_are_there()
         → due (stage_of object index call) ≡ Some (kind, position) → position < length object.layouts }
 {}
 
-/// The calls whose phases are those that were due, up to a stage where none is, are those with the phases of a whole read,
-/// write or move, one after another: the table of stages and the shape that a reader checks say the same.
+/// The calls whose phases are those that were due, up to a stage where none is, are those with the phases of a whole
+/// read, write or move, one after another: the table of stages and the shape that a reader checks say the same.
 pub fn finished_calls_are_whole()
     ensures { FinishedAreWhole }
 {}

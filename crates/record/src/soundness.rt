@@ -1,5 +1,6 @@
 //! Every step that may be made keeps a record sound.
-ghost use Rattle.std.specs.Prelude.{◌≡◌, ◌<◌, ◌≤◌, ◌+◌, ◌⊎◌, ℕ, suc, true, List, length, Some, IsSome, slice_get};
+ghost use Rattle.std.specs.Prelude.{◌≡◌, ◌<◌, ◌≤◌, ◌+◌, ◌⊎◌};
+ghost use Rattle.std.specs.Prelude.{ℕ, suc, true, List, length, Some, IsSome, slice_get};
 ghost use Rattle.tag.specs.declared.tag.Tag.{Tag};
 ghost use Rattle.layout.specs.Layout.{IsLawful, Layout};
 ghost use Rattle.bank.specs.Bank.{knows};
@@ -37,8 +38,8 @@ pub fn runs_keep_soundness()
 
 /// So whatever steps are made, an object that began with a lawful layout is sound.
 pub fn runs_are_sound()
-    ensures { (fragment : Code) (layout : Layout) (start : ℕ) (steps : List Step) → IsCode fragment → IsLawful layout
-        → MayRun fragment steps (suc start) (opened_object layout start)
+    ensures { (fragment : Code) (layout : Layout) (start : ℕ) (steps : List Step) → IsCode fragment
+        → IsLawful layout → MayRun fragment steps (suc start) (opened_object layout start)
         → IsSound fragment (run fragment steps (suc start) (opened_object layout start)) (start + length steps) }
 {}
 
@@ -53,13 +54,15 @@ pub fn complete_fetches_have_enough()
 /// In a sound record the number of a tag that a bank knows is at most that of the last step.
 pub fn tags_are_past()
     ensures { (fragment : Code) (object : Object) (last position member : ℕ) (tag : Tag)
-        → IsSound fragment object last → knows (bank_at object position member) tag ≡ true → tag.number ≤ last }
+        → IsSound fragment object last → knows (bank_at object position member) tag ≡ true
+        → tag.number ≤ last }
 {}
 
 /// In a sound record a call that wants the pieces of its value, or sends them, has the value.
 pub fn sent_values_are_there()
-    ensures { (fragment : Code) (object : Object) (last index : ℕ) (call : Call) → IsSound fragment object last
-        → slice_get object.calls index ≡ Some call → WantsPieces object index call ⊎ AwaitsPieces object index call
+    ensures { (fragment : Code) (object : Object) (last index : ℕ) (call : Call)
+        → IsSound fragment object last → slice_get object.calls index ≡ Some call
+        → WantsPieces object index call ⊎ AwaitsPieces object index call
         → IsSome (sent_value call.kind call.settled) }
 {}
 

@@ -1,7 +1,8 @@
 //! Worked examples as theorems.
 ghost use Rattle.std.specs.Prelude.{◌≡◌};
 ghost use Rattle.record.specs.Atomic.{IsAtomic};
-ghost use Rattle.record.specs.Examples.{move_entries, move_script, one_member, script, script_entries, stale_entries, whole};
+ghost use Rattle.record.specs.Examples.{move_entries, move_script, one_member};
+ghost use Rattle.record.specs.Examples.{script, script_entries, stale_entries, whole};
 ghost use Rattle.record.specs.Journals.{entries};
 ghost use Rattle.record.specs.May.{MayRun};
 ghost use Rattle.record.specs.Steps.{opened_object, run};

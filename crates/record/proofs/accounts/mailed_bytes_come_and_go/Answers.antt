@@ -1,4 +1,4 @@
-use Rattle.record.proofs.Accounting.{mailed-stepped}
+use Rattle.record.proofs.Accounting.MailedBySteps.{mailed-stepped}
 use Rattle.record.proofs.accounts.mailed_bytes_come_and_go.Goals as goal
 
 pub returns : goal.returns

@@ -1,4 +1,4 @@
-use Rattle.record.proofs.Accounting.{stored-stepped}
+use Rattle.record.proofs.Accounting.StoredBySteps.{stored-stepped}
 use Rattle.record.proofs.accounts.stored_bytes_grow_by_new_pieces.Goals as goal
 
 pub returns : goal.returns

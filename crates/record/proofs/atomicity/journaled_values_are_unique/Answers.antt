@@ -1,4 +1,4 @@
-use Rattle.record.proofs.Values.{journal_unique}
+use Rattle.record.proofs.Atomic.Values.Coded.{journal_unique}
 use Rattle.record.proofs.atomicity.journaled_values_are_unique.Goals as goal
 
 pub returns : goal.returns

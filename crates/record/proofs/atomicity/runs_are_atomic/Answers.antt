@@ -1,4 +1,4 @@
-use Rattle.record.proofs.Running.{run_atomic}
+use Rattle.record.proofs.Sound.Running.{run_atomic}
 use Rattle.record.proofs.atomicity.runs_are_atomic.Goals as goal
 
 pub returns : goal.returns

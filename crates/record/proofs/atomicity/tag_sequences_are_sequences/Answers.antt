@@ -1,4 +1,4 @@
-use Rattle.record.proofs.Ordered.{sequence_of_sound}
+use Rattle.record.proofs.Atomic.Sequences.ByTags.{sequence_of_sound}
 use Rattle.record.proofs.atomicity.tag_sequences_are_sequences.Goals as goal
 
 pub returns : goal.returns

@@ -1,6 +1,6 @@
 use Rattle.record.specs.Knowledge.{IsTruePhase}
-use Rattle.record.proofs.Enough.{fetch_has_enough}
-use Rattle.record.proofs.Keeping.{all_get}
+use Rattle.record.proofs.Sound.Enough.Fetches.{fetch_has_enough}
+use Rattle.record.proofs.Lists.{all_get}
 use Rattle.record.proofs.soundness.complete_fetches_have_enough.Goals as goal
 
 pub returns : goal.returns

@@ -1,4 +1,4 @@
-use Rattle.record.proofs.Opening.{opening_sound}
+use Rattle.record.proofs.Sound.Opening.{opening_sound}
 use Rattle.record.proofs.soundness.opened_objects_are_sound.Goals as goal
 
 pub returns : goal.returns

@@ -1,4 +1,4 @@
-use Rattle.record.proofs.Running.{opened_run_sound}
+use Rattle.record.proofs.Sound.Running.{opened_run_sound}
 use Rattle.record.proofs.soundness.runs_are_sound.Goals as goal
 
 pub returns : goal.returns

@@ -1,4 +1,4 @@
-use Rattle.record.proofs.Running.{run_sound}
+use Rattle.record.proofs.Sound.Running.{run_sound}
 use Rattle.record.proofs.soundness.runs_keep_soundness.Goals as goal
 
 pub returns : goal.returns

@@ -1,4 +1,4 @@
-use Rattle.record.proofs.Sending.{sent_there}
+use Rattle.record.proofs.Sound.Sending.{sent_there}
 use Rattle.record.proofs.soundness.sent_values_are_there.Goals as goal
 
 pub returns : goal.returns

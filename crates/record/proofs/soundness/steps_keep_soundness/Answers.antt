@@ -1,4 +1,4 @@
-use Rattle.record.proofs.Running.{step_sound}
+use Rattle.record.proofs.Sound.Running.{step_sound}
 use Rattle.record.proofs.soundness.steps_keep_soundness.Goals as goal
 
 pub returns : goal.returns

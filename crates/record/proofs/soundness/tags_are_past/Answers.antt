@@ -1,4 +1,4 @@
-use Rattle.record.proofs.Journaling.{bank_known_past}
+use Rattle.record.proofs.Atomic.Values.Sent.{bank_known_past}
 use Rattle.record.proofs.soundness.tags_are_past.Goals as goal
 
 pub returns : goal.returns

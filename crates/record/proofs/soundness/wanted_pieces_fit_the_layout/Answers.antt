@@ -1,4 +1,4 @@
-use Rattle.record.proofs.Sending.{supply_counts}
+use Rattle.record.proofs.Sound.Sending.{supply_counts}
 use Rattle.record.proofs.soundness.wanted_pieces_fit_the_layout.Goals as goal
 
 pub returns : goal.returns

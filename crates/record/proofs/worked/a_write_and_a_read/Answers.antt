@@ -1,4 +1,4 @@
-use Rattle.record.proofs.Examples.{every_step, history}
+use Rattle.record.proofs.Examples.WriteAndRead.{every_step, history}
 use Rattle.record.proofs.worked.a_write_and_a_read.Goals as goal
 
 pub returns-clause-may : goal.returns-clause-may

@@ -1,0 +1,3 @@
+-- Lists in the order of tags.
+pub mod Items
+pub mod Sorted

@@ -1,0 +1,4 @@
+-- What quorums share.
+pub mod Meeting
+pub mod Replies
+pub mod Sharing

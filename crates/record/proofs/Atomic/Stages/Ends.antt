@@ -1,0 +1,132 @@
+-- What is so of a call at each of its phases, and at its end.
+use Rattle.std.proofs.Common.{◌≡◌, ℕ, zero, suc, ◌≤◌, List, [], ◌∷◌, Option, Some}
+use Rattle.std.proofs.Common.{None, refl, sym, subst, ◌∙◌, inl, arith, le_refl, le_of_lt, slice_get}
+use Rattle.std.proofs.lemmas.Option.{same_Some}
+use Rattle.std.specs.List.{AllByRecursion}
+use Rattle.layout.specs.Layout.{IsLawful}
+use Rattle.phase.specs.Phase.{Phase}
+use Rattle.record.specs.declared.call.CallKind.{CallKind}
+use Rattle.record.specs.Records.{Call, Object}
+use Rattle.record.specs.declared.call.CallKind.TheVariants.{Read, Write, Move}
+use Rattle.record.specs.Knowledge.{IsTruePhase}
+use Rattle.record.specs.declared.stage.Stage.{Stage}
+use Rattle.record.specs.Courses.{due, passed, stage_after, IsCourse, EndsBefore}
+use Rattle.record.specs.Legal.{first_stage, source_of, stage_of, BeginsAt, IsLegal}
+use Rattle.record.proofs.Atomic.Stages.Ending.{facts_after}
+use Rattle.record.proofs.Atomic.Stages.Facts.{done_of, Facts}
+use Rattle.record.proofs.Starts.{StartsFrom}
+
+-- the facts at the stage where a phase was due
+pub record AtPhase (object : Object) (kind : CallKind) (from number called : ℕ) (phase : Phase) : Type 0 where
+  pub stage : Stage
+  pub now : ℕ
+  pub since : called ≤ now
+  pub before : now ≤ phase.start
+  pub is_due : due stage ≡ Some (phase.kind, phase.position)
+  pub facts : Facts object kind from number called now stage
+
+-- one complete phase
+one_phase : (object : Object) (kind : CallKind) (from number called now end : ℕ) (stage : Stage) (phase : Phase) →
+    AllByRecursion IsLawful object.layouts → due stage ≡ Some (phase.kind, phase.position) → IsTruePhase object phase →
+    phase.end ≡ Some end → called ≤ now → now ≤ phase.start → Facts object kind from number called now stage →
+    Facts object kind from number called end (passed kind number stage phase.end phase.replies)
+one_phase object kind from number called now end stage phase lawful is_due truth e since before facts =
+    subst (λ o. Facts object kind from number called end (passed kind number stage o phase.replies)) (sym e)
+    (facts_after object kind from number called now stage phase.kind phase.position phase.start end phase.replies is_due
+    (done_of object phase end lawful truth e) since before facts)
+
+at_phase : (object : Object) (kind : CallKind) (from number called : ℕ) → AllByRecursion IsLawful object.layouts →
+    (phases : List Phase) (now : ℕ) (stage : Stage) →
+    IsCourse kind number stage phases → AllByRecursion (IsTruePhase object) phases → called ≤ now → StartsFrom now phases →
+    Facts object kind from number called now stage →
+    (place : ℕ) (phase : Phase) → slice_get phases place ≡ Some phase → AtPhase object kind from number called phase
+at_phase object kind from number called lawful [] now stage course truth since starts facts place phase e = absurd (cc)
+at_phase object kind from number called lawful (first ∷ []) now stage course truth since starts facts zero phase e =
+    subst (λ p. AtPhase object kind from number called p) (same_Some first phase e)
+    (record { stage = stage; now = now; since = since; before = starts; is_due = course.0; facts = facts })
+at_phase object kind from number called lawful (first ∷ []) now stage course truth since starts facts (suc place) phase e = absurd (cc)
+at_phase object kind from number called lawful (first ∷ next ∷ later) now stage course truth since starts facts zero phase e =
+    subst (λ p. AtPhase object kind from number called p) (same_Some first phase e)
+    (record { stage = stage; now = now; since = since; before = starts; is_due = course.0; facts = facts })
+at_phase object kind from number called lawful (first ∷ next ∷ later) now stage course truth since starts facts (suc place) phase e =
+    let end = course.1.0 in
+    let ended = course.1.1 in
+    let grew : first.start ≤ end = (done_of object first end lawful truth.0 ended).later in
+    let before : now ≤ first.start = starts in
+    at_phase object kind from number called lawful (next ∷ later) end (passed kind number stage first.end first.replies) course.2 truth.1
+    (omega arith) (le_of_lt course.1.2)
+    (one_phase object kind from number called now end stage first lawful course.0 truth.0 ended since starts facts) place phase e
+
+-- the facts at the stage that the call has come to
+pub record AtEnd (object : Object) (kind : CallKind) (from number called : ℕ) (stage : Stage) (phases : List Phase) : Type 0 where
+  pub now : ℕ
+  pub since : called ≤ now
+  pub until : (step : ℕ) → EndsBefore phases step → now ≤ step
+  pub facts : Facts object kind from number called now stage
+
+last_facts : (object : Object) (kind : CallKind) (from number called now : ℕ) (stage : Stage) (phase : Phase) →
+    AllByRecursion IsLawful object.layouts → due stage ≡ Some (phase.kind, phase.position) → IsTruePhase object phase →
+    called ≤ now → now ≤ phase.start → Facts object kind from number called now stage → (o : Option ℕ) → phase.end ≡ o →
+    AtEnd object kind from number called (passed kind number stage phase.end phase.replies) (phase ∷ [])
+last_facts object kind from number called now stage phase lawful is_due truth since before facts None e = record {
+  now = now;
+  since = since;
+  until = λ step ends. absurd (let both : None ≡ Some ends.0 = sym e ∙ ends.1 in cc);
+  facts = subst (λ o. Facts object kind from number called now (passed kind number stage o phase.replies)) (sym e) facts;
+}
+last_facts object kind from number called now stage phase lawful is_due truth since before facts (Some end) e = record {
+  now = end;
+  since = let grew = (done_of object phase end lawful truth e).later in omega arith;
+  until = λ step ends. let same : end ≡ ends.0 = same_Some end ends.0 (sym e ∙ ends.1) in let less = ends.2 in omega arith;
+  facts = one_phase object kind from number called now end stage phase lawful is_due truth e since before facts;
+}
+
+at_end : (object : Object) (kind : CallKind) (from number called : ℕ) → AllByRecursion IsLawful object.layouts →
+    (phases : List Phase) (now : ℕ) (stage : Stage) →
+    IsCourse kind number stage phases → AllByRecursion (IsTruePhase object) phases → called ≤ now → StartsFrom now phases →
+    Facts object kind from number called now stage →
+    AtEnd object kind from number called (stage_after kind number stage phases) phases
+at_end object kind from number called lawful [] now stage course truth since starts facts =
+    record { now = now; since = since; until = λ step ends. absurd ends; facts = facts }
+at_end object kind from number called lawful (first ∷ []) now stage course truth since starts facts =
+    last_facts object kind from number called now stage first lawful course.0 truth.0 since starts facts first.end refl
+at_end object kind from number called lawful (first ∷ next ∷ later) now stage course truth since starts facts =
+    let end = course.1.0 in
+    let ended = course.1.1 in
+    let grew : first.start ≤ end = (done_of object first end lawful truth.0 ended).later in
+    let before : now ≤ first.start = starts in
+    let rest = at_end object kind from number called lawful (next ∷ later) end
+    (passed kind number stage first.end first.replies) course.2 truth.1
+    (omega arith) (le_of_lt course.1.2)
+    (one_phase object kind from number called now end stage first lawful course.0 truth.0 ended since starts facts) in
+    record { now = rest.now; since = rest.since; until = rest.until; facts = rest.facts }
+
+first_facts : (object : Object) (kind : CallKind) (from number called : ℕ) →
+    Facts object kind from number called called (first_stage kind from)
+first_facts object Read from number called = (λ j below. absurd (omega arith), le_refl 0, inl refl, refl)
+first_facts object (Write value) from number called = (λ j below. absurd (omega arith), le_refl 0, inl refl, refl)
+first_facts object Move from number called = (refl, refl)
+
+starts_from : (phases : List Phase) (called : ℕ) → BeginsAt phases called → StartsFrom called phases
+starts_from [] called begins = tt
+starts_from (phase ∷ phases) called begins = omega (arith, begins)
+
+-- of a legal record: the facts of a call at each phase and at its end
+pub call_at_phase : (object : Object) → IsLegal object → (index : ℕ) (call : Call) →
+    slice_get object.calls index ≡ Some call → (place : ℕ) (phase : Phase) → slice_get call.phases place ≡ Some phase →
+    AtPhase object call.kind (source_of object index) (suc index) call.called phase
+call_at_phase object legal index call at place phase within =
+    let c = legal.calls index call at in
+    at_phase object call.kind (source_of object index) (suc index) call.called legal.layouts call.phases call.called
+    (first_stage call.kind (source_of object index))
+    c.course c.phases (le_refl call.called) (starts_from call.phases call.called c.begins)
+    (first_facts object call.kind (source_of object index) (suc index) call.called) place phase within
+
+pub call_at_end : (object : Object) → IsLegal object → (index : ℕ) (call : Call) → slice_get object.calls index ≡ Some call →
+    AtEnd object call.kind (source_of object index) (suc index) call.called (stage_of object index call) call.phases
+call_at_end object legal index call at =
+    let c = legal.calls index call at in
+    at_end object call.kind (source_of object index) (suc index) call.called legal.layouts call.phases call.called
+    (first_stage call.kind (source_of object index))
+    c.course c.phases (le_refl call.called) (starts_from call.phases call.called c.begins)
+    (first_facts object call.kind (source_of object index) (suc index) call.called)

@@ -1,0 +1,11 @@
+-- The order of phases, as a table of stages and as a shape.
+pub mod Again
+pub mod Begun
+pub mod Finishes
+pub mod Orderly
+pub mod Paths
+pub mod Queries
+pub mod Readings
+pub mod Rests
+pub mod Turns
+pub mod Whole

@@ -1,0 +1,210 @@
+-- The phases of a finished call have the shape of a whole one, and a call whose phases have that shape is finished.
+use Rattle.std.proofs.Common.{◌≡◌, ◌≢◌, ℕ, suc, ◌≤◌, List, [], ◌∷◌, ◌++◌}
+use Rattle.std.proofs.Common.{Some, is_some, refl, sym, subst, ap, ◌∙◌, arith, le_refl}
+use Rattle.std.proofs.lemmas.Option.{same_Some}
+use Rattle.tag.specs.declared.tag.Tag.{Tag}
+use Rattle.tag.specs.Tag.{opening_tag}
+use Rattle.bank.specs.declared.status.Status.TheVariants.{Pending, Final}
+use Rattle.bank.specs.declared.kind.Kind.TheVariants.{Spread, Query, PreWrite, Finalize, Fetch}
+use Rattle.phase.specs.Phase.{Phase}
+use Rattle.record.specs.declared.call.CallKind.{CallKind}
+use Rattle.record.specs.declared.call.CallKind.TheVariants.{Read, Write, Move}
+use Rattle.record.specs.declared.stage.Stage.{Stage}
+use Rattle.record.specs.declared.stage.Stage.TheVariants.{ReadNext, ReadSpread, QueryFrom, FetchAt, PreWriteAt}
+use Rattle.record.specs.declared.stage.Stage.TheVariants.{FinalizeAt, AgainNext, AgainSpread, MoveSpread, MoveQuery}
+use Rattle.record.specs.declared.stage.Stage.TheVariants.{MoveFetch, MovePreWrite, MoveFinalize, MoveFinal, Ended, Moved}
+use Rattle.record.specs.Courses.{tagged, stage_after, greatest_tag}
+use Rattle.record.specs.Legal.{source_of, stage_of}
+use Rattle.record.specs.Journals.{stage_tag}
+use Rattle.record.specs.Grammar.{Asks, AreQueries, greatest_shown, TakesTag, place_shown, IsRest, IsWhole}
+use Rattle.record.specs.Grammar.{IsWholeMove, AreInTurn, IsFinished, FinishedAreWhole, AnsweredAreWhole}
+use Rattle.record.proofs.Phases.Again.{queries_path}
+use Rattle.record.proofs.Phases.Paths.{IsPath, path-append, asks_of, due_of, reading_path}
+use Rattle.record.proofs.Phases.Queries.{place_after, query_split, takes_of}
+use Rattle.record.proofs.Phases.Readings.{read_split}
+use Rattle.record.proofs.Phases.Rests.{rest_of, rest_path, rest_placed, rest_from}
+use Rattle.record.proofs.Phases.Turns.{IsLast, not_last, not_end, path_of_course, course_of_path, reading-bound, place_after-place_shown}
+
+place_same : (queries : List Phase) (finalized : ℕ) →
+    place_after opening_tag finalized finalized queries ≡ place_shown (greatest_shown opening_tag queries) finalized finalized queries
+place_same queries finalized = place_after-place_shown queries opening_tag finalized finalized finalized (λ e. refl)
+
+pub whole_of_path : (kind : CallKind) (number : ℕ) (phases : List Phase) (end : Stage) (tag : Tag) → kind ≢ Move → IsLast end →
+    stage_tag end ≡ Some tag → IsPath kind number (ReadNext 0 0) phases end → IsWhole kind number phases tag
+whole_of_path kind number phases end tag reads ends has path =
+    let read = read_split kind number phases 0 0 end (ap is_some has) path in
+    let asked = query_split kind number read.later read.to read.last opening_tag read.to end (ap is_some has) read.path in
+    let place = place_after opening_tag read.to read.to asked.queries in
+    let top = greatest_shown opening_tag asked.queries in
+    let takes = takes_of kind number place read.last top asked.rest end tag reads has asked.path in
+    record {
+      finds = record {
+        first = read.first;
+        queries = asked.queries;
+        rest = asked.rest;
+        split = read.split ∙ ap (λ xs. read.first ++ xs) asked.split;
+        last = read.last;
+        finalized = read.to;
+        reading = read.reading;
+        asked = asked.asked;
+        takes = takes;
+      };
+      rest = rest_placed kind number read.last top tag asked.rest (λ t. place_shown t read.to read.to asked.queries) place
+          (place_same asked.queries read.to) takes
+          (rest_of kind number place read.last top asked.rest end tag ends takes asked.path);
+    }
+
+after_queries : (kind : CallKind) (number : ℕ) (queries rest : List Phase) (last finalized : ℕ) (tag : Tag) →
+    finalized ≤ last → AreQueries finalized last queries → TakesTag kind number (greatest_shown opening_tag queries) tag →
+    IsRest kind tag (place_shown tag finalized finalized queries) last rest →
+    (at : ℕ) × IsPath kind number (QueryFrom finalized last opening_tag finalized) (queries ++ rest) (Ended at tag)
+after_queries kind number [] rest last finalized tag h asked takes is = absurd (let e = asked in omega arith)
+after_queries kind number (query ∷ later) rest last finalized tag h asked takes is =
+    let queries = query ∷ later in
+    let top = greatest_shown opening_tag queries in
+    let place = place_after opening_tag finalized finalized queries in
+    let way = rest_path kind number place last top rest tag takes
+    (rest_from kind number last top tag rest (λ t. place_shown t finalized finalized queries) place
+    (place_same queries finalized) takes is) in (
+      way.0,
+      path-append kind number queries rest (QueryFrom finalized last opening_tag finalized)
+          (tagged kind number place last top) (Ended way.0 tag)
+          (queries_path kind number query later finalized last opening_tag finalized asked) way.1,
+    )
+
+pub path_of_whole : (kind : CallKind) (number : ℕ) (phases : List Phase) (tag : Tag) → IsWhole kind number phases tag →
+    (at : ℕ) × IsPath kind number (ReadNext 0 0) phases (Ended at tag)
+path_of_whole kind number phases tag whole =
+    let finds = whole.finds in
+    let way = after_queries kind number finds.queries finds.rest finds.last finds.finalized tag
+    (reading-bound finds.first 0 0 finds.last finds.finalized (le_refl 0) finds.reading) finds.asked finds.takes whole.rest in (
+      way.0,
+      subst (λ xs. IsPath kind number (ReadNext 0 0) xs (Ended way.0 tag)) (sym finds.split)
+          (path-append kind number finds.first (finds.queries ++ finds.rest) (ReadNext 0 0)
+          (QueryFrom finds.finalized finds.last opening_tag finds.finalized) (Ended way.0 tag)
+          (reading_path kind number finds.first 0 0 finds.last finds.finalized finds.reading) way.1),
+    )
+
+-- whole moves
+
+pub move_of_path : (number position : ℕ) (phases : List Phase) (end : Stage) (tag : Tag) → IsLast end → stage_tag end ≡ Some tag →
+    IsPath Move number (MoveSpread position) phases end →
+    IsWholeMove position phases tag
+move_of_path number position [] end tag ends has path = absurd (not_end (MoveSpread position) end (Spread Pending, position) refl ends path)
+move_of_path number position (a ∷ []) end tag ends has path = absurd (not_end (MoveQuery position) end (Query, position) refl ends path.1)
+move_of_path number position (a ∷ b ∷ []) end tag ends has path =
+    let top = greatest_tag b.replies in absurd (not_end (MoveFetch position top) end (Fetch top, position) refl ends path.1.1)
+move_of_path number position (a ∷ b ∷ c ∷ []) end tag ends has path =
+    let top = greatest_tag b.replies in absurd (not_end (MovePreWrite position top) end (PreWrite top, suc position) refl ends path.1.1.1)
+move_of_path number position (a ∷ b ∷ c ∷ d ∷ []) end tag ends has path =
+    let top = greatest_tag b.replies in absurd (not_end (MoveFinalize position top) end (Finalize top, suc position) refl ends path.1.1.1.1)
+move_of_path number position (a ∷ b ∷ c ∷ d ∷ e ∷ []) end tag ends has path =
+    let top = greatest_tag b.replies in absurd (not_end (MoveFinal position top) end (Spread Final, position) refl ends path.1.1.1.1.1)
+move_of_path number position (a ∷ b ∷ c ∷ d ∷ e ∷ f ∷ []) end tag ends has path =
+    let top = greatest_tag b.replies in
+    let same : tag ≡ top = same_Some tag top (sym has ∙ sym (ap (λ s. stage_tag s) path.1.1.1.1.1.1)) in
+    record {
+      spread = a;
+      query = b;
+      fetch = c;
+      pre_write = d;
+      finalize = e;
+      final = f;
+      split = refl;
+      spreads = asks_of (Spread Pending) position a path.0;
+      queries = asks_of Query position b path.1.0;
+      takes = same;
+      fetches = subst (λ t. Asks c (Fetch t) position) (sym same) (asks_of (Fetch top) position c path.1.1.0);
+      pre_writes = subst (λ t. Asks d (PreWrite t) (suc position)) (sym same) (asks_of (PreWrite top) (suc position) d path.1.1.1.0);
+      finalizes = subst (λ t. Asks e (Finalize t) (suc position)) (sym same) (asks_of (Finalize top) (suc position) e path.1.1.1.1.0);
+      ends = asks_of (Spread Final) position f path.1.1.1.1.1.0;
+    }
+move_of_path number position (a ∷ b ∷ c ∷ d ∷ e ∷ f ∷ g ∷ later) end tag ends has path =
+    absurd (not_last (Moved position (greatest_tag b.replies)) (g.kind, g.position) path.1.1.1.1.1.1.0 refl)
+
+pub path_of_move : (number position : ℕ) (phases : List Phase) (tag : Tag) → IsWholeMove position phases tag →
+    IsPath Move number (MoveSpread position) phases (Moved position tag)
+path_of_move number position phases tag whole =
+    subst (λ xs. IsPath Move number (MoveSpread position) xs (Moved position tag)) (sym whole.split) (
+      due_of (Spread Pending) position whole.spread whole.spreads,
+      (
+        due_of Query position whole.query whole.queries,
+        subst (λ t. IsPath Move number (MoveFetch position t) (whole.fetch ∷ whole.pre_write ∷ whole.finalize ∷ whole.final ∷ [])
+            (Moved position tag)) whole.takes (
+              due_of (Fetch tag) position whole.fetch whole.fetches,
+              (
+                due_of (PreWrite tag) (suc position) whole.pre_write whole.pre_writes,
+                (
+                  due_of (Finalize tag) (suc position) whole.finalize whole.finalizes,
+                  (due_of (Spread Final) position whole.final whole.ends, refl),
+                ),
+              ),
+            ),
+      ),
+    )
+
+-- finished calls
+
+finished_of : (kind : CallKind) (number : ℕ) (stage end : Stage) (phases : List Phase) (tag : Tag) → AreInTurn phases →
+    IsPath kind number stage phases end → IsLast end → stage_tag end ≡ Some tag → IsFinished kind number stage phases tag
+finished_of kind number stage end phases tag turn path last has =
+    let found = course_of_path kind number phases stage end turn path in
+    record {
+      course = found.0;
+      none_due = subst (λ s. IsLast s) (sym found.1) last;
+      tagged = subst (λ s. stage_tag s ≡ Some tag) (sym found.1) has;
+    }
+
+read_finished : (kind : CallKind) (number : ℕ) (phases : List Phase) (tag : Tag) → kind ≢ Move →
+    IsFinished kind number (ReadNext 0 0) phases tag → AreInTurn phases × IsWhole kind number phases tag
+read_finished kind number phases tag reads done =
+    let way = path_of_course kind number phases (ReadNext 0 0) done.course done.none_due in
+    (way.0, whole_of_path kind number phases (stage_after kind number (ReadNext 0 0) phases) tag reads done.none_due done.tagged way.1)
+
+read_whole : (kind : CallKind) (number : ℕ) (phases : List Phase) (tag : Tag) → AreInTurn phases × IsWhole kind number phases tag →
+    IsFinished kind number (ReadNext 0 0) phases tag
+read_whole kind number phases tag (turn, whole) =
+    let way = path_of_whole kind number phases tag whole in
+    finished_of kind number (ReadNext 0 0) (Ended way.0 tag) phases tag turn way.1 refl refl
+
+pub finished_are_whole : FinishedAreWhole
+finished_are_whole Read number from phases tag = (read_finished Read number phases tag (λ e. cc), read_whole Read number phases tag)
+finished_are_whole (Write value) number from phases tag =
+    (read_finished (Write value) number phases tag (λ e. cc), read_whole (Write value) number phases tag)
+finished_are_whole Move number from phases tag = (
+  λ done.
+      let way = path_of_course Move number phases (MoveSpread from) done.course done.none_due in
+      (way.0, move_of_path number from phases (stage_after Move number (MoveSpread from) phases) tag done.none_due done.tagged way.1),
+  λ turn_whole.
+      finished_of Move number (MoveSpread from) (Moved from tag) phases tag turn_whole.0
+      (path_of_move number from phases tag turn_whole.1) refl refl,
+)
+
+-- answered calls
+
+last_tag : (stage : Stage) → IsLast stage → (tag : Tag) × (stage_tag stage ≡ Some tag)
+last_tag (Ended last tag) ends = (tag, refl)
+last_tag (Moved position tag) ends = (tag, refl)
+last_tag (ReadNext position finalized) ends = absurd (cc)
+last_tag (ReadSpread position finalized status) ends = absurd (cc)
+last_tag (QueryFrom position last greatest shown_at) ends = absurd (cc)
+last_tag (FetchAt shown_at last tag) ends = absurd (cc)
+last_tag (PreWriteAt last tag) ends = absurd (cc)
+last_tag (FinalizeAt last tag) ends = absurd (cc)
+last_tag (AgainNext last position tag) ends = absurd (cc)
+last_tag (AgainSpread last position tag status) ends = absurd (cc)
+last_tag (MoveSpread position) ends = absurd (cc)
+last_tag (MoveQuery position) ends = absurd (cc)
+last_tag (MoveFetch position tag) ends = absurd (cc)
+last_tag (MovePreWrite position tag) ends = absurd (cc)
+last_tag (MoveFinalize position tag) ends = absurd (cc)
+last_tag (MoveFinal position tag) ends = absurd (cc)
+
+pub answered_are_whole : AnsweredAreWhole
+answered_are_whole object index call step legal at answered =
+    let c = legal.calls index call at in
+    let none_due = (c.answer step answered).0 in
+    let found = last_tag (stage_of object index call) none_due in
+    let whole = (finished_are_whole call.kind (suc index) (source_of object index) call.phases found.0).0
+    (record { course = c.course; none_due = none_due; tagged = found.1 }) in
+    record { tag = found.0; tagged = found.1; in_turn = whole.0; whole = whole.1 }

@@ -1,0 +1,145 @@
+-- What a bank of the record is after a request, and what it answers, as far as the journal's pieces go.
+use Rattle.std.proofs.Common.{◌≡◌, ℕ, suc, Bool, true, false, cond, Option, Some, None, IsSome}
+use Rattle.std.proofs.Common.{is_some, option_map, refl, sym, subst, ap, ◌∙◌, inl, inr, arith}
+use Rattle.tag.specs.declared.tag.Tag.{Tag}
+use Rattle.tag.specs.Tag.{opening_tag, tag_eq}
+use Rattle.tag.proofs.Tags.{tag_eq-true}
+use Rattle.encoder.specs.declared.fragment.Piece.{Piece}
+use Rattle.bank.specs.declared.row.Arrival.{Arrival}
+use Rattle.bank.specs.declared.row.Row.{Row}
+use Rattle.bank.specs.declared.request.Request.{Request}
+use Rattle.bank.specs.Bank.{Bank, filled_arrival, row_after_pre_write, row_after_finalize, piece_of, piece_of_row, knows}
+use Rattle.bank.specs.Knowledge.{since, row_finalized, finalized_at, arrived_at, IsTrueAnswer}
+use Rattle.bank.specs.Facts.{IsBefore}
+use Rattle.bank.specs.Serve.{kind_of, greatest_final, served_bank, answer_to}
+use Rattle.bank.proofs.Changes.{Table, Comes, with_row, get-with_row, served_grows}
+use Rattle.bank.proofs.Query.{greatest_final_is}
+use Rattle.bank.proofs.Truth.{grows_order, served_truth}
+use Rattle.record.specs.Records.{Object}
+use Rattle.record.specs.Legal.{IsOpenedAt}
+use Rattle.record.specs.Fragments.{Code, IsCoded, IfCoded, answer_tag, answer_piece, request_tag, request_piece}
+use Rattle.record.specs.Sound.{HasNext}
+use Rattle.std.specs.FinMap as map
+use Rattle.bank.specs.declared.request.Request.TheVariants as request
+use Rattle.record.proofs.Sound.Placed.{KindPlaced}
+
+-- Steps
+
+-- what is known once a request is served came by that step
+pub served_past : (bank : Bank) (asked : Request) (now : ℕ) → IsBefore bank now → IsBefore (served_bank bank asked now) (suc now)
+served_past bank asked now before =
+    grows_order bank (served_bank bank asked now) now (suc now) (served_grows bank asked now) (omega arith) before
+
+-- a pointer that a request raises names the next position
+pub served_next : (count position : ℕ) (bank : Bank) (asked : Request) (now : ℕ) → KindPlaced count (kind_of asked) position →
+    HasNext count position bank → HasNext count position (served_bank bank asked now)
+served_next count position bank request.Next now placed next = next
+served_next count position bank (request.Spread status) now placed next = record { pending = λ step e. placed; final = λ step e. placed }
+served_next count position bank request.Query now placed next = next
+served_next count position bank (request.PreWrite tag piece) now placed next = record { pending = next.pending; final = next.final }
+served_next count position bank (request.Finalize tag) now placed next = record { pending = next.pending; final = next.final }
+served_next count position bank (request.Fetch tag) now placed next = record { pending = next.pending; final = next.final }
+
+-- what has come stays
+comes_stays : (now : ℕ) (old new : Option ℕ) → Comes now old new → (step : ℕ) → old ≡ Some step → new ≡ Some step
+comes_stays now old new (inl same) step e = same ∙ e
+comes_stays now old new (inr first) step e = first ∙ ap (λ o. since o now) e
+
+-- so a bank stays opened since its step
+pub served_opened_at : (bank : Bank) (asked : Request) (now step : ℕ) → IsOpenedAt bank step →
+    IsOpenedAt (served_bank bank asked now) step
+served_opened_at bank asked now step opened =
+    let grows = served_grows bank asked now in
+    record {
+      finalized = comes_stays now (finalized_at bank opening_tag) (finalized_at (served_bank bank asked now) opening_tag)
+          (grows.finalized opening_tag) step opened.finalized;
+      arrived = comes_stays now (arrived_at bank opening_tag) (arrived_at (served_bank bank asked now) opening_tag)
+          (grows.arrived opening_tag) step opened.arrived;
+    }
+
+-- what it answers is true of the bank that it leaves
+pub served_true : (bank : Bank) (asked : Request) (now step : ℕ) → IsBefore bank now → IsOpenedAt bank step →
+    IsTrueAnswer (served_bank bank asked now) now (kind_of asked) (answer_to bank asked)
+served_true bank asked now step before opened = served_truth bank asked now before (λ query. ap is_some opened.finalized)
+
+-- Pieces
+
+-- what holds of each tag with its row holds after the row of a tag changes, where it holds of the row that is made
+all_rows : (P : Tag → Option Row → Type 0) (rows : Table) (tag : Tag) (f : Option Row → Row) →
+    P tag (Some (f (map.get rows tag))) → ((t : Tag) → P t (map.get rows t)) → (t : Tag) → P t (map.get (with_row rows tag f) t)
+all_rows P rows tag f made all t = subst (P t) (sym (get-with_row rows tag f t)) (go (tag_eq t tag) refl)
+  where
+    go : (b : Bool) → tag_eq t tag ≡ b → P t (cond b (Some (f (map.get rows tag))) (map.get rows t))
+    go true e = subst (λ u. P u (Some (f (map.get rows tag)))) (sym (tag_eq-true t tag e)) made
+    go false e = all t
+
+module _ (fragment : Code) (object : Object) (position member : ℕ) where
+  -- a tag that a bank knows is in the journal, with its piece
+  abbrev RowCoded : Tag → Option Row → Type 0
+  RowCoded tag row = is_some row ≡ true → IsCoded fragment object position member tag (piece_of_row row)
+
+  abbrev pub BankCoded : Bank → Type 0
+  BankCoded bank = (tag : Tag) → knows bank tag ≡ true → IsCoded fragment object position member tag (piece_of bank tag)
+
+  without_piece : (tag : Tag) (piece : Option Piece) → IsCoded fragment object position member tag piece →
+      IsCoded fragment object position member tag None
+  without_piece tag piece coded = record { value = coded.value; journaled = coded.journaled; fits = λ kept e. absurd (cc) }
+
+  pre_write_coded : (tag : Tag) (piece : Piece) (now : ℕ) → IsCoded fragment object position member tag (Some piece) →
+      (row : Option Row) → RowCoded tag row → RowCoded tag (Some (row_after_pre_write row piece now))
+  pre_write_coded tag piece now new None coded some = new
+  pre_write_coded tag piece now new (Some row) coded some = go row.arrival (coded refl)
+    where
+      go : (arrival : Option Arrival) → IsCoded fragment object position member tag (option_map (λ a. a.piece) arrival) →
+          IsCoded fragment object position member tag (option_map (λ a. a.piece) (filled_arrival arrival piece now))
+      go None old = new
+      go (Some arrival) old = old
+
+  finalize_coded : (tag : Tag) (now : ℕ) → IsCoded fragment object position member tag None → (row : Option Row) →
+      RowCoded tag row → RowCoded tag (Some (row_after_finalize row now))
+  finalize_coded tag now new None coded some = new
+  finalize_coded tag now new (Some row) coded some = coded refl
+
+  finalized_coded : (bank : Bank) (tag : Tag) (now : ℕ) → IsCoded fragment object position member tag None → BankCoded bank →
+      (t : Tag) → RowCoded t (map.get (with_row bank.rows tag (λ row. row_after_finalize row now)) t)
+  finalized_coded bank tag now new coded =
+      all_rows RowCoded bank.rows tag (λ row. row_after_finalize row now)
+      (finalize_coded tag now new (map.get bank.rows tag) (coded tag)) coded
+
+  -- so is each tag that it knows after a request
+  pub served_coded : (bank : Bank) (asked : Request) (now : ℕ) →
+      IfCoded fragment object position member (request_tag asked) (request_piece asked) → BankCoded bank →
+      BankCoded (served_bank bank asked now)
+  served_coded bank request.Next now new coded = coded
+  served_coded bank (request.Spread status) now new coded = coded
+  served_coded bank request.Query now new coded = coded
+  served_coded bank (request.PreWrite tag piece) now new coded =
+      all_rows RowCoded bank.rows tag (λ row. row_after_pre_write row piece now)
+      (pre_write_coded tag piece now new (map.get bank.rows tag) (coded tag)) coded
+  served_coded bank (request.Finalize tag) now new coded = finalized_coded bank tag now new coded
+  served_coded bank (request.Fetch tag) now new coded = finalized_coded bank tag now new coded
+
+  finalized_known : (bank : Bank) (tag : Tag) → IsSome (finalized_at bank tag) → knows bank tag ≡ true
+  finalized_known bank tag some = go (map.get bank.rows tag) some
+    where
+      go : (row : Option Row) → IsSome (row_finalized row) → is_some row ≡ true
+      go None e = absurd (cc)
+      go (Some row) e = refl
+
+  -- and what it answers
+  pub answer_coded : (bank : Bank) (asked : Request) (step : ℕ) → IsOpenedAt bank step →
+      IfCoded fragment object position member (request_tag asked) (request_piece asked) → BankCoded bank →
+      IfCoded fragment object position member (answer_tag (kind_of asked) (answer_to bank asked)) (answer_piece (answer_to bank asked))
+  answer_coded bank request.Next step opened new coded = tt
+  answer_coded bank (request.Spread status) step opened new coded = tt
+  answer_coded bank request.Query step opened new coded =
+      let greatest = greatest_final_is bank (ap is_some opened.finalized) in
+      without_piece (greatest_final bank) (piece_of bank (greatest_final bank))
+      (coded (greatest_final bank) (finalized_known bank (greatest_final bank) greatest.final))
+  answer_coded bank (request.PreWrite tag piece) step opened new coded = without_piece tag (Some piece) new
+  answer_coded bank (request.Finalize tag) step opened new coded = new
+  answer_coded bank (request.Fetch tag) step opened new coded = go (map.get bank.rows tag) (coded tag)
+    where
+      go : (row : Option Row) → RowCoded tag row → IsCoded fragment object position member tag (piece_of_row row)
+      go None old = new
+      go (Some row) old = old refl

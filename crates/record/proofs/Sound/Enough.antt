@@ -1,0 +1,5 @@
+-- A complete fetch has enough pieces.
+pub mod Fetched
+pub mod Fetches
+pub mod Had
+pub mod Stages

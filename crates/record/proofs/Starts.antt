@@ -1,0 +1,8 @@
+-- Phases that begin from a step on.
+use Rattle.std.proofs.Common.{ℕ, ◌≤◌, List, [], ◌∷◌}
+use Rattle.phase.specs.Phase.{Phase}
+
+-- the first phase starts at this step or later
+abbrev pub StartsFrom : ℕ → List Phase → Type 0
+StartsFrom now [] = Unit {0}
+StartsFrom now (phase ∷ phases) = now ≤ phase.start
