@@ -24,7 +24,8 @@ passed-ended kind number stage (Some end) replies some = refl
 
 -- what a status leads to
 
-first_of-found_at : (status : Status) (position finalized : ℕ) → after_next status position finalized ≡ first_of (found_at status position finalized)
+first_of-found_at : (status : Status) (position finalized : ℕ)
+    → after_next status position finalized ≡ first_of (found_at status position finalized)
 first_of-found_at Unset position finalized = refl
 first_of-found_at Pending position finalized = refl
 first_of-found_at Final position finalized = refl
@@ -48,7 +49,8 @@ first_after kind number (Ended last finalized) phase asks = absurd (cc)
 again_after : (kind : CallKind) (number last : ℕ) (tag : Tag) (reading : Reading) (phase : Phase)
     → next_of reading ≡ Some (phase.kind, phase.position)
     → after kind number (again_of last tag reading) phase.replies ≡ again_of last tag (led_on reading (greatest_status phase.replies))
-again_after kind number last tag (Next position finalized) phase asks = again_of-found_at last tag (greatest_status phase.replies) position finalized
+again_after kind number last tag (Next position finalized) phase asks =
+    again_of-found_at last tag (greatest_status phase.replies) position finalized
 again_after kind number last tag (Spread position finalized status) phase asks = refl
 again_after kind number last tag (Ended end finalized) phase asks = absurd (cc)
 
@@ -85,7 +87,8 @@ abbrev position_or : ℕ → Option (Kind × ℕ) → ℕ
 position_or other None = other
 position_or other (Some pair) = pair.1
 
-asked_parts : (kind : Kind) (position : ℕ) (phase : Phase) → asked kind position ≡ asked phase.kind phase.position → Asks phase kind position
+asked_parts : (kind : Kind) (position : ℕ) (phase : Phase) → asked kind position ≡ asked phase.kind phase.position
+    → Asks phase kind position
 asked_parts kind position phase e = (ap (kind_or kind) (sym e), ap (position_or position) (sym e))
 
 asked_pair : (kind : Kind) (position : ℕ) (phase : Phase) → Asks phase kind position → asked kind position ≡ asked phase.kind phase.position
@@ -110,8 +113,10 @@ leads_reading position finalized last to (next ∷ []) reading =
     (asked_pair kind.Next position next reading.0, found ∙ ended)
 leads_reading position finalized last to (next ∷ spread ∷ later) reading =
     let status = greatest_status next.replies in
-    let further = leads_reading (suc position) (finalized_after status position finalized) last to later reading.3 in
-    (asked_pair kind.Next position next reading.0, leads_spread status position finalized (Ended last to) spread later reading.1 reading.2 further)
+    let further = leads_reading (suc position) (finalized_after status position finalized) last to later reading.3 in (
+      asked_pair kind.Next position next reading.0,
+      leads_spread status position finalized (Ended last to) spread later reading.1 reading.2 further,
+    )
 
 -- what leads to the end is a reading
 
@@ -123,10 +128,13 @@ leads_ended Final position finalized last to e = absurd (cc)
 
 leads_further : (status : Status) (position finalized : ℕ) (to : Reading) (spread : Phase) (later : List Phase)
     → Leads (found_at status position finalized) (spread ∷ later) to
-    → (status ≢ Unset) × Asks spread (kind.Spread status) position × Leads (Next (suc position) (finalized_after status position finalized)) later to
+    → (status ≢ Unset) × Asks spread (kind.Spread status) position
+    × Leads (Next (suc position) (finalized_after status position finalized)) later to
 leads_further Unset position finalized to spread later leads = let none = leads.0 in absurd (cc)
-leads_further Pending position finalized to spread later leads = ((λ e. (cc)), asked_parts (kind.Spread Pending) position spread leads.0, leads.1)
-leads_further Final position finalized to spread later leads = ((λ e. (cc)), asked_parts (kind.Spread Final) position spread leads.0, leads.1)
+leads_further Pending position finalized to spread later leads =
+    ((λ e. (cc)), asked_parts (kind.Spread Pending) position spread leads.0, leads.1)
+leads_further Final position finalized to spread later leads =
+    ((λ e. (cc)), asked_parts (kind.Spread Final) position spread leads.0, leads.1)
 
 reading_leads : (position finalized last to : ℕ) (phases : List Phase) → Leads (Next position finalized) phases (Ended last to)
     → IsReading position finalized phases last to

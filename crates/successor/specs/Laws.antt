@@ -21,7 +21,8 @@ led_on (Ended last finalized) status = Ended last finalized
 abbrev pub Leads : Reading → List Phase → (to : Reading) → Type 0
 Leads reading [] to = reading ≡ to
 Leads reading (phase ∷ phases) to =
-    (next_of reading ≡ Some (phase.kind, phase.position)) × Leads (led_on reading (greatest_status phase.replies)) phases to
+    (next_of reading ≡ Some (phase.kind, phase.position))
+    × Leads (led_on reading (greatest_status phase.replies)) phases to
 
 -- each phase is complete
 abbrev pub AreComplete : List Phase → Type 0

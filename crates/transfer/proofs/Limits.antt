@@ -6,7 +6,8 @@ use Rattle.record.specs.declared.stage.Stage.{Stage}
 use Rattle.record.specs.Courses.{due}
 use Rattle.transfer.specs.Limits.{IsBelowLimit}
 
-below : (count : ℕ) (next : Option (Kind × ℕ)) → count < 2 ^ 32 → ((kind : Kind) (position : ℕ) → next ≡ Some (kind, position) → position < count)
+below : (count : ℕ) (next : Option (Kind × ℕ)) → count < 2 ^ 32
+    → ((kind : Kind) (position : ℕ) → next ≡ Some (kind, position) → position < count)
     → IfSome next (λ asked. asked.1 + 1 < 2 ^ 32)
 below count None few there = tt
 below count (Some asked) few there = let h = there asked.0 asked.1 refl in omega arith

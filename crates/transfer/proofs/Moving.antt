@@ -25,7 +25,8 @@ IsMoveFrom from _ = ⊥
 
 -- a complete phase leads on
 
-passed-ended : (stage : Stage) (end : Option ℕ) (replies : List Taken) → IsSome end → passed Move 0 stage end replies ≡ after Move 0 stage replies
+passed-ended : (stage : Stage) (end : Option ℕ) (replies : List Taken) → IsSome end
+    → passed Move 0 stage end replies ≡ after Move 0 stage replies
 passed-ended stage None replies some = absurd (cc)
 passed-ended stage (Some end) replies some = refl
 
@@ -36,7 +37,8 @@ led stage phase phases some = ap (λ next. stage_after Move 0 next phases) (pass
 -- nothing follows the last phase
 nothing_due : (from : ℕ) (tag : Tag) (phases : List Phase) → AreComplete phases → due (stage_after Move 0 (Moved from tag) phases) ≡ None
 nothing_due from tag [] complete = refl
-nothing_due from tag (phase ∷ phases) complete = ap due (led (Moved from tag) phase phases complete.0) ∙ nothing_due from tag phases complete.1
+nothing_due from tag (phase ∷ phases) complete = ap due (led (Moved from tag) phase phases complete.0)
+    ∙ nothing_due from tag phases complete.1
 
 -- from each stage on, with how many phases were made before it
 
@@ -48,7 +50,8 @@ telling from tag (final ∷ later) complete = ap due (led (MoveFinal from tag) f
 finalizing : (from : ℕ) (tag : Tag) (later : List Phase) → AreComplete later
     → due (stage_after Move 0 (MoveFinalize from tag) later) ≡ slice_get (move_phases from tag) (suc (suc (suc (suc (length later)))))
 finalizing from tag [] complete = refl
-finalizing from tag (finalize ∷ later) complete = ap due (led (MoveFinalize from tag) finalize later complete.0) ∙ telling from tag later complete.1
+finalizing from tag (finalize ∷ later) complete = ap due (led (MoveFinalize from tag) finalize later complete.0)
+    ∙ telling from tag later complete.1
 
 putting : (from : ℕ) (tag : Tag) (later : List Phase) → AreComplete later
     → due (stage_after Move 0 (MovePreWrite from tag) later) ≡ slice_get (move_phases from tag) (suc (suc (suc (length later))))

@@ -21,5 +21,6 @@ IsTaggable Move greatest = Unit {0}
 
 -- with what its replies to a query show so far, a write has a next tag
 abbrev pub HasNextTag : CallKind → Stage → List Taken → Type 0
-HasNextTag kind (QueryFrom position last greatest shown_at) replies = IsTaggable kind (later_tag greatest (greatest_tag replies))
+HasNextTag kind (QueryFrom position last greatest shown_at) replies =
+    IsTaggable kind (later_tag greatest (greatest_tag replies))
 HasNextTag kind _ replies = Unit {0}

@@ -9,12 +9,13 @@ use Rattle.phase.specs.declared.phase.Taken.{Taken}
 use Rattle.phase.specs.Phase.{Phase}
 use Rattle.record.specs.declared.call.CallKind.TheVariants.{Move}
 use Rattle.record.specs.declared.stage.Stage.{Stage}
-use Rattle.record.specs.declared.stage.Stage.TheVariants.{MoveSpread, MoveQuery, MoveFetch, MovePreWrite, MoveFinalize, MoveFinal, Moved}
+use Rattle.record.specs.declared.stage.Stage.TheVariants.{MoveSpread, MoveQuery, MoveFetch, MovePreWrite, MoveFinalize}
+use Rattle.record.specs.declared.stage.Stage.TheVariants.{MoveFinal, Moved}
 use Rattle.record.specs.Courses.{greatest_tag, due, stage_after, IsCourse}
 use Rattle.successor.specs.Laws.{AreComplete}
 
--- the phases of a move from a position to the next one, with the positions that are asked. It says that the next position
--- is pending, brings the tag there, and only then says that it is final
+-- the phases of a move from a position to the next one, with the positions that are asked. It says that the next
+-- position is pending, brings the tag there, and only then says that it is final
 abbrev pub move_phases : (from : ℕ) → Tag → List (Kind × ℕ)
 move_phases from tag =
     (Spread Pending, from) ∷ (Query, from) ∷ (Fetch tag, from)
@@ -31,7 +32,8 @@ abbrev pub MovesAreInOrder : Type 0
 MovesAreInOrder =
     (number from : ℕ) (phases : List Phase)
     → IsCourse Move number (MoveSpread from) phases → due (stage_after Move number (MoveSpread from) phases) ≡ None
-    → AreComplete phases × (map (λ (phase : Phase). (phase.kind, phase.position)) phases ≡ move_phases from (queried_tag phases))
+    → AreComplete phases × (map (λ (phase : Phase). (phase.kind, phase.position)) phases
+    ≡ move_phases from (queried_tag phases))
 
 -- where the replies of a move's phase lead; any other stage is left as it is
 abbrev pub after_move : Stage → List Taken → Stage

@@ -2,7 +2,8 @@
 
 ghost use Rattle.std.specs.Prelude.{◌≡◌, ◌+◌, ◌<◌, ◌^◌};
 ghost use Rattle.tag.specs.Tag.{later_tag};
-ghost use Rattle.record.specs.Courses.{after, after_next, after_spread, after_query, after_fetch, after_again, greatest_status, greatest_tag, tagged};
+ghost use Rattle.record.specs.Courses.{after, after_next, after_spread, after_query, after_fetch, after_again};
+ghost use Rattle.record.specs.Courses.{greatest_status, greatest_tag, tagged};
 ghost use Rattle.successor.specs.Reading.{first_of, again_of, spread_by};
 ghost use Rattle.successor.specs.declared.reading.Reading.TheVariants.{Spread};
 ghost use Rattle.transfer.specs.Limits.{IsBelowLimit, IsTaggable, HasNextTag};

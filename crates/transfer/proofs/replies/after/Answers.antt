@@ -4,7 +4,9 @@ use Rattle.bank.specs.declared.status.Status.{Status}
 use Rattle.phase.specs.declared.phase.Taken.{Taken}
 use Rattle.record.specs.declared.call.CallKind.{CallKind}
 use Rattle.record.specs.declared.stage.Stage.{Stage}
-use Rattle.record.specs.declared.stage.Stage.TheVariants.{ReadNext, ReadSpread, QueryFrom, FetchAt, PreWriteAt, FinalizeAt, AgainNext, AgainSpread, MoveSpread, MoveQuery, MoveFetch, MovePreWrite, MoveFinalize, MoveFinal, Ended, Moved}
+use Rattle.record.specs.declared.stage.Stage.TheVariants.{ReadNext, ReadSpread, QueryFrom, FetchAt, PreWriteAt, FinalizeAt, AgainNext}
+use Rattle.record.specs.declared.stage.Stage.TheVariants.{AgainSpread, MoveSpread, MoveQuery, MoveFetch, MovePreWrite, MoveFinalize}
+use Rattle.record.specs.declared.stage.Stage.TheVariants.{MoveFinal, Ended, Moved}
 use Rattle.record.specs.Courses.{after}
 use Rattle.transfer.specs.Moves.{after_move}
 use Rattle.transfer.proofs.replies.after.Goals as goal
@@ -41,5 +43,6 @@ pub returns-in_default : goal.returns-in_default
 returns-in_default c =
     let others = c.in_default in
     c.after_move.ensures
-    ∙ after_move_is c.args.kind.now c.args.number c.args.stage c.args.replies.now others.not-ReadNext others.not-ReadSpread others.not-QueryFrom
+    ∙ after_move_is c.args.kind.now c.args.number c.args.stage c.args.replies.now others.not-ReadNext others.not-ReadSpread
+    others.not-QueryFrom
     others.not-FetchAt others.not-PreWriteAt others.not-FinalizeAt others.not-AgainNext others.not-AgainSpread
