@@ -1,5 +1,6 @@
 -- Lists that a loop over the members makes.
-use Rattle.std.proofs.Common.{◌≡◌, ℕ, zero, suc, ◌+◌, ◌≤◌, ◌==◌, ◌&&◌, ◌||◌, Bool, true, false, cond, List, [], ◌∷◌, ◌++◌, length, drop, slice_get, Some, sym, ap, ◌∙◌, refl, arith}
+use Rattle.std.proofs.Common.{◌≡◌, ℕ, zero, suc, ◌+◌, ◌≤◌, ◌==◌, ◌&&◌, ◌||◌, Bool, true, false, cond, List, [], ◌∷◌, ◌++◌, length, drop}
+use Rattle.std.proofs.Common.{slice_get, Some, sym, ap, ◌∙◌, refl, arith}
 use Rattle.encoder.specs.declared.fragment.Piece.{Piece}
 use Rattle.bank.specs.declared.kind.Kind.{Kind}
 use Rattle.bank.specs.Bank.{Bank, opened_bank}
@@ -29,7 +30,8 @@ append_append : {X : Type 0} (xs ys zs : List X) → (xs ++ ys) ++ zs ≡ xs ++ 
 append_append [] ys zs = refl
 append_append (x ∷ xs) ys zs = ap (λ ws. x ∷ ws) (append_append xs ys zs)
 
-first_of-each : {X : Type 0} (f : ℕ → List X) (ss : List ℕ) (start : ℕ) → first_of f start ++ each_from f ss start ≡ first_of f (start + length ss)
+first_of-each : {X : Type 0} (f : ℕ → List X) (ss : List ℕ) (start : ℕ)
+    → first_of f start ++ each_from f ss start ≡ first_of f (start + length ss)
 first_of-each f [] start = let same : start ≡ start + 0 = omega arith in append_none (first_of f start) ∙ ap (first_of f) same
 first_of-each f (s ∷ ss) start =
     let same : suc start + length ss ≡ start + length (s ∷ ss) = omega arith in
@@ -76,7 +78,8 @@ requests_first call phase kind position ss piece =
 abbrev pub is_there : (mail : List Message) → List Taken → (call phase member : ℕ) → Bool
 is_there mail replies call phase member = has (members_of replies) member || waits mail call phase member
 
-abbrev pub missing_for : (mail : List Message) → List Taken → (call phase : ℕ) → Kind → (position : ℕ) → (ℕ → Piece) → (member : ℕ) → List Message
+abbrev pub missing_for : (mail : List Message) → List Taken → (call phase : ℕ) → Kind → (position : ℕ) → (ℕ → Piece) → (member : ℕ)
+    → List Message
 missing_for mail replies call phase kind position piece member =
     cond (is_there mail replies call phase member) [] (requests_for call phase kind position piece member)
 
@@ -84,7 +87,8 @@ cond_append : {X : Type 0} (b : Bool) (x : X) (xs : List X) → cond b xs (x ∷
 cond_append true x xs = refl
 cond_append false x xs = refl
 
-missing_from : (mail : List Message) (replies : List Taken) (call phase : ℕ) (kind : Kind) (position : ℕ) (ss : List ℕ) (member : ℕ) (piece : ℕ → Piece)
+missing_from : (mail : List Message) (replies : List Taken) (call phase : ℕ) (kind : Kind) (position : ℕ) (ss : List ℕ) (member : ℕ)
+    (piece : ℕ → Piece)
     → missing mail (members_of replies) (requests call phase kind position ss member piece)
     ≡ each_from (missing_for mail replies call phase kind position piece) ss member
 missing_from mail replies call phase kind position [] member piece = refl
@@ -94,20 +98,24 @@ missing_from mail replies call phase kind position (s ∷ ss) member piece =
     ∙ cond_append (is_there mail replies call phase member) (request_for call phase kind position piece member)
     (each_from (missing_for mail replies call phase kind position piece) ss (suc member))
 
-pub missing_first : (mail : List Message) (replies : List Taken) (call phase : ℕ) (kind : Kind) (position : ℕ) (ss : List ℕ) (piece : ℕ → Piece)
+pub missing_first : (mail : List Message) (replies : List Taken) (call phase : ℕ) (kind : Kind) (position : ℕ) (ss : List ℕ)
+    (piece : ℕ → Piece)
     → missing mail (members_of replies) (requests call phase kind position ss 0 piece)
     ≡ first_of (missing_for mail replies call phase kind position piece) (length ss)
 missing_first mail replies call phase kind position ss piece =
-    missing_from mail replies call phase kind position ss 0 piece ∙ each_from-zero (missing_for mail replies call phase kind position piece) ss
+    missing_from mail replies call phase kind position ss 0 piece
+    ∙ each_from-zero (missing_for mail replies call phase kind position piece) ss
 
 pub has_replied : (replies : List Taken) (member : ℕ) → has (members_of replies) member ≡ has_taken replies member
 has_replied [] member = refl
 has_replied (t ∷ ts) member = ap (λ b. (t.member == member) || b) (has_replied ts member)
 
 -- the list that a loop over the members makes, once it has seen one more
-pub missing_next : (mail : List Message) (replies : List Taken) (call phase : ℕ) (kind : Kind) (position : ℕ) (piece : ℕ → Piece) (member : ℕ) (there : Bool) (items : List Message)
+pub missing_next : (mail : List Message) (replies : List Taken) (call phase : ℕ) (kind : Kind) (position : ℕ) (piece : ℕ → Piece)
+    (member : ℕ) (there : Bool) (items : List Message)
     → is_there mail replies call phase member ≡ there → items ≡ first_of (missing_for mail replies call phase kind position piece) member
-    → cond there items (items ++ request_for call phase kind position piece member ∷ []) ≡ first_of (missing_for mail replies call phase kind position piece) (member + 1)
+    → cond there items (items ++ request_for call phase kind position piece member ∷ [])
+    ≡ first_of (missing_for mail replies call phase kind position piece) (member + 1)
 missing_next mail replies call phase kind position piece member there items is so_far =
     go there ∙ ap (λ xs. xs ++ cond there [] (requests_for call phase kind position piece member)) so_far
     ∙ ap (λ b. first_of each member ++ cond b [] (requests_for call phase kind position piece member)) (sym is) ∙ ap (first_of each) more
@@ -118,7 +126,8 @@ missing_next mail replies call phase kind position piece member there items is s
     more : suc member ≡ member + 1
     more = omega arith
 
-    go : (b : Bool) → cond b items (items ++ request_for call phase kind position piece member ∷ []) ≡ items ++ cond b [] (requests_for call phase kind position piece member)
+    go : (b : Bool) → cond b items (items ++ request_for call phase kind position piece member ∷ [])
+        ≡ items ++ cond b [] (requests_for call phase kind position piece member)
     go true = sym (append_none items)
     go false = refl
 
@@ -127,8 +136,10 @@ length_one_more [] x = refl
 length_one_more (y ∷ ys) x = let rest = length_one_more ys x in omega (arith, rest)
 
 -- how many they are
-pub missing_more : (mail : List Message) (replies : List Taken) (call phase : ℕ) (kind : Kind) (position : ℕ) (piece : ℕ → Piece) (member : ℕ) (there : Bool) (count : ℕ)
-    → is_there mail replies call phase member ≡ there → count ≡ length (first_of (missing_for mail replies call phase kind position piece) member)
+pub missing_more : (mail : List Message) (replies : List Taken) (call phase : ℕ) (kind : Kind) (position : ℕ) (piece : ℕ → Piece)
+    (member : ℕ) (there : Bool) (count : ℕ)
+    → is_there mail replies call phase member ≡ there
+    → count ≡ length (first_of (missing_for mail replies call phase kind position piece) member)
     → cond there count (count + 1) ≡ length (first_of (missing_for mail replies call phase kind position piece) (member + 1))
 missing_more mail replies call phase kind position piece member there count is so_far =
     go there ∙ ap length (missing_next mail replies call phase kind position piece member there items is refl)
@@ -149,20 +160,24 @@ is_of call phase member message = message.call == call && (message.phase == phas
 pub waits_here : (mail : List Message) (call phase member place : ℕ) (m : Message) → slice_get mail place ≡ Some m
     → waits (drop place mail) call phase member ≡ (is_of call phase member m || waits (drop (place + 1) mail) call phase member)
 waits_here [] call phase member place m at = absurd (cc)
-waits_here (x ∷ xs) call phase member zero m at = ap (λ (y : Message). is_of call phase member y || waits xs call phase member) (same_some x m at)
+waits_here (x ∷ xs) call phase member zero m at = ap (λ (y : Message). is_of call phase member y || waits xs call phase member)
+    (same_some x m at)
 waits_here (x ∷ xs) call phase member (suc place) m at =
     let more : suc place + 1 ≡ suc (place + 1) = omega arith in
     waits_here xs call phase member place m at ∙ ap (λ n. is_of call phase member m || waits (drop n (x ∷ xs)) call phase member) (sym more)
 
-pub waits_end : (mail : List Message) (call phase member place : ℕ) → length mail ≤ place → waits (drop place mail) call phase member ≡ false
+pub waits_end : (mail : List Message) (call phase member place : ℕ) → length mail ≤ place
+    → waits (drop place mail) call phase member ≡ false
 waits_end [] call phase member zero past = refl
 waits_end [] call phase member (suc place) past = refl
 waits_end (x ∷ xs) call phase member zero past = absurd (omega (arith, past))
 waits_end (x ∷ xs) call phase member (suc place) past = waits_end xs call phase member place (omega (arith, past))
 
 -- the same requests, by the numbers that a phase has
-pub same_requests : (mail : List Message) (replies : List Taken) (call : ℕ) (n m : ℕ) (j k : Kind) (p q : ℕ) (servers : List ℕ) (piece : ℕ → Piece) → n ≡ m → j ≡ k → p ≡ q
-    → missing mail (members_of replies) (requests call n j p servers 0 piece) ≡ missing mail (members_of replies) (requests call m k q servers 0 piece)
+pub same_requests : (mail : List Message) (replies : List Taken) (call : ℕ) (n m : ℕ) (j k : Kind) (p q : ℕ) (servers : List ℕ)
+    (piece : ℕ → Piece) → n ≡ m → j ≡ k → p ≡ q
+    → missing mail (members_of replies) (requests call n j p servers 0 piece)
+    ≡ missing mail (members_of replies) (requests call m k q servers 0 piece)
 same_requests mail replies call n m j k p q servers piece number kind position =
     ap (λ x. missing mail (members_of replies) (requests call x j p servers 0 piece)) number
     ∙ ap (λ x. missing mail (members_of replies) (requests call m x p servers 0 piece)) kind

@@ -1,5 +1,7 @@
 -- What a change of one call, or one more call, keeps of a register.
-use Rattle.std.proofs.Common.{option_map, ◌+◌, ◌^◌, IfSome, nat_lt, ◌≡◌, ℕ, zero, suc, pred, ◌<◌, ◌≤◌, ◌⊎◌, Bool, true, false, ◌||◌, cond, List, [], ◌∷◌, ◌++◌, length, set, get_or, is_some, Option, Some, None, refl, sym, subst, ap, ◌∙◌, inl, inr, arith, slice_get}
+use Rattle.std.proofs.Common.{option_map, ◌+◌, ◌^◌, IfSome, nat_lt, ◌≡◌, ℕ, zero, suc, ◌<◌, ◌≤◌, ◌⊎◌, Bool, true, false, ◌||◌}
+use Rattle.std.proofs.Common.{List, [], ◌∷◌, ◌++◌, length, set, Option, Some, None, refl, sym, subst, ap, ◌∙◌, inl, inr}
+use Rattle.std.proofs.Common.{arith, slice_get}
 use Rattle.std.specs.List.{list_any}
 use Rattle.std.proofs.lemmas.Bool.Decides.{nat_tests}
 use Rattle.std.proofs.lemmas.List.{length_push}
@@ -15,29 +17,26 @@ use Rattle.mail.specs.declared.message.Message.{Message}
 use Rattle.phase.specs.Phase.{Phase}
 use Rattle.record.specs.declared.call.CallKind.{CallKind}
 use Rattle.record.specs.declared.stage.Stage.{Stage}
-use Rattle.record.specs.declared.stage.Want.{Want}
-use Rattle.record.specs.declared.stage.Want.TheVariants as want
 use Rattle.record.specs.Records.{Call, Object, no_layout, layout_at}
-use Rattle.record.specs.Courses.{due, passed, stage_after}
+use Rattle.record.specs.Courses.{passed, stage_after}
 use Rattle.record.specs.Legal.{first_stage, source_of}
 use Rattle.record.specs.Sound.{IsSound}
 use Rattle.record.specs.Steps.{with_phase, request_to, requests, new_phase}
-use Rattle.record.specs.Wants.{current_phase, is_fetch, want_to_begin, want_for, want_after, want_of, value_len}
 use Rattle.register.specs.Position.{Position, layouts_of, banks_of}
-use Rattle.register.specs.Tracked.{Tracked, calls_of, tracked_want, with_begun}
+use Rattle.register.specs.Tracked.{Tracked, calls_of, with_begun}
 use Rattle.register.specs.State.{Contents, object_of, state_of}
 use Rattle.register.proofs.Short.{few_have_room, mail_short}
 use Rattle.register.specs.Kept.{HasRoomIfFew, IsKept}
 use Rattle.register.specs.Causes.{call_at, if_call, unless}
-use Rattle.register.specs.View.{want_at}
 use Rattle.register.proofs.Lists.{map_set, length_map}
-use Rattle.register.proofs.Keeps.{call_found, call_kept, open_moves_set}
+use Rattle.register.proofs.Keeps.{call_kept, open_moves_set}
 use Rattle.tag.specs.declared.refusal.Refusal.{Refusal}
 use Rattle.tag.specs.declared.refusal.Refusal.TheVariants.{NoCall, Full}
 
 -- Parts that are read
 
-pub layout_is : (positions : List Position) (mail : List Message) (calls : List Tracked) (position : ℕ) (p : Position) → slice_get positions position ≡ Some p →
+pub layout_is : (positions : List Position) (mail : List Message) (calls : List Tracked) (position : ℕ) (p : Position)
+    → slice_get positions position ≡ Some p →
     layout_at (object_of positions mail calls) position ≡ p.layout
 layout_is positions mail calls position p at =
     get_or_from_slice_get (layouts_of positions) position p.layout no_layout
@@ -47,37 +46,6 @@ pub no_call : (object : Object) (number : ℕ) → (number ≡ 0) ⊎ (length ob
 no_call object zero none = refl
 no_call object (suc index) (inl none) = absurd (cc)
 no_call object (suc index) (inr past) = slice_get_past object.calls index (omega arith)
-
--- Wants
-
-want_to_begin_same : (a b : Object) (kind : Kind) (position : ℕ) → layout_at a position ≡ layout_at b position →
-    want_to_begin kind (layout_at a position) ≡ want_to_begin kind (layout_at b position)
-want_to_begin_same a b kind position e = ap (want_to_begin kind) e
-
-want_for_same : (a b : Object) (next : Option (Kind × ℕ)) → a.layouts ≡ b.layouts → want_for a next ≡ want_for b next
-want_for_same a b None e = refl
-want_for_same a b (Some next) e = ap (λ ls. want_to_begin next.0 (get_or ls next.1 no_layout)) e
-
-pub want_after_same : (a b : Object) (next : Option (Kind × ℕ)) (settled : Option (List ℕ)) (phase : Option Phase) → a.layouts ≡ b.layouts →
-    want_after a next settled phase ≡ want_after b next settled phase
-want_after_same a b next settled None e = refl
-want_after_same a b next settled (Some phase) e = go (is_some phase.end) (is_fetch phase.kind) (is_some settled)
-  where
-    go : (c d s : Bool) →
-        cond c (cond d (cond s (want_for a next) (want.Settle (layout_at a phase.position).k (value_len phase.replies))) (want_for a next)) want.Replies
-        ≡ cond c (cond d (cond s (want_for b next) (want.Settle (layout_at b phase.position).k (value_len phase.replies))) (want_for b next)) want.Replies
-    go false d s = refl
-    go true false s = want_for_same a b next e
-    go true true true = want_for_same a b next e
-    go true true false = ap (λ ls. want.Settle (get_or ls phase.position no_layout).k (value_len phase.replies)) e
-
--- what is said to be wanted by the kept stage is what the record says
-pub want_is : (c : Contents) → IsKept c → (index : ℕ) (t : Tracked) → slice_get c.calls index ≡ Some t →
-    tracked_want (object_of c.positions [] []) t ≡ want_of (state_of c).object index t.call
-want_is c kept index t at =
-    ap (λ w. cond (is_some t.call.answered) want.Done w)
-    (want_after_same (object_of c.positions [] []) (state_of c).object (due t.stage) t.call.settled (current_phase t.call.phases) refl
-    ∙ ap (λ s. want_after (state_of c).object (due s) t.call.settled (current_phase t.call.phases)) (kept.staged index t at))
 
 -- Requests
 
@@ -91,10 +59,18 @@ request_plain (Fetch tag) a b plain = refl
 
 -- requests that bring no piece
 pub requests_plain : (call phase : ℕ) (kind : Kind) (position : ℕ) (servers : List ℕ) (member : ℕ) (f g : ℕ → Piece) →
-    ((tag : Tag) → kind ≡ PreWrite tag → ⊥) → requests call phase kind position servers member f ≡ requests call phase kind position servers member g
+    ((tag : Tag) → kind ≡ PreWrite tag → ⊥) → requests call phase kind position servers member f
+    ≡ requests call phase kind position servers member g
 requests_plain call phase kind position [] member f g plain = refl
 requests_plain call phase kind position (server ∷ servers) member f g plain =
-    ap (λ q. record { call = call; phase = phase; position = position; member = member; body = Rattle.mail.specs.declared.message.Body.TheVariants.Request q }
+    ap (λ q. record {
+      call = call;
+      phase = phase;
+      position = position;
+      member = member;
+      body =
+          Rattle.mail.specs.declared.message.Body.TheVariants.Request q;
+    }
     ∷ requests call phase kind position servers (suc member) f) (request_plain kind (f member) (g member) plain)
     ∙ ap (λ ms. record {
       call = call;
@@ -138,7 +114,8 @@ any_push p (x ∷ xs) y = ap (λ b. p x || b) (any_push p xs y) ∙ go (p x) (li
 pub stage_push : (kind : CallKind) (number : ℕ) (phases : List Phase) (stage : Stage) (next : Phase) → next.end ≡ None →
     stage_after kind number stage (phases ++ next ∷ []) ≡ stage_after kind number stage phases
 stage_push kind number [] stage next none = ap (λ o. passed kind number stage o next.replies) none
-stage_push kind number (phase ∷ phases) stage next none = stage_push kind number phases (passed kind number stage phase.end phase.replies) next none
+stage_push kind number (phase ∷ phases) stage next none =
+    stage_push kind number phases (passed kind number stage phase.end phase.replies) next none
 
 -- the call begins the phase that is due
 abbrev pub with_due : Contents → (index : ℕ) → Tracked → Kind → (position : ℕ) → Layout → (now : ℕ) → (ℕ → Piece) → Contents
@@ -150,13 +127,15 @@ with_due c index t kind position layout now piece = record c {
 
 pub with_due_is : (c : Contents) (index : ℕ) (t : Tracked) (kind : Kind) (position : ℕ) (layout : Layout) (now : ℕ) (piece : ℕ → Piece) →
     layout_at (state_of c).object position ≡ layout →
-    with_phase (state_of c).object index t.call kind position now piece ≡ (state_of (with_due c index t kind position layout now piece)).object
+    with_phase (state_of c).object index t.call kind position now piece
+    ≡ (state_of (with_due c index t kind position layout now piece)).object
 with_due_is c index t kind position layout now piece same =
     ap (λ (l : Layout). record {
       layouts = layouts_of c.positions;
       banks = banks_of c.positions;
       mail = c.mail ++ requests (suc index) (suc (length t.call.phases)) kind position l.members 0 piece;
-      calls = set (calls_of c.calls) index (record t.call { phases = t.call.phases ++ new_phase (suc index) (suc (length t.call.phases)) kind position l now ∷ [] });
+      calls = set (calls_of c.calls) index (record t.call
+          { phases = t.call.phases ++ new_phase (suc index) (suc (length t.call.phases)) kind position l now ∷ [] });
     }) same
     ∙ ap (λ cs. record {
       layouts = layouts_of c.positions;
@@ -165,27 +144,21 @@ with_due_is c index t kind position layout now piece same =
       calls = cs;
     }) (sym (map_set (λ (u : Tracked). u.call) c.calls index (with_begun t (suc index) kind position layout now)))
 
-pub with_due_kept : (c : Contents) (index : ℕ) (t : Tracked) (kind : Kind) (position : ℕ) (layout : Layout) (now : ℕ) (piece : ℕ → Piece) → IsKept c →
+pub with_due_kept : (c : Contents) (index : ℕ) (t : Tracked) (kind : Kind) (position : ℕ) (layout : Layout) (now : ℕ) (piece : ℕ → Piece)
+    → IsKept c →
     slice_get c.calls index ≡ Some t → length t.call.phases < MOST_PHASES →
-    IsSound fragment (state_of (with_due c index t kind position layout now piece)).object now → IsKept (with_due c index t kind position layout now piece)
+    IsSound fragment (state_of (with_due c index t kind position layout now piece)).object now
+    → IsKept (with_due c index t kind position layout now piece)
 with_due_kept c index t kind position layout now piece kept at few sound =
     call_kept c index now t (with_begun t (suc index) kind position layout now)
     (c.mail ++ requests (suc index) (suc (length t.call.phases)) kind position layout.members 0 piece) c.is_moving kept at refl
-    (kept.staged index t at ∙ sym (stage_push t.call.kind (suc index) t.call.phases (first_stage t.call.kind (source_of (state_of c).object index)) next refl))
+    (kept.staged index t at ∙ sym (stage_push t.call.kind (suc index) t.call.phases
+    (first_stage t.call.kind (source_of (state_of c).object index)) next refl))
     (subst (λ n. n ≤ MOST_PHASES) (sym (length_push t.call.phases next)) (omega (arith, few)))
     (kept.moving ∙ sym (open_moves_set c.calls index t (with_begun t (suc index) kind position layout now) at refl refl)) sound
   where
     next : Phase
     next = new_phase (suc index) (suc (length t.call.phases)) kind position layout now
-
--- a call that is found by its number
-abbrev pub IsCallAt : Contents → (number index : ℕ) → Tracked → Type 0
-IsCallAt c number index t = (suc index ≡ number) × (slice_get c.calls index ≡ Some t)
-
-pub if_call_is : (c : Contents) (number index : ℕ) (t : Tracked) (cause : Call → Option Refusal) → IsCallAt c number index t →
-    if_call (call_at (state_of c).object number) cause ≡ cause t.call
-if_call_is c number index t cause at =
-    subst (λ n. if_call (call_at (state_of c).object n) cause ≡ cause t.call) at.0 (ap (λ o. if_call o cause) (call_found c.calls index t at.1))
 
 -- a number without a call
 pub if_no_call : (c : Contents) (number : ℕ) (cause : Call → Option Refusal) → (number ≡ 0) ⊎ (length c.calls < number) →
@@ -197,28 +170,20 @@ if_no_call c number cause none =
     go (inl zero_is) = inl zero_is
     go (inr past) = inr (subst (λ n. n < number) (sym (length_map (λ (u : Tracked). u.call) c.calls)) past)
 
--- what a call of this number wants
-pub wants_at : (c : Contents) (number index : ℕ) (t : Tracked) (w : Want) → IsKept c → IsCallAt c number index t →
-    w ≡ tracked_want (object_of c.positions [] []) t → want_of (state_of c).object (pred number) t.call ≡ w
-wants_at c number index t w kept at is =
-    subst (λ n. want_of (state_of c).object (pred n) t.call ≡ w) at.0 (sym (is ∙ want_is c kept index t at.1))
-
-pub want_at_is : (c : Contents) (number index : ℕ) (t : Tracked) (w : Want) → IsKept c → IsCallAt c number index t →
-    w ≡ tracked_want (object_of c.positions [] []) t → want_at (state_of c).object number ≡ Some w
-want_at_is c number index t w kept at is =
-    subst (λ n. want_at (state_of c).object n ≡ Some w) at.0
-    (ap (λ o. option_map (λ call. want_of (state_of c).object index call) o) (call_found c.calls index t at.1) ∙ ap Some (sym (is ∙ want_is c kept index t at.1)))
-
--- whatever finds a call at a place finds the same
-pub same_found : (calls : List Tracked) (index : ℕ) (t u : Tracked) → slice_get calls index ≡ Some t → slice_get calls index ≡ Some u → t ≡ u
-same_found calls index t u a b = same_Some t u (sym a ∙ b)
+pub if_no_such : {c : Contents} {number : ℕ} {calls : List Tracked} {refusal : Refusal} → IsKept c → calls ≡ c.calls
+    → (refusal ≡ NoCall) × ((number ≡ 0) ⊎ (length calls < number)) → (cause : Call → Option Refusal)
+    → if_call (call_at (state_of c).object number) cause ≡ Some refusal
+if_no_such {c = c} {number = number} kept same refused cause =
+    if_no_call c number cause (subst (λ (xs : List Tracked). (number ≡ 0) ⊎ (length xs < number)) same refused.1) ∙ ap Some (sym refused.0)
 
 -- the phase that is due has a next position in the machine's numbers
-pub below_limit : (count : ℕ) (next : Option (Kind × ℕ)) → IfSome next (λ asked. asked.1 < count) → count ≤ MOST_POSITIONS → IfSome next (λ asked. asked.1 + 1 < 2 ^ 32)
+pub below_limit : (count : ℕ) (next : Option (Kind × ℕ)) → IfSome next (λ asked. asked.1 < count) → count ≤ MOST_POSITIONS
+    → IfSome next (λ asked. asked.1 + 1 < 2 ^ 32)
 below_limit count None below few = tt
 below_limit count (Some next) below few = omega (arith, below, few)
 
-pub due_below : (count : ℕ) (next : Option (Kind × ℕ)) (kind : Kind) (position : ℕ) → IfSome next (λ asked. asked.1 < count) → next ≡ Some (kind, position) →
+pub due_below : (count : ℕ) (next : Option (Kind × ℕ)) (kind : Kind) (position : ℕ) → IfSome next (λ asked. asked.1 < count)
+    → next ≡ Some (kind, position) →
     position < count
 due_below count asked kind position below is = subst (λ o. IfSome o (λ asked. asked.1 < count)) is below
 

@@ -1,6 +1,7 @@
 -- A call of a register, found by its number.
-use Rattle.std.proofs.Common.{◌≡◌, ℕ, suc, pred, ◌<◌, false, cond, is_some, List, [], ◌∷◌, length, get_or, slice_get, Option, Some, None, sym, ap, ◌∙◌, refl}
-use Rattle.std.proofs.lemmas.Option.{slice_get_read}
+use Rattle.std.proofs.Common.{◌≡◌, ℕ, suc, pred, ◌<◌, ◌≤◌, false, cond, is_some, List, [], ◌∷◌, length, get_or, slice_get, Option, Some}
+use Rattle.std.proofs.Common.{None, option_map, sym, ap, subst, ◌∙◌, refl}
+use Rattle.std.proofs.lemmas.Option.{slice_get_read, same_Some}
 use Rattle.phase.specs.Phase.{Phase}
 use Rattle.record.specs.Courses.{due}
 use Rattle.record.specs.Legal.{stage_of, BeginsAt}
@@ -8,11 +9,17 @@ use Rattle.record.specs.Wants.{current_phase, want_of, want_after}
 use Rattle.record.specs.declared.stage.Stage.{Stage}
 use Rattle.record.specs.declared.stage.Want.{Want}
 use Rattle.record.specs.declared.stage.Want.TheVariants as want
-use Rattle.register.specs.Causes.{call_at, is_settle}
+use Rattle.tag.specs.declared.limits.TheConstants.{MOST_POSITIONS}
+use Rattle.tag.specs.declared.refusal.Refusal.{Refusal}
+use Rattle.record.specs.Records.{Call}
+use Rattle.register.specs.Causes.{call_at, if_call, is_settle}
+use Rattle.register.specs.Position.{Position}
 use Rattle.register.specs.Kept.{IsKept}
-use Rattle.register.specs.State.{Contents, object_of, state_of}
+use Rattle.register.specs.State.{Contents, State, object_of, state_of}
 use Rattle.register.specs.Tracked.{Tracked, IsBelow, tracked_want}
-use Rattle.register.proofs.Keeps.{call_found, is_below}
+use Rattle.register.specs.View.{want_at}
+use Rattle.register.proofs.Keeps.{call_found, is_below, few_positions}
+use Rattle.register.proofs.Lists.{found_within}
 
 -- the call of this number stands at this place of what is kept
 pub record IsFound (c : Contents) (number index : ℕ) (t : Tracked) : Type 0 where
@@ -20,7 +27,7 @@ pub record IsFound (c : Contents) (number index : ℕ) (t : Tracked) : Type 0 wh
   pub named : suc index ≡ number
   pub there : slice_get c.calls index ≡ Some t
 
-module _ (c : Contents) (number index : ℕ) (t : Tracked) (found : IsFound c number index t) where
+module _ {c : Contents} {number index : ℕ} {t : Tracked} (found : IsFound c number index t) where
   pub at : slice_get (state_of c).object.calls index ≡ Some t.call
   at = call_found c.calls index t found.there
 
@@ -37,7 +44,8 @@ module _ (c : Contents) (number index : ℕ) (t : Tracked) (found : IsFound c nu
   staged = found.kept.staged index t found.there ∙ ap (λ i. stage_of (state_of c).object i t.call) place
 
   pub wants : tracked_want (object_of c.positions [] []) t ≡ want_of (state_of c).object (pred number) t.call
-  wants = ap (λ (s : Stage). cond (is_some t.call.answered) want.Done (want_after (state_of c).object (due s) t.call.settled (current_phase t.call.phases))) staged
+  wants = ap (λ (s : Stage). cond (is_some t.call.answered) want.Done
+      (want_after (state_of c).object (due s) t.call.settled (current_phase t.call.phases))) staged
 
   pub below : IsBelow (length c.positions) t
   below = is_below c found.kept index t found.there
@@ -55,14 +63,57 @@ module _ (c : Contents) (number index : ℕ) (t : Tracked) (found : IsFound c nu
           last q [] e = absurd (cc)
           last q (r ∷ rs) e = last r rs e
 
+  -- whatever is read again at its place is the call
+  pub same : {old : Tracked} → old ≡ get_or c.calls index old → t ≡ old
+  same {old = old} read =
+      same_Some t old (sym found.there
+      ∙ slice_get_read c.calls (length c.calls) index old refl (found_within c.calls index t found.there) read)
+
+  pub again : {old : Tracked} → old ≡ get_or c.calls index old → IsFound c number index old
+  again read = subst (λ (u : Tracked). IsFound c number index u) (same read) found
+
+  pub caused : (cause : Call → Option Refusal) → if_call (call_at (state_of c).object number) cause ≡ cause t.call
+  caused cause = ap (λ o. if_call o cause) at_number
+
+  -- what is said to be wanted by the kept stage is what the record says
+  pub wanted : {positions : List Position} {w : Want} → w ≡ tracked_want (object_of positions [] []) t → positions ≡ c.positions
+      → want_of (state_of c).object (pred number) t.call ≡ w
+  wanted is same = sym (is ∙ ap (λ ps. tracked_want (object_of ps [] []) t) same ∙ wants)
+
+  pub current_again : {old : Tracked} {current : Option Phase} → old ≡ get_or c.calls index old → current ≡ current_phase old.call.phases
+      → current_phase t.call.phases ≡ current
+  current_again read is = ap (λ (u : Tracked). current_phase u.call.phases) (same read) ∙ sym is
+
+  pub below_those : {positions : List Position} → positions ≡ c.positions → IsBelow (length positions) t
+  below_those same = subst (λ n. IsBelow n t) (sym (ap length same)) below
+
+-- the call was read, and it wants this
+pub record IsWanting (c : Contents) (number index : ℕ) (t : Tracked) (w : Want) : Type 0 where
+  pub found : IsFound c number index t
+  pub wants : want_of (state_of c).object (pred number) t.call ≡ w
+
+pub wanting : {c : Contents} {number index : ℕ} {t : Tracked} {positions : List Position} {v w : Want} → IsFound c number index t
+    → v ≡ tracked_want (object_of positions [] []) t → positions ≡ c.positions → v ≡ w → IsWanting c number index t w
+wanting found is same matched = record { found = found; wants = wanted found is same ∙ matched }
+
+pub want_at_is : {c : Contents} {number index : ℕ} {t : Tracked} {w : Want} → IsWanting c number index t w
+    → want_at (state_of c).object number ≡ Some w
+want_at_is {c = c} {number = number} w =
+    ap (option_map (λ call. want_of (state_of c).object (pred number) call)) (at_number w.found) ∙ ap Some w.wants
+
 -- a call that is read from the calls is found
-pub is_found : (c : Contents) (number index : ℕ) (t : Tracked) → IsKept c → suc index ≡ number → index < length c.calls → t ≡ get_or c.calls index t
-    → IsFound c number index t
-is_found c number index t kept named within read = record {
+pub is_found : {c : Contents} {number index : ℕ} {t : Tracked} {calls : List Tracked} → IsKept c
+    → (suc index ≡ number) × (index < length calls)
+    → calls ≡ c.calls → t ≡ get_or c.calls index t → IsFound c number index t
+is_found {c = c} {index = index} {t = t} kept place calls_are read = record {
   kept = kept;
-  named = named;
-  there = slice_get_read c.calls (length c.calls) index t refl within read;
+  named = place.0;
+  there = slice_get_read c.calls (length c.calls) index t refl (subst (λ (xs : List Tracked). index < length xs) calls_are place.1) read;
 }
+
+-- there are not too many positions
+pub few_those : {c : Contents} {positions : List Position} → IsKept c → positions ≡ c.positions → length positions ≤ MOST_POSITIONS
+few_those {c = c} kept same = subst (λ (ps : List Position). length ps ≤ MOST_POSITIONS) (sym same) (few_positions c kept)
 
 pub not_settle : (w : Want) → ((k len : ℕ) → w ≡ want.Settle k len → ⊥) → is_settle w ≡ false
 not_settle want.Replies no_settle = refl
@@ -76,9 +127,6 @@ pub not_some : {X : Type 0} (o : Option X) → ((x : X) → o ≡ Some x → ⊥
 not_some None no_some = refl
 not_some (Some x) no_some = absurd (no_some x refl)
 
--- what is read twice at a place is the same
-pub same_read : {X : Type 0} (xs : List X) (i : ℕ) (x y : X) → i < length xs → x ≡ get_or xs i x → y ≡ get_or xs i y → x ≡ y
-same_read {X = X} xs i x y within a b = some_same x y (sym (slice_get_read xs (length xs) i x refl within a) ∙ slice_get_read xs (length xs) i y refl within b)
-  where
-    some_same : (x y : X) → Some x ≡ Some y → x ≡ y
-    some_same x y e = cc
+-- what comes after what a caller sees comes after what is kept
+pub later : (c : Contents) {s : State} {now : ℕ} → state_of c ≡ s → s.last < now → c.last < now
+later c {now = now} view after = subst (λ (s : State). s.last < now) (sym view) after

@@ -1,5 +1,6 @@
 -- What each step keeps of a register, from the laws of sound records.
-use Rattle.std.proofs.Common.{◌≡◌, ℕ, zero, suc, ◌<◌, ◌≤◌, ◌⊎◌, ◌&&◌, not, is_some, Bool, List, [], ◌∷◌, length, set, take, slice_get, Option, Some, None, IfSome, sym, ap, subst, ◌∙◌, inl, inr, refl}
+use Rattle.std.proofs.Common.{◌≡◌, ℕ, zero, suc, ◌<◌, ◌≤◌, ◌⊎◌, ◌&&◌, not, is_some, Bool, List, [], ◌∷◌, length, set, take, slice_get}
+use Rattle.std.proofs.Common.{Option, Some, None, IfSome, sym, ap, subst, ◌∙◌, inl, inr, refl}
 use Rattle.std.specs.List.{AllByRecursion}
 use Rattle.tag.specs.declared.limits.TheConstants.{MOST_CALLS, MOST_PHASES, MOST_POSITIONS}
 use Rattle.bank.specs.declared.kind.Kind.{Kind}
@@ -14,14 +15,15 @@ use Rattle.record.specs.May.{MayStep}
 use Rattle.record.specs.Sound.{IsSound}
 use Rattle.record.specs.Steps.{Step}
 use Rattle.record.specs.Wants.{current_phase}
-use Rattle.record.proofs.Due.{due_there}
-use Rattle.record.proofs.Keeping.{get_set, moves_set}
-use Rattle.record.proofs.Running.{step_sound}
+use Rattle.record.proofs.Sound.Due.{due_there}
+use Rattle.record.proofs.Lists.{get_set}
+use Rattle.record.proofs.Sound.Changing.{moves_set}
+use Rattle.record.proofs.Sound.Running.{step_sound}
 use Rattle.register.specs.Position.{Position}
 use Rattle.register.specs.Tracked.{Tracked, calls_of, IsBelow}
 use Rattle.register.specs.State.{Contents, object_of, state_of, made}
 use Rattle.register.specs.Kept.{IsKept, AreStaged, is_open_move, has_open_move}
-use Rattle.record.proofs.Determined.{fragments_are_code}
+use Rattle.record.proofs.Atomic.Values.Determined.{fragments_are_code}
 use Rattle.register.proofs.Lists.{found_map, map_set, length_map, length_set, all_found, all_put, any_put}
 
 -- a step that may be made leaves a sound record
@@ -30,7 +32,8 @@ pub steps_on : (c : Contents) (now : ℕ) (step : Step) → c.last < now → IsK
 steps_on c now step after kept may = step_sound fragment (state_of c).object c.last now fragments_are_code after kept.sound step may
 
 -- a call of a register is one of the record
-pub call_found : (calls : List Tracked) (index : ℕ) (t : Tracked) → slice_get calls index ≡ Some t → slice_get (calls_of calls) index ≡ Some t.call
+pub call_found : (calls : List Tracked) (index : ℕ) (t : Tracked) → slice_get calls index ≡ Some t
+    → slice_get (calls_of calls) index ≡ Some t.call
 call_found calls index t at = found_map (λ (t : Tracked). t.call) calls index t at
 
 -- a step that changes the mail alone
@@ -61,17 +64,22 @@ staged_set layouts mail later calls index t new at same staged stage j u e = go 
         ∙ moves_set (calls_of calls) index n t.call new.call (call_found calls index t at) same
 
     moved : (j : ℕ) (u : Call) → stage_of (object_of layouts mail calls) j u ≡ stage_of (object_of layouts later (set calls index new)) j u
-    moved j u = ap (λ m. Rattle.record.specs.Courses.stage_after u.kind (suc j) (Rattle.record.specs.Legal.first_stage u.kind m) u.phases) (sym (sources j))
+    moved j u = ap (λ m. Rattle.record.specs.Courses.stage_after u.kind (suc j) (Rattle.record.specs.Legal.first_stage u.kind m) u.phases)
+        (sym (sources j))
 
-    go : ((j ≡ index) × (new ≡ u)) ⊎ (slice_get calls j ≡ Some u) → u.stage ≡ stage_of (object_of layouts later (set calls index new)) j u.call
+    go : ((j ≡ index) × (new ≡ u)) ⊎ (slice_get calls j ≡ Some u)
+        → u.stage ≡ stage_of (object_of layouts later (set calls index new)) j u.call
     go (inl here) = subst (λ (u : Tracked). u.stage ≡ stage_of (object_of layouts later (set calls index new)) j u.call) here.1
-        (subst (λ j. new.stage ≡ stage_of (object_of layouts later (set calls index new)) j new.call) (sym here.0) (stage ∙ moved index new.call))
+        (subst (λ j. new.stage ≡ stage_of (object_of layouts later (set calls index new)) j new.call) (sym here.0)
+        (stage ∙ moved index new.call))
     go (inr there) = staged j u there ∙ moved j u.call
 
 -- a step that changes one call, and the mail
-pub call_kept : (c : Contents) (index now : ℕ) (t new : Tracked) (mail : List Message) (is_moving : Bool) → IsKept c → slice_get c.calls index ≡ Some t
+pub call_kept : (c : Contents) (index now : ℕ) (t new : Tracked) (mail : List Message) (is_moving : Bool) → IsKept c
+    → slice_get c.calls index ≡ Some t
     → new.call.kind ≡ t.call.kind → new.stage ≡ stage_of (state_of c).object index new.call → length new.call.phases ≤ MOST_PHASES
-    → is_moving ≡ has_open_move (calls_of (set c.calls index new)) → IsSound fragment (object_of c.positions mail (set c.calls index new)) now
+    → is_moving ≡ has_open_move (calls_of (set c.calls index new))
+    → IsSound fragment (object_of c.positions mail (set c.calls index new)) now
     → IsKept (record c { mail = mail; calls = set c.calls index new; is_moving = is_moving; last = now })
 call_kept c index now t new mail is_moving kept at kind stage few moving sound = record {
   sound = sound;
@@ -101,7 +109,8 @@ open_moves_set calls index t new at kind answered =
 -- Positions
 
 -- the current phase of a call, by its place
-pub current_found : (phases : List Phase) (phase : Phase) → current_phase phases ≡ Some phase → (place : ℕ) × (slice_get phases place ≡ Some phase)
+pub current_found : (phases : List Phase) (phase : Phase) → current_phase phases ≡ Some phase
+    → (place : ℕ) × (slice_get phases place ≡ Some phase)
 current_found [] phase e = absurd (cc)
 current_found (p ∷ []) phase e = (zero, e)
 current_found (p ∷ q ∷ ps) phase e = let rest = current_found (q ∷ ps) phase e in (suc rest.0, rest.1)
@@ -111,9 +120,12 @@ pub is_below : (c : Contents) → IsKept c → (index : ℕ) (t : Tracked) → s
 is_below c kept index t at = record {
   current = λ phase e.
       let found = current_found t.call.phases phase e in
-      let truth : IsTruePhase (state_of c).object phase = all_found (IsTruePhase (state_of c).object) t.call.phases found.0 phase ((kept.sound.legal.calls index t.call here).phases) found.1 in
+      let truth : IsTruePhase (state_of c).object phase =
+      all_found (IsTruePhase (state_of c).object) t.call.phases found.0 phase
+      ((kept.sound.legal.calls index t.call here).phases) found.1 in
       subst (λ n. phase.position < n) count truth.placed;
-  due = subst (λ stage. IfSome (due stage) (λ asked. asked.1 < length c.positions)) (sym (kept.staged index t at)) (when (due (stage_of (state_of c).object index t.call)) refl);
+  due = subst (λ stage. IfSome (due stage) (λ asked. asked.1 < length c.positions)) (sym (kept.staged index t at))
+      (when (due (stage_of (state_of c).object index t.call)) refl);
 }
   where
     here : slice_get (state_of c).object.calls index ≡ Some t.call
@@ -124,7 +136,8 @@ is_below c kept index t at = record {
 
     when : (o : Option (Kind × ℕ)) → due (stage_of (state_of c).object index t.call) ≡ o → IfSome o (λ asked. asked.1 < length c.positions)
     when None e = tt
-    when (Some asked) e = subst (λ n. asked.1 < n) count (due_there (state_of c).object kept.sound.legal kept.sound.shape index t.call here asked.0 asked.1 e)
+    when (Some asked) e = subst (λ n. asked.1 < n) count
+        (due_there (state_of c).object kept.sound.legal kept.sound.shape index t.call here asked.0 asked.1 e)
 
 -- there are not too many positions
 pub few_positions : (c : Contents) → IsKept c → length c.positions ≤ MOST_POSITIONS

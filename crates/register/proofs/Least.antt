@@ -1,18 +1,20 @@
 -- Of the pieces that a phase took, those of least points.
-use Rattle.std.proofs.Common.{◌≡◌, ℕ, zero, suc, pred, ◌<◌, ◌≤◌, List, [], ◌∷◌, ◌++◌, length, take, Some, None, sym, ap, subst, ◌∙◌, refl, arith}
+use Rattle.std.proofs.Common.{◌≡◌, ℕ, zero, suc, ◌<◌, ◌≤◌, List, [], ◌∷◌, ◌++◌, length, take, Some, None, sym, ap, subst, ◌∙◌, refl}
+use Rattle.std.proofs.Common.{arith}
 use Rattle.tag.specs.declared.refusal.Refusal.TheVariants.{NotNow}
 use Rattle.encoder.specs.declared.fragment.Piece.{Piece}
 use Rattle.phase.specs.declared.phase.Taken.{Taken}
 use Rattle.phase.specs.Phase.{Phase}
 use Rattle.record.specs.Records.{layout_at}
-use Rattle.record.specs.Wants.{current_phase, want_of}
+use Rattle.record.specs.Wants.{current_phase}
+use Rattle.record.specs.declared.stage.Want.{Want}
 use Rattle.record.specs.declared.stage.Want.TheVariants as want
-use Rattle.register.specs.Causes.{pieces_cause, if_call, unless, is_settle}
+use Rattle.register.specs.Causes.{pieces_cause, unless, is_settle}
 use Rattle.register.specs.Coding.{piece_by, listed, pieces_below, least_of}
-use Rattle.register.specs.State.{Contents, object_of, state_of}
-use Rattle.register.specs.Tracked.{Tracked, tracked_want}
+use Rattle.register.specs.State.{Contents, state_of}
+use Rattle.register.specs.Tracked.{Tracked}
 use Rattle.register.specs.View.{pieces_at, pieces_of}
-use Rattle.register.proofs.Found.{IsFound, at_number, wants}
+use Rattle.register.proofs.Found.{IsWanting, at_number, caused}
 use Rattle.register.proofs.Settling.{k_is}
 use Rattle.register.proofs.Viewed.{truth}
 
@@ -36,34 +38,37 @@ nil_end [] = refl
 nil_end (x ∷ xs) = ap (λ ys. x ∷ ys) (nil_end xs)
 
 -- one more member
-pub least_pushed : (k member : ℕ) (replies : List Taken) (items : List Piece) (piece : Piece) → items ≡ take k (pieces_below replies member) → length items < k
+pub least_pushed : (k member : ℕ) (replies : List Taken) (items : List Piece) (piece : Piece) → items ≡ take k (pieces_below replies member)
+    → length items < k
     → Some piece ≡ piece_by replies member → items ++ piece ∷ [] ≡ take k (pieces_below replies (suc member))
 least_pushed k member replies items piece is less by =
     ap (λ xs. xs ++ piece ∷ []) is
     ∙ sym (take_push k (pieces_below replies member) piece (subst (λ (xs : List Piece). length xs < k) is less))
     ∙ ap (λ o. take k (pieces_below replies member ++ listed o)) by
 
-pub least_full : (k member : ℕ) (replies : List Taken) (items : List Piece) → items ≡ take k (pieces_below replies member) → k ≤ length items
+pub least_full : (k member : ℕ) (replies : List Taken) (items : List Piece) → items ≡ take k (pieces_below replies member)
+    → k ≤ length items
     → items ≡ take k (pieces_below replies (suc member))
 least_full k member replies items is full =
-    is ∙ sym (take_full k (pieces_below replies member) (listed (piece_by replies member)) (subst (λ (xs : List Piece). k ≤ length xs) is full))
+    is ∙ sym (take_full k (pieces_below replies member) (listed (piece_by replies member))
+    (subst (λ (xs : List Piece). k ≤ length xs) is full))
 
-pub least_none : (k member : ℕ) (replies : List Taken) (items : List Piece) → items ≡ take k (pieces_below replies member) → None ≡ piece_by replies member
+pub least_none : (k member : ℕ) (replies : List Taken) (items : List Piece) → items ≡ take k (pieces_below replies member)
+    → None ≡ piece_by replies member
     → items ≡ take k (pieces_below replies (suc member))
 least_none k member replies items is none =
     is ∙ ap (take k) (sym (nil_end (pieces_below replies member))) ∙ ap (λ o. take k (pieces_below replies member ++ listed o)) none
 
-module _ (c : Contents) (number index : ℕ) (t : Tracked) (found : IsFound c number index t) where
-  pub pieces_cause_is : pieces_cause (state_of c).object number ≡ unless (is_settle (tracked_want (object_of c.positions [] []) t)) NotNow None
-  pieces_cause_is =
-      ap (λ o. if_call o (λ call. unless (is_settle (want_of (state_of c).object (pred number) call)) NotNow None)) (at_number c number index t found)
-      ∙ ap (λ w. unless (is_settle w) NotNow None) (sym (wants c number index t found))
+pub pieces_cause_is : {c : Contents} {number index : ℕ} {t : Tracked} {w : Want} → IsWanting c number index t w
+    → pieces_cause (state_of c).object number ≡ unless (is_settle w) NotNow None
+pieces_cause_is wanted = caused wanted.found _ ∙ ap (λ v. unless (is_settle v) NotNow None) wanted.wants
 
-  pub pieces_is : (k len : ℕ) (phase : Phase) → tracked_want (object_of c.positions [] []) t ≡ want.Settle k len → current_phase t.call.phases ≡ Some phase
-      → pieces_at (state_of c).object number ≡ take k (pieces_below phase.replies phase.members)
-  pieces_is k len phase settles current =
-      ap (pieces_of (state_of c).object) (at_number c number index t found)
-      ∙ ap (least_of (state_of c).object) current
-      ∙ ap (λ k. take k (pieces_below phase.replies (length (layout_at (state_of c).object phase.position).members)))
-      (sym (k_is c number index t found (record { k = 0; pieces = []; value = [] }) k len phase settles current))
-      ∙ ap (λ n. take k (pieces_below phase.replies n)) (sym (truth c number index t found phase current).sized.members)
+pub pieces_are : {c : Contents} {number index : ℕ} {t : Tracked} {k len : ℕ} {phase : Phase}
+    → IsWanting c number index t (want.Settle k len)
+    → current_phase t.call.phases ≡ Some phase → pieces_at (state_of c).object number ≡ take k (pieces_below phase.replies phase.members)
+pieces_are {c = c} {t = t} {k = k} {phase = phase} wanted current =
+    ap (pieces_of (state_of c).object) (at_number wanted.found)
+    ∙ ap (least_of (state_of c).object) current
+    ∙ ap (λ k. take k (pieces_below phase.replies (length (layout_at (state_of c).object phase.position).members)))
+    (sym (k_is wanted current))
+    ∙ ap (λ n. take k (pieces_below phase.replies n)) (sym (truth wanted.found current).sized.members)

@@ -1,5 +1,6 @@
 -- Lists with one element changed, and sums over them.
-use Rattle.std.proofs.Common.{◌≡◌, ℕ, zero, suc, ◌+◌, ◌<◌, ◌≤◌, ◌||◌, Bool, List, [], ◌∷◌, ◌++◌, map, length, get_or, set, slice_get, Some, Result, Ok, Err, OnOk, sym, ap, subst, ◌∙◌, refl, arith}
+use Rattle.std.proofs.Common.{◌≡◌, ℕ, zero, suc, ◌+◌, ◌<◌, ◌≤◌, ◌||◌, Bool, List, [], ◌∷◌, ◌++◌, map, length, get_or, set, slice_get, Some}
+use Rattle.std.proofs.Common.{Result, Ok, Err, OnOk, sym, ap, subst, ◌∙◌, refl, arith}
 use Rattle.std.specs.List.{AllByRecursion, list_any, sum_by}
 use Rattle.std.proofs.lemmas.List.Sums.{sum_by-cons}
 
@@ -34,7 +35,8 @@ found_map f [] i x e = absurd (cc)
 found_map f (y ∷ ys) zero x e = ap Some (ap f (same_some y x e))
 found_map f (y ∷ ys) (suc i) x e = found_map f ys i x e
 
-pub found_of_map : {X Y : Type 0} (f : X → Y) (xs : List X) (i : ℕ) (y : Y) → slice_get (map f xs) i ≡ Some y → (x : X) × (slice_get xs i ≡ Some x) × (f x ≡ y)
+pub found_of_map : {X Y : Type 0} (f : X → Y) (xs : List X) (i : ℕ) (y : Y) → slice_get (map f xs) i ≡ Some y
+    → (x : X) × (slice_get xs i ≡ Some x) × (f x ≡ y)
 found_of_map f [] i y e = absurd (cc)
 found_of_map f (x ∷ xs) zero y e = (x, refl, same_some (f x) y e)
 found_of_map f (x ∷ xs) (suc i) y e = found_of_map f xs i y e

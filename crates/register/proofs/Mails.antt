@@ -25,7 +25,8 @@ repeated_is : (mail : List Message) (place : ℕ) (m : Message) → slice_get ma
 repeated_is mail place m there = ap (repeated_message mail) there
 
 pub repeating_is : (c : Contents) (place : ℕ) → place < length c.mail
-    → object_of c.positions (repeated c.mail place) c.calls ≡ on_message (state_of c).object (slice_get c.mail place) (λ message. repeated_object (state_of c).object message)
+    → object_of c.positions (repeated c.mail place) c.calls
+    ≡ on_message (state_of c).object (slice_get c.mail place) (λ message. repeated_object (state_of c).object message)
 repeating_is c place within =
     let there = found c.mail place within in
     ap (λ ms. object_of c.positions ms c.calls) (repeated_is c.mail place there.0 there.1)
@@ -35,8 +36,10 @@ pub repeating_keeps : (c : Contents) (place now : ℕ) → c.last < now → IsKe
     → IsKept (record c { mail = repeated c.mail place; last = now })
 repeating_keeps c place now after kept within =
     mail_kept c (repeated c.mail place) now kept
-    (subst (λ o. IsSound fragment o now) (sym (repeating_is c place within)) (steps_on c now (Step.Repeat place) after kept (found c.mail place within)))
+    (subst (λ o. IsSound fragment o now) (sym (repeating_is c place within))
+    (steps_on c now (Step.Repeat place) after kept (found c.mail place within)))
 
 pub repeat_cause_is : (mail : List Message) (place : ℕ) → place < length mail
     → if_message (slice_get mail place) (λ message. mail_cause (repeated mail place)) ≡ mail_cause (repeated mail place)
-repeat_cause_is mail place within = let there = found mail place within in ap (λ m. if_message m (λ message. mail_cause (repeated mail place))) there.1
+repeat_cause_is mail place within = let there = found mail place within in ap
+    (λ m. if_message m (λ message. mail_cause (repeated mail place))) there.1

@@ -1,5 +1,7 @@
 -- What the call of a move makes of a register.
-use Rattle.std.proofs.Common.{get_or, ◌≡◌, ℕ, zero, suc, pred, ◌-◌, ◌<◌, ◌≤◌, ◌⊎◌, Bool, true, false, ◌&&◌, ◌||◌, not, is_some, cond, List, [], ◌∷◌, ◌++◌, length, set, take, Option, Some, None, IsSome, refl, sym, subst, ap, ◌∙◌, inl, inr, arith, slice_get}
+use Rattle.std.proofs.Common.{get_or, ◌≡◌, ℕ, zero, suc, pred, ◌-◌, ◌<◌, ◌≤◌, ◌⊎◌, Bool, true, false, ◌&&◌, ◌||◌, not, is_some, cond, List}
+use Rattle.std.proofs.Common.{[], ◌∷◌, ◌++◌, length, set, take, Option, Some, None, IsSome, refl, sym, subst, ap, ◌∙◌, inl, inr, arith}
+use Rattle.std.proofs.Common.{slice_get}
 use Rattle.std.specs.List.{AllByRecursion}
 use Rattle.std.proofs.lemmas.List.Sums.{sum_by-cons}
 use Rattle.std.proofs.lemmas.Option.{slice_get_read, slice_get_within, get_or_from_slice_get}
@@ -10,8 +12,8 @@ use Rattle.bank.specs.Bank.{Bank, empty_piece}
 use Rattle.bank.specs.declared.kind.Kind.TheVariants.{Spread}
 use Rattle.bank.specs.declared.status.Status.TheVariants.{Pending}
 use Rattle.mail.specs.declared.message.Message.{Message}
-use Rattle.record.proofs.Beginning.{get_pushed}
-use Rattle.record.proofs.Keeping.{all_get, get_push}
+use Rattle.record.proofs.Sound.Beginning.{get_pushed}
+use Rattle.record.proofs.Lists.{all_get, get_push}
 use Rattle.record.specs.declared.call.CallKind.TheVariants.{Move}
 use Rattle.record.specs.declared.stage.Stage.TheVariants.{MoveSpread}
 use Rattle.record.specs.Courses.{stage_after}
@@ -56,16 +58,26 @@ with_moving c number from source layout now = record {
 
 -- a register with these parts, where a move is open
 abbrev moved_parts : Contents → (now : ℕ) → List Position → List Message → List Tracked → Contents
-moved_parts c now positions mail calls = record { positions = positions; mail = mail; calls = calls; is_moving = true; stored = c.stored; last = now }
+moved_parts c now positions mail calls = record {
+  positions = positions;
+  mail = mail;
+  calls = calls;
+  is_moving = true;
+  stored = c.stored;
+  last = now;
+}
 
-pub with_moving_is : (c : Contents) (number from : ℕ) (source layout : Layout) (now : ℕ) (next : Position) (begun : Tracked) (positions : List Position) (mail : List Message)
+pub with_moving_is : (c : Contents) (number from : ℕ) (source layout : Layout) (now : ℕ) (next : Position) (begun : Tracked)
+    (positions : List Position) (mail : List Message)
     (calls : List Tracked) → next ≡ next_position layout now → begun ≡ mover number from source now → positions ≡ c.positions ++ next ∷ [] →
     mail ≡ moving_mail c number from source → calls ≡ c.calls ++ begun ∷ [] →
-    record { positions = positions; mail = mail; calls = calls; is_moving = true; stored = c.stored; last = now } ≡ with_moving c number from source layout now
+    record { positions = positions; mail = mail; calls = calls; is_moving = true; stored = c.stored; last = now }
+    ≡ with_moving c number from source layout now
 with_moving_is c number from source layout now next begun positions mail calls is_next is_begun is_positions is_mail is_calls =
     ap (λ ps. moved_parts c now ps mail calls) (is_positions ∙ ap (λ p. c.positions ++ p ∷ []) is_next)
     ∙ ap (λ ms. moved_parts c now (c.positions ++ next_position layout now ∷ []) ms calls) is_mail
-    ∙ ap (λ cs. moved_parts c now (c.positions ++ next_position layout now ∷ []) (moving_mail c number from source) cs) (is_calls ∙ ap (λ u. c.calls ++ u ∷ []) is_begun)
+    ∙ ap (λ cs. moved_parts c now (c.positions ++ next_position layout now ∷ []) (moving_mail c number from source) cs)
+    (is_calls ∙ ap (λ u. c.calls ++ u ∷ []) is_begun)
 
 -- the last position of a register
 pub record IsLast (c : Contents) (from : ℕ) (source : Layout) : Type 0 where
@@ -75,11 +87,17 @@ pub record IsLast (c : Contents) (from : ℕ) (source : Layout) : Type 0 where
   pub same : source ≡ position.layout
 
 -- the last of so many positions, as it was read
-pub last_of : (c : Contents) (count : ℕ) (p : Position) (source : Layout) → IsKept c → count ≡ length c.positions → p ≡ get_or c.positions (count - 1) p →
+pub last_of : (c : Contents) (count : ℕ) (p : Position) (source : Layout) → IsKept c → count ≡ length c.positions
+    → p ≡ get_or c.positions (count - 1) p →
     source ≡ p.layout → IsLast c (count - 1) source
 last_of c count p source kept all read same =
     let some = some_position c kept in
-    record { position = p; at = slice_get_read c.positions count (count - 1) p all (omega (arith, all, some)) read; last = omega (arith, all, some); same = same }
+    record {
+      position = p;
+      at = slice_get_read c.positions count (count - 1) p all (omega (arith, all, some)) read;
+      last = omega (arith, all, some);
+      same = same;
+    }
 
 pub last_lawful : (c : Contents) (from : ℕ) (source : Layout) → IsKept c → IsLast c from source → IsLawful source
 last_lawful c from source kept is_last =
@@ -143,7 +161,8 @@ no_open c kept none index call at kind = go call.answered refl
     closed = none_any is_open_move (state_of c).object.calls index call (sym kept.moving ∙ none) at
 
     go : (o : Option ℕ) → call.answered ≡ o → IsSome call.answered
-    go None e = true_false (sym (ap (λ k. is_move k && not (is_some call.answered)) kind ∙ ap (λ (o : Option ℕ). not (is_some o)) e) ∙ closed)
+    go None e = true_false (sym (ap (λ k. is_move k && not (is_some call.answered)) kind ∙ ap (λ (o : Option ℕ). not (is_some o)) e)
+        ∙ closed)
       where
         true_false : true ≡ false → IsSome call.answered
         true_false e = absurd (cc)
@@ -161,7 +180,8 @@ bytes_push (b ∷ banks) more none =
     let y = sum_by-cons banks_bytes b banks in
     omega (arith, rest, x, y)
 
-module _ (c : Contents) (now number from : ℕ) (source layout : Layout) (kept : IsKept c) (is_last : IsLast c from source) (is : number ≡ suc (length c.calls))
+module _ (c : Contents) (now number from : ℕ) (source layout : Layout) (kept : IsKept c) (is_last : IsLast c from source)
+    (is : number ≡ suc (length c.calls))
     (after : c.last < now) (lawful : IsLawful layout) (none : c.is_moving ≡ false) where
   pub moved_sound : IsSound fragment (state_of (with_moving c number from source layout now)).object now
   moved_sound =
@@ -196,7 +216,8 @@ module _ (c : Contents) (now number from : ℕ) (source layout : Layout) (kept :
   staged : (i : ℕ) (u : Tracked) → (slice_get c.calls i ≡ Some u) ⊎ ((i ≡ length c.calls) × (new ≡ u)) → u.stage ≡ stage_of later i u.call
   staged i u (inl found) =
       let within = slice_get_within c.calls i u found in
-      kept.staged i u found ∙ ap (λ m. stage_after u.call.kind (suc i) (first_stage u.call.kind m) u.call.phases) (sym (same_source i (omega (arith, within))))
+      kept.staged i u found ∙ ap (λ m. stage_after u.call.kind (suc i) (first_stage u.call.kind m) u.call.phases)
+      (sym (same_source i (omega (arith, within))))
   staged i u (inr here) = subst (λ (u : Tracked). u.stage ≡ stage_of later i u.call) here.1 (ap MoveSpread (from_moves i here.0))
 
   stored_same : all_bytes later.banks ≡ all_bytes (state_of c).object.banks
@@ -208,9 +229,11 @@ module _ (c : Contents) (now number from : ℕ) (source layout : Layout) (kept :
   moved_kept few_positions few = record {
     sound = moved_sound;
     limits = record {
-      positions = subst (λ n. n ≤ MOST_POSITIONS) (sym (length_map (λ (p : Position). p.layout) (c.positions ++ next_position layout now ∷ [])
+      positions = subst (λ n. n ≤ MOST_POSITIONS)
+          (sym (length_map (λ (p : Position). p.layout) (c.positions ++ next_position layout now ∷ [])
           ∙ length_push c.positions (next_position layout now))) (omega (arith, few_positions));
-      calls = subst (λ n. n ≤ MOST_CALLS) (sym (length_map (λ (u : Tracked). u.call) (c.calls ++ new ∷ []) ∙ length_push c.calls new)) (omega (arith, few));
+      calls = subst (λ n. n ≤ MOST_CALLS) (sym (length_map (λ (u : Tracked). u.call) (c.calls ++ new ∷ []) ∙ length_push c.calls new))
+          (omega (arith, few));
       phases = subst (λ cs. AllByRecursion (λ (call : Call). length call.phases ≤ MOST_PHASES) cs) (sym pushed)
           (all_pushed (λ (call : Call). length call.phases ≤ MOST_PHASES) (calls_of c.calls) new.call kept.limits.phases (omega arith));
       stored = subst (λ n. n ≤ MOST_BYTES) (sym stored_same) kept.limits.stored;

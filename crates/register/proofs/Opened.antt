@@ -7,10 +7,10 @@ use Rattle.bank.specs.Bank.{opened_bank}
 use Rattle.bank.specs.Bytes.{bank_bytes}
 use Rattle.bank.proofs.Account.{opened_bytes}
 use Rattle.record.specs.Steps.{opened_banks}
-use Rattle.record.proofs.Opening.{opening_sound}
+use Rattle.record.proofs.Sound.Opening.{opening_sound}
 use Rattle.register.specs.Position.{Position, banks_bytes, all_bytes}
 use Rattle.register.specs.Kept.{IsKept}
-use Rattle.record.proofs.Determined.{fragments_are_code}
+use Rattle.record.proofs.Atomic.Values.Determined.{fragments_are_code}
 
 pub opened_position : Layout → ℕ → Position
 opened_position layout now = record { layout = layout; banks = opened_banks layout.members 0 now }
@@ -23,7 +23,14 @@ opened_banks_bytes (s ∷ ss) member now =
     omega (arith, rest, opened_bytes member now, sum_by-cons bank_bytes (opened_bank member now) (opened_banks ss (suc member) now))
 
 pub opened_keeps : (layout : Layout) (now : ℕ) → IsLawful layout
-    → IsKept (record { positions = record { layout = layout; banks = opened_banks layout.members 0 now } ∷ []; mail = []; calls = []; is_moving = false; stored = 0; last = now })
+    → IsKept (record {
+      positions = record { layout = layout; banks = opened_banks layout.members 0 now } ∷ [];
+      mail = [];
+      calls = [];
+      is_moving = false;
+      stored = 0;
+      last = now;
+    })
 opened_keeps layout now lawful = record {
   sound = opening_sound fragment fragments_are_code layout now lawful;
   limits = record {

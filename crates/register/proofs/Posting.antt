@@ -1,38 +1,30 @@
--- The current phase of a call asks again.
-use Rattle.std.proofs.Common.{◌≡◌, ℕ, suc, pred, ◌<◌, Bool, true, false, not, cond, List, [], ◌++◌, length, Option, Some, None, refl, sym, subst, ap, ◌∙◌, slice_get}
+-- The current phase of a call that sends no pieces asks again.
+use Rattle.std.proofs.Common.{◌≡◌, ℕ, pred, ◌<◌, Bool, true, false, not, cond, List, ◌++◌, get_or, Option, Some, None, refl, sym}
+use Rattle.std.proofs.Common.{subst, ap, ◌∙◌}
 use Rattle.tag.specs.declared.limits.TheConstants.{MOST_STEPS}
+use Rattle.tag.specs.declared.refusal.Refusal.{Refusal}
+use Rattle.tag.specs.declared.refusal.Refusal.TheVariants.{NotNow, Full}
 use Rattle.tag.specs.declared.tag.Tag.{Tag}
 use Rattle.encoder.specs.Fragment.{fragment}
-use Rattle.encoder.specs.declared.fragment.Piece.{Piece}
 use Rattle.bank.specs.declared.kind.Kind.{Kind}
-use Rattle.bank.specs.declared.kind.Kind.TheVariants.{PreWrite}
-use Rattle.phase.specs.Phase.{Phase}
-use Rattle.record.proofs.Keeping.{all_get}
-use Rattle.record.proofs.Recording.{numbered_at}
-use Rattle.record.specs.Knowledge.{IsTruePhase}
-use Rattle.record.specs.Steps as steps
-use Rattle.record.specs.Steps.{missing}
-use Rattle.phase.specs.Phase.{members_of}
-use Rattle.record.proofs.Wanting.{last_at}
+use Rattle.bank.specs.declared.kind.Kind.TheVariants.{Next, Spread, Query, PreWrite, Finalize, Fetch}
+use Rattle.mail.specs.Mail.{mail_cause}
+use Rattle.phase.specs.Phase.{Phase, members_of}
 use Rattle.record.specs.declared.stage.Want.{Want}
 use Rattle.record.specs.declared.stage.Want.TheVariants as want
 use Rattle.record.specs.Records.{Object, layout_at}
-use Rattle.record.specs.Sound.{IsSound}
-use Rattle.record.specs.Steps.{Step, stepped, on_call, sent_pieces, requests}
+use Rattle.record.specs.Steps as steps
+use Rattle.record.specs.Steps.{Step, stepped, on_call, sent_pieces, requests, missing}
 use Rattle.record.specs.Wants.{current_phase}
-use Rattle.register.specs.Position.{layouts_of, banks_of}
-use Rattle.register.specs.Tracked.{Tracked, calls_of, tracked_want, asked_again}
-use Rattle.register.specs.State.{Contents, State, made, object_of, state_of}
-use Rattle.register.specs.Kept.{IsKept}
 use Rattle.register.specs.Causes.{unless, if_step, is_replies, is_plain, may_post, post_cause}
-use Rattle.register.specs.Coding.{is_pre_write}
+use Rattle.register.specs.Coding.{is_pre_write, piece_from, HavePieces}
+use Rattle.register.specs.Position.{layouts_of, banks_of}
+use Rattle.register.specs.State.{Contents, made, state_of}
+use Rattle.register.specs.Tracked.{Tracked, calls_of, asked_again}
+use Rattle.register.proofs.Calling.{requests_plain}
+use Rattle.register.proofs.Found.{IsWanting, at, at_place, same, caused}
+use Rattle.register.proofs.Resending.{IsAsking, phase_members, phase_call}
 use Rattle.register.proofs.Rooms.{step_past}
-use Rattle.register.proofs.Keeps.{mail_kept, call_found, steps_on}
-use Rattle.mail.specs.Mail.{mail_cause}
-use Rattle.tag.specs.declared.refusal.Refusal.{Refusal}
-use Rattle.tag.specs.declared.refusal.Refusal.TheVariants.{NotNow, Full}
-use Rattle.record.specs.May.{MayStep}
-use Rattle.register.proofs.Calling.{IsCallAt, if_call_is, wants_at, want_is, requests_plain}
 
 pub not_replies : (w : Want) → (w ≡ want.Replies → ⊥) → is_replies w ≡ false
 not_replies want.Replies other = absurd (other refl)
@@ -41,23 +33,6 @@ not_replies (want.Supply k n) other = refl
 not_replies (want.Settle k len) other = refl
 not_replies want.Answer other = refl
 not_replies want.Done other = refl
-
-abbrev post_for : Contents → (now number : ℕ) → (may : Bool) → Option Refusal
-post_for c now number may = unless may NotNow (if_step now (mail_cause (stepped fragment (Step.Post (pred number)) now (state_of c).object).mail))
-
-pub post_refused : (c : Contents) (now number index : ℕ) (t : Tracked) (w : Want) → IsKept c → IsCallAt c number index t →
-    w ≡ tracked_want (object_of c.positions [] []) t → (w ≡ want.Replies → ⊥) → post_cause now (state_of c).object number ≡ Some NotNow
-post_refused c now number index t w kept at is other =
-    if_call_is c number index t _ at
-    ∙ ap (λ v. post_for c now number (may_post v (current_phase t.call.phases))) (wants_at c number index t w kept at is)
-    ∙ ap (λ b. post_for c now number (cond b (is_plain (current_phase t.call.phases)) false)) (not_replies w other)
-
-pub post_pieces : (c : Contents) (now number index : ℕ) (t : Tracked) → IsKept c → IsCallAt c number index t →
-    want.Replies ≡ tracked_want (object_of c.positions [] []) t → is_plain (current_phase t.call.phases) ≡ false → post_cause now (state_of c).object number ≡ Some NotNow
-post_pieces c now number index t kept at is sends =
-    if_call_is c number index t _ at
-    ∙ ap (λ v. post_for c now number (may_post v (current_phase t.call.phases))) (wants_at c number index t want.Replies kept at is)
-    ∙ ap (λ b. post_for c now number b) sends
 
 pub plain_phase : (o : Option Phase) → is_plain o ≡ true → (p : Phase) × (o ≡ Some p) × (is_pre_write p.kind ≡ false)
 plain_phase None e = absurd (cc)
@@ -73,68 +48,99 @@ no_pre kind plain tag e = true_false (sym (ap is_pre_write e) ∙ plain)
     true_false : true ≡ false → ⊥
     true_false e = absurd (cc)
 
-module _ (c : Contents) (now number index : ℕ) (t : Tracked) (kept : IsKept c) (at : IsCallAt c number index t)
-    (wants : want.Replies ≡ tracked_want (object_of c.positions [] []) t) (p : Phase) (current : current_phase t.call.phases ≡ Some p)
-    (plain : is_pre_write p.kind ≡ false) where
+no_coded : (kind : Kind) (members : ℕ) → is_pre_write kind ≡ false → HavePieces kind members None
+no_coded Next members plain = tt
+no_coded (Spread status) members plain = tt
+no_coded Query members plain = tt
+no_coded (PreWrite tag) members plain = absurd (cc)
+no_coded (Finalize tag) members plain = tt
+no_coded (Fetch tag) members plain = tt
+
+module _ {c : Contents} {number index : ℕ} {t : Tracked} {w : Want} (wanted : IsWanting c number index t w) (now : ℕ) where
+  abbrev for_room : (may : Bool) → Option Refusal
+  for_room may =
+      unless may NotNow (if_step now (mail_cause (stepped fragment (Step.Post (pred number)) now (state_of c).object).mail))
+
+  post_by : (phase : Option Phase) → current_phase t.call.phases ≡ phase
+      → post_cause now (state_of c).object number ≡ for_room (may_post w phase)
+  post_by phase current =
+      caused wanted.found _
+      ∙ ap (λ v. for_room (may_post v (current_phase t.call.phases))) wanted.wants ∙ ap (λ p. for_room (may_post w p)) current
+
+  pub post_refused : (w ≡ want.Replies → ⊥) → post_cause now (state_of c).object number ≡ Some NotNow
+  post_refused other =
+      post_by (current_phase t.call.phases) refl
+      ∙ ap (λ b. for_room (cond b (is_plain (current_phase t.call.phases)) false)) (not_replies w other)
+
+-- where the call wants replies, and its current phase is known
+module _ {c : Contents} {number index : ℕ} {t : Tracked}
+    (wanted : IsWanting c number index t want.Replies) {current : Option Phase} {plain : Bool}
+    (is : current_phase t.call.phases ≡ current) (tested : plain ≡ is_plain current) where
   abbrev object : Object
   object = (state_of c).object
 
-  abbrev servers : List ℕ
-  servers = (layout_at object p.position).members
+  pub post_pieces : (now : ℕ) → plain ≡ false → post_cause now (state_of c).object number ≡ Some NotNow
+  post_pieces now sends = post_by wanted now current is ∙ ap (for_room wanted now) (sym tested ∙ sends)
 
-  there : slice_get object.calls index ≡ Some t.call
-  there = call_found c.calls index t at.1
+  module _ (sends_none : plain ≡ true) where
+    chosen : (p : Phase) × (current ≡ Some p) × (is_pre_write p.kind ≡ false)
+    chosen = plain_phase current (sym tested ∙ sends_none)
 
-  pub post_members : length (layout_at (state_of c).object p.position).members ≡ p.members
-  post_members =
-      let last = last_at t.call.phases p current in
-      sym (all_get (IsTruePhase object) t.call.phases last.place p (kept.sound.legal.calls index t.call there).phases last.within).sized.members
+    abbrev p : Phase
+    p = chosen.0
 
-  same_call : p.call ≡ number
-  same_call =
-      let last = last_at t.call.phases p current in
-      (numbered_at (suc index) 1 t.call.phases last.place p (kept.sound.legal.calls index t.call there).numbered last.within).0 ∙ at.0
+    there : current_phase t.call.phases ≡ Some p
+    there = is ∙ chosen.1
 
-  post_goes_on : post_cause now object number ≡ post_for c now number true
-  post_goes_on =
-      if_call_is c number index t _ at
-      ∙ ap (λ v. post_for c now number (may_post v (current_phase t.call.phases))) (wants_at c number index t want.Replies kept at wants)
-      ∙ ap (λ o. post_for c now number (is_plain o)) current
-      ∙ ap (λ b. post_for c now number (not b)) plain
+    abbrev servers : List ℕ
+    servers = (layout_at object p.position).members
 
-  -- past the limit of steps
-  pub post_past : MOST_STEPS < now → post_cause now (state_of c).object number ≡ Some Full
-  post_past past = post_goes_on ∙ step_past now _ past
+    goes_on : (now : ℕ) → post_cause now (state_of c).object number ≡ for_room wanted now true
+    goes_on now = post_by wanted now current is ∙ ap (for_room wanted now) (sym tested ∙ sends_none)
 
-  pub post_is : (piece : ℕ → Piece) →
-      made (Step.Post (pred number)) now (state_of c)
-      ≡ state_of (record c { mail = c.mail ++ asked_again number p (layout_at (state_of c).object p.position).members c.mail piece; last = now })
-  post_is piece =
-      ap (λ o. record { object = o; last = now })
-      (subst (λ n. stepped fragment (Step.Post (pred n)) now object ≡ stepped fragment (Step.Post index) now object) at.0 refl
-      ∙ ap (λ o. on_call object o (λ call. steps.asked_again fragment object call (current_phase call.phases))) there
-      ∙ ap (λ q. steps.asked_again fragment object t.call q) current
-      ∙ ap (λ rs. record { layouts = layouts_of c.positions; banks = banks_of c.positions; mail = c.mail ++ missing c.mail (members_of p.replies) rs; calls = calls_of c.calls })
-      (requests_plain p.call p.number p.kind p.position servers 0 (sent_pieces fragment object t.call p.position) piece (no_pre p.kind plain)
-      ∙ ap (λ n. requests n p.number p.kind p.position servers 0 piece) same_call))
+    -- past the limit of steps
+    pub post_past : (now : ℕ) → MOST_STEPS < now → post_cause now (state_of c).object number ≡ Some Full
+    post_past now past = goes_on now ∙ step_past now _ past
 
-  pub post_sound : c.last < now → (piece : ℕ → Piece) →
-      IsSound fragment (state_of (record c { mail = c.mail ++ asked_again number p (layout_at (state_of c).object p.position).members c.mail piece; last = now })).object now
-  post_sound after piece =
-      subst (λ (s : State). IsSound fragment s.object now) (post_is piece)
-      (steps_on c now (Step.Post (pred number)) after kept
-      (subst (λ n. MayStep fragment object (Step.Post (pred n))) at.0 (record {
+    post_is : (now : ℕ) → made (Step.Post (pred number)) now (state_of c)
+        ≡ state_of (record c { mail = c.mail ++ asked_again number p servers c.mail (piece_from None); last = now })
+    post_is now =
+        let f = wanted.found in
+        ap (λ o. record { object = o; last = now })
+        (subst (λ n. stepped fragment (Step.Post (pred n)) now object ≡ stepped fragment (Step.Post index) now object) f.named refl
+        ∙ ap (λ o. on_call object o (λ call. steps.asked_again fragment object call (current_phase call.phases))) (at f)
+        ∙ ap (λ q. steps.asked_again fragment object t.call q) there
+        ∙ ap (λ rs. record {
+          layouts = layouts_of c.positions;
+          banks = banks_of c.positions;
+          mail = c.mail ++ missing c.mail (members_of p.replies) rs;
+          calls = calls_of c.calls;
+        })
+        (requests_plain p.call p.number p.kind p.position servers 0 (sent_pieces fragment object t.call p.position) (piece_from None)
+        (no_pre p.kind chosen.2)
+        ∙ ap (λ n. requests n p.number p.kind p.position servers 0 (piece_from None)) (phase_call f there)))
+
+    asks : IsAsking c number index t (Step.Post (pred number)) (λ now. post_cause now object number) None
+    asks = record {
+      found = wanted.found;
+      may = record {
         call = t.call;
         phase = p;
-        waiting = record { wants = (there, sym (wants ∙ want_is c kept index t at.1)); current = current };
-        plain = λ pre. no_pre p.kind plain pre.0 pre.1;
-      })))
+        waiting = record { wants = (at_place wanted.found, wanted.wants); current = there };
+        plain = λ pre. no_pre p.kind chosen.2 pre.0 pre.1;
+      };
+      phase = p;
+      current = there;
+      servers = servers;
+      members = phase_members wanted.found there;
+      sends = no_coded p.kind p.members chosen.2;
+      makes = post_is;
+      causes = goes_on;
+    }
 
-  pub post_kept : c.last < now → (piece : ℕ → Piece) →
-      IsKept (record c { mail = c.mail ++ asked_again number p (layout_at (state_of c).object p.position).members c.mail piece; last = now })
-  post_kept after piece =
-      mail_kept c (c.mail ++ asked_again number p servers c.mail piece) now kept (post_sound after piece)
-
-  pub post_cause_is : (piece : ℕ → Piece) →
-      post_cause now (state_of c).object number ≡ if_step now (mail_cause (c.mail ++ asked_again number p (layout_at (state_of c).object p.position).members c.mail piece))
-  post_cause_is piece = post_goes_on ∙ ap (λ (s : State). if_step now (mail_cause s.object.mail)) (post_is piece)
+    -- the call, as it is read once more
+    pub posting : {old : Tracked} → old ≡ get_or c.calls index old
+        → IsAsking c number index old (Step.Post (pred number)) (λ now. post_cause now object number) None
+    posting read =
+        subst (λ (u : Tracked). IsAsking c number index u (Step.Post (pred number)) (λ now. post_cause now object number) None)
+        (same wanted.found read) asks

@@ -1,5 +1,6 @@
 -- What the call of a read or a write makes of a register.
-use Rattle.std.proofs.Common.{get_or, nat_lt, nat_le, ◌+◌, ◌≡◌, ℕ, zero, suc, ◌<◌, ◌≤◌, ◌⊎◌, Bool, true, false, ◌&&◌, ◌||◌, cond, List, [], ◌∷◌, ◌++◌, length, set, take, Option, Some, refl, sym, subst, ap, ◌∙◌, inl, inr, arith, slice_get}
+use Rattle.std.proofs.Common.{get_or, nat_lt, nat_le, ◌+◌, ◌≡◌, ℕ, zero, suc, ◌<◌, ◌≤◌, ◌⊎◌, Bool, true, false, ◌&&◌, ◌||◌, cond, List, []}
+use Rattle.std.proofs.Common.{◌∷◌, ◌++◌, length, set, take, Option, Some, refl, sym, subst, ap, ◌∙◌, inl, inr, arith, slice_get}
 use Rattle.std.specs.List.{AllByRecursion}
 use Rattle.std.proofs.lemmas.Option.{slice_get_within}
 use Rattle.tag.specs.declared.limits.TheConstants.{LONGEST_VALUE, MOST_CALLS, MOST_MESSAGES, MOST_PHASES, MOST_STEPS}
@@ -7,7 +8,7 @@ use Rattle.layout.specs.Layout.{Layout}
 use Rattle.encoder.specs.Fragment.{fragment}
 use Rattle.bank.specs.Bank.{empty_piece}
 use Rattle.bank.specs.declared.kind.Kind.TheVariants.{Next}
-use Rattle.record.proofs.Beginning.{get_pushed}
+use Rattle.record.proofs.Sound.Beginning.{get_pushed}
 use Rattle.record.specs.declared.call.CallKind.{CallKind}
 use Rattle.record.specs.declared.call.CallKind.TheVariants.{Read, Write}
 use Rattle.record.specs.declared.stage.Stage.TheVariants.{ReadNext}
@@ -49,14 +50,16 @@ with_reading c kind number layout now = record c {
   last = now;
 }
 
-pub called_is : (c : Contents) (kind : CallKind) (now number : ℕ) (layout : Layout) → layout_at (state_of c).object 0 ≡ layout → number ≡ suc (length c.calls) →
+pub called_is : (c : Contents) (kind : CallKind) (now number : ℕ) (layout : Layout) → layout_at (state_of c).object 0 ≡ layout
+    → number ≡ suc (length c.calls) →
     called_object (state_of c).object kind now ≡ (state_of (with_reading c kind number layout now)).object
 called_is c kind now number layout same is =
     ap (λ (l : Layout). record {
       layouts = layouts_of c.positions;
       banks = banks_of c.positions;
       mail = c.mail ++ requests (suc (length (calls_of c.calls))) 1 Next 0 l.members 0 empty_piece;
-      calls = set (calls_of c.calls ++ new_call kind now ∷ []) (length (calls_of c.calls)) (reading kind (suc (length (calls_of c.calls))) l now).call;
+      calls = set (calls_of c.calls ++ new_call kind now ∷ []) (length (calls_of c.calls))
+          (reading kind (suc (length (calls_of c.calls))) l now).call;
     }) same
     ∙ ap (λ n. record {
       layouts = layouts_of c.positions;
@@ -73,7 +76,8 @@ called_is c kind now number layout same is =
     ∙ sym (map_push (λ (u : Tracked). u.call) c.calls (reading kind number layout now)))
 
 -- sources of the calls before one more
-pub moves_push : (calls : List Call) (call : Call) (i : ℕ) → i ≤ length calls → moves_in (take i (calls ++ call ∷ [])) ≡ moves_in (take i calls)
+pub moves_push : (calls : List Call) (call : Call) (i : ℕ) → i ≤ length calls
+    → moves_in (take i (calls ++ call ∷ [])) ≡ moves_in (take i calls)
 moves_push [] call zero h = refl
 moves_push [] call (suc i) h = absurd (omega arith)
 moves_push (c ∷ calls) call zero h = refl
@@ -93,9 +97,11 @@ module _ (c : Contents) (kind : CallKind) (now number : ℕ) (layout : Layout) (
   called_sound = subst (λ o. IsSound fragment o now) (called_is c kind now number layout same is) (go is_reading)
     where
       go : IsReading kind → IsSound fragment (called_object (state_of c).object kind now) now
-      go (inl read) = subst (λ k. IsSound fragment (called_object (state_of c).object k now) now) (sym read) (steps_on c now Step.CallRead after kept tt)
+      go (inl read) = subst (λ k. IsSound fragment (called_object (state_of c).object k now) now) (sym read)
+          (steps_on c now Step.CallRead after kept tt)
       go (inr write) =
-          subst (λ k. IsSound fragment (called_object (state_of c).object k now) now) (sym write.1) (steps_on c now (Step.CallWrite write.0) after kept write.2)
+          subst (λ k. IsSound fragment (called_object (state_of c).object k now) now) (sym write.1)
+          (steps_on c now (Step.CallWrite write.0) after kept write.2)
 
   abbrev new : Tracked
   new = reading kind number layout now
@@ -114,22 +120,26 @@ module _ (c : Contents) (kind : CallKind) (now number : ℕ) (layout : Layout) (
   staged : (i : ℕ) (u : Tracked) → (slice_get c.calls i ≡ Some u) ⊎ ((i ≡ length c.calls) × (new ≡ u)) → u.stage ≡ stage_of later i u.call
   staged i u (inl found) =
       let within = slice_get_within c.calls i u found in
-      kept.staged i u found ∙ ap (λ m. stage_after u.call.kind (suc i) (first_stage u.call.kind m) u.call.phases) (sym (same_source i (omega (arith, within))))
-  staged i u (inr here) = subst (λ (u : Tracked). u.stage ≡ stage_of later i u.call) here.1 (reading_first kind (source_of later i) is_reading)
+      kept.staged i u found ∙ ap (λ m. stage_after u.call.kind (suc i) (first_stage u.call.kind m) u.call.phases)
+      (sym (same_source i (omega (arith, within))))
+  staged i u (inr here) = subst (λ (u : Tracked). u.stage ≡ stage_of later i u.call) here.1
+      (reading_first kind (source_of later i) is_reading)
 
   pub called_kept : length c.calls < MOST_CALLS → IsKept (with_reading c kind number layout now)
   called_kept few = record {
     sound = called_sound;
     limits = record {
       positions = kept.limits.positions;
-      calls = subst (λ n. n ≤ MOST_CALLS) (sym (length_map (λ (u : Tracked). u.call) (c.calls ++ new ∷ []) ∙ length_push c.calls new)) (omega (arith, few));
+      calls = subst (λ n. n ≤ MOST_CALLS) (sym (length_map (λ (u : Tracked). u.call) (c.calls ++ new ∷ []) ∙ length_push c.calls new))
+          (omega (arith, few));
       phases = subst (λ cs. AllByRecursion (λ (call : Call). length call.phases ≤ MOST_PHASES) cs) (sym pushed)
           (all_pushed (λ (call : Call). length call.phases ≤ MOST_PHASES) (calls_of c.calls) new.call kept.limits.phases (omega arith));
       stored = kept.limits.stored;
     };
     staged = λ i u e. staged i u (get_pushed c.calls new u i e);
     moving = kept.moving ∙ sym (ap has_open_move pushed ∙ any_push is_open_move (calls_of c.calls) new.call
-        ∙ ap (λ b. has_open_move (calls_of c.calls) || (b && true)) (reading_stays kind is_reading) ∙ or_none (has_open_move (calls_of c.calls)));
+        ∙ ap (λ b. has_open_move (calls_of c.calls) || (b && true)) (reading_stays kind is_reading)
+        ∙ or_none (has_open_move (calls_of c.calls)));
     stored = kept.stored;
   }
     where
@@ -146,7 +156,8 @@ some_position c kept =
 
 -- why the call is refused
 abbrev pub reading_cause : Object → CallKind → (now : ℕ) → Option Refusal
-reading_cause object kind now = if_step now (unless (nat_lt (length object.calls) MOST_CALLS) Full (mail_cause (called_object object kind now).mail))
+reading_cause object kind now = if_step now (unless (nat_lt (length object.calls) MOST_CALLS) Full
+    (mail_cause (called_object object kind now).mail))
 
 -- past the limit of steps
 pub reading_past : (object : Object) (kind : CallKind) (now : ℕ) → MOST_STEPS < now → reading_cause object kind now ≡ Some Full
@@ -155,19 +166,22 @@ reading_past object kind now past = step_past now _ past
 abbrev pub reading_mail : Contents → (number : ℕ) → Layout → List Message
 reading_mail c number layout = c.mail ++ requests number 1 Next 0 layout.members 0 empty_piece
 
-pub many_calls : (c : Contents) (kind : CallKind) (now : ℕ) → now ≤ MOST_STEPS → MOST_CALLS ≤ length c.calls → reading_cause (state_of c).object kind now ≡ Some Full
+pub many_calls : (c : Contents) (kind : CallKind) (now : ℕ) → now ≤ MOST_STEPS → MOST_CALLS ≤ length c.calls
+    → reading_cause (state_of c).object kind now ≡ Some Full
 many_calls c kind now within many =
     step_within now _ within ∙ ap (λ b. unless b Full (mail_cause (called_object (state_of c).object kind now).mail))
     (not_lt (length (calls_of c.calls)) MOST_CALLS (subst (λ n. MOST_CALLS ≤ n) (sym (length_map (λ (u : Tracked). u.call) c.calls)) many))
 
-pub reading_cause_is : (c : Contents) (kind : CallKind) (now number : ℕ) (layout : Layout) → layout_at (state_of c).object 0 ≡ layout → number ≡ suc (length c.calls) →
+pub reading_cause_is : (c : Contents) (kind : CallKind) (now number : ℕ) (layout : Layout) → layout_at (state_of c).object 0 ≡ layout
+    → number ≡ suc (length c.calls) →
     now ≤ MOST_STEPS → length c.calls < MOST_CALLS → reading_cause (state_of c).object kind now ≡ mail_cause (reading_mail c number layout)
 reading_cause_is c kind now number layout same is within few =
     step_within now _ within ∙ ap (λ b. unless b Full (mail_cause (called_object (state_of c).object kind now).mail))
     (is_lt (length (calls_of c.calls)) MOST_CALLS (subst (λ n. n < MOST_CALLS) (sym (length_map (λ (u : Tracked). u.call) c.calls)) few))
     ∙ ap (λ (o : Object). mail_cause o.mail) (called_is c kind now number layout same is)
 
-pub reading_room : (c : Contents) (number : ℕ) (layout : Layout) (count : ℕ) (b : Bool) → count ≡ length layout.members → b ≡ nat_le (length c.mail + count) MOST_MESSAGES →
+pub reading_room : (c : Contents) (number : ℕ) (layout : Layout) (count : ℕ) (b : Bool) → count ≡ length layout.members
+    → b ≡ nat_le (length c.mail + count) MOST_MESSAGES →
     nat_le (length (reading_mail c number layout)) MOST_MESSAGES ≡ b
 reading_room c number layout count b is room = sum_few c.mail number 1 Next 0 layout.members empty_piece count b is room
 
@@ -177,6 +191,7 @@ bytes_at [] at = tt
 bytes_at (x ∷ xs) at = (at 0, bytes_at xs (λ i. at (suc i)))
 
 -- a value that is short
-pub value_of : (value read : List ℕ) (b : Bool) → AreBytes read → b ≡ nat_le (length read) LONGEST_VALUE → b ≡ true → read ≡ value → IsValue value
+pub value_of : (value read : List ℕ) (b : Bool) → AreBytes read → b ≡ nat_le (length read) LONGEST_VALUE → b ≡ true → read ≡ value
+    → IsValue value
 value_of value read b bytes short is same =
     subst IsValue same (bytes, le_of (length read) LONGEST_VALUE (sym short ∙ is))

@@ -1,6 +1,8 @@
 -- Room for phases and messages.
-use Rattle.std.proofs.Common.{◌≡◌, ℕ, suc, ◌+◌, ◌<◌, ◌≤◌, ◌⊎◌, ◌&&◌, nat_lt, nat_le, true, false, cond, List, [], ◌∷◌, ◌++◌, length, Option, Some, None, Result, Ok, Err, IsErrAnd, Bool, sym, ap, subst, ◌∙◌, inr, refl, arith}
+use Rattle.std.proofs.Common.{◌≡◌, ℕ, suc, ◌+◌, ◌<◌, ◌≤◌, ◌&&◌, nat_lt, nat_le, true, false, cond, List, [], ◌∷◌, ◌++◌, length, Option}
+use Rattle.std.proofs.Common.{Some, None, Result, Ok, Err, IsErrAnd, Bool, sym, ap, subst, ◌∙◌, inr, refl, arith}
 use Rattle.std.proofs.lemmas.Bool.Decides.{nat_tests}
+use Rattle.tag.specs.Cause.{IsRefusalBy}
 use Rattle.tag.specs.declared.limits.TheConstants.{MOST_BYTES, MOST_MESSAGES, MOST_STEPS}
 use Rattle.tag.specs.declared.refusal.Refusal.{Refusal}
 use Rattle.tag.specs.declared.refusal.Refusal.TheVariants.{Full, NoMemory}
@@ -49,7 +51,8 @@ length_append [] ys = omega arith
 length_append (x ∷ xs) ys = let rest = length_append xs ys in omega (arith, rest)
 
 -- where few messages have room, their number alone decides
-pub few_room : (messages : List Message) → HasRoomIfFew messages → nat_le (length messages) MOST_MESSAGES ≡ true → mail_cause messages ≡ None
+pub few_room : (messages : List Message) → HasRoomIfFew messages → nat_le (length messages) MOST_MESSAGES ≡ true
+    → mail_cause messages ≡ None
 few_room messages room few =
     let bytes = is_le (mail_bytes messages) MOST_BYTES (room (le_of (length messages) MOST_MESSAGES few)) in
     ap (λ b. cond (b && nat_le (mail_bytes messages) MOST_BYTES) None (Some Full)) few ∙ ap (λ b. cond b None (Some Full)) bytes
@@ -58,23 +61,31 @@ pub many_full : (messages : List Message) → nat_le (length messages) MOST_MESS
 many_full messages many = ap (λ b. cond (b && nat_le (mail_bytes messages) MOST_BYTES) None (Some Full)) many
 
 -- a refusal for want of memory, where there is no cause
-pub for_memory : {T : Type 0} (cause : Option Refusal) (r : Result T Refusal) → cause ≡ None → IsErrAnd r (λ e. e ≡ NoMemory) → IsByCause cause r
+pub for_memory : {T : Type 0} (cause : Option Refusal) (r : Result T Refusal) → cause ≡ None → IsErrAnd r (λ e. e ≡ NoMemory)
+    → IsByCause cause r
 for_memory cause (Ok x) none refused = absurd refused
 for_memory cause (Err e) none refused = inr (none, refused)
 
 -- the same where a refusal is handed on
-pub handed_on : {T : Type 0} (cause : Option Refusal) (r : Result T Refusal) (refusal : Refusal) → cause ≡ None → IsErrAnd r (λ e. e ≡ refusal) → refusal ≡ NoMemory → IsByCause cause r
+pub handed_on : {T : Type 0} (cause : Option Refusal) (r : Result T Refusal) (refusal : Refusal) → cause ≡ None
+    → IsErrAnd r (λ e. e ≡ refusal) → refusal ≡ NoMemory → IsByCause cause r
 handed_on cause (Ok x) refusal none refused is = absurd refused
 handed_on cause (Err e) refusal none refused is = inr (none, refused ∙ is)
 
 -- what a refusal that is handed on was for
 pub same_cause : {T : Type 0} (cause : Option Refusal) (r : Result T Refusal) (refusal : Refusal) → IsErrAnd r (λ e. e ≡ refusal)
-    → (cause ≡ Some refusal) ⊎ ((cause ≡ None) × (refusal ≡ NoMemory)) → IsByCause cause r
+    → IsRefusalBy cause refusal → IsByCause cause r
 same_cause cause (Ok x) refusal refused by = absurd refused
-same_cause cause (Err e) refusal refused by = subst (λ (e : Refusal). (cause ≡ Some e) ⊎ ((cause ≡ None) × (e ≡ NoMemory))) (sym refused) by
+same_cause cause (Err e) refusal refused by = subst (λ (e : Refusal). IsRefusalBy cause e) (sym refused) by
+
+-- the same cause, said otherwise
+pub by_cause : {a b : Option Refusal} {r : Refusal} → a ≡ b → IsRefusalBy b r
+    → IsRefusalBy a r
+by_cause {r = r} e by = subst (λ (cause : Option Refusal). IsRefusalBy cause r) (sym e) by
 
 -- whether messages with a request to each server have room
-pub sum_few : (mail : List Message) (call phase : ℕ) (kind : Kind) (position : ℕ) (servers : List ℕ) (piece : ℕ → Piece) (count : ℕ) (b : Bool)
+pub sum_few : (mail : List Message) (call phase : ℕ) (kind : Kind) (position : ℕ) (servers : List ℕ) (piece : ℕ → Piece) (count : ℕ)
+    (b : Bool)
     → count ≡ length servers → b ≡ nat_le (length mail + count) MOST_MESSAGES
     → nat_le (length (mail ++ requests call phase kind position servers 0 piece)) MOST_MESSAGES ≡ b
 sum_few mail call phase kind position servers piece count b is room =

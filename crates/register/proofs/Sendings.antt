@@ -1,5 +1,6 @@
 -- A call that is to send the pieces of its value.
-use Rattle.std.proofs.Common.{◌≡◌, ℕ, pred, ◌<◌, ◌⊎◌, cond, is_some, List, [], length, get_or, Option, Some, None, IsSome, IfSome, option_map, sym, ap, subst, ◌∙◌, inl, inr, refl, Result, Ok, Err, IfErr}
+use Rattle.std.proofs.Common.{◌≡◌, ℕ, pred, ◌<◌, ◌⊎◌, cond, is_some, List, [], length, get_or, Option, Some, None, IsSome, IfSome}
+use Rattle.std.proofs.Common.{option_map, sym, ap, subst, ◌∙◌, inl, inr, refl, Result, Ok, Err, IfErr}
 use Rattle.std.proofs.lemmas.Option.{slice_get_read}
 use Rattle.tag.specs.declared.refusal.Refusal.{Refusal}
 use Rattle.tag.specs.declared.refusal.Refusal.TheVariants.{NotNow, NoMemory}
@@ -9,29 +10,31 @@ use Rattle.bank.specs.declared.kind.Kind.TheVariants.{Next, Spread, Query, PreWr
 use Rattle.encoder.specs.Fragment.{fragment}
 use Rattle.layout.specs.Layout.{Layout}
 use Rattle.phase.specs.Phase.{Phase}
-use Rattle.record.specs.Records.{layout_at, no_layout}
+use Rattle.record.specs.Records.{Object, layout_at, no_layout}
 use Rattle.record.specs.Courses.{due}
 use Rattle.record.specs.Legal.{stage_of}
 use Rattle.record.specs.May.{IsPreWrite, WantsPieces, AwaitsPieces}
 use Rattle.record.specs.Steps.{sent_value, value_or_empty}
-use Rattle.record.specs.Wants.{current_phase}
+use Rattle.record.specs.Wants.{current_phase, want_of}
 use Rattle.record.specs.declared.stage.Stage.{Stage}
 use Rattle.record.specs.declared.stage.Want.{Want}
 use Rattle.record.specs.declared.stage.Want.TheVariants as want
-use Rattle.record.proofs.Sending.{sent_there}
-use Rattle.register.specs.Causes.{value_cause, if_call, unless}
+use Rattle.record.proofs.Sound.Sending.{sent_there}
+use Rattle.register.specs.Causes.{value_cause, unless}
 use Rattle.register.specs.Coding.{is_pre_write, sending_position, pieces_position, pieces_due}
 use Rattle.register.specs.Position.{Position, layouts_of}
 use Rattle.register.specs.State.{Contents, object_of, state_of}
 use Rattle.register.specs.Tracked.{Tracked, tracked_want}
 use Rattle.register.specs.View.{coding_at, coding_of, to_code}
-use Rattle.register.proofs.Found.{IsFound, at_number, at_place, wants, staged, below}
+use Rattle.register.proofs.Found.{IsFound, at_number, at_place, caused, wanted, staged, below}
 use Rattle.register.proofs.Lists.{found_map, found_or}
 
 -- the layout that is read at a position
-pub layout_read : (ps : List Position) (i : ℕ) (p : Position) → i < length ps → p ≡ get_or ps i p → get_or (layouts_of ps) i no_layout ≡ p.layout
+pub layout_read : (ps : List Position) (i : ℕ) (p : Position) → i < length ps → p ≡ get_or ps i p
+    → get_or (layouts_of ps) i no_layout ≡ p.layout
 layout_read ps i p within read =
-    found_or (layouts_of ps) i p.layout no_layout (found_map (λ (p : Position). p.layout) ps i p (slice_get_read ps (length ps) i p refl within read))
+    found_or (layouts_of ps) i p.layout no_layout
+    (found_map (λ (p : Position). p.layout) ps i p (slice_get_read ps (length ps) i p refl within read))
 
 -- a phase that sends pieces
 pub record IsSending (current : Option Phase) (position : ℕ) : Type 0 where
@@ -54,7 +57,8 @@ sending_of (Some phase) position e =
     let both = sends_pieces phase.kind phase.position position e in
     record { phase = phase; is = refl; kind = both.0; same = both.1 }
 
-due_below : (n position : ℕ) (next : Option (Kind × ℕ)) → IfSome next (λ asked. asked.1 < n) → option_map (λ (asked : Kind × ℕ). asked.1) next ≡ Some position → position < n
+due_below : (n position : ℕ) (next : Option (Kind × ℕ)) → IfSome next (λ asked. asked.1 < n)
+    → option_map (λ (asked : Kind × ℕ). asked.1) next ≡ Some position → position < n
 due_below n position None below e = absurd (cc)
 due_below n position (Some asked) below e = let same : asked.1 ≡ position = same_number asked.1 position e in subst (λ m. m < n) same below
   where
@@ -70,61 +74,84 @@ or_empty None value e = absurd (cc)
 or_empty (Some other) value e = cc
 
 -- where there is no cause, memory alone is wanting
-pub for_memory : {T : Type 0} (cause : Option Refusal) (r : Result T Refusal) → cause ≡ None → IfErr r (λ e. e ≡ NoMemory) → IsByCause cause r
+pub for_memory : {T : Type 0} (cause : Option Refusal) (r : Result T Refusal) → cause ≡ None → IfErr r (λ e. e ≡ NoMemory)
+    → IsByCause cause r
 for_memory cause (Ok x) none memory = none
 for_memory cause (Err e) none memory = inr (none, memory)
 
-module _ (c : Contents) (number index : ℕ) (t : Tracked) (found : IsFound c number index t) where
-  -- where its pieces are to go
-  abbrev pub sent_to : Option ℕ
-  sent_to = pieces_position (tracked_want (object_of c.positions [] []) t) (due t.stage) (current_phase t.call.phases)
+-- the call was read, and its pieces are to go to this position, if any
+pub record IsSendingTo (c : Contents) (number index : ℕ) (t : Tracked) (to : Option ℕ) : Type 0 where
+  pub found : IsFound c number index t
+  pub due : pieces_due (state_of c).object (pred number) t.call ≡ to
 
-  pub sent_to_is : pieces_due (state_of c).object (pred number) t.call ≡ sent_to
-  sent_to_is =
-      ap (λ w. pieces_position w (due (stage_of (state_of c).object (pred number) t.call)) (current_phase t.call.phases)) (sym (wants c number index t found))
-      ∙ ap (λ (s : Stage). pieces_position (tracked_want (object_of c.positions [] []) t) (due s) (current_phase t.call.phases)) (sym (staged c number index t found))
+pub sending : {c : Contents} {number index : ℕ} {t : Tracked} {positions : List Position} {v to : Option ℕ} → IsFound c number index t
+    → v ≡ pieces_position (tracked_want (object_of positions [] []) t) (due t.stage) (current_phase t.call.phases) → positions ≡ c.positions
+    → v ≡ to → IsSendingTo c number index t to
+sending {c = c} {number = number} {t = t} {positions = positions} f is same matched = record {
+  found = f;
+  due =
+      ap (λ w. pieces_position w (due (stage_of (state_of c).object (pred number) t.call)) (current_phase t.call.phases))
+      (wanted f refl same)
+      ∙ ap (λ (s : Stage). pieces_position (tracked_want (object_of positions [] []) t) (due s) (current_phase t.call.phases))
+      (sym (staged f))
+      ∙ sym is ∙ matched;
+}
 
-  pub value_cause_is : value_cause (state_of c).object number ≡ unless (is_some sent_to) NotNow None
-  value_cause_is =
-      ap (λ o. if_call o (λ call. unless (is_some (pieces_due (state_of c).object (pred number) call)) NotNow None)) (at_number c number index t found)
-      ∙ ap (λ (o : Option ℕ). unless (is_some o) NotNow None) sent_to_is
+pub value_cause_is : {c : Contents} {number index : ℕ} {t : Tracked} {to : Option ℕ} → IsSendingTo c number index t to
+    → value_cause (state_of c).object number ≡ unless (is_some to) NotNow None
+value_cause_is s = caused s.found _ ∙ ap (λ (o : Option ℕ). unless (is_some o) NotNow None) s.due
 
-  pub takes : (position : ℕ) → sent_to ≡ Some position → WantsPieces (state_of c).object (pred number) t.call ⊎ AwaitsPieces (state_of c).object (pred number) t.call
-  takes position = go (tracked_want (object_of c.positions [] []) t) refl
+module _ {c : Contents} {number index : ℕ} {t : Tracked} {position : ℕ} (s : IsSendingTo c number index t (Some position)) where
+  abbrev object : Object
+  object = (state_of c).object
+
+  abbrev next : Option (Kind × ℕ)
+  next = due (stage_of object (pred number) t.call)
+
+  pub takes : WantsPieces object (pred number) t.call ⊎ AwaitsPieces object (pred number) t.call
+  takes = go (want_of object (pred number) t.call) refl s.due
     where
-      go : (w : Want) → tracked_want (object_of c.positions [] []) t ≡ w → pieces_position w (due t.stage) (current_phase t.call.phases) ≡ Some position
-          → WantsPieces (state_of c).object (pred number) t.call ⊎ AwaitsPieces (state_of c).object (pred number) t.call
-      go (want.Supply k n) is e = inl (k, n, (at_place c number index t found, sym (wants c number index t found) ∙ is))
+      go : (w : Want) → want_of object (pred number) t.call ≡ w → pieces_position w next (current_phase t.call.phases) ≡ Some position
+          → WantsPieces object (pred number) t.call ⊎ AwaitsPieces object (pred number) t.call
+      go (want.Supply k n) is e = inl (k, n, (at_place s.found, is))
       go want.Replies is e =
-          let s = sending_of (current_phase t.call.phases) position e in
-          inr (s.phase, record { wants = (at_place c number index t found, sym (wants c number index t found) ∙ is); current = s.is }, s.kind)
+          let here = sending_of (current_phase t.call.phases) position e in
+          inr (here.phase, record { wants = (at_place s.found, is); current = here.is }, here.kind)
       go want.Advance is e = absurd (cc)
       go (want.Settle k len) is e = absurd (cc)
       go want.Answer is e = absurd (cc)
       go want.Done is e = absurd (cc)
 
-  pub position_there : (position : ℕ) → sent_to ≡ Some position → position < length c.positions
-  position_there position = go (tracked_want (object_of c.positions [] []) t)
+  pub position_there : position < length c.positions
+  position_there = go (want_of object (pred number) t.call) s.due
     where
-      go : (w : Want) → pieces_position w (due t.stage) (current_phase t.call.phases) ≡ Some position → position < length c.positions
-      go (want.Supply k n) e = due_below (length c.positions) position (due t.stage) (below c number index t found).due e
+      go : (w : Want) → pieces_position w next (current_phase t.call.phases) ≡ Some position → position < length c.positions
+      go (want.Supply k n) e =
+          due_below (length c.positions) position next
+          (subst (λ (stage : Stage). IfSome (due stage) (λ asked. asked.1 < length c.positions)) (staged s.found) (below s.found).due) e
       go want.Replies e =
-          let s = sending_of (current_phase t.call.phases) position e in
-          subst (λ p. p < length c.positions) s.same ((below c number index t found).current s.phase s.is)
+          let here = sending_of (current_phase t.call.phases) position e in
+          subst (λ p. p < length c.positions) here.same ((below s.found).current here.phase here.is)
       go want.Advance e = absurd (cc)
       go (want.Settle k len) e = absurd (cc)
       go want.Answer e = absurd (cc)
       go want.Done e = absurd (cc)
 
-  pub sent_value_there : (position : ℕ) → sent_to ≡ Some position → None ≡ sent_value t.call.kind t.call.settled → ⊥
-  sent_value_there position e none =
+  pub sent_value_there : None ≡ sent_value t.call.kind t.call.settled → ⊥
+  sent_value_there none =
       no_none (sent_value t.call.kind t.call.settled)
-      (sent_there fragment (state_of c).object c.last found.kept.sound (pred number) t.call (at_place c number index t found) (takes position e)) none
+      (sent_there fragment object c.last s.found.kept.sound (pred number) t.call (at_place s.found) takes) none
 
-  pub coding_is : (position : ℕ) (value : List ℕ) (layout : Layout) → sent_to ≡ Some position → Some value ≡ sent_value t.call.kind t.call.settled
-      → layout_at (state_of c).object position ≡ layout → coding_at (state_of c).object number ≡ Some (value, layout.k, length layout.members)
-  coding_is position value layout e sent layout_is =
-      ap (coding_of (state_of c).object number) (at_number c number index t found)
-      ∙ ap (option_map (to_code (state_of c).object t.call)) (sent_to_is ∙ e)
-      ∙ ap (λ v. Some (v, (layout_at (state_of c).object position).k, length (layout_at (state_of c).object position).members)) (or_empty (sent_value t.call.kind t.call.settled) value sent)
+  pub layout_there : {here : Position} {layout : Layout} → here ≡ get_or c.positions position here → layout ≡ here.layout
+      → layout_at object position ≡ layout
+  layout_there {here = here} read is = layout_read c.positions position here position_there read ∙ sym is
+
+  pub coding_is : {value : List ℕ} {layout : Layout} → Some value ≡ sent_value t.call.kind t.call.settled
+      → layout_at object position ≡ layout
+      → coding_at object number ≡ Some (value, layout.k, length layout.members)
+  coding_is {value = value} sent layout_is =
+      ap (coding_of object number) (at_number s.found)
+      ∙ ap (option_map (to_code object t.call)) s.due
+      ∙ ap (λ v. Some (v, (layout_at object position).k, length (layout_at object position).members))
+      (or_empty (sent_value t.call.kind t.call.settled) value sent)
       ∙ ap (λ (l : Layout). Some (value, l.k, length l.members)) layout_is

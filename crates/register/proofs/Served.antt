@@ -1,5 +1,6 @@
 -- A member serves a request.
-use Rattle.std.proofs.Common.{◌≡◌, ℕ, ◌+◌, ◌-◌, ◌<◌, ◌≤◌, ◌^◌, Bool, true, false, cond, is_some, List, [], length, get_or, set, slice_get, Option, Some, None, sym, ap, subst, ◌∙◌, refl, arith}
+use Rattle.std.proofs.Common.{◌≡◌, ℕ, ◌+◌, ◌-◌, ◌<◌, ◌≤◌, ◌^◌, Bool, true, false, cond, is_some, List, [], length, get_or, set, slice_get}
+use Rattle.std.proofs.Common.{Option, Some, None, sym, ap, subst, ◌∙◌, refl, arith}
 use Rattle.tag.specs.declared.limits.TheConstants.{LONGEST_VALUE, MOST_BYTES, MOST_MESSAGES, MOST_POSITIONS}
 use Rattle.tag.specs.declared.tag.Tag.{Tag}
 use Rattle.layout.specs.Layout.{Layout}
@@ -11,6 +12,7 @@ use Rattle.bank.specs.Answer.{answer_bytes}
 use Rattle.bank.specs.Serve.{served_bank, reply_to, answer_to}
 use Rattle.bank.specs.declared.request.Request.{Request}
 use Rattle.bank.specs.declared.reply.Answer.TheVariants as answer
+use Rattle.std.proofs.lemmas.Option.{slice_get_read}
 use Rattle.bank.specs.declared.row.Row.{Row}
 use Rattle.std.specs.FinMap as finmap
 use Rattle.bank.specs.declared.request.Request.TheVariants as request
@@ -20,54 +22,16 @@ use Rattle.mail.specs.declared.message.Body.TheVariants as body
 use Rattle.mail.specs.Message.{request_bytes, answered}
 use Rattle.mail.specs.Mail.{mail_bytes, replied, replied_message}
 use Rattle.record.specs.Records.{Call, Object, bank_at, no_bank}
-use Rattle.record.specs.Sound.{IsSound, IsPosted}
+use Rattle.record.specs.Sound.{IsSound}
 use Rattle.record.specs.Steps.{Step, on_message, served_by}
 use Rattle.register.specs.Position.{Position, layouts_of, banks_of, banks_bytes, all_bytes}
 use Rattle.register.specs.State.{Contents, object_of, state_of, made}
 use Rattle.register.specs.Kept.{IsKept}
-use Rattle.register.proofs.Lists.{found, found_or, found_map, map_set, length_map, set_same, all_found, sum_put, sum_at}
+use Rattle.register.proofs.Lists.{same_some, found_within, found_or, found_map, map_set, set_same, sum_put}
+use Rattle.register.proofs.Lists.{sum_at}
 use Rattle.register.proofs.Keeps.{steps_on}
-use Rattle.register.proofs.Short.{coded_short, posted_within, reply_has_room, IsShort}
-
--- the bank to which a waiting message goes, or from which it comes
-pub record There (c : Contents) (message : Message) : Type 0 where
-  pub position : Position
-  pub at : slice_get c.positions message.position ≡ Some position
-  pub bank : Bank
-  pub kept : slice_get position.banks message.member ≡ Some bank
-  pub is : bank_at (state_of c).object message.position message.member ≡ bank
-  pub placed : message.position < length (state_of c).object.layouts
-
-pub there : (c : Contents) → IsKept c → (place : ℕ) (message : Message) → slice_get c.mail place ≡ Some message → There c message
-there c kept place message waits = record {
-  position = p.0;
-  at = p.1;
-  bank = b.0;
-  kept = b.1;
-  is = ap (λ bs. get_or bs message.member no_bank) banks_at ∙ found_or p.0.banks message.member b.0 no_bank b.1;
-  placed = placed;
-}
-  where
-    object : Object
-    object = (state_of c).object
-
-    posted : IsPosted (state_of c).object message
-    posted = all_found (IsPosted (state_of c).object) c.mail place message kept.sound.mail waits
-
-    placed : message.position < length (state_of c).object.layouts
-    placed = posted_within (state_of c).object c.last kept.sound message posted
-
-    p : (p : Position) × (slice_get c.positions message.position ≡ Some p)
-    p = found c.positions message.position (subst (λ n. message.position < n) (length_map (λ (p : Position). p.layout) c.positions) placed)
-
-    banks_at : get_or (state_of c).object.banks message.position [] ≡ p.0.banks
-    banks_at = found_or (banks_of c.positions) message.position p.0.banks [] (found_map (λ (p : Position). p.banks) c.positions message.position p.0 p.1)
-
-    within : message.member < length p.0.banks
-    within = subst (λ bs. message.member < length bs) banks_at (subst (λ n. message.member < n) (sym (kept.sound.shape.members message.position placed)) posted.member)
-
-    b : (b : Bank) × (slice_get p.0.banks message.member ≡ Some b)
-    b = found p.0.banks message.member within
+use Rattle.register.proofs.Short.{coded_short, reply_has_room, IsShort}
+use Rattle.register.proofs.Waiting.{there}
 
 -- a request adds no more bytes than those of the piece that it brings
 added_few : (b : Bank) (q : Request) → added_bytes b q ≤ request_bytes q
@@ -88,24 +52,72 @@ served_few b q now = let same = served_bytes b q now in let few = added_few b q 
 abbrev parts : List Layout → List (List Bank) → List Message → List Call → Object
 parts layouts banks mail calls = record { layouts = layouts; banks = banks; mail = mail; calls = calls }
 
-module _ (c : Contents) (place now : ℕ) (after : c.last < now) (kept : IsKept c) (m : Message) (waits : slice_get c.mail place ≡ Some m)
-    (p : Position) (at : slice_get c.positions m.position ≡ Some p) (b : Bank) (held : slice_get p.banks m.member ≡ Some b) (q : Request) (is : m.body ≡ body.Request q) where
+-- the request that waits at a place, and the bank to which it goes, as they were read
+pub record IsServing (c : Contents) (place : ℕ) (m : Message) (p : Position) (q : Request) : Type 0 where
+  pub kept : IsKept c
+  pub waits : slice_get c.mail place ≡ Some m
+  pub is : m.body ≡ body.Request q
+  pub at : slice_get c.positions m.position ≡ Some p
+  pub bank : Bank
+  pub held : slice_get p.banks m.member ≡ Some bank
+
+pub position_there : {c : Contents} (place : ℕ) {m : Message} → IsKept c → slice_get c.mail place ≡ Some m → m.position < length c.positions
+position_there {c = c} place {m = m} kept waits =
+    let t = there c kept place m waits in found_within c.positions m.position t.position t.at
+
+pub serving : {c : Contents} (place : ℕ) {m : Message} {p : Position} {q : Request} → IsKept c → slice_get c.mail place ≡ Some m
+    → m.body ≡ body.Request q → p ≡ get_or c.positions m.position p → IsServing c place m p q
+serving {c = c} place {m = m} {p = p} kept waits is read =
+    let t = there c kept place m waits in
+    let at : slice_get c.positions m.position ≡ Some p =
+    slice_get_read c.positions (length c.positions) m.position p refl (position_there place kept waits) read in
+    record {
+      kept = kept;
+      waits = waits;
+      is = is;
+      at = at;
+      bank = t.bank;
+      held = subst (λ (p : Position). slice_get p.banks m.member ≡ Some t.bank) (same_some t.position p (sym t.at ∙ at)) t.kept;
+    }
+
+module _ {c : Contents} {place : ℕ} {m : Message} {p : Position} {q : Request} (s : IsServing c place m p q) where
+  abbrev kept : IsKept c
+  kept = s.kept
+
+  abbrev waits : slice_get c.mail place ≡ Some m
+  waits = s.waits
+
+  abbrev at : slice_get c.positions m.position ≡ Some p
+  at = s.at
+
+  abbrev b : Bank
+  b = s.bank
+
+  abbrev held : slice_get p.banks m.member ≡ Some b
+  held = s.held
+
+  pub member_there : m.member < length p.banks
+  member_there = found_within p.banks m.member b held
+
   -- what the bank stores is part of all that is stored
   pub part_stored : bank_bytes b ≤ c.stored
   part_stored =
       let first = sum_at bank_bytes p.banks m.member b held in
-      let second = sum_at banks_bytes (banks_of c.positions) m.position p.banks (found_map (λ (p : Position). p.banks) c.positions m.position p at) in
+      let second = sum_at banks_bytes (banks_of c.positions) m.position p.banks
+      (found_map (λ (p : Position). p.banks) c.positions m.position p at) in
       subst (λ n. bank_bytes b ≤ n) (sym kept.stored) (omega (arith, first, second))
 
   pub stored_few : c.stored ≤ MOST_BYTES
   stored_few = subst (λ n. n ≤ MOST_BYTES) (sym kept.stored) kept.limits.stored
 
-  pub bytes_few : bank_bytes b < 2 ^ 64
-  bytes_few = let part = part_stored in let few = stored_few in omega (arith, part, few)
+  pub bytes_few : (other : Bank) → slice_get p.banks m.member ≡ Some other → bank_bytes other < 2 ^ 64
+  bytes_few other e = let same = ap bank_bytes (same_some b other (sym held ∙ e)) in let part = part_stored in let few =
+      stored_few in omega (arith, same, part, few)
 
   bank_is : bank_at (state_of c).object m.position m.member ≡ b
   bank_is =
-      ap (λ bs. get_or bs m.member no_bank) (found_or (banks_of c.positions) m.position p.banks [] (found_map (λ (p : Position). p.banks) c.positions m.position p at))
+      ap (λ bs. get_or bs m.member no_bank) (found_or (banks_of c.positions) m.position p.banks []
+      (found_map (λ (p : Position). p.banks) c.positions m.position p at))
       ∙ found_or p.banks m.member b no_bank held
 
   placed : m.position < length (state_of c).object.layouts
@@ -118,8 +130,10 @@ module _ (c : Contents) (place now : ℕ) (after : c.last < now) (kept : IsKept 
       kept_short : (tag : Tag) (piece : Option Piece) → piece_of b tag ≡ piece → answer_bytes (answer.Piece piece) ≤ LONGEST_VALUE
       kept_short tag None is = omega arith
       kept_short tag (Some piece) is =
-          let coded = kept.sound.coded.banks m.position m.member tag (subst (λ (b : Bank). knows b tag ≡ true) (sym bank_is) (known tag piece is)) in
-          let short = coded_short (state_of c).object c.last kept.sound m.position m.member placed tag (piece_of (bank_at (state_of c).object m.position m.member) tag) coded in
+          let coded = kept.sound.coded.banks m.position m.member tag
+          (subst (λ (b : Bank). knows b tag ≡ true) (sym bank_is) (known tag piece is)) in
+          let short = coded_short (state_of c).object c.last kept.sound m.position m.member placed tag
+          (piece_of (bank_at (state_of c).object m.position m.member) tag) coded in
           subst IsShort (ap (λ (b : Bank). piece_of b tag) bank_is ∙ is) short
         where
           known : (tag : Tag) (piece : Piece) → piece_of b tag ≡ Some piece → knows b tag ≡ true
@@ -141,38 +155,50 @@ module _ (c : Contents) (place now : ℕ) (after : c.last < now) (kept : IsKept 
   reply_room few = reply_has_room (state_of c).object c.last kept.sound few (answer_bytes (answer_to b q)) answer_short
 
   -- what the register holds afterwards
-  module _ (new : Position) (layout : new.layout ≡ p.layout) (banks : new.banks ≡ set p.banks m.member (served_bank b q now)) where
+  module _ (now : ℕ) {new : Position} (layout : new.layout ≡ p.layout)
+      (banks : new.banks ≡ set p.banks m.member (served_bank b q now)) where
     layouts_are : layouts_of (set c.positions m.position new) ≡ layouts_of c.positions
     layouts_are =
         map_set (λ (p : Position). p.layout) c.positions m.position new
-        ∙ set_same (layouts_of c.positions) m.position new.layout (found_map (λ (p : Position). p.layout) c.positions m.position p at ∙ ap Some (sym layout))
+        ∙ set_same (layouts_of c.positions) m.position new.layout
+        (found_map (λ (p : Position). p.layout) c.positions m.position p at ∙ ap Some (sym layout))
 
     banks_are : banks_of (set c.positions m.position new)
         ≡ set (banks_of c.positions) m.position (set (get_or (banks_of c.positions) m.position []) m.member (served_bank b q now))
     banks_are =
         map_set (λ (p : Position). p.banks) c.positions m.position new
         ∙ ap (set (banks_of c.positions) m.position) (banks
-        ∙ ap (λ bs. set bs m.member (served_bank b q now)) (sym (found_or (banks_of c.positions) m.position p.banks [] (found_map (λ (p : Position). p.banks) c.positions m.position p at))))
+        ∙ ap (λ bs. set bs m.member (served_bank b q now))
+        (sym (found_or (banks_of c.positions) m.position p.banks []
+        (found_map (λ (p : Position). p.banks) c.positions m.position p at))))
 
     mail_is : replied c.mail place (reply_to b q now) ≡ set c.mail place (answered m (reply_to b q now))
     mail_is = ap (replied_message c.mail place (reply_to b q now)) waits
 
-    pub serving_is : object_of (set c.positions m.position new) (replied c.mail place (reply_to b q now)) c.calls ≡ (made (Step.Serve place) now (state_of c)).object
+    pub serving_is : object_of (set c.positions m.position new) (replied c.mail place (reply_to b q now)) c.calls
+        ≡ (made (Step.Serve place) now (state_of c)).object
     serving_is =
-        ap (λ ls. parts ls (banks_of (set c.positions m.position new)) (replied c.mail place (reply_to b q now)) (state_of c).object.calls) layouts_are
+        ap (λ ls. parts ls (banks_of (set c.positions m.position new)) (replied c.mail place (reply_to b q now)) (state_of c).object.calls)
+        layouts_are
         ∙ ap (λ bs. parts (layouts_of c.positions) bs (replied c.mail place (reply_to b q now)) (state_of c).object.calls) banks_are
-        ∙ ap (λ ms. parts (layouts_of c.positions) (set (banks_of c.positions) m.position (set (get_or (banks_of c.positions) m.position []) m.member (served_bank b q now))) ms (state_of c).object.calls) mail_is
-        ∙ sym (ap (λ (b : Bank). parts (layouts_of c.positions) (set (banks_of c.positions) m.position (set (get_or (banks_of c.positions) m.position []) m.member (served_bank b q now))) (set c.mail place (answered m (reply_to b q now))) (state_of c).object.calls) bank_is)
-        ∙ sym (ap (λ b. served_by (state_of c).object place m b now) is)
+        ∙ ap (λ ms. parts (layouts_of c.positions)
+        (set (banks_of c.positions) m.position (set (get_or (banks_of c.positions) m.position []) m.member (served_bank b q now))) ms
+        (state_of c).object.calls) mail_is
+        ∙ sym (ap (λ (b : Bank). parts (layouts_of c.positions)
+        (set (banks_of c.positions) m.position (set (get_or (banks_of c.positions) m.position []) m.member (served_bank b q now)))
+        (set c.mail place (answered m (reply_to b q now))) (state_of c).object.calls) bank_is)
+        ∙ sym (ap (λ b. served_by (state_of c).object place m b now) s.is)
         ∙ sym (ap (λ o. on_message (state_of c).object o (λ message. served_by (state_of c).object place message message.body now)) waits)
 
     -- the bytes that all banks store
-    pub stored_is : c.stored - bank_bytes b + bank_bytes (served_bank b q now) ≡ all_bytes (banks_of (set c.positions m.position new))
+    stored_is : c.stored - bank_bytes b + bank_bytes (served_bank b q now) ≡ all_bytes (banks_of (set c.positions m.position new))
     stored_is =
         let inner = sum_put bank_bytes p.banks m.member b (served_bank b q now) held in
-        let outer = sum_put banks_bytes (banks_of c.positions) m.position p.banks new.banks (found_map (λ (p : Position). p.banks) c.positions m.position p at) in
+        let outer = sum_put banks_bytes (banks_of c.positions) m.position p.banks new.banks
+        (found_map (λ (p : Position). p.banks) c.positions m.position p at) in
         let same : banks_bytes new.banks ≡ banks_bytes (set p.banks m.member (served_bank b q now)) = ap banks_bytes banks in
-        let list : all_bytes (banks_of (set c.positions m.position new)) ≡ all_bytes (set (banks_of c.positions) m.position new.banks) = ap all_bytes (map_set (λ (p : Position). p.banks) c.positions m.position new) in
+        let list : all_bytes (banks_of (set c.positions m.position new)) ≡ all_bytes (set (banks_of c.positions) m.position new.banks) =
+        ap all_bytes (map_set (λ (p : Position). p.banks) c.positions m.position new) in
         let total : c.stored ≡ all_bytes (banks_of c.positions) = kept.stored in
         let part = part_stored in
         omega (arith, inner, outer, same, list, total, part)
@@ -180,10 +206,14 @@ module _ (c : Contents) (place now : ℕ) (after : c.last < now) (kept : IsKept 
     pub stored_fits : c.stored + request_bytes q ≤ MOST_BYTES → c.stored - bank_bytes b + bank_bytes (served_bank b q now) ≤ MOST_BYTES
     stored_fits room = let few = served_few b q now in let part = part_stored in omega (arith, few, part, room)
 
-    pub serving_keeps : c.stored + request_bytes q ≤ MOST_BYTES
-        → IsKept (record c { positions = set c.positions m.position new; mail = replied c.mail place (reply_to b q now); stored = c.stored - bank_bytes b + bank_bytes (served_bank b q now); last = now })
-    serving_keeps room = record {
-      sound = subst (λ o. IsSound fragment o now) (sym serving_is) (steps_on c now (Step.Serve place) after kept (m, (waits, (q, is))));
+    pub serving_keeps : c.last < now → c.stored + request_bytes q ≤ MOST_BYTES → IsKept (record c {
+      positions = set c.positions m.position new;
+      mail = replied c.mail place (reply_to b q now);
+      stored = c.stored - bank_bytes b + bank_bytes (served_bank b q now);
+      last = now;
+    })
+    serving_keeps after room = record {
+      sound = subst (λ o. IsSound fragment o now) (sym serving_is) (steps_on c now (Step.Serve place) after kept (m, (waits, (q, s.is))));
       limits = record {
         positions = subst (λ ls. length ls ≤ MOST_POSITIONS) (sym layouts_are) kept.limits.positions;
         calls = kept.limits.calls;

@@ -1,5 +1,6 @@
 -- No piece is longer than a value may be.
-use Rattle.std.proofs.Common.{◌≡◌, ℕ, zero, suc, ◌+◌, ◌*◌, ◌<◌, ◌≤◌, ◌||◌, Bool, true, false, cond, List, [], ◌∷◌, ◌++◌, length, Option, Some, None, sym, subst, inl, inr, refl, arith}
+use Rattle.std.proofs.Common.{◌≡◌, ℕ, zero, suc, ◌+◌, ◌*◌, ◌<◌, ◌≤◌, ◌||◌, Bool, true, false, cond, List, [], ◌∷◌, ◌++◌, length, Option}
+use Rattle.std.proofs.Common.{Some, None, sym, subst, inl, inr, refl, arith}
 use Rattle.std.specs.List.{AllByRecursion}
 use Rattle.std.proofs.lemmas.Grind.{div_ceil_times}
 use Rattle.tag.specs.declared.limits.TheConstants.{LONGEST_VALUE, MOST_BYTES, MOST_MESSAGES}
@@ -54,18 +55,22 @@ IsShort None = Unit {0}
 IsShort (Some piece) = length piece.bytes ≤ LONGEST_VALUE
 
 -- a position that is there has a threshold
-pub some_k : (object : Object) (step : ℕ) → IsSound fragment object step → (position : ℕ) → position < length object.layouts → 1 ≤ (layout_at object position).k
+pub some_k : (object : Object) (step : ℕ) → IsSound fragment object step → (position : ℕ) → position < length object.layouts
+    → 1 ≤ (layout_at object position).k
 some_k object step sound position within =
     let there = found object.layouts position within in
     let lawful = all_found IsLawful object.layouts position there.0 sound.legal.layouts there.1 in
     subst (λ (l : Layout). 1 ≤ l.k) (sym (found_or object.layouts position there.0 no_layout there.1)) lawful.some
 
-journaled_short : (object : Object) (step : ℕ) → IsSound fragment object step → (tag : Tag) (value : List ℕ) → IsJournaled object tag value → length value ≤ LONGEST_VALUE
+journaled_short : (object : Object) (step : ℕ) → IsSound fragment object step → (tag : Tag) (value : List ℕ) → IsJournaled object tag value
+    → length value ≤ LONGEST_VALUE
 journaled_short object step sound tag value (inl opening) = subst (λ v. length v ≤ LONGEST_VALUE) (sym opening.1) (omega arith)
-journaled_short object step sound tag value (inr written) = (sound.values.written written.index written.call value written.at written.kind).1
+journaled_short object step sound tag value (inr written) =
+    (sound.values.written written.index written.call value written.at written.kind).1
 
 -- a piece of a journaled value is short
-pub coded_short : (object : Object) (step : ℕ) → IsSound fragment object step → (position member : ℕ) → position < length object.layouts → (tag : Tag) (piece : Option Piece)
+pub coded_short : (object : Object) (step : ℕ) → IsSound fragment object step → (position member : ℕ) → position < length object.layouts
+    → (tag : Tag) (piece : Option Piece)
     → IsCoded fragment object position member tag piece → IsShort piece
 coded_short object step sound position member within tag None coded = tt
 coded_short object step sound position member within tag (Some piece) coded =
@@ -74,21 +79,26 @@ coded_short object step sound position member within tag (Some piece) coded =
     let longest = journaled_short object step sound tag coded.value coded.journaled in
     subst (λ bs. length bs ≤ LONGEST_VALUE) (sym is.bytes) (omega (arith, short, longest))
 
-if_short : (object : Object) (step : ℕ) → IsSound fragment object step → (position member : ℕ) → position < length object.layouts → (tag : Tag) (piece : Option Piece)
+if_short : (object : Object) (step : ℕ) → IsSound fragment object step → (position member : ℕ) → position < length object.layouts
+    → (tag : Tag) (piece : Option Piece)
     → IfCoded fragment object position member (Some tag) piece → IsShort piece
 if_short object step sound position member within tag piece coded = coded_short object step sound position member within tag piece coded
 
 -- what waits is short
 
-pub posted_within : (object : Object) (step : ℕ) → IsSound fragment object step → (message : Message) → IsPosted object message → message.position < length object.layouts
+pub posted_within : (object : Object) (step : ℕ) → IsSound fragment object step → (message : Message) → IsPosted object message
+    → message.position < length object.layouts
 posted_within object step sound message posted =
-    let truth = all_found (IsTruePhase object) posted.call.phases posted.place posted.phase (sound.legal.calls posted.index posted.call posted.at).phases posted.within in
+    let truth = all_found (IsTruePhase object) posted.call.phases posted.place posted.phase
+    (sound.legal.calls posted.index posted.call posted.at).phases posted.within in
     subst (λ p. p < length object.layouts) (sym posted.same_position) truth.placed
 
-answer_short : (object : Object) (step : ℕ) → IsSound fragment object step → (position member made : ℕ) → position < length object.layouts → (k : Kind) (a : Answer)
+answer_short : (object : Object) (step : ℕ) → IsSound fragment object step → (position member made : ℕ) → position < length object.layouts
+    → (k : Kind) (a : Answer)
     → IsTrueAnswer (bank_at object position member) made k a → IfCoded fragment object position member (answer_tag k a) (answer_piece a)
     → answer_bytes a ≤ LONGEST_VALUE
-answer_short object step sound position member made within (kind.Fetch tag) (answer.Piece (Some piece)) truth coded = if_short object step sound position member within tag (Some piece) coded
+answer_short object step sound position member made within (kind.Fetch tag) (answer.Piece (Some piece)) truth coded =
+    if_short object step sound position member within tag (Some piece) coded
 answer_short object step sound position member made within kind.Next (answer.Piece (Some piece)) truth coded = absurd truth
 answer_short object step sound position member made within (kind.Spread status) (answer.Piece (Some piece)) truth coded = absurd truth
 answer_short object step sound position member made within kind.Query (answer.Piece (Some piece)) truth coded = absurd truth
@@ -100,7 +110,8 @@ answer_short object step sound position member made within k (answer.Pointer sta
 answer_short object step sound position member made within k (answer.Greatest tag) truth coded = omega arith
 
 message_short : (object : Object) (step : ℕ) → IsSound fragment object step → (message : Message) → IsPosted object message
-    → IfCoded fragment object message.position message.member (body_tag message.body) (body_piece message.body) → message_bytes message ≤ LONGEST_VALUE
+    → IfCoded fragment object message.position message.member (body_tag message.body) (body_piece message.body)
+    → message_bytes message ≤ LONGEST_VALUE
 message_short object step sound message posted coded = go message.body refl
   where
     within : message.position < length object.layouts
@@ -110,7 +121,8 @@ message_short object step sound message posted coded = go message.body refl
     coded_as b is = subst (λ (b : Body). IfCoded fragment object message.position message.member (body_tag b) (body_piece b)) is coded
 
     asks : (q : Request) → message.body ≡ body.Request q → request_bytes q ≤ LONGEST_VALUE
-    asks (request.PreWrite tag piece) is = if_short object step sound message.position message.member within tag (Some piece) (coded_as (body.Request (request.PreWrite tag piece)) is)
+    asks (request.PreWrite tag piece) is = if_short object step sound message.position message.member within tag (Some piece)
+        (coded_as (body.Request (request.PreWrite tag piece)) is)
     asks request.Next is = omega arith
     asks (request.Spread status) is = omega arith
     asks request.Query is = omega arith
@@ -120,13 +132,16 @@ message_short object step sound message posted coded = go message.body refl
     go : (b : Body) → message.body ≡ b → body_bytes b ≤ LONGEST_VALUE
     go (body.Request q) is = asks q is
     go (body.Reply k made) is =
-        answer_short object step sound message.position message.member made.step within k made.answer (posted.reply k made is).1 (coded_as (body.Reply k made) is)
+        answer_short object step sound message.position message.member made.step within k made.answer (posted.reply k made is).1
+        (coded_as (body.Reply k made) is)
 
-pub mail_short : (object : Object) (step : ℕ) → IsSound fragment object step → AllByRecursion (λ m. message_bytes m ≤ LONGEST_VALUE) object.mail
+pub mail_short : (object : Object) (step : ℕ) → IsSound fragment object step
+    → AllByRecursion (λ m. message_bytes m ≤ LONGEST_VALUE) object.mail
 mail_short object step sound = go object.mail sound.mail sound.coded.mail
   where
     go : (mail : List Message) → AllByRecursion (IsPosted object) mail
-        → AllByRecursion (λ (message : Message). IfCoded fragment object message.position message.member (body_tag message.body) (body_piece message.body)) mail
+        → AllByRecursion (λ (message : Message). IfCoded fragment object message.position message.member (body_tag message.body)
+        (body_piece message.body)) mail
         → AllByRecursion (λ m. message_bytes m ≤ LONGEST_VALUE) mail
     go [] posted coded = tt
     go (m ∷ ms) posted coded = (message_short object step sound m posted.0 coded.0, go ms posted.1 coded.1)
@@ -140,12 +155,15 @@ all_append P (x ∷ xs) ys first second = (first.0, all_append P xs ys first.1 s
 pub few_have_room : (messages : List Message) → AllByRecursion (λ m. message_bytes m ≤ LONGEST_VALUE) messages → HasRoomIfFew messages
 few_have_room messages short few = let fit = pieces_fit messages few short in omega (arith, fit)
 
-pub reply_has_room : (object : Object) (step : ℕ) → IsSound fragment object step → length object.mail ≤ MOST_MESSAGES → (bytes : ℕ) → bytes ≤ LONGEST_VALUE → mail_bytes object.mail + bytes ≤ MOST_BYTES
-reply_has_room object step sound few bytes short = let fit = pieces_fit object.mail few (mail_short object step sound) in omega (arith, fit, short)
+pub reply_has_room : (object : Object) (step : ℕ) → IsSound fragment object step → length object.mail ≤ MOST_MESSAGES → (bytes : ℕ)
+    → bytes ≤ LONGEST_VALUE → mail_bytes object.mail + bytes ≤ MOST_BYTES
+reply_has_room object step sound few bytes short = let fit =
+    pieces_fit object.mail few (mail_short object step sound) in omega (arith, fit, short)
 
 -- the requests of a phase are short
 
-request_short : (k : Kind) (members member : ℕ) (coded : Option Coding) → HavePieces k members coded → ((c : Coding) → coded ≡ Some c → (1 ≤ c.k) × (length c.value ≤ LONGEST_VALUE))
+request_short : (k : Kind) (members member : ℕ) (coded : Option Coding) → HavePieces k members coded
+    → ((c : Coding) → coded ≡ Some c → (1 ≤ c.k) × (length c.value ≤ LONGEST_VALUE))
     → request_bytes (request_to k (piece_from coded member)) ≤ LONGEST_VALUE
 request_short (kind.PreWrite tag) members member None have lawful = absurd have
 request_short (kind.PreWrite tag) members member (Some c) have lawful =
@@ -158,17 +176,20 @@ request_short kind.Query members member coded have lawful = omega arith
 request_short (kind.Finalize tag) members member coded have lawful = omega arith
 request_short (kind.Fetch tag) members member coded have lawful = omega arith
 
-pub requests_short : (call phase : ℕ) (k : Kind) (position members : ℕ) (servers : List ℕ) (member : ℕ) (coded : Option Coding) → HavePieces k members coded
+pub requests_short : (call phase : ℕ) (k : Kind) (position members : ℕ) (servers : List ℕ) (member : ℕ) (coded : Option Coding)
+    → HavePieces k members coded
     → ((c : Coding) → coded ≡ Some c → (1 ≤ c.k) × (length c.value ≤ LONGEST_VALUE))
     → AllByRecursion (λ m. message_bytes m ≤ LONGEST_VALUE) (requests call phase k position servers member (piece_from coded))
 requests_short call phase k position members [] member coded have lawful = tt
 requests_short call phase k position members (s ∷ ss) member coded have lawful =
     (request_short k members member coded have lawful, requests_short call phase k position members ss (suc member) coded have lawful)
 
-pub missing_short : (mail : List Message) (replied : List ℕ) (messages : List Message) → AllByRecursion (λ m. message_bytes m ≤ LONGEST_VALUE) messages
+pub missing_short : (mail : List Message) (replied : List ℕ) (messages : List Message)
+    → AllByRecursion (λ m. message_bytes m ≤ LONGEST_VALUE) messages
     → AllByRecursion (λ m. message_bytes m ≤ LONGEST_VALUE) (missing mail replied messages)
 missing_short mail replied [] short = tt
-missing_short mail replied (m ∷ ms) short = either (has replied m.member || waits mail m.call m.phase m.member) (missing_short mail replied ms short.1)
+missing_short mail replied (m ∷ ms) short = either (has replied m.member || waits mail m.call m.phase m.member)
+    (missing_short mail replied ms short.1)
   where
     either : (b : Bool) → AllByRecursion (λ m. message_bytes m ≤ LONGEST_VALUE) (missing mail replied ms)
         → AllByRecursion (λ m. message_bytes m ≤ LONGEST_VALUE) (cond b (missing mail replied ms) (m ∷ missing mail replied ms))

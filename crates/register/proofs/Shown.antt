@@ -1,5 +1,6 @@
 -- The tags that replies show are past, and so is the greatest that a call has found.
-use Rattle.std.proofs.Common.{◌≡◌, ℕ, suc, ◌+◌, ◌<◌, ◌≤◌, ◌==◌, ◌^◌, Bool, true, false, cond, List, [], ◌∷◌, slice_get, Option, Some, None, sym, subst, inl, inr, refl, arith}
+use Rattle.std.proofs.Common.{◌≡◌, ℕ, suc, ◌+◌, ◌<◌, ◌≤◌, ◌==◌, ◌^◌, Bool, true, false, cond, List, [], ◌∷◌, slice_get, Option, Some, None}
+use Rattle.std.proofs.Common.{sym, subst, inl, inr, refl, arith}
 use Rattle.std.specs.List.{AllByRecursion}
 use Rattle.tag.specs.declared.tag.Tag.{Tag}
 use Rattle.tag.specs.Tag.{later_tag, tag_lt}
@@ -17,9 +18,12 @@ use Rattle.phase.specs.Phase.{Phase, is_current, has_taken, with_reply, after_bo
 use Rattle.record.specs.declared.call.CallKind.{CallKind}
 use Rattle.record.specs.declared.call.CallKind.TheVariants.{Read, Write, Move}
 use Rattle.record.specs.declared.stage.Stage.{Stage}
-use Rattle.record.specs.declared.stage.Stage.TheVariants.{ReadNext, ReadSpread, QueryFrom, FetchAt, PreWriteAt, FinalizeAt, AgainNext, AgainSpread, MoveSpread, MoveQuery, MoveFetch, MovePreWrite, MoveFinalize, MoveFinal, Ended, Moved}
+use Rattle.record.specs.declared.stage.Stage.TheVariants.{ReadNext, ReadSpread, QueryFrom, FetchAt, PreWriteAt, FinalizeAt, AgainNext}
+use Rattle.record.specs.declared.stage.Stage.TheVariants.{AgainSpread, MoveSpread, MoveQuery, MoveFetch, MovePreWrite, MoveFinalize}
+use Rattle.record.specs.declared.stage.Stage.TheVariants.{MoveFinal, Ended, Moved}
 use Rattle.record.specs.Records.{Call, Object}
-use Rattle.record.specs.Courses.{shown_tag, greatest_tag, greatest_status, after_next, after_spread, after_again, tagged, after, passed, stage_after}
+use Rattle.record.specs.Courses.{shown_tag, greatest_tag, greatest_status, after_next, after_spread, after_again, tagged, after, passed}
+use Rattle.record.specs.Courses.{stage_after}
 use Rattle.record.specs.Fragments.{Code, IsCoded, IfCoded, answer_tag, answer_piece}
 use Rattle.record.specs.Journals.{IsJournaled}
 use Rattle.record.specs.Legal.{first_stage, source_of, stage_of}
@@ -43,7 +47,8 @@ pub greatest_up_to : (n : ℕ) (replies : List Taken) → AllByRecursion (ShownU
 greatest_up_to n [] shown = omega arith
 greatest_up_to n (t ∷ ts) shown = later_up_to n (shown_tag t.reply.answer) (greatest_tag ts) shown.0 (greatest_up_to n ts shown.1)
 
-after_up_to : (n : ℕ) (kind : CallKind) (number : ℕ) (stage : Stage) (replies : List Taken) → AllByRecursion (ShownUpTo n) replies → FoundUpTo n stage → FoundUpTo n (after kind number stage replies)
+after_up_to : (n : ℕ) (kind : CallKind) (number : ℕ) (stage : Stage) (replies : List Taken) → AllByRecursion (ShownUpTo n) replies
+    → FoundUpTo n stage → FoundUpTo n (after kind number stage replies)
 after_up_to n kind number (ReadNext position finalized) replies shown so_far = go (greatest_status replies)
   where
     go : (status : Status) → FoundUpTo n (after_next status position finalized)
@@ -56,7 +61,8 @@ after_up_to n kind number (ReadSpread position finalized status) replies shown s
     go Unset = tt
     go Pending = tt
     go Final = tt
-after_up_to n kind number (QueryFrom position last greatest shown_at) replies shown so_far = go (tag_lt (greatest_tag replies) greatest) (position == last) kind
+after_up_to n kind number (QueryFrom position last greatest shown_at) replies shown so_far =
+    go (tag_lt (greatest_tag replies) greatest) (position == last) kind
   where
     later : Tag
     later = later_tag greatest (greatest_tag replies)
@@ -64,7 +70,8 @@ after_up_to n kind number (QueryFrom position last greatest shown_at) replies sh
     up_to : later.number ≤ n
     up_to = later_up_to n greatest (greatest_tag replies) so_far (greatest_up_to n replies shown)
 
-    go : (b d : Bool) (kind : CallKind) → FoundUpTo n (cond d (tagged kind number (cond b shown_at position) last later) (QueryFrom (suc position) last later (cond b shown_at position)))
+    go : (b d : Bool) (kind : CallKind) → FoundUpTo n
+        (cond d (tagged kind number (cond b shown_at position) last later) (QueryFrom (suc position) last later (cond b shown_at position)))
     go b true Read = tt
     go b true (Write value) = tt
     go b true Move = tt
@@ -96,16 +103,19 @@ after_up_to n kind number (MoveFinal position tag) replies shown so_far = tt
 after_up_to n kind number (Ended last tag) replies shown so_far = tt
 after_up_to n kind number (Moved position tag) replies shown so_far = tt
 
-passed_up_to : (n : ℕ) (kind : CallKind) (number : ℕ) (stage : Stage) (end : Option ℕ) (replies : List Taken) → AllByRecursion (ShownUpTo n) replies → FoundUpTo n stage
+passed_up_to : (n : ℕ) (kind : CallKind) (number : ℕ) (stage : Stage) (end : Option ℕ) (replies : List Taken)
+    → AllByRecursion (ShownUpTo n) replies → FoundUpTo n stage
     → FoundUpTo n (passed kind number stage end replies)
 passed_up_to n kind number stage None replies shown so_far = so_far
 passed_up_to n kind number stage (Some end) replies shown so_far = after_up_to n kind number stage replies shown so_far
 
-stage_up_to : (n : ℕ) (kind : CallKind) (number : ℕ) (stage : Stage) (phases : List Phase) → AllByRecursion (λ (phase : Phase). AllByRecursion (ShownUpTo n) phase.replies) phases → FoundUpTo n stage
+stage_up_to : (n : ℕ) (kind : CallKind) (number : ℕ) (stage : Stage) (phases : List Phase)
+    → AllByRecursion (λ (phase : Phase). AllByRecursion (ShownUpTo n) phase.replies) phases → FoundUpTo n stage
     → FoundUpTo n (stage_after kind number stage phases)
 stage_up_to n kind number stage [] shown so_far = so_far
 stage_up_to n kind number stage (p ∷ ps) shown so_far =
-    stage_up_to n kind number (passed kind number stage p.end p.replies) ps shown.1 (passed_up_to n kind number stage p.end p.replies shown.0 so_far)
+    stage_up_to n kind number (passed kind number stage p.end p.replies) ps shown.1
+    (passed_up_to n kind number stage p.end p.replies shown.0 so_far)
 
 first_up_to : (n : ℕ) (kind : CallKind) (from : ℕ) → FoundUpTo n (first_stage kind from)
 first_up_to n Read from = tt
@@ -113,44 +123,57 @@ first_up_to n (Write value) from = tt
 first_up_to n Move from = tt
 
 -- a journaled tag is past
-journaled_past : (fragment : Code) (object : Object) (step : ℕ) → IsSound fragment object step → (tag : Tag) (value : List ℕ) → IsJournaled object tag value → tag.number ≤ step
+journaled_past : (fragment : Code) (object : Object) (step : ℕ) → IsSound fragment object step → (tag : Tag) (value : List ℕ)
+    → IsJournaled object tag value → tag.number ≤ step
 journaled_past fragment object step sound tag value (inl opening) = subst (λ (t : Tag). t.number ≤ step) (sym opening.0) (omega arith)
 journaled_past fragment object step sound tag value (inr written) = sound.past.tags written.index written.call tag written.at written.tagged
 
 -- what an answer shows is past
-shown_past : (fragment : Code) (object : Object) (step : ℕ) → IsSound fragment object step → (position member : ℕ) (kind : Kind) (a : Answer)
+shown_past : (fragment : Code) (object : Object) (step : ℕ) → IsSound fragment object step
+    → (position member : ℕ) (kind : Kind) (a : Answer)
     → IfCoded fragment object position member (answer_tag kind a) (answer_piece a) → (shown_tag a).number ≤ step
-shown_past fragment object step sound position member kind (answer.Greatest tag) coded = journaled_past fragment object step sound tag coded.value coded.journaled
+shown_past fragment object step sound position member kind (answer.Greatest tag) coded =
+    journaled_past fragment object step sound tag coded.value coded.journaled
 shown_past fragment object step sound position member kind answer.Done coded = omega arith
 shown_past fragment object step sound position member kind (answer.Pointer status) coded = omega arith
 shown_past fragment object step sound position member kind (answer.Piece piece) coded = omega arith
 
 -- what the replies of a call's phases show is past
-pub phases_shown : (fragment : Code) (object : Object) (step : ℕ) → IsSound fragment object step → (index : ℕ) (call : Call) → slice_get object.calls index ≡ Some call
+pub phases_shown : (fragment : Code) (object : Object) (step : ℕ) → IsSound fragment object step → (index : ℕ) (call : Call)
+    → slice_get object.calls index ≡ Some call
     → AllByRecursion (λ (phase : Phase). AllByRecursion (ShownUpTo step) phase.replies) call.phases
 phases_shown fragment object step sound index call at = from_places call.phases (λ place phase within.
-    all_weaker (λ (taken : Taken). IfCoded fragment object phase.position taken.member (answer_tag phase.kind taken.reply.answer) (answer_piece taken.reply.answer)) (ShownUpTo step) phase.replies
-    (λ taken coded. shown_past fragment object step sound phase.position taken.member phase.kind taken.reply.answer coded) (sound.coded.phases index place call phase at within))
+    all_weaker (λ (taken : Taken). IfCoded fragment object phase.position taken.member (answer_tag phase.kind taken.reply.answer)
+    (answer_piece taken.reply.answer)) (ShownUpTo step) phase.replies
+    (λ taken coded. shown_past fragment object step sound phase.position taken.member phase.kind taken.reply.answer coded)
+    (sound.coded.phases index place call phase at within))
   where
-    from_places : (phases : List Phase) → ((place : ℕ) (phase : Phase) → slice_get phases place ≡ Some phase → AllByRecursion (ShownUpTo step) phase.replies)
+    from_places : (phases : List Phase) → ((place : ℕ) (phase : Phase) → slice_get phases place ≡ Some phase
+        → AllByRecursion (ShownUpTo step) phase.replies)
         → AllByRecursion (λ (phase : Phase). AllByRecursion (ShownUpTo step) phase.replies) phases
     from_places [] each = tt
     from_places (p ∷ ps) each = (each 0 p refl, from_places ps (λ place phase within. each (suc place) phase within))
 
 -- the greatest tag that a call has found is past
-pub stage_shown : (fragment : Code) (object : Object) (step : ℕ) → IsSound fragment object step → (index : ℕ) (call : Call) → slice_get object.calls index ≡ Some call
+pub stage_shown : (fragment : Code) (object : Object) (step : ℕ) → IsSound fragment object step → (index : ℕ) (call : Call)
+    → slice_get object.calls index ≡ Some call
     → FoundUpTo step (stage_of object index call)
 stage_shown fragment object step sound index call at =
-    stage_up_to step call.kind (suc index) (first_stage call.kind (source_of object index)) call.phases (phases_shown fragment object step sound index call at)
+    stage_up_to step call.kind (suc index) (first_stage call.kind (source_of object index)) call.phases
+    (phases_shown fragment object step sound index call at)
     (first_up_to step call.kind (source_of object index))
 
 -- what a waiting message shows is past
-message_shown : (fragment : Code) (object : Object) (step : ℕ) → IsSound fragment object step → (place : ℕ) (message : Message) → slice_get object.mail place ≡ Some message
+message_shown : (fragment : Code) (object : Object) (step : ℕ) → IsSound fragment object step → (place : ℕ) (message : Message)
+    → slice_get object.mail place ≡ Some message
     → (kind : Kind) (made : Reply) → message.body ≡ body.Reply kind made → (shown_tag made.answer).number ≤ step
 message_shown fragment object step sound place message at kind made is =
-    let coded = all_found (λ (message : Message). IfCoded fragment object message.position message.member (Rattle.record.specs.Fragments.body_tag message.body) (Rattle.record.specs.Fragments.body_piece message.body)) object.mail place message sound.coded.mail at in
+    let coded = all_found (λ (message : Message). IfCoded fragment object message.position message.member
+    (Rattle.record.specs.Fragments.body_tag message.body) (Rattle.record.specs.Fragments.body_piece message.body)) object.mail place
+    message sound.coded.mail at in
     shown_past fragment object step sound message.position message.member kind made.answer
-    (subst (λ (b : Body). IfCoded fragment object message.position message.member (Rattle.record.specs.Fragments.body_tag b) (Rattle.record.specs.Fragments.body_piece b)) is coded)
+    (subst (λ (b : Body). IfCoded fragment object message.position message.member (Rattle.record.specs.Fragments.body_tag b)
+    (Rattle.record.specs.Fragments.body_piece b)) is coded)
 
 -- a phase that takes a message shows no more
 pub taken_shown : (n : ℕ) (phase : Phase) (message : Message) (now : ℕ) → AllByRecursion (ShownUpTo n) phase.replies
@@ -158,14 +181,17 @@ pub taken_shown : (n : ℕ) (phase : Phase) (message : Message) (now : ℕ) → 
     → AllByRecursion (ShownUpTo n) (after_take phase message now).replies
 taken_shown n phase message now shown one = go message.body refl
   where
-    go : (b : Body) → message.body ≡ b → AllByRecursion (ShownUpTo n) (after_body phase message.call message.phase message.member b now).replies
+    go : (b : Body) → message.body ≡ b → AllByRecursion (ShownUpTo n)
+        (after_body phase message.call message.phase message.member b now).replies
     go (body.Request asked) is = shown
     go (body.Reply kind made) is = choose (is_current phase message.call message.phase) (has_taken phase.replies message.member)
       where
         more : AllByRecursion (ShownUpTo n) (with_reply phase message.member made now).replies
-        more = all_pushed (ShownUpTo n) phase.replies (record { member = message.member; reply = made; step = now }) shown (one kind made is)
+        more = all_pushed (ShownUpTo n) phase.replies (record { member = message.member; reply = made; step = now }) shown
+            (one kind made is)
 
-        choose : (b d : Bool) → AllByRecursion (ShownUpTo n) (cond b (cond d phase (with_reply phase message.member made now)) phase).replies
+        choose : (b d : Bool) → AllByRecursion (ShownUpTo n)
+            (cond b (cond d phase (with_reply phase message.member made now)) phase).replies
         choose true true = shown
         choose true false = more
         choose false d = shown
@@ -176,9 +202,11 @@ taggable n (Write value) greatest up_to few = omega (arith, up_to, few)
 taggable n Move greatest up_to few = tt
 
 -- so a write has a next tag, whatever it has found
-pub next_tag_there : (n : ℕ) (kind : CallKind) (stage : Stage) (replies : List Taken) → n + 1 < 2 ^ 64 → FoundUpTo n stage → AllByRecursion (ShownUpTo n) replies → HasNextTag kind stage replies
+pub next_tag_there : (n : ℕ) (kind : CallKind) (stage : Stage) (replies : List Taken) → n + 1 < 2 ^ 64 → FoundUpTo n stage
+    → AllByRecursion (ShownUpTo n) replies → HasNextTag kind stage replies
 next_tag_there n kind (QueryFrom position last greatest shown_at) replies few so_far shown =
-    taggable n kind (later_tag greatest (greatest_tag replies)) (later_up_to n greatest (greatest_tag replies) so_far (greatest_up_to n replies shown)) few
+    taggable n kind (later_tag greatest (greatest_tag replies))
+    (later_up_to n greatest (greatest_tag replies) so_far (greatest_up_to n replies shown)) few
 next_tag_there n kind (ReadNext position finalized) replies few so_far shown = tt
 next_tag_there n kind (ReadSpread position finalized status) replies few so_far shown = tt
 next_tag_there n kind (FetchAt shown_at last tag) replies few so_far shown = tt
@@ -196,9 +224,12 @@ next_tag_there n kind (Ended last tag) replies few so_far shown = tt
 next_tag_there n kind (Moved position tag) replies few so_far shown = tt
 
 -- the replies of the current phase of a call, once it takes a waiting message
-pub current_shown : (fragment : Code) (object : Object) (step : ℕ) → IsSound fragment object step → (index : ℕ) (call : Call) → slice_get object.calls index ≡ Some call
-    → (place : ℕ) (message : Message) → slice_get object.mail place ≡ Some message → (spot : ℕ) (phase : Phase) → slice_get call.phases spot ≡ Some phase → (now : ℕ)
+pub current_shown : (fragment : Code) (object : Object) (step : ℕ) → IsSound fragment object step → (index : ℕ) (call : Call)
+    → slice_get object.calls index ≡ Some call
+    → (place : ℕ) (message : Message) → slice_get object.mail place ≡ Some message → (spot : ℕ) (phase : Phase)
+    → slice_get call.phases spot ≡ Some phase → (now : ℕ)
     → AllByRecursion (ShownUpTo step) (after_take phase message now).replies
 current_shown fragment object step sound index call at place message waits spot phase within now =
-    taken_shown step phase message now (all_found (λ (phase : Phase). AllByRecursion (ShownUpTo step) phase.replies) call.phases spot phase (phases_shown fragment object step sound index call at) within)
+    taken_shown step phase message now (all_found (λ (phase : Phase). AllByRecursion (ShownUpTo step) phase.replies) call.phases spot phase
+    (phases_shown fragment object step sound index call at) within)
     (message_shown fragment object step sound place message waits)

@@ -1,5 +1,6 @@
 -- What a server stores is no more than what all banks store.
-use Rattle.std.proofs.Common.{◌≡◌, ℕ, suc, ◌+◌, ◌<◌, ◌≤◌, ◌==◌, Bool, true, false, if◌then◌else◌, List, [], ◌∷◌, length, get_or, drop, sym, ap, ◌∙◌, refl, arith, lit<}
+use Rattle.std.proofs.Common.{◌≡◌, ℕ, suc, ◌+◌, ◌<◌, ◌≤◌, ◌==◌, Bool, true, false, if◌then◌else◌, List, [], ◌∷◌, length, get_or, drop, sym}
+use Rattle.std.proofs.Common.{ap, ◌∙◌, refl, arith, lit<}
 use Rattle.std.specs.List.{AllByRecursion}
 use Rattle.std.proofs.lemmas.Option.{slice_get_read}
 use Rattle.std.proofs.Math.Seq.{drop-cons}
@@ -40,7 +41,8 @@ stored_next server ps i total p within read is most =
     let here : stored_bytes server (layouts_of (drop i ps)) (banks_of (drop i ps))
     ≡ position_bytes server p.layout.members p.banks + stored_bytes server (layouts_of (drop (suc i) ps)) (banks_of (drop (suc i) ps)) =
     ap (λ qs. stored_bytes server (layouts_of qs) (banks_of qs)) (drop-cons ps i p within)
-    ∙ ap (λ (q : Position). position_bytes server q.layout.members q.banks + stored_bytes server (layouts_of (drop (suc i) ps)) (banks_of (drop (suc i) ps))) (sym read) in
+    ∙ ap (λ (q : Position). position_bytes server q.layout.members q.banks + stored_bytes server (layouts_of (drop (suc i) ps))
+    (banks_of (drop (suc i) ps))) (sym read) in
     let limit : MOST_BYTES < 18446744073709551616 = lit< tt in
     omega (arith, least, here, limit, is, most)
 
@@ -49,6 +51,8 @@ pub stored_most : (server : ℕ) (ps : List Position) (total rest : ℕ) → sto
 stored_most server ps total rest is most = let least = stored_least server ps in omega (arith, least, is, most)
 
 -- the layout that is read at a position is lawful
-pub layout_at_lawful : (ps : List Position) (i : ℕ) (p : Position) → i < length ps → p ≡ get_or ps i p → AllByRecursion IsLawful (layouts_of ps) → IsLawful p.layout
+pub layout_at_lawful : (ps : List Position) (i : ℕ) (p : Position) → i < length ps → p ≡ get_or ps i p
+    → AllByRecursion IsLawful (layouts_of ps) → IsLawful p.layout
 layout_at_lawful ps i p within read all =
-    all_found IsLawful (layouts_of ps) i p.layout all (found_map (λ (p : Position). p.layout) ps i p (slice_get_read ps (length ps) i p refl within read))
+    all_found IsLawful (layouts_of ps) i p.layout all
+    (found_map (λ (p : Position). p.layout) ps i p (slice_get_read ps (length ps) i p refl within read))

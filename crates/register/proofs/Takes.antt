@@ -1,5 +1,6 @@
 -- What a take makes of a call.
-use Rattle.std.proofs.Common.{◌≡◌, ℕ, zero, suc, ◌+◌, ◌-◌, true, false, cond, List, [], ◌∷◌, length, get_or, set, slice_get, Option, Some, None, is_some, sym, ap, ◌∙◌, refl, arith}
+use Rattle.std.proofs.Common.{◌≡◌, ℕ, zero, suc, ◌+◌, ◌-◌, true, false, cond, List, [], ◌∷◌, length, get_or, set, slice_get, Option, Some}
+use Rattle.std.proofs.Common.{None, is_some, sym, ap, ◌∙◌, refl, arith}
 use Rattle.std.proofs.lemmas.Bool.Decides.{nat_tests}
 use Rattle.mail.specs.declared.message.Message.{Message}
 use Rattle.mail.specs.declared.message.Body.{Body}
@@ -19,7 +20,8 @@ ended_body p m now (body.Request q) ended = (refl, refl)
 ended_body p m now (body.Reply k r) ended =
     let stale : is_current p m.call m.phase ≡ false = grind (arith, nat_tests, ended) in (
       ap (λ b. cond b (cond (has_taken p.replies m.member) p (with_reply p m.member r now)) p) stale,
-      ap (λ b. cond b (cond (has_taken p.replies m.member) took.Doubled (cond (makes_quorum p) took.Complete took.Recorded)) took.Stale) stale,
+      ap (λ b. cond b (cond (has_taken p.replies m.member) took.Doubled (cond (makes_quorum p) took.Complete took.Recorded)) took.Stale)
+          stale,
     )
 
 -- a phase that is complete takes nothing more
@@ -45,7 +47,8 @@ current_at (x ∷ y ∷ ys) zero p last read = absurd (omega (arith, last))
 current_at (x ∷ y ∷ ys) (suc i) p last read = current_at (y ∷ ys) i p (omega (arith, last)) read
 
 -- the last phase takes the message
-pub taking_at : (ps : List Phase) (m : Message) (now i : ℕ) (p new : Phase) → i + 1 ≡ length ps → p ≡ get_or ps i p → new ≡ after_take p m now
+pub taking_at : (ps : List Phase) (m : Message) (now i : ℕ) (p new : Phase) → i + 1 ≡ length ps → p ≡ get_or ps i p
+    → new ≡ after_take p m now
     → set ps i new ≡ taking_phases ps m now
 taking_at [] m now i p new last read is = absurd (omega (arith, last))
 taking_at (x ∷ []) m now zero p new last read is = ap (λ z. z ∷ []) (is ∙ ap (λ y. after_take y m now) read)
@@ -65,7 +68,8 @@ stage_taking kind s [] m now = refl
 stage_taking kind s (p ∷ []) m now = step p.end refl
   where
     step : (o : Option ℕ) → p.end ≡ o
-        → cond (is_some o) (passed kind m.call s o p.replies) (passed kind m.call (passed kind m.call s o p.replies) (after_take p m now).end (after_take p m now).replies)
+        → cond (is_some o) (passed kind m.call s o p.replies)
+        (passed kind m.call (passed kind m.call s o p.replies) (after_take p m now).end (after_take p m now).replies)
         ≡ passed kind m.call s (after_take p m now).end (after_take p m now).replies
     step None e = refl
     step (Some end) e =
@@ -91,9 +95,11 @@ taken_same t m now phases stage =
     tracked : (t : Tracked) → List Phase → Stage → Tracked
     tracked t ps s = record { call = record t.call { phases = ps }; stage = s }
 
-pub stage_ended : (kind : CallKind) (s : Stage) (p : Phase) (m : Message) (now : ℕ) → is_some p.end ≡ true → stage_taken kind s (Some p) m now ≡ s
+pub stage_ended : (kind : CallKind) (s : Stage) (p : Phase) (m : Message) (now : ℕ) → is_some p.end ≡ true
+    → stage_taken kind s (Some p) m now ≡ s
 stage_ended kind s p m now ended = ap (λ b. cond b s (passed kind m.call s (after_take p m now).end (after_take p m now).replies)) ended
 
 pub stage_open : (kind : CallKind) (s : Stage) (p : Phase) (m : Message) (now : ℕ) → is_some p.end ≡ false
     → stage_taken kind s (Some p) m now ≡ passed kind m.call s (after_take p m now).end (after_take p m now).replies
-stage_open kind s p m now open_yet = ap (λ b. cond b s (passed kind m.call s (after_take p m now).end (after_take p m now).replies)) open_yet
+stage_open kind s p m now open_yet = ap (λ b. cond b s (passed kind m.call s (after_take p m now).end (after_take p m now).replies))
+    open_yet

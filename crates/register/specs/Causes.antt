@@ -1,8 +1,11 @@
 -- Why each step is refused: of all that hold, the first by the order of refusals. `NoMemory` comes after these.
-use Rattle.std.specs.Prelude.{ℕ, zero, suc, ◌+◌, Bool, true, false, not, nat_le, nat_lt, is_some, if◌then◌else◌, List, length, Option, Some, None, slice_get, pred}
-use Rattle.tag.specs.declared.limits.TheConstants.{LONGEST_VALUE, MOST_BYTES, MOST_CALLS, MOST_PHASES, MOST_POSITIONS, MOST_STEPS}
+use Rattle.std.specs.Prelude.{ℕ, zero, suc, ◌+◌, Bool, true, false, not, nat_le, nat_lt, is_some, if◌then◌else◌, List}
+use Rattle.std.specs.Prelude.{length, Option, Some, None, slice_get, pred}
+use Rattle.tag.specs.declared.limits.TheConstants.{LONGEST_VALUE, MOST_BYTES, MOST_CALLS, MOST_PHASES, MOST_POSITIONS}
+use Rattle.tag.specs.declared.limits.TheConstants.{MOST_STEPS}
 use Rattle.tag.specs.declared.refusal.Refusal.{Refusal}
-use Rattle.tag.specs.declared.refusal.Refusal.TheVariants.{TooLong, NoCall, NotNow, NoMessage, WrongCode, MovePending, Full}
+use Rattle.tag.specs.declared.refusal.Refusal.TheVariants.{TooLong, NoCall, NotNow, NoMessage, WrongCode, MovePending}
+use Rattle.tag.specs.declared.refusal.Refusal.TheVariants.{Full}
 use Rattle.layout.specs.Layout.{Layout}
 use Rattle.encoder.specs.Fragment.{fragment}
 use Rattle.encoder.specs.Coded.{Coding}
@@ -47,11 +50,13 @@ if_message (Some message) cause = cause message
 
 -- a request is served where the piece that it brings has room beside all that is stored
 abbrev pub served_cause : (now : ℕ) → Object → Body → Option Refusal
-served_cause now object (body.Request asked) = if_step now (unless (nat_le (all_bytes object.banks + request_bytes asked) MOST_BYTES) Full None)
+served_cause now object (body.Request asked) =
+    if_step now (unless (nat_le (all_bytes object.banks + request_bytes asked) MOST_BYTES) Full None)
 served_cause now object (body.Reply kind made) = Some NotNow
 
 abbrev pub serve_cause : (now : ℕ) → Object → (place : ℕ) → Option Refusal
-serve_cause now object place = if_message (slice_get object.mail place) (λ message. served_cause now object message.body)
+serve_cause now object place = if_message (slice_get object.mail place)
+    (λ message. served_cause now object message.body)
 
 abbrev pub taken_cause : (now : ℕ) → Body → Option Refusal
 taken_cause now (body.Request asked) = Some NotNow
@@ -64,20 +69,23 @@ abbrev pub lose_cause : (now : ℕ) → Object → (place : ℕ) → Option Refu
 lose_cause now object place = if_message (slice_get object.mail place) (λ message. if_step now None)
 
 abbrev pub repeat_cause : (now : ℕ) → Object → (place : ℕ) → Option Refusal
-repeat_cause now object place = if_message (slice_get object.mail place) (λ message. if_step now (mail_cause (repeated object.mail place)))
+repeat_cause now object place = if_message (slice_get object.mail place)
+    (λ message. if_step now (mail_cause (repeated object.mail place)))
 
 -- New calls
 
 -- one more step, and one more call, has room, with the messages that this step posts
 abbrev pub new_call_cause : Step → (now : ℕ) → Object → Option Refusal
 new_call_cause step now object =
-    if_step now (unless (nat_lt (length object.calls) MOST_CALLS) Full (mail_cause (stepped fragment step now object).mail))
+    if_step now (unless (nat_lt (length object.calls) MOST_CALLS) Full
+    (mail_cause (stepped fragment step now object).mail))
 
 abbrev pub read_cause : (now : ℕ) → Object → Option Refusal
 read_cause now object = new_call_cause Step.CallRead now object
 
 abbrev pub write_cause : List ℕ → (now : ℕ) → Object → Option Refusal
-write_cause value now object = unless (nat_le (length value) LONGEST_VALUE) TooLong (new_call_cause (Step.CallWrite value) now object)
+write_cause value now object = unless (nat_le (length value) LONGEST_VALUE) TooLong
+    (new_call_cause (Step.CallWrite value) now object)
 
 abbrev pub move_cause : Layout → (now : ℕ) → Object → Option Refusal
 move_cause layout now object =
@@ -105,7 +113,8 @@ is_replies _ = false
 -- one more step, and one more phase of the call, has room, with the messages that this step posts
 abbrev pub new_phase_cause : Step → (now : ℕ) → Object → Call → Option Refusal
 new_phase_cause step now object call =
-    if_step now (unless (nat_lt (length call.phases) MOST_PHASES) Full (mail_cause (stepped fragment step now object).mail))
+    if_step now (unless (nat_lt (length call.phases) MOST_PHASES) Full
+    (mail_cause (stepped fragment step now object).mail))
 
 -- there is such a call
 abbrev pub number_cause : Object → (number : ℕ) → Option Refusal
@@ -127,7 +136,8 @@ may_post wanted phase = if is_replies wanted then is_plain phase else false
 
 abbrev pub post_cause : (now : ℕ) → Object → (number : ℕ) → Option Refusal
 post_cause now object number =
-    if_call (call_at object number) (λ call. unless (may_post (want_of object (pred number) call) (current_phase call.phases)) NotNow
+    if_call (call_at object number) (λ call. unless
+    (may_post (want_of object (pred number) call) (current_phase call.phases)) NotNow
     (if_step now (mail_cause (stepped fragment (Step.Post (pred number)) now object).mail)))
 
 -- whether a call wants to begin a phase, and not to ask again in its current one
@@ -144,20 +154,24 @@ supply_room_cause now object index call =
 abbrev pub supplied_cause : (now : ℕ) → Object → (index : ℕ) → Call → Coding → Option ℕ → Option Refusal
 supplied_cause now object index call coded None = Some NotNow
 supplied_cause now object index call coded (Some position) =
-    unless (is_coded_for (layout_at object position) (value_or_empty (sent_value call.kind call.settled)) coded) WrongCode
+    unless (is_coded_for (layout_at object position) (value_or_empty (sent_value call.kind call.settled)) coded)
+    WrongCode
     (supply_room_cause now object index call)
 
 abbrev pub supply_cause : (now : ℕ) → Object → (number : ℕ) → Coding → Option Refusal
 supply_cause now object number coded =
-    if_call (call_at object number) (λ call. supplied_cause now object (pred number) call coded (pieces_due object (pred number) call))
+    if_call (call_at object number) (λ call. supplied_cause now object (pred number) call coded
+    (pieces_due object (pred number) call))
 
 -- there are pieces to send
 abbrev pub value_cause : Object → (number : ℕ) → Option Refusal
-value_cause object number = if_call (call_at object number) (λ call. unless (is_some (pieces_due object (pred number) call)) NotNow None)
+value_cause object number = if_call (call_at object number)
+    (λ call. unless (is_some (pieces_due object (pred number) call)) NotNow None)
 
 -- there are pieces to decode
 abbrev pub pieces_cause : Object → (number : ℕ) → Option Refusal
-pieces_cause object number = if_call (call_at object number) (λ call. unless (is_settle (want_of object (pred number) call)) NotNow None)
+pieces_cause object number = if_call (call_at object number)
+    (λ call. unless (is_settle (want_of object (pred number) call)) NotNow None)
 
 -- whether a decoded value is of pieces of this phase
 abbrev pub is_decoded_in : Object → Option Phase → Decoding → Bool
@@ -171,4 +185,5 @@ settle_cause now object number decoded =
 
 abbrev pub answer_cause : (now : ℕ) → Object → (number : ℕ) → Option Refusal
 answer_cause now object number =
-    if_call (call_at object number) (λ call. unless (is_answer (want_of object (pred number) call)) NotNow (if_step now None))
+    if_call (call_at object number) (λ call. unless (is_answer (want_of object (pred number) call)) NotNow
+    (if_step now None))

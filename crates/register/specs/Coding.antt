@@ -1,5 +1,6 @@
 -- Pieces that a call sends, takes in and settles.
-use Rattle.std.specs.Prelude.{◌≡◌, ◌<◌, ℕ, suc, zero, nat_eq, Bool, true, false, ◌==◌, ◌&&◌, if◌then◌else◌, List, [], ◌∷◌, ◌++◌, length, take, Option, Some, None, option_map}
+use Rattle.std.specs.Prelude.{◌≡◌, ◌<◌, ℕ, suc, zero, nat_eq, Bool, true, false, ◌==◌, ◌&&◌, if◌then◌else◌, List, []}
+use Rattle.std.specs.Prelude.{◌∷◌, ◌++◌, length, take, Option, Some, None, option_map}
 use Rattle.std.specs.List.{list_any, list_all}
 use Rattle.std.specs.Cmp.Lexicographic.{pointwise}
 use Rattle.layout.specs.Layout.{Layout}
@@ -48,7 +49,8 @@ pieces_due object index call =
 
 -- whether a coded value is this value, coded for a layout
 abbrev pub is_coded_for : Layout → (value : List ℕ) → Coding → Bool
-is_coded_for layout value coded = bytes_eq coded.value value && (coded.k == layout.k && coded.n == length layout.members)
+is_coded_for layout value coded = bytes_eq coded.value value &&
+    (coded.k == layout.k && coded.n == length layout.members)
 
 -- the pieces of a coded value, where there is one
 abbrev pub piece_from : Option Coding → (member : ℕ) → Piece

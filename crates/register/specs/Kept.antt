@@ -20,7 +20,8 @@ is_open_move call = is_move call.kind && not (is_some call.answered)
 abbrev pub has_open_move : List Call → Bool
 has_open_move calls = list_any is_open_move calls
 
--- the record is within the written limits; its messages are so by the type of a mail, and values by the record's soundness
+-- the record is within the written limits; its messages are so by the type of a mail, and values by the record's
+-- soundness
 pub record IsWithinLimits (object : Object) : Type 0 where
   pub positions : length object.layouts ≤ MOST_POSITIONS
   pub calls : length object.calls ≤ MOST_CALLS
@@ -29,7 +30,8 @@ pub record IsWithinLimits (object : Object) : Type 0 where
 
 -- each call is kept with its stage
 abbrev pub AreStaged : Object → List Tracked → Type 0
-AreStaged object calls = (index : ℕ) (t : Tracked) → slice_get calls index ≡ Some t → t.stage ≡ stage_of object index t.call
+AreStaged object calls = (index : ℕ) (t : Tracked) → slice_get calls index ≡ Some t
+    → t.stage ≡ stage_of object index t.call
 
 -- the record is sound and within the limits, and what is kept beside it says what the record says
 pub record IsKept (c : Contents) : Type 0 where

@@ -5,3 +5,4 @@ pub mod Kept
 pub mod Coding
 pub mod Causes
 pub mod View
+pub mod Act

@@ -13,7 +13,8 @@ pub record Position : Type 0 where
 -- a position is stored as the pair of its parts
 abbrev pub position_code : Coded Layout → Coded Bank → Coded Position
 position_code layout bank =
-    code_by (Layout × List Bank) (coded× layout (coded_list bank)) (λ p. (p.layout, p.banks)) (λ p. record { layout = p.0; banks = p.1 }) (λ _. refl)
+    code_by (Layout × List Bank) (coded× layout (coded_list bank)) (λ p. (p.layout, p.banks))
+    (λ p. record { layout = p.0; banks = p.1 }) (λ _. refl)
 
 -- the layouts of positions, and their banks
 abbrev pub layouts_of : List Position → List Layout

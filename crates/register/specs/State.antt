@@ -19,9 +19,13 @@ pub record State : Type 0 where
 abbrev pub state_code : Coded Layout → Coded Bank → Coded Message → Coded Call → Coded State
 state_code layout bank message call =
     code_by (List Layout × (List (List Bank) × (List Message × (List Call × ℕ))))
-    (coded× (coded_list layout) (coded× (coded_list (coded_list bank)) (coded× (coded_list message) (coded× (coded_list call) coded_ℕ))))
+    (coded× (coded_list layout) (coded× (coded_list (coded_list bank))
+    (coded× (coded_list message) (coded× (coded_list call) coded_ℕ))))
     (λ s. (s.object.layouts, (s.object.banks, (s.object.mail, (s.object.calls, s.last)))))
-    (λ p. record { object = record { layouts = p.0; banks = p.1.0; mail = p.1.1.0; calls = p.1.1.1.0 }; last = p.1.1.1.1 }) (λ _. refl)
+    (λ p. record {
+      object = record { layouts = p.0; banks = p.1.0; mail = p.1.1.0; calls = p.1.1.1.0 };
+      last = p.1.1.1.1;
+    }) (λ _. refl)
 
 -- the state that step number `now` makes of a state
 abbrev pub made : Step → (now : ℕ) → State → State

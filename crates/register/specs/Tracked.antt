@@ -1,5 +1,6 @@
 -- A call, and the stage that is kept beside its phases.
-use Rattle.std.specs.Prelude.{◌≡◌, ℕ, suc, ◌<◌, is_some, if◌then◌else◌, List, [], ◌∷◌, ◌++◌, length, map, Option, Some, None, IfSome}
+use Rattle.std.specs.Prelude.{◌≡◌, ℕ, suc, ◌<◌, is_some, if◌then◌else◌, List, [], ◌∷◌, ◌++◌, length, map, Option, Some}
+use Rattle.std.specs.Prelude.{None, IfSome}
 use Rattle.layout.specs.Layout.{Layout}
 use Rattle.encoder.specs.declared.fragment.Piece.{Piece}
 use Rattle.bank.specs.declared.kind.Kind.{Kind}
@@ -28,12 +29,16 @@ calls_of calls = map (λ t. t.call) calls
 -- what a call wants, by the stage that is kept
 abbrev pub tracked_want : Object → Tracked → Want
 tracked_want object t =
-    if is_some t.call.answered then want.Done else want_after object (due t.stage) t.call.settled (current_phase t.call.phases)
+    if is_some t.call.answered then want.Done else want_after object (due t.stage) t.call.settled
+    (current_phase t.call.phases)
 
 -- the call of this number with one more phase
 abbrev pub with_begun : Tracked → (number : ℕ) → Kind → (position : ℕ) → Layout → (now : ℕ) → Tracked
 with_begun t number kind position layout now = record {
-  call = record t.call { phases = t.call.phases ++ new_phase number (suc (length t.call.phases)) kind position layout now ∷ [] };
+  call = record t.call {
+    phases = t.call.phases ++ new_phase number
+        (suc (length t.call.phases)) kind position layout now ∷ [];
+  };
   stage = t.stage;
 }
 

@@ -33,8 +33,11 @@ want_at object number = option_map (λ call. want_of object (pred number) call) 
 
 -- a value with the k and the n of a position's layout
 abbrev pub to_code : Object → Call → (position : ℕ) → List ℕ × ℕ × ℕ
-to_code object call position =
-    (value_or_empty (sent_value call.kind call.settled), (layout_at object position).k, length (layout_at object position).members)
+to_code object call position = (
+  value_or_empty (sent_value call.kind call.settled),
+  (layout_at object position).k,
+  length (layout_at object position).members,
+)
 
 abbrev pub coding_of : Object → (number : ℕ) → Option Call → Option (List ℕ × ℕ × ℕ)
 coding_of object number None = None

@@ -47,7 +47,13 @@ impl Model for Call {
     ghost Value = { Tracked };
 
     ghost view = { λ c. record {
-      call = record { kind = c.kind; called = c.called; answered = c.answered; settled = c.settled; phases = c.phases.items };
+      call = record {
+        kind = c.kind;
+        called = c.called;
+        answered = c.answered;
+        settled = c.settled;
+        phases = c.phases.items;
+      };
       stage = c.stage;
     } };
 }
@@ -84,7 +90,8 @@ impl Call {
             layout.now.members 0 (piece_from (option_copied coded))) }
 
         ensures call { OnOk result (self.new ≡ with_begun self.old number kind position layout.now now) }
-        ensures mail { OnOk result (mail.new ≡ mail.old ++ requests number (suc (length self.old.call.phases)) kind position
+        ensures mail { OnOk result (mail.new
+            ≡ mail.old ++ requests number (suc (length self.old.call.phases)) kind position
             layout.now.members 0 (piece_from (option_copied coded.entry))) }
 
         ensures cause { IsByCause (unless (nat_lt (length self.old.call.phases) MOST_PHASES) Full
@@ -115,8 +122,8 @@ impl Call {
         Ok(())
     }
 
-    /// The current phase of the call, whose number this is, asks again: a request goes to each member without a recorded
-    /// reply and without a waiting message of the phase.
+    /// The current phase of the call, whose number this is, asks again: a request goes to each member without a
+    /// recorded reply and without a waiting message of the phase.
     pub(crate) fn ask_again(
         &self,
         number: u64,
@@ -126,14 +133,18 @@ impl Call {
         requires begun { IsSome (current_phase self.now.call.phases) }
         requires pieces { (p : Asking) → current_phase self.now.call.phases ≡ Some p
             → HavePieces p.kind p.members (option_copied coded) }
-        requires room { (p : Asking) (servers : List ℕ) → current_phase self.now.call.phases ≡ Some p → length servers ≡ p.members
+        requires room { (p : Asking) (servers : List ℕ) → current_phase self.now.call.phases ≡ Some p
+            → length servers ≡ p.members
             → HasRoomIfFew (mail.old ++ asked_again number p servers mail.old (piece_from (option_copied coded))) }
 
-        ensures mail { OnOk result ((p : Asking) (servers : List ℕ) → current_phase self.now.call.phases ≡ Some p → length servers ≡ p.members
+        ensures mail { OnOk result ((p : Asking) (servers : List ℕ) → current_phase self.now.call.phases ≡ Some p
+            → length servers ≡ p.members
             → mail.new ≡ mail.old ++ asked_again number p servers mail.old (piece_from (option_copied coded.entry))) }
 
-        ensures cause { (p : Asking) (servers : List ℕ) → current_phase self.now.call.phases ≡ Some p → length servers ≡ p.members
-            → IsByCause (mail_cause (mail.old ++ asked_again number p servers mail.old (piece_from (option_copied coded.entry)))) result }
+        ensures cause { (p : Asking) (servers : List ℕ) → current_phase self.now.call.phases ≡ Some p
+            → length servers ≡ p.members
+            → IsByCause (mail_cause (mail.old ++ asked_again number p servers mail.old
+            (piece_from (option_copied coded.entry)))) result }
 
         ensures kept { OnErr result (mail.new ≡ mail.old) }
     {

@@ -2,10 +2,11 @@
 
 ghost use Rattle.std.specs.Prelude.{◌≡◌, option_copied};
 ghost use Rattle.std.specs.List.{list_all};
-ghost use Rattle.register.specs.Coding.{bytes_eq, is_coded_for, same_piece, is_recorded, piece_by};
+ghost use Rattle.register.specs.Coding.{bytes_eq, is_coded_for, same_piece, is_recorded, is_decoded_from, piece_by};
 
 use bank::Answer;
 use bytes::Bytes;
+use decoder::Decoded;
 use encoder::{Coded, Piece};
 use lane_kernel::same;
 use layout::Layout;
@@ -48,8 +49,15 @@ fn is_recorded(replies: &[Taken], piece: &Piece) -> bool
     false
 }
 
-/// Whether each piece was recorded.
-pub(crate) fn are_recorded(replies: &[Taken], pieces: &[Piece]) -> bool
+/// Whether a decoded value has k pieces, each recorded.
+pub(crate) fn is_decoded_from(k: u8, replies: &[Taken], decoded: &Decoded) -> bool
+    ensures { result ≡ is_decoded_from k replies.now decoded.now }
+{
+    decoded.k() == k && are_recorded(replies, decoded.pieces())
+}
+
+// Whether each piece was recorded.
+fn are_recorded(replies: &[Taken], pieces: &[Piece]) -> bool
     ensures { result ≡ list_all (is_recorded replies.now) pieces.now }
 {
     for piece in pieces {

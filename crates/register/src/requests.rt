@@ -25,7 +25,8 @@ pub(crate) fn requests(
 ) -> Result<Vec<Message>, Refusal>
     requires { HavePieces ask.kind members (option_copied coded) }
     ensures requests { (servers : List ℕ) → length servers ≡ members
-        → IfOk result (λ ms. ms.items ≡ requests ask.call ask.number ask.kind ask.position servers 0 (piece_from (option_copied coded.entry))) }
+        → IfOk result (λ ms. ms.items ≡ requests ask.call ask.number ask.kind ask.position servers 0
+        (piece_from (option_copied coded.entry))) }
 
     ensures refused { IfErr result (λ e. e ≡ NoMemory) }
 {
@@ -63,7 +64,8 @@ pub(crate) fn missing(
 /// How many requests of a phase go out again.
 pub(crate) fn missing_count(ask: Ask, phase: &Phase, mail: &Mail) -> usize
     ensures { (servers : List ℕ) (piece : ℕ → Piece) → length servers ≡ phase.now.members
-        → result ≡ length (missing mail.now (members_of phase.now.replies) (requests ask.call ask.number ask.kind ask.position servers 0 piece)) }
+        → result ≡ length (missing mail.now (members_of phase.now.replies)
+        (requests ask.call ask.number ask.kind ask.position servers 0 piece)) }
 {
     let mut count = 0;
     for member in 0..phase.members() {

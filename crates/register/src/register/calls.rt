@@ -1,6 +1,7 @@
 //! How calls begin and end.
 
-ghost use Rattle.std.specs.Prelude.{◌≡◌, ◌⊎◌, ℕ, ◌<◌, nat_le, nat_lt, suc, pred, false, List, length, OnOk, OnErr, IfOk, Some};
+ghost use Rattle.std.specs.Prelude.{◌≡◌, ◌⊎◌, ℕ, ◌<◌, nat_le, nat_lt, suc, pred, false, List, length, OnOk, OnErr};
+ghost use Rattle.std.specs.Prelude.{IfOk, Some};
 ghost use Rattle.tag.specs.Refusal.{IsByCause};
 ghost use Rattle.tag.specs.declared.refusal.Refusal.TheVariants.{Full};
 ghost use Rattle.mail.specs.Mail.{mail_cause};
@@ -84,11 +85,11 @@ impl Register {
         Ok(number)
     }
 
-    /// A move to a layout begins, with its first phase: the next position is there from now on, with its banks. It answers
-    /// the call's number.
+    /// A move to a layout begins, with its first phase: the next position is there from now on, with its banks. It
+    /// answers the call's number.
     ///
-    /// `MovePending` where a move is not answered, and `Full` where a limit of the steps, of the positions, of the calls or
-    /// of the messages is met.
+    /// `MovePending` where a move is not answered, and `Full` where a limit of the steps, of the positions, of the
+    /// calls or of the messages is met.
     pub fn call_move(&mut self, layout: Layout, now: Stamp) -> Result<u64, Refusal>
         requires after { self.old.last < now }
         ensures step { OnOk result (self.new ≡ made (Step.CallMove layout) now self.old) }
@@ -128,8 +129,8 @@ impl Register {
 
     /// The call of this number is answered. `object` is the object's place for the receipt.
     ///
-    /// `NoCall` where there is no such call, `NotNow` unless it wants to be answered, and `Full` where the limit of steps is
-    /// met.
+    /// `NoCall` where there is no such call, `NotNow` unless it wants to be answered, and `Full` where the limit of
+    /// steps is met.
     pub fn answer(&mut self, call: u64, object: u32, now: Stamp) -> Result<Receipt, Refusal>
         requires after { self.old.last < now }
         ensures step { OnOk result (self.new ≡ made (Step.AnswerCall (pred call)) now self.old) }

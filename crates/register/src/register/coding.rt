@@ -13,7 +13,7 @@ ghost use Rattle.register.specs.Causes.{value_cause, supply_cause, pieces_cause,
 ghost use Rattle.register.specs.View.{coding_at, pieces_at};
 
 use crate::call::Call;
-use crate::pieces::{are_recorded, is_coded_for, piece_by};
+use crate::pieces::{is_coded_for, is_decoded_from, piece_by};
 use crate::position::Position;
 use crate::register::Register;
 use crate::register::phases::{index_of, is_pre_write, want_of};
@@ -26,11 +26,11 @@ use tag::{MOST_STEPS, Refusal, Stamp};
 use transfer::due;
 
 impl Register {
-    /// A copy, which shares its bytes, of the value whose pieces the call of this number is to send, with the k and the n of
-    /// the layout that they are for.
+    /// A copy, which shares its bytes, of the value whose pieces the call of this number is to send, with the k and the
+    /// n of the layout that they are for.
     ///
-    /// `NoCall` where there is no such call, and `NotNow` unless its due phase sends pieces, or its current one sends them
-    /// and lacks a quorum.
+    /// `NoCall` where there is no such call, and `NotNow` unless its due phase sends pieces, or its current one sends
+    /// them and lacks a quorum.
     pub fn value_to_code(&self, call: u64) -> Result<(Bytes, u8, u8), Refusal>
         ensures value { IfOk result (λ r. coding_at self.now.object call ≡ Some r) }
         ensures cause { IsByCause (value_cause self.now.object call) result }
@@ -47,11 +47,11 @@ impl Register {
         Ok((value.clone()?, layout.k(), layout.n()))
     }
 
-    /// The coded value of the call of this number: its pieces begin the phase that is due, or, where that phase has begun,
-    /// they go again to each member without a recorded reply and without a waiting message of the phase.
+    /// The coded value of the call of this number: its pieces begin the phase that is due, or, where that phase has
+    /// begun, they go again to each member without a recorded reply and without a waiting message of the phase.
     ///
-    /// `NoCall` and `NotNow` as for `value_to_code`, `WrongCode` unless the value is that one, coded for that k and n, and
-    /// `Full` where a limit of the steps, of the call's phases or of the messages is met.
+    /// `NoCall` and `NotNow` as for `value_to_code`, `WrongCode` unless the value is that one, coded for that k and n,
+    /// and `Full` where a limit of the steps, of the call's phases or of the messages is met.
     pub fn supply(&mut self, call: u64, coded: Coded, now: Stamp) -> Result<(), Refusal>
         requires after { self.old.last < now }
         ensures step { OnOk result (self.new ≡ made (Step.Supply (pred call)) now self.old) }
@@ -123,9 +123,9 @@ impl Register {
 
     /// The call of this number settles the value that was decoded from pieces of its current phase.
     ///
-    /// `NoCall` where there is no such call, `NotNow` unless it wants to settle a value, `WrongCode` unless the value was
-    /// decoded from k pieces that were all recorded in that phase, and `Full` where the limit of steps is met. It takes no
-    /// memory.
+    /// `NoCall` where there is no such call, `NotNow` unless it wants to settle a value, `WrongCode` unless the value
+    /// was decoded from k pieces that were all recorded in that phase, and `Full` where the limit of steps is met. It
+    /// takes no memory.
     pub fn settle(&mut self, call: u64, decoded: Decoded, now: Stamp) -> Result<(), Refusal>
         requires after { self.old.last < now }
         ensures step { OnOk result (self.new ≡ made (Step.Settle (pred call) decoded.value) now self.old) }
@@ -142,7 +142,7 @@ impl Register {
         let Some(phase) = self.calls[index].current() else {
             unreachable!();
         };
-        if decoded.k() != k || !are_recorded(phase.replies(), decoded.pieces()) {
+        if !is_decoded_from(k, phase.replies(), &decoded) {
             return Err(Refusal::WrongCode);
         }
         if now > MOST_STEPS {

@@ -51,8 +51,8 @@ impl Register {
 
     /// The call that the reply at a place names takes it.
     ///
-    /// `NoMessage` where there is none, `NotNow` where it is a request, and `Full` where the limit of steps is met. It takes
-    /// no memory.
+    /// `NoMessage` where there is none, `NotNow` where it is a request, and `Full` where the limit of steps is met. It
+    /// takes no memory.
     pub fn take(&mut self, place: usize, now: Stamp) -> Result<Took, Refusal>
         requires after { self.old.last < now }
         ensures step { OnOk result (self.new ≡ made (Step.Take place) now self.old) }

@@ -1,6 +1,7 @@
 //! What calls want, and how they go on.
 
-ghost use Rattle.std.specs.Prelude.{◌≡◌, ◌≤◌, ◌⊎◌, ◌<◌, suc, pred, [], length, option_copied, OnOk, OnErr, IfOk, IfErr, Some};
+ghost use Rattle.std.specs.Prelude.{◌≡◌, ◌≤◌, ◌⊎◌, ◌<◌, suc, pred, [], length, option_copied, OnOk, OnErr, IfOk, IfErr};
+ghost use Rattle.std.specs.Prelude.{Some};
 ghost use Rattle.tag.specs.Refusal.{IsByCause, IsExactlyByCause};
 ghost use Rattle.tag.specs.declared.refusal.Refusal.TheVariants.{NoCall};
 ghost use Rattle.record.specs.Steps.{Step};
@@ -35,8 +36,8 @@ impl Register {
 
     /// The call of this number begins the phase that is due, where that sends no pieces.
     ///
-    /// `NoCall` where there is no such call, `NotNow` unless it wants to advance, and `Full` where a limit of the steps,
-    /// of its phases or of the messages is met.
+    /// `NoCall` where there is no such call, `NotNow` unless it wants to advance, and `Full` where a limit of the
+    /// steps, of its phases or of the messages is met.
     pub fn advance(&mut self, call: u64, now: Stamp) -> Result<(), Refusal>
         requires after { self.old.last < now }
         ensures step { OnOk result (self.new ≡ made (Step.Advance (pred call)) now self.old) }
@@ -70,8 +71,8 @@ impl Register {
         }
     }
 
-    /// The current phase of the call of this number asks again: a request goes to each member without a recorded reply and
-    /// without a waiting message of the phase.
+    /// The current phase of the call of this number asks again: a request goes to each member without a recorded reply
+    /// and without a waiting message of the phase.
     ///
     /// `NoCall` where there is no such call, `NotNow` unless its current phase lacks a quorum and sends no pieces, and
     /// `Full` where the limit of steps is met or the messages have no room.

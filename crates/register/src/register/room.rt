@@ -32,8 +32,8 @@ impl Register {
 
     /// Whether a move may begin at step `now`, to whatever layout. It takes no memory.
     ///
-    /// `MovePending` where a move is not answered, and `Full` where a limit of the steps, of the positions, of the calls or
-    /// of the messages is met.
+    /// `MovePending` where a move is not answered, and `Full` where a limit of the steps, of the positions, of the
+    /// calls or of the messages is met.
     pub fn may_move(&self, now: Stamp) -> Result<(), Refusal>
         requires after { self.now.last < now }
         ensures cause { (layout : Arrangement) → IsExactlyByCause (move_cause layout now self.now.object) result }

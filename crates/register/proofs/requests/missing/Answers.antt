@@ -20,8 +20,11 @@ loop-member-preserved c =
       | then-not-is_there+in_ok-request_to+in_ok-push w ↦
           ap (λ (v : Vec Message Global). v.items) w.messages-is ∙ w.in_ok-push.ensures.items
           ∙ ap (λ m. c.loop-member.messages.items ++ m ∷ []) w.in_ok-request_to.ensures.request
-          ∙ missing_next c.args.mail.now phase.replies ask.call ask.number ask.kind ask.position piece member false c.loop-member.messages.items (there ∙ w.if-not-is_there.true) c.loop-member.invariant
-      | else-not-is_there w ↦ ap (λ (v : Vec Message Global). v.items) w.messages-is ∙ missing_next c.args.mail.now phase.replies ask.call ask.number ask.kind ask.position piece member true c.loop-member.messages.items (there ∙ w.if-not-is_there.false) c.loop-member.invariant
+          ∙ missing_next c.args.mail.now phase.replies ask.call ask.number ask.kind ask.position piece member false
+          c.loop-member.messages.items (there ∙ w.if-not-is_there.true) c.loop-member.invariant
+      | else-not-is_there w ↦ ap (λ (v : Vec Message Global). v.items) w.messages-is
+          ∙ missing_next c.args.mail.now phase.replies ask.call ask.number ask.kind ask.position piece member true
+          c.loop-member.messages.items (there ∙ w.if-not-is_there.false) c.loop-member.invariant
     ]
 
 pub returns-clause-requests : goal.returns-clause-requests
@@ -29,6 +32,7 @@ returns-clause-requests c servers count =
     let ask = c.args.ask in
     let phase = c.args.phase.now in
     let piece : ℕ → Piece = piece_from (option_copied c.args.coded) in
-    let all : c.loop-member.member ≡ length servers = omega (arith, c.loop-member-test.false, c.loop-member.auto.member-end, c.members-member-end.ensures, count) in
+    let all : c.loop-member.member ≡ length servers =
+    omega (arith, c.loop-member-test.false, c.loop-member.auto.member-end, c.members-member-end.ensures, count) in
     c.loop-member.invariant ∙ ap (first_of (missing_for c.args.mail.now phase.replies ask.call ask.number ask.kind ask.position piece)) all
     ∙ sym (missing_first c.args.mail.now phase.replies ask.call ask.number ask.kind ask.position servers piece)

@@ -8,4 +8,5 @@ use Rattle.register.proofs.requests.missing.Given as goal
 abbrev pub invariant-loop-member : goal.invariant-loop-member
 invariant-loop-member l =
     l.messages.items
-    ≡ first_of (missing_for l.mail l.phase.replies l.ask.call l.ask.number l.ask.kind l.ask.position (piece_from (option_copied l.coded))) l.member
+    ≡ first_of (missing_for l.mail l.phase.replies l.ask.call l.ask.number l.ask.kind l.ask.position (piece_from (option_copied l.coded)))
+    l.member

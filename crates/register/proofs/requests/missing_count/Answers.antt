@@ -17,8 +17,10 @@ loop-member-preserved c =
         | else-not-is_there w ↦ omega (arith, w.count-is, c.loop-member.invariant.few)
       ];
       same = λ piece. elim c.if-not-is_there.branch [
-        | then-not-is_there w ↦ w.count-is ∙ missing_more c.args.mail.now phase.replies ask.call ask.number ask.kind ask.position piece member false c.loop-member.count (there ∙ w.if-not-is_there.true) (c.loop-member.invariant.same piece)
-        | else-not-is_there w ↦ w.count-is ∙ missing_more c.args.mail.now phase.replies ask.call ask.number ask.kind ask.position piece member true c.loop-member.count (there ∙ w.if-not-is_there.false) (c.loop-member.invariant.same piece)
+        | then-not-is_there w ↦ w.count-is ∙ missing_more c.args.mail.now phase.replies ask.call ask.number ask.kind ask.position piece
+            member false c.loop-member.count (there ∙ w.if-not-is_there.true) (c.loop-member.invariant.same piece)
+        | else-not-is_there w ↦ w.count-is ∙ missing_more c.args.mail.now phase.replies ask.call ask.number ask.kind ask.position piece
+            member true c.loop-member.count (there ∙ w.if-not-is_there.false) (c.loop-member.invariant.same piece)
       ];
     }
 
@@ -26,6 +28,8 @@ pub returns : goal.returns
 returns c servers piece count =
     let ask = c.args.ask in
     let phase = c.args.phase.now in
-    let all : c.loop-member.member ≡ length servers = omega (arith, c.loop-member-test.false, c.loop-member.auto.member-end, c.members-member-end.ensures, count) in
-    c.loop-member.invariant.same piece ∙ ap (λ n. length (first_of (missing_for c.args.mail.now phase.replies ask.call ask.number ask.kind ask.position piece) n)) all
+    let all : c.loop-member.member ≡ length servers =
+    omega (arith, c.loop-member-test.false, c.loop-member.auto.member-end, c.members-member-end.ensures, count) in
+    c.loop-member.invariant.same piece ∙ ap (λ n. length
+    (first_of (missing_for c.args.mail.now phase.replies ask.call ask.number ask.kind ask.position piece) n)) all
     ∙ ap length (sym (missing_first c.args.mail.now phase.replies ask.call ask.number ask.kind ask.position servers piece))

@@ -8,5 +8,6 @@ abbrev pub invariant-loop-member : goal.invariant-loop-member
 invariant-loop-member l =
     record {
       few : l.count ≤ l.member;
-      same : (piece : ℕ → Piece) → l.count ≡ length (first_of (missing_for l.mail l.phase.replies l.ask.call l.ask.number l.ask.kind l.ask.position piece) l.member);
+      same : (piece : ℕ → Piece) → l.count ≡ length
+          (first_of (missing_for l.mail l.phase.replies l.ask.call l.ask.number l.ask.kind l.ask.position piece) l.member);
     }

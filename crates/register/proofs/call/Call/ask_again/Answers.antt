@@ -23,14 +23,17 @@ returns-then-not-has_room-clause-cause c p servers at count =
     let piece : ℕ → Piece = piece_from (option_copied c.args.coded) in
     let here : current_phase t.call.phases ≡ Some phase =
     ap (λ (t : Tracked). current_phase t.call.phases) (sym c.self.view_is) ∙ sym (current_last c.self.inside.phases.items)
-    ∙ ap (λ (ps : List Phase). slice_get ps (length ps - 1)) (sym c.deref.ensures.value) ∙ sym c.last.ensures.value ∙ ap option_copied c.in-Some.is in
+    ∙ ap (λ (ps : List Phase). slice_get ps (length ps - 1)) (sym c.deref.ensures.value) ∙ sym c.last.ensures.value
+    ∙ ap option_copied c.in-Some.is in
     let same : phase ≡ p = same_some phase p (sym here ∙ at) in
     let members : length servers ≡ phase.members = count ∙ ap (λ (p : Phase). p.members) (sym same) in
-    let asks = same_requests mail phase.replies c.args.number c.number.result phase.number c.kind.result phase.kind c.position.result phase.position servers piece c.number.ensures c.kind.ensures c.position.ensures in
+    let asks = same_requests mail phase.replies c.args.number c.number.result phase.number c.kind.result phase.kind c.position.result
+    phase.position servers piece c.number.ensures c.kind.ensures c.position.ensures in
     let again = asked_again c.args.number phase servers mail piece in
     let counted = c.missing_count.ensures servers piece members ∙ ap length asks in
     let few = more_few mail again c.missing_count.result c.has_room.result counted c.has_room.ensures in
-    subst (λ (p : Phase). (mail_cause (mail ++ asked_again c.args.number p servers mail piece) ≡ Some Full) ⊎ ((mail_cause (mail ++ asked_again c.args.number p servers mail piece) ≡ None) × (Full ≡ NoMemory))) same
+    subst (λ (p : Phase). (mail_cause (mail ++ asked_again c.args.number p servers mail piece) ≡ Some Full)
+    ⊎ ((mail_cause (mail ++ asked_again c.args.number p servers mail piece) ≡ None) × (Full ≡ NoMemory))) same
     (inl (many_full (mail ++ again) (few ∙ c.if-not-has_room.true)))
 
 pub missing-requires : goal.missing-requires
@@ -39,7 +42,8 @@ missing-requires c =
     let phase = c.in-Some.phase.now in
     let here : current_phase t.call.phases ≡ Some phase =
     ap (λ (t : Tracked). current_phase t.call.phases) (sym c.self.view_is) ∙ sym (current_last c.self.inside.phases.items)
-    ∙ ap (λ (ps : List Phase). slice_get ps (length ps - 1)) (sym c.deref.ensures.value) ∙ sym c.last.ensures.value ∙ ap option_copied c.in-Some.is in
+    ∙ ap (λ (ps : List Phase). slice_get ps (length ps - 1)) (sym c.deref.ensures.value) ∙ sym c.last.ensures.value
+    ∙ ap option_copied c.in-Some.is in
     subst (λ k. HavePieces k phase.members (option_copied c.args.coded)) (sym c.kind.ensures) (c.requires.pieces phase here)
 
 pub returns-in_err-messages-clause-cause : goal.returns-in_err-messages-clause-cause
@@ -50,15 +54,19 @@ returns-in_err-messages-clause-cause c p servers at count =
     let piece : ℕ → Piece = piece_from (option_copied c.args.coded) in
     let here : current_phase t.call.phases ≡ Some phase =
     ap (λ (t : Tracked). current_phase t.call.phases) (sym c.self.view_is) ∙ sym (current_last c.self.inside.phases.items)
-    ∙ ap (λ (ps : List Phase). slice_get ps (length ps - 1)) (sym c.deref.ensures.value) ∙ sym c.last.ensures.value ∙ ap option_copied c.in-Some.is in
+    ∙ ap (λ (ps : List Phase). slice_get ps (length ps - 1)) (sym c.deref.ensures.value) ∙ sym c.last.ensures.value
+    ∙ ap option_copied c.in-Some.is in
     let same : phase ≡ p = same_some phase p (sym here ∙ at) in
     let members : length servers ≡ phase.members = count ∙ ap (λ (p : Phase). p.members) (sym same) in
-    let asks = same_requests mail phase.replies c.args.number c.number.result phase.number c.kind.result phase.kind c.position.result phase.position servers piece c.number.ensures c.kind.ensures c.position.ensures in
+    let asks = same_requests mail phase.replies c.args.number c.number.result phase.number c.kind.result phase.kind c.position.result
+    phase.position servers piece c.number.ensures c.kind.ensures c.position.ensures in
     let again = asked_again c.args.number phase servers mail piece in
     let counted = c.missing_count.ensures servers piece members ∙ ap length asks in
     let few = more_few mail again c.missing_count.result c.has_room.result counted c.has_room.ensures in
     subst (λ (p : Phase). IsByCause (mail_cause (mail ++ asked_again c.args.number p servers mail piece)) c.from_residual.result) same
-    (handed_on (mail_cause (mail ++ again)) c.from_residual.result _ (few_room (mail ++ again) (c.requires.room phase servers here members) (few ∙ c.if-not-has_room.false)) c.from_residual.ensures.1 c.in_err-messages.ensures.refused)
+    (handed_on (mail_cause (mail ++ again)) c.from_residual.result _
+    (few_room (mail ++ again) (c.requires.room phase servers here members) (few ∙ c.if-not-has_room.false)) c.from_residual.ensures.1
+    c.in_err-messages.ensures.refused)
 
 pub returns-clause-mail : goal.returns-clause-mail
 returns-clause-mail c =
@@ -69,14 +77,17 @@ returns-clause-mail c =
     let piece : ℕ → Piece = piece_from (option_copied c.args.coded) in
     let here : current_phase t.call.phases ≡ Some phase =
     ap (λ (t : Tracked). current_phase t.call.phases) (sym c.self.view_is) ∙ sym (current_last c.self.inside.phases.items)
-    ∙ ap (λ (ps : List Phase). slice_get ps (length ps - 1)) (sym c.deref.ensures.value) ∙ sym c.last.ensures.value ∙ ap option_copied c.in-Some.is in
+    ∙ ap (λ (ps : List Phase). slice_get ps (length ps - 1)) (sym c.deref.ensures.value) ∙ sym c.last.ensures.value
+    ∙ ap option_copied c.in-Some.is in
     let same : phase ≡ p = same_some phase p (sym here ∙ at) in
     let members : length servers ≡ phase.members = count ∙ ap (λ (p : Phase). p.members) (sym same) in
-    let asks = same_requests mail phase.replies c.args.number c.number.result phase.number c.kind.result phase.kind c.position.result phase.position servers piece c.number.ensures c.kind.ensures c.position.ensures in
+    let asks = same_requests mail phase.replies c.args.number c.number.result phase.number c.kind.result phase.kind c.position.result
+    phase.position servers piece c.number.ensures c.kind.ensures c.position.ensures in
     let again = asked_again c.args.number phase servers mail piece in
     let counted = c.missing_count.ensures servers piece members ∙ ap length asks in
     let few = more_few mail again c.missing_count.result c.has_room.result counted c.has_room.ensures in
-    posted ∙ ap (λ ms. mail ++ ms) (c.in_ok-messages.ensures.requests servers members ∙ asks ∙ ap (λ (p : Phase). asked_again c.args.number p servers mail piece) same)) c.post_all.ensures.posted
+    posted ∙ ap (λ ms. mail ++ ms) (c.in_ok-messages.ensures.requests servers members ∙ asks
+    ∙ ap (λ (p : Phase). asked_again c.args.number p servers mail piece) same)) c.post_all.ensures.posted
 
 pub returns-clause-cause : goal.returns-clause-cause
 returns-clause-cause c p servers at count =
@@ -86,12 +97,15 @@ returns-clause-cause c p servers at count =
     let piece : ℕ → Piece = piece_from (option_copied c.args.coded) in
     let here : current_phase t.call.phases ≡ Some phase =
     ap (λ (t : Tracked). current_phase t.call.phases) (sym c.self.view_is) ∙ sym (current_last c.self.inside.phases.items)
-    ∙ ap (λ (ps : List Phase). slice_get ps (length ps - 1)) (sym c.deref.ensures.value) ∙ sym c.last.ensures.value ∙ ap option_copied c.in-Some.is in
+    ∙ ap (λ (ps : List Phase). slice_get ps (length ps - 1)) (sym c.deref.ensures.value) ∙ sym c.last.ensures.value
+    ∙ ap option_copied c.in-Some.is in
     let same : phase ≡ p = same_some phase p (sym here ∙ at) in
     let members : length servers ≡ phase.members = count ∙ ap (λ (p : Phase). p.members) (sym same) in
-    let asks = same_requests mail phase.replies c.args.number c.number.result phase.number c.kind.result phase.kind c.position.result phase.position servers piece c.number.ensures c.kind.ensures c.position.ensures in
+    let asks = same_requests mail phase.replies c.args.number c.number.result phase.number c.kind.result phase.kind c.position.result
+    phase.position servers piece c.number.ensures c.kind.ensures c.position.ensures in
     let again = asked_again c.args.number phase servers mail piece in
     let counted = c.missing_count.ensures servers piece members ∙ ap length asks in
     let few = more_few mail again c.missing_count.result c.has_room.result counted c.has_room.ensures in
     subst (λ (p : Phase). IsByCause (mail_cause (mail ++ asked_again c.args.number p servers mail piece)) c.post_all.result) same
-    (subst (λ (ms : List Message). IsByCause (mail_cause (mail ++ ms)) c.post_all.result) (c.in_ok-messages.ensures.requests servers members ∙ asks) c.post_all.ensures.cause)
+    (subst (λ (ms : List Message). IsByCause (mail_cause (mail ++ ms)) c.post_all.result)
+    (c.in_ok-messages.ensures.requests servers members ∙ asks) c.post_all.ensures.cause)

@@ -1,8 +1,9 @@
-use Rattle.std.proofs.Common.{◌≡◌, ◌⊎◌, ℕ, suc, ◌+◌, ◌<◌, ◌++◌, nat_lt, length, Option, Some, None, sym, ap, subst, ◌∙◌, inl, arith}
+use Rattle.std.proofs.Common.{◌≡◌, ℕ, suc, ◌+◌, ◌<◌, ◌++◌, nat_lt, length, Option, None, sym, ap, subst, ◌∙◌, inl, arith}
 use Rattle.std.specs.Option.{option_copied}
+use Rattle.tag.specs.Cause.{IsRefusalBy}
 use Rattle.tag.specs.declared.limits.TheConstants.{MOST_PHASES}
 use Rattle.tag.specs.declared.refusal.Refusal.{Refusal}
-use Rattle.tag.specs.declared.refusal.Refusal.TheVariants.{Full, NoMemory}
+use Rattle.tag.specs.declared.refusal.Refusal.TheVariants.{Full}
 use Rattle.encoder.specs.declared.fragment.Piece.{Piece}
 use Rattle.mail.specs.Mail.{mail_cause}
 use Rattle.record.specs.Steps.{requests}
@@ -19,9 +20,12 @@ returns-then-not-has_room-clause-cause c =
     let piece : ℕ → Piece = piece_from (option_copied c.args.coded) in
     let number = suc (length t.call.phases) in
     let all = mail ++ requests c.args.number number c.args.kind c.args.position c.args.layout.now.members 0 piece in
-    let phases : length t.call.phases < MOST_PHASES = subst (λ (t : Tracked). length t.call.phases < MOST_PHASES) c.self.view_is (omega (arith, c.len.ensures, c.if-len-ge-MOST_PHASES.false)) in
+    let phases : length t.call.phases < MOST_PHASES =
+    subst (λ (t : Tracked). length t.call.phases < MOST_PHASES) c.self.view_is
+    (omega (arith, c.len.ensures, c.if-len-ge-MOST_PHASES.false)) in
     let first = ap (λ b. unless b Full (mail_cause all)) (is_lt (length t.call.phases) MOST_PHASES phases) in
-    let few = sum_few mail c.args.number number c.args.kind c.args.position c.args.layout.now.members piece c.from.result c.has_room.result (c.from.ensures ∙ c.n.ensures.value) c.has_room.ensures in
+    let few = sum_few mail c.args.number number c.args.kind c.args.position c.args.layout.now.members piece c.from.result c.has_room.result
+    (c.from.ensures ∙ c.n.ensures.value) c.has_room.ensures in
     inl (first ∙ many_full all (few ∙ c.if-not-has_room.true))
 
 pub returns-in_err-messages-clause-cause : goal.returns-in_err-messages-clause-cause
@@ -31,11 +35,16 @@ returns-in_err-messages-clause-cause c =
     let piece : ℕ → Piece = piece_from (option_copied c.args.coded) in
     let number = suc (length t.call.phases) in
     let all = mail ++ requests c.args.number number c.args.kind c.args.position c.args.layout.now.members 0 piece in
-    let phases : length t.call.phases < MOST_PHASES = subst (λ (t : Tracked). length t.call.phases < MOST_PHASES) c.self.view_is (omega (arith, c.len.ensures, c.if-len-ge-MOST_PHASES.false)) in
+    let phases : length t.call.phases < MOST_PHASES =
+    subst (λ (t : Tracked). length t.call.phases < MOST_PHASES) c.self.view_is
+    (omega (arith, c.len.ensures, c.if-len-ge-MOST_PHASES.false)) in
     let first = ap (λ b. unless b Full (mail_cause all)) (is_lt (length t.call.phases) MOST_PHASES phases) in
-    let few = sum_few mail c.args.number number c.args.kind c.args.position c.args.layout.now.members piece c.from.result c.has_room.result (c.from.ensures ∙ c.n.ensures.value) c.has_room.ensures in
-    let none : unless (nat_lt (length t.call.phases) MOST_PHASES) Full (mail_cause all) ≡ None = first ∙ few_room all c.requires.room (few ∙ c.if-not-has_room.false) in
-    handed_on (unless (nat_lt (length t.call.phases) MOST_PHASES) Full (mail_cause all)) c.from_residual.result _ none c.from_residual.ensures.1 c.in_err-messages.ensures.refused
+    let few = sum_few mail c.args.number number c.args.kind c.args.position c.args.layout.now.members piece c.from.result c.has_room.result
+    (c.from.ensures ∙ c.n.ensures.value) c.has_room.ensures in
+    let none : unless (nat_lt (length t.call.phases) MOST_PHASES) Full (mail_cause all) ≡ None =
+    first ∙ few_room all c.requires.room (few ∙ c.if-not-has_room.false) in
+    handed_on (unless (nat_lt (length t.call.phases) MOST_PHASES) Full (mail_cause all)) c.from_residual.result _ none
+    c.from_residual.ensures.1 c.in_err-messages.ensures.refused
 
 pub returns-in_err-phase-clause-cause : goal.returns-in_err-phase-clause-cause
 returns-in_err-phase-clause-cause c =
@@ -44,11 +53,16 @@ returns-in_err-phase-clause-cause c =
     let piece : ℕ → Piece = piece_from (option_copied c.args.coded) in
     let number = suc (length t.call.phases) in
     let all = mail ++ requests c.args.number number c.args.kind c.args.position c.args.layout.now.members 0 piece in
-    let phases : length t.call.phases < MOST_PHASES = subst (λ (t : Tracked). length t.call.phases < MOST_PHASES) c.self.view_is (omega (arith, c.len.ensures, c.if-len-ge-MOST_PHASES.false)) in
+    let phases : length t.call.phases < MOST_PHASES =
+    subst (λ (t : Tracked). length t.call.phases < MOST_PHASES) c.self.view_is
+    (omega (arith, c.len.ensures, c.if-len-ge-MOST_PHASES.false)) in
     let first = ap (λ b. unless b Full (mail_cause all)) (is_lt (length t.call.phases) MOST_PHASES phases) in
-    let few = sum_few mail c.args.number number c.args.kind c.args.position c.args.layout.now.members piece c.from.result c.has_room.result (c.from.ensures ∙ c.n.ensures.value) c.has_room.ensures in
-    let none : unless (nat_lt (length t.call.phases) MOST_PHASES) Full (mail_cause all) ≡ None = first ∙ few_room all c.requires.room (few ∙ c.if-not-has_room.false) in
-    handed_on (unless (nat_lt (length t.call.phases) MOST_PHASES) Full (mail_cause all)) c.from_residual-in_err-phase.result _ none c.from_residual-in_err-phase.ensures.1 c.in_err-phase.ensures.refused
+    let few = sum_few mail c.args.number number c.args.kind c.args.position c.args.layout.now.members piece c.from.result c.has_room.result
+    (c.from.ensures ∙ c.n.ensures.value) c.has_room.ensures in
+    let none : unless (nat_lt (length t.call.phases) MOST_PHASES) Full (mail_cause all) ≡ None =
+    first ∙ few_room all c.requires.room (few ∙ c.if-not-has_room.false) in
+    handed_on (unless (nat_lt (length t.call.phases) MOST_PHASES) Full (mail_cause all)) c.from_residual-in_err-phase.result _ none
+    c.from_residual-in_err-phase.ensures.1 c.in_err-phase.ensures.refused
 
 pub returns-in_err-reserve-clause-cause : goal.returns-in_err-reserve-clause-cause
 returns-in_err-reserve-clause-cause c =
@@ -57,11 +71,16 @@ returns-in_err-reserve-clause-cause c =
     let piece : ℕ → Piece = piece_from (option_copied c.args.coded) in
     let number = suc (length t.call.phases) in
     let all = mail ++ requests c.args.number number c.args.kind c.args.position c.args.layout.now.members 0 piece in
-    let phases : length t.call.phases < MOST_PHASES = subst (λ (t : Tracked). length t.call.phases < MOST_PHASES) c.self.view_is (omega (arith, c.len.ensures, c.if-len-ge-MOST_PHASES.false)) in
+    let phases : length t.call.phases < MOST_PHASES =
+    subst (λ (t : Tracked). length t.call.phases < MOST_PHASES) c.self.view_is
+    (omega (arith, c.len.ensures, c.if-len-ge-MOST_PHASES.false)) in
     let first = ap (λ b. unless b Full (mail_cause all)) (is_lt (length t.call.phases) MOST_PHASES phases) in
-    let few = sum_few mail c.args.number number c.args.kind c.args.position c.args.layout.now.members piece c.from.result c.has_room.result (c.from.ensures ∙ c.n.ensures.value) c.has_room.ensures in
-    let none : unless (nat_lt (length t.call.phases) MOST_PHASES) Full (mail_cause all) ≡ None = first ∙ few_room all c.requires.room (few ∙ c.if-not-has_room.false) in
-    for_memory (unless (nat_lt (length t.call.phases) MOST_PHASES) Full (mail_cause all)) c.from_residual-in_err-reserve.result none c.from_residual-in_err-reserve.ensures.1
+    let few = sum_few mail c.args.number number c.args.kind c.args.position c.args.layout.now.members piece c.from.result c.has_room.result
+    (c.from.ensures ∙ c.n.ensures.value) c.has_room.ensures in
+    let none : unless (nat_lt (length t.call.phases) MOST_PHASES) Full (mail_cause all) ≡ None =
+    first ∙ few_room all c.requires.room (few ∙ c.if-not-has_room.false) in
+    for_memory (unless (nat_lt (length t.call.phases) MOST_PHASES) Full (mail_cause all)) c.from_residual-in_err-reserve.result none
+    c.from_residual-in_err-reserve.ensures.1
 
 pub returns-in_err-post_all-clause-cause : goal.returns-in_err-post_all-clause-cause
 returns-in_err-post_all-clause-cause c =
@@ -71,11 +90,17 @@ returns-in_err-post_all-clause-cause c =
     let number = suc (length t.call.phases) in
     let members = c.args.layout.now.members in
     let all = mail ++ requests c.args.number number c.args.kind c.args.position members 0 piece in
-    let phases : length t.call.phases < MOST_PHASES = subst (λ (t : Tracked). length t.call.phases < MOST_PHASES) c.self.view_is (omega (arith, c.len.ensures, c.if-len-ge-MOST_PHASES.false)) in
+    let phases : length t.call.phases < MOST_PHASES =
+    subst (λ (t : Tracked). length t.call.phases < MOST_PHASES) c.self.view_is
+    (omega (arith, c.len.ensures, c.if-len-ge-MOST_PHASES.false)) in
     let first = ap (λ b. unless b Full (mail_cause all)) (is_lt (length t.call.phases) MOST_PHASES phases) in
-    let next : c.len-2.result + 1 ≡ number = subst (λ (t : Tracked). c.len-2.result + 1 ≡ suc (length t.call.phases)) c.self.view_is (omega (arith, c.len-2.ensures)) in
-    let posted = c.in_ok-messages.ensures.requests members (sym c.n-2.ensures.value) ∙ ap (λ n. requests c.args.number n c.args.kind c.args.position members 0 piece) next in
+    let next : c.len-2.result + 1 ≡ number = subst (λ (t : Tracked). c.len-2.result + 1 ≡ suc (length t.call.phases)) c.self.view_is
+    (omega (arith, c.len-2.ensures)) in
+    let posted = c.in_ok-messages.ensures.requests members (sym c.n-2.ensures.value)
+    ∙ ap (λ n. requests c.args.number n c.args.kind c.args.position members 0 piece) next in
     let e = c.in_err-post_all.field-0.0 in
-    same_cause (unless (nat_lt (length t.call.phases) MOST_PHASES) Full (mail_cause all)) c.from_residual-in_err-post_all.result e c.from_residual-in_err-post_all.ensures.1
-    (subst (λ (cause : Option Refusal). (cause ≡ Some e) ⊎ ((cause ≡ None) × (e ≡ NoMemory))) (sym (first ∙ ap (λ ms. mail_cause (mail ++ ms)) (sym posted)))
+    same_cause (unless (nat_lt (length t.call.phases) MOST_PHASES) Full (mail_cause all)) c.from_residual-in_err-post_all.result e
+    c.from_residual-in_err-post_all.ensures.1
+    (subst (λ (cause : Option Refusal). IsRefusalBy cause e)
+    (sym (first ∙ ap (λ ms. mail_cause (mail ++ ms)) (sym posted)))
     c.in_err-post_all.ensures.cause)

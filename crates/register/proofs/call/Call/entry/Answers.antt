@@ -8,7 +8,8 @@ returns-clause-entry c =
     let k = c.self.inside in
     let t = c.args.self.now in
     let answered : k.answered ≡ t.call.answered = ap (λ (t : Tracked). t.call.answered) c.self.view_is in
-    let value = c.in_ok-value.ensures.value k.answered c.is_some.ensures ∙ ap (λ (a : Option ℕ). entry_value t.call.kind a t.call.settled) answered in
+    let value = c.in_ok-value.ensures.value k.answered c.is_some.ensures
+    ∙ ap (λ (a : Option ℕ). entry_value t.call.kind a t.call.settled) answered in
     λ j. record {
       call = c.args.number;
       operation = c.operation.ensures j;

@@ -9,7 +9,8 @@ use Rattle.record.specs.Wants.{current_phase}
 use Rattle.transfer.specs.Limits.{HasNextTag}
 use Rattle.register.specs.Tracked.{Tracked, taken_tracked, took_current, stage_taken}
 use Rattle.register.proofs.Lists.{set_read}
-use Rattle.register.proofs.Takes.{ended_same, ended_stale, current_at, taking_at, taking_none, current_none, taken_same, stage_ended, stage_open}
+use Rattle.register.proofs.Takes.{ended_same, ended_stale, current_at, taking_at, taking_none, current_none, taken_same, stage_ended}
+use Rattle.register.proofs.Takes.{stage_open}
 use Rattle.register.proofs.call.Call.take.Goals as goal
 
 -- a call by its parts
@@ -21,9 +22,13 @@ pub returns-then-count-eq0-clause-call : goal.returns-then-count-eq0-clause-call
 returns-then-count-eq0-clause-call c =
     let ps = c.self.inside.phases.items in
     let k = c.self.inside in
-    let e : Tracked = record { call = record { kind = k.kind; called = k.called; answered = k.answered; settled = k.settled; phases = ps }; stage = k.stage } in
+    let e : Tracked = record {
+      call = record { kind = k.kind; called = k.called; answered = k.answered; settled = k.settled; phases = ps };
+      stage = k.stage;
+    } in
     let none : length ps ≡ 0 = omega (arith, c.len-count.ensures, c.if-count-eq0.true) in
-    let same : e ≡ taken_tracked c.args.message c.args.now e = taken_same e c.args.message c.args.now (taking_none ps c.args.message c.args.now none)
+    let same : e ≡ taken_tracked c.args.message c.args.now e =
+    taken_same e c.args.message c.args.now (taking_none ps c.args.message c.args.now none)
     (ap (λ o. stage_taken k.kind k.stage o c.args.message c.args.now) (current_none ps none)) in
     sym c.self.view_is ∙ same ∙ ap (taken_tracked c.args.message c.args.now) c.self.view_is
 
@@ -39,13 +44,18 @@ returns-then-complete-clause-call c =
     let ps = k.phases.items in
     let m = c.args.message in
     let now = c.args.now in
-    let e : Tracked = record { call = record { kind = k.kind; called = k.called; answered = k.answered; settled = k.settled; phases = ps }; stage = k.stage } in
+    let e : Tracked = record {
+      call = record { kind = k.kind; called = k.called; answered = k.answered; settled = k.settled; phases = ps };
+      stage = k.stage;
+    } in
     let i = c.len-count.result - 1 in
     let p = c.index.result.now in
     let last : i + 1 ≡ length ps = omega (arith, c.len-count.ensures, c.if-count-eq0.false) in
     let ended : is_some p.end ≡ true = sym c.complete.ensures.value ∙ c.if-complete.true in
-    let phases = sym (taking_at ps m now i p p last c.index.ensures (sym (ended_same p m now ended))) ∙ set_read ps i p c.index.ensures (omega (arith, last)) in
-    let stage = ap (λ o. stage_taken k.kind k.stage o m now) (current_at ps i p last c.index.ensures) ∙ stage_ended k.kind k.stage p m now ended in
+    let phases = sym (taking_at ps m now i p p last c.index.ensures (sym (ended_same p m now ended)))
+    ∙ set_read ps i p c.index.ensures (omega (arith, last)) in
+    let stage = ap (λ o. stage_taken k.kind k.stage o m now) (current_at ps i p last c.index.ensures)
+    ∙ stage_ended k.kind k.stage p m now ended in
     sym c.self.view_is ∙ taken_same e m now phases stage ∙ ap (taken_tracked m now) c.self.view_is
 
 pub returns-then-complete-clause-took : goal.returns-then-complete-clause-took
@@ -55,7 +65,8 @@ returns-then-complete-clause-took c =
     let p = c.index.result.now in
     let last : i + 1 ≡ length ps = omega (arith, c.len-count.ensures, c.if-count-eq0.false) in
     let ended : is_some p.end ≡ true = sym c.complete.ensures.value ∙ c.if-complete.true in
-    sym (ap (took_current c.args.message) (ap (λ (t : Tracked). current_phase t.call.phases) (sym c.self.view_is) ∙ current_at ps i p last c.index.ensures) ∙ ended_stale p c.args.message ended)
+    sym (ap (took_current c.args.message) (ap (λ (t : Tracked). current_phase t.call.phases) (sym c.self.view_is)
+    ∙ current_at ps i p last c.index.ensures) ∙ ended_stale p c.args.message ended)
 
 pub passed-self-inside-requires-clause-tags : goal.passed-self-inside-requires-clause-tags
 passed-self-inside-requires-clause-tags c =
@@ -69,7 +80,8 @@ passed-self-inside-requires-clause-tags c =
     let here : current_phase ps ≡ Some c.index_mut.result.now = current_at ps i c.index_mut.result.now last c.index_mut.ensures.value in
     let asked = c.requires.tags c.index_mut.result.now (ap (λ (t : Tracked). current_phase t.call.phases) (sym c.self.view_is) ∙ here) in
     subst (λ (x : Phase). HasNextTag k.kind k.stage x.replies) (sym (new ∙ c.take-took.ensures.phase))
-    (subst (λ (t : Tracked). HasNextTag t.call.kind t.stage (after_take c.index_mut.result.now c.args.message c.args.now).replies) (sym c.self.view_is) asked)
+    (subst (λ (t : Tracked). HasNextTag t.call.kind t.stage (after_take c.index_mut.result.now c.args.message c.args.now).replies)
+    (sym c.self.view_is) asked)
 
 pub returns-clause-call : goal.returns-clause-call
 returns-clause-call c =
@@ -83,12 +95,15 @@ returns-clause-call c =
     let last : i + 1 ≡ length ps = omega (arith, c.len-count.ensures, c.if-count-eq0.false) in
     let within : i < length ps = omega (arith, last) in
     let same : c.index.result.now ≡ p = get_or_read ps i c.index.result.now within c.index.ensures p ∙ sym c.index_mut.ensures.value in
-    let open_yet : is_some p.end ≡ false = ap (λ (x : Phase). is_some x.end) (sym same) ∙ sym c.complete.ensures.value ∙ c.if-complete.false in
+    let open_yet : is_some p.end ≡ false = ap (λ (x : Phase). is_some x.end) (sym same) ∙ sym c.complete.ensures.value
+    ∙ c.if-complete.false in
     let new : c.index-2.result.now ≡ q = c.index-2.ensures ∙ get_or-set_same ps i q c.index-2.result.now within in
     let stage = c.passed-self-inside.ensures
     ∙ ap (λ (x : Phase). passed k.kind m.call k.stage x.end x.replies) (new ∙ c.take-took.ensures.phase)
-    ∙ sym (ap (λ o. stage_taken k.kind k.stage o m now) (current_at ps i p last c.index_mut.ensures.value) ∙ stage_open k.kind k.stage p m now open_yet) in
-    ap (λ qs. tracked_of k.kind k.called k.answered k.settled qs c.passed-self-inside.result) (taking_at ps m now i p q last c.index_mut.ensures.value c.take-took.ensures.phase)
+    ∙ sym (ap (λ o. stage_taken k.kind k.stage o m now) (current_at ps i p last c.index_mut.ensures.value)
+    ∙ stage_open k.kind k.stage p m now open_yet) in
+    ap (λ qs. tracked_of k.kind k.called k.answered k.settled qs c.passed-self-inside.result)
+    (taking_at ps m now i p q last c.index_mut.ensures.value c.take-took.ensures.phase)
     ∙ ap (λ s. tracked_of k.kind k.called k.answered k.settled (taking_phases ps m now) s) stage
     ∙ ap (taken_tracked m now) c.self.view_is
 
@@ -97,4 +112,6 @@ returns-clause-took c =
     let ps = c.self.inside.phases.items in
     let i = c.len-count.result - 1 in
     let last : i + 1 ≡ length ps = omega (arith, c.len-count.ensures, c.if-count-eq0.false) in
-    c.take-took.ensures.took ∙ sym (ap (took_current c.args.message) (ap (λ (t : Tracked). current_phase t.call.phases) (sym c.self.view_is) ∙ current_at ps i c.index_mut.result.now last c.index_mut.ensures.value))
+    c.take-took.ensures.took ∙ sym (ap (took_current c.args.message)
+    (ap (λ (t : Tracked). current_phase t.call.phases) (sym c.self.view_is)
+    ∙ current_at ps i c.index_mut.result.now last c.index_mut.ensures.value))

@@ -7,7 +7,15 @@ use Rattle.register.proofs.register.Register.lose.Goals as goal
 pub invariant_of-self : goal.invariant_of-self
 invariant_of-self c =
     let r = c.self.inside in
-    let o : Contents = record { positions = r.positions.items; mail = r.mail; calls = r.calls.items; is_moving = r.is_moving; stored = r.stored; last = r.last } in
+    let o : Contents = record {
+      positions = r.positions.items;
+      mail = r.mail;
+      calls = r.calls.items;
+      is_moving = r.is_moving;
+      stored = r.stored;
+      last = r.last;
+    } in
     let after : o.last < c.args.now = subst (λ (s : State). s.last < c.args.now) (sym c.self.view_is) c.requires.after in
     let within : c.args.place < length o.mail = omega (arith, c.len.ensures.value, c.if-len-place.false) in
-    subst (λ ms. IsKept (record o { mail = ms; last = c.args.now })) (sym c.lose.ensures) (losing_keeps o c.args.place c.args.now after c.self.invariant within)
+    subst (λ ms. IsKept (record o { mail = ms; last = c.args.now })) (sym c.lose.ensures)
+    (losing_keeps o c.args.place c.args.now after c.self.invariant within)

@@ -7,7 +7,8 @@ use Rattle.register.specs.State.{Contents, State, state_of}
 use Rattle.register.proofs.Calling.{layout_is}
 use Rattle.register.proofs.Rooms.{few_room, many_full}
 use Rattle.register.proofs.Calling.{sound_room}
-use Rattle.register.proofs.Reading.{called_sound, some_position, reading_cause, reading_mail, reading_past, many_calls, reading_cause_is, reading_room}
+use Rattle.register.proofs.Reading.{called_sound, some_position, reading_cause, reading_mail, reading_past, many_calls, reading_cause_is}
+use Rattle.register.proofs.Reading.{reading_room}
 use Rattle.register.proofs.register.Register.may_call.Goals as goal
 
 pub returns-then-now-gt-MOST_STEPS : goal.returns-then-now-gt-MOST_STEPS
@@ -16,20 +17,38 @@ returns-then-now-gt-MOST_STEPS c = record { cause = reading_past c.args.self.now
 pub returns-then-len-ge-MOST_CALLS : goal.returns-then-len-ge-MOST_CALLS
 returns-then-len-ge-MOST_CALLS c =
     let r = c.self.inside in
-    let o : Contents = record { positions = r.positions.items; mail = r.mail; calls = r.calls.items; is_moving = r.is_moving; stored = r.stored; last = r.last } in
+    let o : Contents = record {
+      positions = r.positions.items;
+      mail = r.mail;
+      calls = r.calls.items;
+      is_moving = r.is_moving;
+      stored = r.stored;
+      last = r.last;
+    } in
     let view : reading_cause c.args.self.now.object Read c.args.now ≡ reading_cause (state_of o).object Read c.args.now =
     ap (λ (s : State). reading_cause s.object Read c.args.now) (sym c.self.view_is) in
-    record { cause = view ∙ many_calls o Read c.args.now c.if-now-gt-MOST_STEPS.false (omega (arith, c.len.ensures, c.if-len-ge-MOST_CALLS.true)) }
+    record {
+      cause = view ∙ many_calls o Read c.args.now c.if-now-gt-MOST_STEPS.false
+          (omega (arith, c.len.ensures, c.if-len-ge-MOST_CALLS.true));
+    }
 
 pub returns-then-not-has_room : goal.returns-then-not-has_room
 returns-then-not-has_room c =
     let r = c.self.inside in
-    let o : Contents = record { positions = r.positions.items; mail = r.mail; calls = r.calls.items; is_moving = r.is_moving; stored = r.stored; last = r.last } in
+    let o : Contents = record {
+      positions = r.positions.items;
+      mail = r.mail;
+      calls = r.calls.items;
+      is_moving = r.is_moving;
+      stored = r.stored;
+      last = r.last;
+    } in
     let view : reading_cause c.args.self.now.object Read c.args.now ≡ reading_cause (state_of o).object Read c.args.now =
     ap (λ (s : State). reading_cause s.object Read c.args.now) (sym c.self.view_is) in
     let layout = c.layout.result.now in
     let same : layout_at (state_of o).object 0 ≡ layout = layout_is o.positions o.mail o.calls 0 c.index.result.now
-    (slice_get_read o.positions (length o.positions) 0 c.index.result.now refl (some_position o c.self.invariant) c.index.ensures) ∙ sym c.layout.ensures in
+    (slice_get_read o.positions (length o.positions) 0 c.index.result.now refl (some_position o c.self.invariant) c.index.ensures)
+    ∙ sym c.layout.ensures in
     let few : length o.calls < MOST_CALLS = omega (arith, c.len.ensures, c.if-len-ge-MOST_CALLS.false) in
     let members : c.from-members.result ≡ length layout.members = c.from-members.ensures ∙ c.n.ensures.value in
     let number : ℕ = suc (length o.calls) in
@@ -42,18 +61,27 @@ returns-then-not-has_room c =
 pub returns : goal.returns
 returns c =
     let r = c.self.inside in
-    let o : Contents = record { positions = r.positions.items; mail = r.mail; calls = r.calls.items; is_moving = r.is_moving; stored = r.stored; last = r.last } in
+    let o : Contents = record {
+      positions = r.positions.items;
+      mail = r.mail;
+      calls = r.calls.items;
+      is_moving = r.is_moving;
+      stored = r.stored;
+      last = r.last;
+    } in
     let view : reading_cause c.args.self.now.object Read c.args.now ≡ reading_cause (state_of o).object Read c.args.now =
     ap (λ (s : State). reading_cause s.object Read c.args.now) (sym c.self.view_is) in
     let layout = c.layout.result.now in
     let same : layout_at (state_of o).object 0 ≡ layout = layout_is o.positions o.mail o.calls 0 c.index.result.now
-    (slice_get_read o.positions (length o.positions) 0 c.index.result.now refl (some_position o c.self.invariant) c.index.ensures) ∙ sym c.layout.ensures in
+    (slice_get_read o.positions (length o.positions) 0 c.index.result.now refl (some_position o c.self.invariant) c.index.ensures)
+    ∙ sym c.layout.ensures in
     let few : length o.calls < MOST_CALLS = omega (arith, c.len.ensures, c.if-len-ge-MOST_CALLS.false) in
     let members : c.from-members.result ≡ length layout.members = c.from-members.ensures ∙ c.n.ensures.value in
     let number : ℕ = suc (length o.calls) in
     let after : o.last < c.args.now = subst (λ (s : State). s.last < c.args.now) (sym c.self.view_is) c.requires.after in
     record {
       cause = view ∙ reading_cause_is o Read c.args.now number layout same refl c.if-now-gt-MOST_STEPS.false few
-          ∙ few_room (reading_mail o number layout) (sound_room _ c.args.now (called_sound o Read c.args.now number layout c.self.invariant (inl refl) same refl after))
+          ∙ few_room (reading_mail o number layout)
+          (sound_room _ c.args.now (called_sound o Read c.args.now number layout c.self.invariant (inl refl) same refl after))
           (reading_room o number layout c.from-members.result c.has_room.result members c.has_room.ensures ∙ c.if-not-has_room.false);
     }

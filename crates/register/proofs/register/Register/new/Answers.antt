@@ -14,8 +14,10 @@ contents positions mail calls now = record { positions = positions; mail = mail;
 
 pub invariant_of-result : goal.invariant_of-result
 invariant_of-result c =
-    let kept = opened_keeps c.args.layout c.args.now (subst (λ (p : Position). IsLawful p.layout) c.in_ok-position.ensures.opened c.in_ok-position.ensures.lawful) in
-    let positions = c.in_ok-push.ensures.items ∙ ap (λ ps. ps ++ c.in_ok-position.position ∷ []) c.new-positions.ensures.items ∙ ap (λ (p : Position). p ∷ []) c.in_ok-position.ensures.opened in
+    let kept = opened_keeps c.args.layout c.args.now
+    (subst (λ (p : Position). IsLawful p.layout) c.in_ok-position.ensures.opened c.in_ok-position.ensures.lawful) in
+    let positions = c.in_ok-push.ensures.items ∙ ap (λ ps. ps ++ c.in_ok-position.position ∷ []) c.new-positions.ensures.items
+    ∙ ap (λ (p : Position). p ∷ []) c.in_ok-position.ensures.opened in
     let ps : List Position = record { layout = c.args.layout; banks = opened_banks c.args.layout.members 0 c.args.now } ∷ [] in
     subst (λ (ps : List Position). IsKept (contents ps c.new-2.result c.new-3.result.items c.args.now)) (sym positions)
     (subst (λ (ms : List Message). IsKept (contents ps ms c.new-3.result.items c.args.now)) (sym c.new-2.ensures)

@@ -1,7 +1,7 @@
-use Rattle.std.proofs.Common.{◌≡◌, ℕ, ◌⊎◌, ◌<◌, ◌≤◌, length, slice_get, Option, Some, None, sym, ap, subst, ◌∙◌, arith}
+use Rattle.std.proofs.Common.{ℕ, ◌<◌, ◌≤◌, length, slice_get, Option, sym, ap, subst, ◌∙◌, arith}
+use Rattle.tag.specs.Cause.{IsRefusalBy}
 use Rattle.tag.specs.declared.limits.TheConstants.{MOST_STEPS}
 use Rattle.tag.specs.declared.refusal.Refusal.{Refusal}
-use Rattle.tag.specs.declared.refusal.Refusal.TheVariants.{NoMemory}
 use Rattle.mail.specs.Mail.{repeated, mail_cause}
 use Rattle.record.specs.Records.{Object}
 use Rattle.register.specs.State.{Contents, State, made, object_of}
@@ -18,17 +18,33 @@ at_step object now = record { object = object; last = now }
 pub invariant_of-self : goal.invariant_of-self
 invariant_of-self c =
     let r = c.self.inside in
-    let o : Contents = record { positions = r.positions.items; mail = r.mail; calls = r.calls.items; is_moving = r.is_moving; stored = r.stored; last = r.last } in
+    let o : Contents = record {
+      positions = r.positions.items;
+      mail = r.mail;
+      calls = r.calls.items;
+      is_moving = r.is_moving;
+      stored = r.stored;
+      last = r.last;
+    } in
     let after : o.last < c.args.now = subst (λ (s : State). s.last < c.args.now) (sym c.self.view_is) c.requires.after in
     let within : c.args.place < length o.mail = omega (arith, c.len.ensures.value, c.if-len-place.false) in
-    subst (λ ms. IsKept (record o { mail = ms; last = c.args.now })) (sym c.in-Ok.ensures.posted) (repeating_keeps o c.args.place c.args.now after c.self.invariant within)
+    subst (λ ms. IsKept (record o { mail = ms; last = c.args.now })) (sym c.in-Ok.ensures.posted)
+    (repeating_keeps o c.args.place c.args.now after c.self.invariant within)
 
 pub returns-in-Ok-clause-step : goal.returns-in-Ok-clause-step
 returns-in-Ok-clause-step c =
     let r = c.self.inside in
-    let o : Contents = record { positions = r.positions.items; mail = r.mail; calls = r.calls.items; is_moving = r.is_moving; stored = r.stored; last = r.last } in
+    let o : Contents = record {
+      positions = r.positions.items;
+      mail = r.mail;
+      calls = r.calls.items;
+      is_moving = r.is_moving;
+      stored = r.stored;
+      last = r.last;
+    } in
     let within : c.args.place < length o.mail = omega (arith, c.len.ensures.value, c.if-len-place.false) in
-    ap (λ ms. at_step (object_of o.positions ms o.calls) c.args.now) c.in-Ok.ensures.posted ∙ ap (λ x. at_step x c.args.now) (repeating_is o c.args.place within)
+    ap (λ ms. at_step (object_of o.positions ms o.calls) c.args.now) c.in-Ok.ensures.posted
+    ∙ ap (λ x. at_step x c.args.now) (repeating_is o c.args.place within)
     ∙ ap (made (Step.Repeat c.args.place) c.args.now) c.self.view_is
 
 pub returns-in-Err-clause-cause : goal.returns-in-Err-clause-cause
@@ -39,4 +55,5 @@ returns-in-Err-clause-cause c =
     let same = ap (λ (s : State). repeat_cause c.args.now s.object place) (sym c.self.view_is)
     ∙ ap (λ later. if_message (slice_get mail place) (λ message. later)) (step_within c.args.now (mail_cause (repeated mail place)) most)
     ∙ repeat_cause_is mail place (omega (arith, c.len.ensures.value, c.if-len-place.false)) in
-    subst (λ (cause : Option Refusal). (cause ≡ Some c.in-Err.refusal) ⊎ ((cause ≡ None) × (c.in-Err.refusal ≡ NoMemory))) (sym same) c.in-Err.ensures.cause
+    subst (λ (cause : Option Refusal). IsRefusalBy cause c.in-Err.refusal)
+    (sym same) c.in-Err.ensures.cause

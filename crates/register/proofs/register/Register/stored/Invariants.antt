@@ -6,4 +6,5 @@ use Rattle.register.proofs.register.Register.stored.Given as goal
 abbrev pub invariant-loop-position : goal.invariant-loop-position
 invariant-loop-position l =
     stored_bytes l.server (layouts_of l.position-items) (banks_of l.position-items)
-    ≡ l.total + stored_bytes l.server (layouts_of (drop l.position-index l.position-items)) (banks_of (drop l.position-index l.position-items))
+    ≡ l.total + stored_bytes l.server (layouts_of (drop l.position-index l.position-items))
+    (banks_of (drop l.position-index l.position-items))

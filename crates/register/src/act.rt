@@ -1,0 +1,92 @@
+//! A step that a caller asks for, as one value.
+
+ghost use Rattle.std.specs.Prelude.{◌≡◌, ◌<◌, Some, IfOk, OnOk, OnErr};
+ghost use Rattle.register.specs.Act.{IsActCause, act_cause, answered_by, step_of};
+ghost use Rattle.register.specs.State.{made};
+
+use crate::receipt::Receipt;
+use crate::register::Register;
+use bytes::Bytes;
+use decoder::Decoded;
+use encoder::Coded;
+use layout::Layout;
+use phase::Took;
+use tag::{Refusal, Stamp};
+
+/// What a caller may ask of an object: a call is named by its number from 1, a message by its place in the mail.
+#[derive(Debug, Drop)]
+pub enum Act {
+    CallRead,
+    CallWrite(Bytes),
+    CallMove(Layout),
+    Advance(u64),
+    /// The coded value of the call of this number.
+    Supply(u64, Coded),
+    Post(u64),
+    /// The value that was decoded for the call of this number.
+    Settle(u64, Decoded),
+    Answer(u64),
+    Serve(usize),
+    Take(usize),
+    Lose(usize),
+    Repeat(usize),
+}
+
+/// What an act answers.
+#[derive(Debug, Drop)]
+pub enum Answered {
+    /// The number of the call that begins.
+    Call(u64),
+    Receipt(Receipt),
+    Took(Took),
+    Nothing,
+}
+
+impl Register {
+    /// The step that an act asks for. `object` is the object's place for a receipt.
+    ///
+    /// It is refused as the method of the act's name is.
+    pub fn act(&mut self, act: Act, object: u32, now: Stamp) -> Result<Answered, Refusal>
+        requires after { self.old.last < now }
+        ensures step { OnOk result (self.new ≡ made (step_of act) now self.old) }
+        ensures answered { IfOk result (λ a. answered_by act object now self.old.object ≡ Some a) }
+        ensures cause { IsActCause act (act_cause act now self.old.object) result }
+        ensures unchanged { OnErr result (self.new ≡ self.old) }
+    {
+        match act {
+            Act::CallRead => Ok(Answered::Call(self.call_read(now)?)),
+            Act::CallWrite(value) => Ok(Answered::Call(self.call_write(value, now)?)),
+            Act::CallMove(layout) => Ok(Answered::Call(self.call_move(layout, now)?)),
+            Act::Advance(call) => {
+                self.advance(call, now)?;
+                Ok(Answered::Nothing)
+            }
+            Act::Supply(call, coded) => {
+                self.supply(call, coded, now)?;
+                Ok(Answered::Nothing)
+            }
+            Act::Post(call) => {
+                self.post(call, now)?;
+                Ok(Answered::Nothing)
+            }
+            Act::Settle(call, decoded) => {
+                self.settle(call, decoded, now)?;
+                Ok(Answered::Nothing)
+            }
+            Act::Answer(call) => Ok(Answered::Receipt(self.answer(call, object, now)?)),
+            Act::Serve(place) => {
+                self.serve(place, now)?;
+                Ok(Answered::Nothing)
+            }
+            Act::Take(place) => Ok(Answered::Took(self.take(place, now)?)),
+            Act::Lose(place) => {
+                self.lose(place, now)?;
+                Ok(Answered::Nothing)
+            }
+            Act::Repeat(place) => {
+                self.repeat(place, now)?;
+                Ok(Answered::Nothing)
+            }
+        }
+    }
+}
