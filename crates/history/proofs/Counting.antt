@@ -1,5 +1,7 @@
 -- A list without repeats that names as many answered calls as there are names them all.
-use Rattle.std.proofs.Common.{nat_eq, ◌≡◌, ℕ, zero, suc, ◌+◌, ◌<◌, ◌≤◌, ◌⊎◌, ◌≢◌, Bool, true, false, cond, ◌&&◌, ◌||◌, List, [], ◌∷◌, length, get_or, take, count_by, IsSome, IsTrue, is_some, refl, ap, sym, ◌∙◌, subst, inl, inr, arith}
+use Rattle.std.proofs.Common.{nat_eq, ◌≡◌, ℕ, zero, suc, ◌+◌, ◌<◌, ◌≤◌, ◌⊎◌, ◌≢◌}
+use Rattle.std.proofs.Common.{Bool, true, false, cond, ◌&&◌, ◌||◌, List, [], ◌∷◌, length, get_or, take}
+use Rattle.std.proofs.Common.{count_by, IsSome, IsTrue, is_some, refl, ap, sym, ◌∙◌, subst, inl, inr, arith}
 use Rattle.std.specs.List.{IsDistinct}
 use Rattle.std.proofs.Math.Seq.{take-length}
 use Rattle.std.proofs.lemmas.Bool.{cases_eq, cases_lt, cases_Bool, and_parts, and_from, and_right, or_left, eq-eqb, ne_eqb}
@@ -32,7 +34,8 @@ tally_same f g zero same = refl
 tally_same f g (suc n) same = rw (same n (omega arith), tally_same f g n (λ i h. same i (omega arith))) refl
 
 -- f and g agree but at y, where g is false
-tally_more : (f g : ℕ → Bool) (y n : ℕ) → y < n → g y ≡ false → ((i : ℕ) → i ≢ y → f i ≡ g i) → tally f n ≡ one (f y) + tally g n
+tally_more : (f g : ℕ → Bool) (y n : ℕ) → y < n → g y ≡ false → ((i : ℕ) → i ≢ y → f i ≡ g i) →
+    tally f n ≡ one (f y) + tally g n
 tally_more f g y zero h none same = absurd (omega arith)
 tally_more f g y (suc n) h none same = elim (cases_eq n y) [
   | inl e ↦
@@ -88,7 +91,8 @@ count_take p entries (suc n) h =
           rw (fails, more) (count_by_more_no p entries n no_entry within fails ∙ omega (arith, ih))
     ]
 
-pub count_all : (p : Entry → Bool) (entries : List Entry) → count_by p entries ≡ tally (λ i. p (get_or entries i no_entry)) (length entries)
+pub count_all : (p : Entry → Bool) (entries : List Entry) →
+    count_by p entries ≡ tally (λ i. p (get_or entries i no_entry)) (length entries)
 count_all p entries =
     ap (λ (xs : List Entry). count_by p xs) (sym (take-length entries)) ∙ count_take p entries (length entries) (omega arith)
 
@@ -130,14 +134,16 @@ must_from operation.Move answered t = absurd (cc)
 -- each answered read and write is in the list
 abbrev pub HoldsAnswered : List Entry → List ℕ → Type 0
 HoldsAnswered entries order =
-    (call : ℕ) → (entry_at entries call).operation ≢ operation.Move → IsSome (entry_at entries call).answered → IsTrue (has order call)
+    (call : ℕ) → (entry_at entries call).operation ≢ operation.Move → IsSome (entry_at entries call).answered →
+    IsTrue (has order call)
 
 pub holds_from_count : (entries : List Entry) (order : List ℕ) → MayAllStand entries order → IsDistinct nat_eq order →
     count_by must_stand entries ≡ count_by must_stand (named entries order) → HoldsAnswered entries order
 holds_from_count entries order standing distinct e zero no_move answered = absurd (no_move refl)
 holds_from_count entries order standing distinct e (suc index) no_move answered = elim (cases_lt index (length entries)) [
   | inl within ↦
-      let same : tally (both must_stand entries order) (length entries) ≡ tally (λ i. must_stand (get_or entries i no_entry)) (length entries) =
+      let same : tally (both must_stand entries order) (length entries)
+      ≡ tally (λ i. must_stand (get_or entries i no_entry)) (length entries) =
       sym (count_named must_stand entries order standing distinct) ∙ sym e ∙ count_all must_stand entries in
       (and_parts _ _ (tally_all (both must_stand entries order) (λ i. must_stand (get_or entries i no_entry)) (length entries)
       (λ i b. (and_parts _ _ b).0) same index within (must_so _ _ no_move answered))).1

@@ -1,5 +1,6 @@
 -- Facts of a list of calls by recursion, and the same by place.
-use Rattle.std.proofs.Common.{nat_eq, ◌≡◌, ◌≢◌, ℕ, zero, suc, ◌-◌, ◌<◌, ◌≤◌, false, List, [], ◌∷◌, length, get_or, IsSome, refl, eq-eqb, ap, ◌∙◌, sym, inl, inr, arith}
+use Rattle.std.proofs.Common.{nat_eq, ◌≡◌, ◌≢◌, ℕ, zero, suc, ◌-◌, ◌<◌, ◌≤◌, false, List}
+use Rattle.std.proofs.Common.{[], ◌∷◌, length, get_or, IsSome, refl, eq-eqb, ap, ◌∙◌, sym, inl, inr, arith}
 use Rattle.std.specs.List.{AllByRecursion, IsDistinct}
 use Rattle.std.proofs.lemmas.Bool.{cases_lt, ne_eqb}
 use Rattle.std.proofs.lemmas.List.{get_or_past, get_or_default}
@@ -13,11 +14,13 @@ use Rattle.history.specs.Check.{AreLawful, MayAllStand, named}
 abbrev pub at : List Entry → List ℕ → (place : ℕ) → Entry
 at entries order place = entry_at entries (get_or order place 0)
 
-pub all_from_places : (P : ℕ → Type 0) (order : List ℕ) → ((place : ℕ) → place < length order → P (get_or order place 0)) → AllByRecursion P order
+pub all_from_places : (P : ℕ → Type 0) (order : List ℕ) → ((place : ℕ) → place < length order → P (get_or order place 0)) →
+    AllByRecursion P order
 all_from_places P [] f = tt
 all_from_places P (x ∷ xs) f = (f 0 (omega arith), all_from_places P xs (λ place h. f (suc place) (omega arith)))
 
-pub place_from_all : (P : ℕ → Type 0) (order : List ℕ) → AllByRecursion P order → (place : ℕ) → place < length order → P (get_or order place 0)
+pub place_from_all : (P : ℕ → Type 0) (order : List ℕ) → AllByRecursion P order → (place : ℕ) → place < length order →
+    P (get_or order place 0)
 place_from_all P [] all place h = absurd (omega arith)
 place_from_all P (x ∷ xs) all zero h = all.0
 place_from_all P (x ∷ xs) all (suc place) h = place_from_all P xs all.1 place (omega arith)
@@ -58,19 +61,23 @@ abbrev pub KeepsPlaces : List Entry → List ℕ → (bound : ℕ) → Type 0
 KeepsPlaces entries order bound = (earlier later : ℕ) → earlier < later → later < bound →
     IsAnsweredBefore (at entries order later) (at entries order earlier) → ⊥
 
-pub keeps_from_places : (entries : List Entry) (order : List ℕ) → KeepsPlaces entries order (length order) → KeepsOrder (named entries order)
+pub keeps_from_places : (entries : List Entry) (order : List ℕ) → KeepsPlaces entries order (length order) →
+    KeepsOrder (named entries order)
 keeps_from_places entries [] keeps = tt
 keeps_from_places entries (x ∷ xs) keeps = (
-  all_named entries xs (λ other. IsAnsweredBefore other (entry_at entries x) → ⊥) (λ place h. keeps 0 (suc place) (omega arith) (omega arith)),
+  all_named entries xs (λ other. IsAnsweredBefore other (entry_at entries x) → ⊥)
+      (λ place h. keeps 0 (suc place) (omega arith) (omega arith)),
   keeps_from_places entries xs (λ a b h k. keeps (suc a) (suc b) (omega arith) (omega arith)),
 )
 
-pub places_from_keeps : (entries : List Entry) (order : List ℕ) → KeepsOrder (named entries order) → KeepsPlaces entries order (length order)
+pub places_from_keeps : (entries : List Entry) (order : List ℕ) → KeepsOrder (named entries order) →
+    KeepsPlaces entries order (length order)
 places_from_keeps entries [] keeps earlier later h k = absurd (omega arith)
 places_from_keeps entries (x ∷ xs) keeps earlier zero h k = absurd (omega arith)
 places_from_keeps entries (x ∷ xs) keeps zero (suc later) h k =
     named_all entries xs (λ other. IsAnsweredBefore other (entry_at entries x) → ⊥) keeps.0 later (omega arith)
-places_from_keeps entries (x ∷ xs) keeps (suc earlier) (suc later) h k = places_from_keeps entries xs keeps.1 earlier later (omega arith) (omega arith)
+places_from_keeps entries (x ∷ xs) keeps (suc earlier) (suc later) h k =
+    places_from_keeps entries xs keeps.1 earlier later (omega arith) (omega arith)
 
 -- no two places below the bound have one call
 abbrev pub ApartBelow : List ℕ → (bound : ℕ) → Type 0
@@ -82,12 +89,14 @@ distinct_from_places order apart = IsDistinct-from_apart nat_eq order (λ i j d 
 
 pub places_from_distinct : (order : List ℕ) → IsDistinct nat_eq order → ApartBelow order (length order)
 places_from_distinct order distinct earlier later h k e =
-    let apart : nat_eq (get_or order earlier 0) (get_or order later 0) ≡ false = apart_from_distinct nat_eq order earlier later 0 distinct h k in
+    let apart : nat_eq (get_or order earlier 0) (get_or order later 0)
+    ≡ false = apart_from_distinct nat_eq order earlier later 0 distinct h k in
     let same = eq-eqb (get_or order earlier 0) (get_or order later 0) e in
     cc
 
 -- what may stand among lawful entries has a value
-pub value_there : (entries : List Entry) (call : ℕ) → AreLawful entries → MayStand (entry_at entries call) → IsSome (entry_at entries call).value
+pub value_there : (entries : List Entry) (call : ℕ) → AreLawful entries → MayStand (entry_at entries call) →
+    IsSome (entry_at entries call).value
 value_there entries zero lawful may = absurd (may.0 refl)
 value_there entries (suc index) lawful may =
     let call = is_call entries (suc index) may in

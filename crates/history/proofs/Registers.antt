@@ -1,5 +1,6 @@
 -- One call more of a register's pass.
-use Rattle.std.proofs.Common.{◌≡◌, ℕ, ◌+◌, ◌<◌, ◌↔◌, ◌≢◌, List, [], ◌∷◌, length, drop, Option, Some, refl, ap, sym, ◌∙◌, subst, add-one, drop-cons}
+use Rattle.std.proofs.Common.{◌≡◌, ℕ, ◌+◌, ◌<◌, ◌↔◌, ◌≢◌, List, [], ◌∷◌}
+use Rattle.std.proofs.Common.{length, drop, Option, Some, refl, ap, sym, ◌∙◌, subst, add-one, drop-cons}
 use Rattle.record.specs.declared.call.Entry.{Entry}
 use Rattle.record.specs.declared.call.Operation.{Operation}
 use Rattle.record.specs.declared.call.Operation.TheVariants as operation
@@ -19,7 +20,8 @@ pub after_write : (op : Operation) (value : Option (List ℕ)) (current bytes : 
     Steps op value current rest ↔ IsRegister bytes rest
 after_write op value current bytes rest eo ev =
     rw (eo, ev) (
-      (λ (s : Steps operation.Write (Some bytes) current rest). let e : s.0 ≡ bytes = cc (s.1) in subst (λ (v : List ℕ). IsRegister v rest) e s.2),
+      (λ (s : Steps operation.Write (Some bytes) current rest). let e : s.0 ≡ bytes = cc (s.1) in
+          subst (λ (v : List ℕ). IsRegister v rest) e s.2),
       (λ (r : IsRegister bytes rest). (bytes, refl, r)),
     )
 
@@ -43,18 +45,20 @@ wrong_read op value current bytes rest eo ev ne s =
 pub passes_on : (entries : List Entry) (order : List ℕ) (index : ℕ) (entry : Entry) (current next : List ℕ) →
     index < length order → entry ≡ at entries order index →
     IsRegister [] (named entries order) ↔ IsRegister current (named entries (drop index order)) →
-    Steps entry.operation entry.value current (named entries (drop (index + 1) order)) ↔ IsRegister next (named entries (drop (index + 1) order)) →
+    Steps entry.operation entry.value current (named entries (drop (index + 1) order))
+    ↔ IsRegister next (named entries (drop (index + 1) order)) →
     IsRegister [] (named entries order) ↔ IsRegister next (named entries (drop (index + 1) order))
 passes_on entries order index entry current next h is whole step =
     let cut : named entries (drop index order) ≡ entry ∷ named entries (drop (index + 1) order) =
     named-drop entries order index h ∙ ap (λ (e : Entry). e ∷ named entries (drop (index + 1) order)) (sym is) in (
       (λ (r : IsRegister [] (named entries order)). step.0 (subst (λ (es : List Entry). IsRegister current es) cut (whole.0 r))),
-      (λ (r : IsRegister next (named entries (drop (index + 1) order))). whole.1 (subst (λ (es : List Entry). IsRegister current es) (sym cut) (step.1 r))),
+      (λ (r : IsRegister next (named entries (drop (index + 1) order))).
+          whole.1 (subst (λ (es : List Entry). IsRegister current es) (sym cut) (step.1 r))),
     )
 
 -- a call that is no step ends it
-pub stops : (entries : List Entry) (order : List ℕ) (index : ℕ) (entry : Entry) (current : List ℕ) → index < length order → entry ≡ at entries order index →
-    IsRegister [] (named entries order) ↔ IsRegister current (named entries (drop index order)) →
+pub stops : (entries : List Entry) (order : List ℕ) (index : ℕ) (entry : Entry) (current : List ℕ) → index < length order →
+    entry ≡ at entries order index → IsRegister [] (named entries order) ↔ IsRegister current (named entries (drop index order)) →
     (Steps entry.operation entry.value current (named entries (drop (index + 1) order)) → ⊥) →
     IsRegister [] (named entries order) → ⊥
 stops entries order index entry current h is whole none r =
@@ -62,6 +66,7 @@ stops entries order index entry current h is whole none r =
     named-drop entries order index h ∙ ap (λ (e : Entry). e ∷ named entries (drop (index + 1) order)) (sym is) in
     none (subst (λ (es : List Entry). IsRegister current es) cut (whole.0 r))
 
-pub no_move : (op : Operation) (value : Option (List ℕ)) (current : List ℕ) (rest : List Entry) → op ≡ operation.Move → Steps op value current rest → ⊥
+pub no_move : (op : Operation) (value : Option (List ℕ)) (current : List ℕ) (rest : List Entry) → op ≡ operation.Move →
+    Steps op value current rest → ⊥
 no_move op value current rest eo s =
     let t : Steps operation.Move value current rest = rw eo at s in t.1

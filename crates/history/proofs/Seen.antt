@@ -36,14 +36,15 @@ sees_more entries order index latest next seen not_before e = record {
     | inl greater ↦ inr (index, omega arith, omega arith)
     | inr lower ↦
         let same : latest ≡ next = omega arith in
-        subst (λ (step : ℕ). (step ≡ 0) ⊎ ((earlier : ℕ) × (earlier < index + 1) × ((at entries order earlier).called ≡ step))) same
+        subst (λ (step : ℕ). (step ≡ 0) ⊎ ((earlier : ℕ) × (earlier < index + 1) × ((at entries order earlier).called ≡ step)))
+        same
         (elim seen.reached [ inl none ↦ inl none | inr (earlier, below, is) ↦ inr (earlier, omega arith, is) ])
   ];
 }
 
 -- an answer before the latest step is before an earlier element's call
-pub breaks : (entries : List Entry) (order : List ℕ) (index latest bound : ℕ) → HasSeen entries order index latest → index < bound →
-    IsBefore (at entries order index).answered latest → KeepsPlaces entries order bound → ⊥
+pub breaks : (entries : List Entry) (order : List ℕ) (index latest bound : ℕ) → HasSeen entries order index latest →
+    index < bound → IsBefore (at entries order index).answered latest → KeepsPlaces entries order bound → ⊥
 breaks entries order index latest bound seen within before keeps = elim seen.reached [
   | inl none ↦ let low = before.2 in absurd (omega arith)
   | inr (earlier, below, is) ↦ keeps earlier index below within (before.0, before.1, let low = before.2 in omega arith)

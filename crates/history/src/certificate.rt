@@ -1,5 +1,6 @@
 //! Whether a list of calls is a sequence of the entries.
-ghost use Rattle.std.specs.Prelude.{◌≡◌, ℕ, ◌<◌, ◌≤◌, ◌≢◌, ◌↔◌, [], length, slice_index, count_by, Some, IsSome, IsTrue, nat_eq};
+ghost use Rattle.std.specs.Prelude.{◌≡◌, ℕ, ◌<◌, ◌≤◌, ◌≢◌, ◌↔◌, []};
+ghost use Rattle.std.specs.Prelude.{length, slice_index, count_by, Some, IsSome, IsTrue, nat_eq};
 ghost use Rattle.std.specs.List.{IsDistinct};
 ghost use Rattle.layout.specs.Quorum.{has};
 ghost use Rattle.record.specs.declared.call.Operation.TheVariants as operation;
@@ -9,10 +10,11 @@ ghost use Rattle.history.specs.Check.{AreLawful, MayAllStand, must_stand, named}
 use record::{Entry, Operation};
 use tag::Stamp;
 
-/// Whether the entries are lawful and `order` is a sequence of them. Nothing is assumed of either, and no memory is taken.
+/// Whether the entries are lawful and `order` is a sequence of them. Nothing is assumed of either, and no memory is
+/// taken.
 ///
-/// The work grows with the length of the list times the calls that overlap one call: beyond a few passes it is the search
-/// for repeats, which looks back from each call over those that it overlaps.
+/// The work grows with the length of the list times the calls that overlap one call: beyond a few passes it is the
+/// search for repeats, which looks back from each call over those that it overlaps.
 pub fn check(entries: &[Entry], order: &[u64]) -> bool
     ensures { IsTrue result ↔ (AreLawful entries.now × IsSequence entries.now order.now) }
 {
@@ -97,7 +99,8 @@ fn is_new(entries: &[Entry], order: &[u64], place: usize) -> bool
     requires standing { MayAllStand entries.now order.now }
     requires in_order { KeepsOrder (named entries.now order.now) }
     requires within { place < length order.now }
-    ensures { IsTrue result ↔ ((earlier : ℕ) → earlier < place → slice_index order.now earlier ≢ slice_index order.now place) }
+    ensures { IsTrue result
+        ↔ ((earlier : ℕ) → earlier < place → slice_index order.now earlier ≢ slice_index order.now place) }
 {
     let call = order[place];
     let called = entry_at(entries, call).called;

@@ -1,14 +1,15 @@
-//! What holds of the entries of a sound record: they are lawful, and the order that the tags give is a sequence of them.
+//! What holds of the entries of a sound record: they are lawful, and the order that the tags give is a sequence of
+//! them.
 ghost use Rattle.std.specs.Prelude.{ℕ, List};
 ghost use Rattle.record.specs.Atomic.{IsSequence};
 ghost use Rattle.record.specs.Fragments.{Code, IsCode};
 ghost use Rattle.record.specs.Journals.{entries};
 ghost use Rattle.record.specs.Records.{Object};
+ghost use Rattle.record.specs.Sequence.{IsTagOrder};
 ghost use Rattle.record.specs.Sound.{IsSound};
-ghost use Rattle.history.specs.Calls.{AreCallsOf};
+ghost use Rattle.record.specs.declared.call.TaggedCall.{TaggedCall as Tagged};
+ghost use Rattle.history.specs.Calls.{AreCallsOf, AreInTurn};
 ghost use Rattle.history.specs.Check.{AreLawful};
-ghost use Rattle.history.specs.TagOrder.{AreInTurn, IsTagOrder};
-ghost use Rattle.history.specs.declared.order.TaggedCall.{TaggedCall as Tagged};
 
 /// The calls of a sound record are in turn, as `order_by_tags` asks.
 pub fn calls_are_in_turn()
@@ -24,7 +25,7 @@ pub fn entries_are_lawful()
 
 /// The order that the tags give of a sound record's calls is a sequence of its entries, so `check` accepts it.
 pub fn tag_orders_are_sequences()
-    ensures { (fragment : Code) (object : Object) (last : ℕ) (calls : List Tagged) (order : List ℕ) → IsCode fragment
-        → IsSound fragment object last → AreCallsOf object calls → IsTagOrder calls order
+    ensures { (fragment : Code) (object : Object) (last : ℕ) (calls : List Tagged) (order : List ℕ)
+        → IsCode fragment → IsSound fragment object last → AreCallsOf object calls → IsTagOrder calls order
         → IsSequence (entries object) order }
 {}

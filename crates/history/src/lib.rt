@@ -1,11 +1,11 @@
-//! Certificates of one object's history: whether a list of calls is a sequence of its entries, and the list that the tags
-//! of its calls give.
+//! Certificates of one object's history: whether a list of calls is a sequence of its entries, and the list that the
+//! tags of its calls give.
 #![tactic(auto)]
 
 pub use certificate::check;
 pub use laws::{calls_are_in_turn, entries_are_lawful, tag_orders_are_sequences};
 pub use object::{atomic, sequence};
-pub use order::{TaggedCall, order_by_tags};
+pub use order::order_by_tags;
 
 mod certificate;
 mod laws;

@@ -1,7 +1,7 @@
 //! What holds of each object: its history is atomic, and the tags of its calls give a sequence of it.
 //!
-//! Atomicity is that of Lynch's Distributed Algorithms (1996), chapter 13: the answered reads and writes, with some of the
-//! unanswered writes, follow one register in an order that keeps answer before call.
+//! Atomicity is that of Lynch's Distributed Algorithms (1996), chapter 13: the answered reads and writes, with some of
+//! the unanswered writes, follow one register in an order that keeps answer before call.
 ghost use Rattle.std.specs.Prelude.{◌≡◌, IfOk, IfErr, map};
 ghost use Rattle.tag.specs.declared.refusal.Refusal.TheVariants.{NoMemory};
 ghost use Rattle.record.specs.Atomic.{IsAtomic, IsSequence};
@@ -9,8 +9,8 @@ ghost use Rattle.record.specs.Journals.{entries};
 ghost use Rattle.record.specs.Sequence.{IsTagSequence};
 ghost use Rattle.history.specs.Calls.{AreCallsOf, tagged_entry};
 
-use crate::order::{TaggedCall, order_by_tags};
-use record::Entry;
+use crate::order::order_by_tags;
+use record::{Entry, TaggedCall};
 use register::Register;
 use std::alloc::{AllocError, Global};
 use tag::Refusal;
@@ -50,7 +50,8 @@ fn tagged_entries(
     register: &Register,
     entries: &[Entry],
 ) -> Result<Vec<TaggedCall>, AllocError>
-    ensures { IfOk result (λ calls. calls.items ≡ map (λ entry. tagged_entry register.now.object entry) entries.now) }
+    ensures { IfOk result
+        (λ calls. calls.items ≡ map (λ entry. tagged_entry register.now.object entry) entries.now) }
 {
     entries
         .iter()

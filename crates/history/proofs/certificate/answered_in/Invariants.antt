@@ -3,4 +3,5 @@ use Rattle.history.specs.Check.{must_stand, named}
 use Rattle.history.proofs.certificate.answered_in.Given as goal
 
 abbrev pub invariant-loop-call : goal.invariant-loop-call
-invariant-loop-call l = record { few : l.count ≤ l.call-index; counted : l.count ≡ count_by must_stand (named l.entries (take l.call-index l.order)) }
+invariant-loop-call l =
+    record { few : l.count ≤ l.call-index; counted : l.count ≡ count_by must_stand (named l.entries (take l.call-index l.order)) }

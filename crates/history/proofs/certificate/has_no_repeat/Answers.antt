@@ -6,7 +6,9 @@ pub returns-then-not-is_new : goal.returns-then-not-is_new
 returns-then-not-is_new c = (
   (λ f. absurd (cc)),
   (λ distinct.
-      let t = c.is_new.ensures.1 (λ earlier h. places_from_distinct c.args.order.now distinct earlier c.loop-place.place h c.loop-place-test.true) in cc),
+      let t = c.is_new.ensures.1
+      (λ earlier h. places_from_distinct c.args.order.now distinct earlier c.loop-place.place h c.loop-place-test.true) in
+      cc),
 )
 
 pub returns : goal.returns

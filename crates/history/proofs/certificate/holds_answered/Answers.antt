@@ -9,5 +9,6 @@ returns c = (
       (sym c.answered_among.ensures ∙ eqb-true _ _ t ∙ c.answered_in.ensures)),
   (λ holds.
       eq-eqb _ _ (c.answered_among.ensures
-      ∙ count_from_holds c.args.entries.now c.args.order.now c.requires.standing c.requires.distinct holds ∙ sym c.answered_in.ensures)),
+      ∙ count_from_holds c.args.entries.now c.args.order.now c.requires.standing c.requires.distinct holds
+      ∙ sym c.answered_in.ensures)),
 )

@@ -26,13 +26,17 @@ returns-then-is_before c = ((λ t earlier h e. apart earlier h e), (λ new. refl
 
     before : IsAnsweredBefore (at rest) (at c.args.place)
     before =
-        let b = c.is_before.ensures.0 c.if-is_before.true in
-        (b.0, ap (λ (x : Entry). x.answered) (sym c.entry_at-in-loop-rest.ensures) ∙ b.1, subst (λ (x : Entry). b.0 < x.called) c.entry_at.ensures b.2)
+        let b = c.is_before.ensures.0 c.if-is_before.true in (
+          b.0,
+          ap (λ (x : Entry). x.answered) (sym c.entry_at-in-loop-rest.ensures) ∙ b.1,
+          subst (λ (x : Entry). b.0 < x.called) c.entry_at.ensures b.2,
+        )
 
     apart : (earlier : ℕ) → earlier < c.args.place → get_or order earlier 0 ≡ get_or order c.args.place 0 → ⊥
     apart earlier h e = elim (cases_lt earlier rest) [
       | inl below ↦
-          places_from_keeps c.args.entries.now order c.requires.in_order earlier rest below (omega (arith, c.loop-rest.invariant.0, c.requires.within))
+          places_from_keeps c.args.entries.now order c.requires.in_order earlier rest below
+          (omega (arith, c.loop-rest.invariant.0, c.requires.within))
           (subst (λ (call : ℕ). IsAnsweredBefore (at rest) (entry_at c.args.entries.now call)) (sym e) before)
       | inr past ↦ elim (cases_lt rest earlier) [
         | inl above ↦ c.loop-rest.invariant.1 earlier (omega arith) h e

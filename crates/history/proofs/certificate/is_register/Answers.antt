@@ -7,7 +7,8 @@ use Rattle.history.proofs.certificate.is_register.Goals as goal
 use Rattle.history.proofs.certificate.is_register.Goals.{in-Write, in-Read+else-not-are_same}
 
 pub entry_at-entry-requires-clause-within : goal.entry_at-entry-requires-clause-within
-entry_at-entry-requires-clause-within c = (call_there c.args.entries.now c.args.order.now c.requires.standing c.loop-call.call-index c.loop-call-test.true).1
+entry_at-entry-requires-clause-within c =
+    (call_there c.args.entries.now c.args.order.now c.requires.standing c.loop-call.call-index c.loop-call-test.true).1
 
 pub value_of-value-requires : goal.value_of-value-requires
 value_of-value-requires c =
@@ -35,7 +36,8 @@ returns-in-Move c = (
 
 pub loop-call-preserved : goal.loop-call-preserved
 loop-call-preserved c =
-    passes_on c.args.entries.now c.args.order.now c.loop-call.call-index c.entry_at-entry.result.now c.loop-call.current.now c.match-entry.current.now
+    passes_on c.args.entries.now c.args.order.now c.loop-call.call-index c.entry_at-entry.result.now c.loop-call.current.now
+    c.match-entry.current.now
     c.loop-call-test.true c.entry_at-entry.ensures c.loop-call.invariant
     (elim c.match-entry.branch [
       | in-Write w ↦

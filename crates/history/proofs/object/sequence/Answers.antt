@@ -4,11 +4,11 @@ use Rattle.encoder.specs.Fragment.{fragment}
 use Rattle.record.specs.Atomic.{IsSequence}
 use Rattle.record.specs.Journals.{entries}
 use Rattle.record.specs.Sequence.{IsTagSequence}
-use Rattle.record.proofs.Determined.{fragments_determine}
-use Rattle.record.proofs.Ordered.{sequence_of_sound}
-use Rattle.history.specs.declared.order.TaggedCall.{TaggedCall}
+use Rattle.record.proofs.Atomic.Values.Determined.{fragments_determine}
+use Rattle.record.proofs.Atomic.Sequences.ByTags.{sequence_of_sound}
+use Rattle.record.specs.declared.call.TaggedCall.{TaggedCall}
 use Rattle.history.specs.Calls.{AreCallsOf}
-use Rattle.history.specs.TagOrder.{IsTagOrder}
+use Rattle.record.specs.Sequence.{IsTagOrder}
 use Rattle.history.proofs.Bridge.{turn_of, sequence_of_order}
 use Rattle.history.proofs.object.sequence.Goals as goal
 
@@ -30,6 +30,7 @@ returns-clause-listed c =
 pub returns-clause-sequence : goal.returns-clause-sequence
 returns-clause-sequence c =
     let state = c.args.register.now in
-    IfOk-weaker c.order_by_tags.result (λ order. IsTagSequence state.object order.items) (λ order. IsSequence (entries state.object) order.items)
+    IfOk-weaker c.order_by_tags.result (λ order. IsTagSequence state.object order.items)
+    (λ order. IsSequence (entries state.object) order.items)
     (λ order listed. sequence_of_sound fragment state.object state.last fragments_determine c.soundness.ensures.sound order.items listed)
     (returns-clause-listed c)
