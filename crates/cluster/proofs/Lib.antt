@@ -1,3 +1,4 @@
+pub mod Acting
 pub mod Adding
 pub mod Allowed
 pub mod Growing

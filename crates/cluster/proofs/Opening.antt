@@ -1,5 +1,7 @@
 -- Why a layout or an object is not added to a cluster, and what the cluster is once an object is.
-use Rattle.std.proofs.Common.{◌≡◌, ℕ, suc, ◌+◌, ◌≤◌, ◌<◌, nat_lt, nat_le, Bool, true, false, not, is_some, List, [], ◌∷◌, ◌++◌, length, slice_get, String, Global, Option, Some, None, sym, ap, subst, ◌∙◌, arith, add-one}
+use Rattle.std.proofs.Common.{◌≡◌, ℕ, suc, ◌+◌, ◌≤◌, ◌<◌, nat_lt, nat_le, Bool, true}
+use Rattle.std.proofs.Common.{false, not, is_some, List, [], ◌∷◌, ◌++◌, length, slice_get, String}
+use Rattle.std.proofs.Common.{Global, Option, Some, None, sym, ap, subst, ◌∙◌, arith, add-one}
 use Rattle.std.specs.List.{list_all}
 use Rattle.std.specs.Map.{lookup}
 use Rattle.std.specs.String.{string_bytes, string_eq}
@@ -35,7 +37,8 @@ room counter objects = if_step (suc counter) (unless (nat_lt (length objects) MO
 
 -- why an object of a new name is not added, by the layout that was found
 abbrev by_layout : (counter : ℕ) → List Named → (name : List ℕ) → Option Layout → Option Refusal
-by_layout counter objects name found = if_layout found (λ layout. unless (nat_le (length name) LONGEST_NAME) TooLong (room counter objects))
+by_layout counter objects name found =
+    if_layout found (λ layout. unless (nat_le (length name) LONGEST_NAME) TooLong (room counter objects))
 
 -- A layout
 
@@ -53,30 +56,38 @@ module _ {servers : List Bool} {layouts : List Layout} {objects : List Named} {c
   pub no_step_for_layout : are_servers (length servers) layout ≡ true → MOST_STEPS ≤ counter → layout_cause now layout ≡ Some Full
   no_step_for_layout is full = layout_by true is ∙ step_past (suc counter) _ (omega (arith, full))
 
-  pub many_layouts : are_servers (length servers) layout ≡ true → counter < MOST_STEPS → MOST_LAYOUTS ≤ length layouts → layout_cause now layout ≡ Some Full
+  pub many_layouts : are_servers (length servers) layout ≡ true → counter < MOST_STEPS → MOST_LAYOUTS ≤ length layouts →
+      layout_cause now layout ≡ Some Full
   many_layouts is few many =
-      layout_by true is ∙ step_within (suc counter) _ (omega (arith, few)) ∙ ap (λ b. unless b Full None) (not_lt (length layouts) MOST_LAYOUTS many)
+      layout_by true is ∙ step_within (suc counter) _ (omega (arith, few))
+      ∙ ap (λ b. unless b Full None) (not_lt (length layouts) MOST_LAYOUTS many)
 
 -- what the cluster keeps once the layout is added
-pub added_counted : {servers : List Bool} {layouts later : List Layout} {objects : List Named} {counter bytes count waiting : ℕ} {loads : List ℕ} (layout : Layout)
-    → later ≡ layouts ++ layout ∷ [] → are_servers (length servers) layout ≡ true → counter < MOST_STEPS
-    → IsCounted (record { servers = servers; layouts = layouts; objects = objects; counter = counter }) bytes count waiting loads
-    → IsCounted (record { servers = servers; layouts = later; objects = objects; counter = counter + 1 }) bytes count waiting loads
+pub added_counted : {servers : List Bool} {layouts later : List Layout} {objects : List
+    Named} {counter bytes count waiting : ℕ} {loads : List ℕ} (layout : Layout) →
+    later ≡ layouts ++ layout ∷ [] → are_servers (length servers) layout ≡ true → counter < MOST_STEPS →
+    IsCounted (record { servers = servers; layouts = layouts; objects = objects; counter = counter }) bytes count waiting loads →
+    IsCounted (record { servers = servers; layouts = later; objects = objects; counter = counter + 1 }) bytes count waiting loads
 added_counted {servers} {layouts} {later} {objects} {counter} {bytes} {count} layout is below few counted = record {
-  kept = subst (λ (ls : List Layout). IsKept (record { servers = servers; layouts = ls; objects = objects; counter = counter + 1 }) bytes count) (sym is)
-      (subst (λ n. IsKept (record { servers = servers; layouts = layouts ++ layout ∷ []; objects = objects; counter = n }) bytes count) (sym (add-one counter))
-      (layout_kept (record { servers = servers; layouts = layouts; objects = objects; counter = counter }) bytes count layout counted.kept below (omega (arith, few))));
+  kept = subst (λ (ls : List Layout).
+      IsKept (record { servers = servers; layouts = ls; objects = objects; counter = counter + 1 }) bytes count) (sym is)
+      (subst (λ n. IsKept (record { servers = servers; layouts = layouts ++ layout ∷ []; objects = objects; counter = n }) bytes count)
+      (sym (add-one counter))
+      (layout_kept (record { servers = servers; layouts = layouts; objects = objects; counter = counter }) bytes count layout counted.kept
+      below (omega (arith, few))));
   summed = let s = counted.summed in record { mailed = s.mailed; few = s.few; servers = s.servers; stored = s.stored };
 }
 
 -- An object
 
 -- a name that a look-up found, or that it did not find
-pub is_named : (entries : List Entry) (name : List ℕ) (b : Bool) → is_some (lookup (is_name name) entries) ≡ b → is_some (named (objects_of entries) name) ≡ b
+pub is_named : (entries : List Entry) (name : List ℕ) (b : Bool) → is_some (lookup (is_name name) entries) ≡ b →
+    is_some (named (objects_of entries) name) ≡ b
 is_named entries name b is = ap (λ (o : Option State). is_some o) (named_is entries name) ∙ is
 
 module _ {servers : List Bool} {layouts : List Layout} {objects : List Named} {counter : ℕ} {now : Cluster}
-    (same : record { servers = servers; layouts = layouts; objects = objects; counter = counter } ≡ now) (name : List ℕ) (id : ℕ) where
+    (same : record { servers = servers; layouts = layouts; objects = objects; counter = counter } ≡ now)
+    (name : List ℕ) (id : ℕ) where
   create_by : (b : Bool) → is_some (named objects name) ≡ b
       → create_cause now name id ≡ unless (not b) ObjectExists (by_layout counter objects name (slice_get layouts id))
   create_by b is =
@@ -86,7 +97,8 @@ module _ {servers : List Bool} {layouts : List Layout} {objects : List Named} {c
   pub name_taken : is_some (named objects name) ≡ true → create_cause now name id ≡ Some ObjectExists
   name_taken is = create_by true is
 
-  pub no_layout_here : {xs : List Layout} → is_some (named objects name) ≡ false → xs ≡ layouts → length xs ≤ id → create_cause now name id ≡ Some BadLayout
+  pub no_layout_here : {xs : List Layout} → is_some (named objects name) ≡ false → xs ≡ layouts → length xs ≤ id →
+      create_cause now name id ≡ Some BadLayout
   no_layout_here {xs} fresh all past =
       create_by false fresh ∙ ap (by_layout counter objects name) (ap (λ ls. slice_get ls id) (sym all) ∙ slice_get_past xs id past)
 
@@ -106,11 +118,13 @@ module _ {servers : List Bool} {layouts : List Layout} {objects : List Named} {c
 
       pub many_objects : counter < MOST_STEPS → MOST_OBJECTS ≤ length objects → create_cause now name id ≡ Some Full
       many_objects few many =
-          by_room ∙ step_within (suc counter) _ (omega (arith, few)) ∙ ap (λ b. unless b Full None) (not_lt (length objects) MOST_OBJECTS many)
+          by_room ∙ step_within (suc counter) _ (omega (arith, few))
+          ∙ ap (λ b. unless b Full None) (not_lt (length objects) MOST_OBJECTS many)
 
       pub may_create : counter < MOST_STEPS → length objects < MOST_OBJECTS → create_cause now name id ≡ None
       may_create few few_objects =
-          by_room ∙ step_within (suc counter) _ (omega (arith, few)) ∙ ap (λ b. unless b Full None) (is_lt (length objects) MOST_OBJECTS few_objects)
+          by_room ∙ step_within (suc counter) _ (omega (arith, few))
+          ∙ ap (λ b. unless b Full None) (is_lt (length objects) MOST_OBJECTS few_objects)
 
 -- as many objects as entries
 pub length_objects : (entries : List Entry) → length (objects_of entries) ≡ length entries
@@ -125,16 +139,20 @@ pub record IsAdded (entries : List Entry) (counter : ℕ) (later : List Entry) (
   pub opened : value ≡ record { object = opened_object layout (counter + 1); last = counter + 1 }
   pub fresh : is_some (lookup (is_name name) entries) ≡ false
 
-module _ {entries : List Entry} {counter : ℕ} {later : List Entry} {name : List ℕ} {layout : Layout} (added : IsAdded entries counter later name layout) where
+module _ {entries : List Entry} {counter : ℕ} {later : List Entry} {name : List ℕ} {layout : Layout}
+    (added : IsAdded entries counter later name layout) where
   no_object : named (objects_of entries) name ≡ None
   no_object = named_none entries name (sym added.fresh)
 
-  object_is : object_of (added.key, added.value) ≡ record { name = name; state = record { object = opened_object layout (suc counter); last = suc counter } }
+  object_is : object_of (added.key, added.value)
+      ≡ record { name = name; state = record { object = opened_object layout (suc counter); last = suc counter } }
   object_is =
       ap (λ n. record { name = n; state = added.value }) added.called
-      ∙ ap (λ (s : State). record { name = name; state = s }) (added.opened ∙ ap (λ n. record { object = opened_object layout n; last = n }) (add-one counter))
+      ∙ ap (λ (s : State). record { name = name; state = s })
+      (added.opened ∙ ap (λ n. record { object = opened_object layout n; last = n }) (add-one counter))
 
-  objects_are : objects_of later ≡ objects_of entries ++ record { name = name; state = record { object = opened_object layout (suc counter); last = suc counter } } ∷ []
+  objects_are : objects_of later ≡ objects_of entries
+      ++ record { name = name; state = record { object = opened_object layout (suc counter); last = suc counter } } ∷ []
   objects_are =
       ap objects_of added.inserted
       ∙ inserted_last entries added.key added.value (subst (λ n. named (objects_of entries) n ≡ None) (sym added.called) no_object)
@@ -146,19 +164,22 @@ module _ {entries : List Entry} {counter : ℕ} {later : List Entry} {name : Lis
       ap (λ n. cluster_of servers layouts later n) (add-one counter)
       ∙ ap (λ (os : List Named). record { servers = servers; layouts = layouts; objects = os; counter = suc counter }) objects_are
 
-  pub created_is : {servers : List Bool} {layouts : List Layout} {now : Cluster} (id : ℕ) → cluster_of servers layouts entries counter ≡ now
-      → IsLayout layouts id layout → cluster_of servers layouts later (counter + 1) ≡ created now name id
+  pub created_is : {servers : List Bool} {layouts : List Layout} {now : Cluster} (id : ℕ) →
+      cluster_of servers layouts entries counter ≡ now → IsLayout layouts id layout →
+      cluster_of servers layouts later (counter + 1) ≡ created now name id
   created_is {servers} {layouts} {now} id same found =
-      cluster_is servers layouts ∙ ap (λ (k : Cluster). with_object k name layout) same ∙ ap (λ (l : Layout). with_object now name l) (sym (layout_found same found))
+      cluster_is servers layouts ∙ ap (λ (k : Cluster). with_object k name layout) same
+      ∙ ap (λ (l : Layout). with_object now name l) (sym (layout_found same found))
 
-  pub created_counted : {servers : List Bool} {layouts : List Layout} {bytes count waiting : ℕ} {loads : List ℕ} (id : ℕ) → IsLayout layouts id layout
-      → counter < MOST_STEPS
-      → length (objects_of entries) < MOST_OBJECTS → IsCounted (cluster_of servers layouts entries counter) bytes count waiting loads
-      → IsCounted (cluster_of servers layouts later (counter + 1)) bytes count waiting loads
+  pub created_counted : {servers : List Bool} {layouts : List Layout} {bytes count waiting : ℕ} {loads : List ℕ} (id : ℕ) →
+      IsLayout layouts id layout → counter < MOST_STEPS → length (objects_of entries) < MOST_OBJECTS →
+      IsCounted (cluster_of servers layouts entries counter) bytes count waiting loads →
+      IsCounted (cluster_of servers layouts later (counter + 1)) bytes count waiting loads
   created_counted {servers} {layouts} {bytes} {count} {waiting} {loads} id found few few_objects counted =
       subst (λ (k : Cluster). IsCounted k bytes count waiting loads) (sym (cluster_is servers layouts))
       (record {
         kept = object_kept (cluster_of servers layouts entries counter) bytes count name layout counted.kept
-            (all_found (HasMembersBelow (length servers)) layouts id layout counted.kept.layouts found.here) no_object (omega (arith, few)) few_objects;
+            (all_found (HasMembersBelow (length servers)) layouts id layout counted.kept.layouts found.here) no_object
+            (omega (arith, few)) few_objects;
         summed = object_summed (cluster_of servers layouts entries counter) waiting loads name layout counted.summed;
       })

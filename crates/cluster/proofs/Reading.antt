@@ -16,8 +16,9 @@ pub record IsFound (now : Cluster) (name : List ℕ) (old : State) : Type 0 wher
   pub here : named now.objects name ≡ Some old
 
 -- the object that was found has this name
-pub named_found : {servers : List Bool} {layouts : List Layout} {counter : ℕ} {now : Cluster} (entries : List Entry) (name : List ℕ) (old : State)
-    → cluster_of servers layouts entries counter ≡ now → Some old ≡ lookup (is_name name) entries → IsFound now name old
+pub named_found :
+    {servers : List Bool} {layouts : List Layout} {counter : ℕ} {now : Cluster} (entries : List Entry) (name : List ℕ) (old : State) →
+    cluster_of servers layouts entries counter ≡ now → Some old ≡ lookup (is_name name) entries → IsFound now name old
 named_found entries name old same found =
     record { here = ap (λ (k : Cluster). named k.objects name) (sym same) ∙ named_is entries name ∙ sym found }
 
@@ -30,9 +31,9 @@ pub cause_found : {now : Cluster} {name : List ℕ} {old : State} → IsFound no
 cause_found found cause = ap (λ o. if_object o cause) found.here
 
 -- there is none of a name that was not found
-pub none_found : {servers : List Bool} {layouts : List Layout} {counter : ℕ} {now : Cluster} (entries : List Entry) (name : List ℕ)
-    → cluster_of servers layouts entries counter ≡ now → None ≡ lookup (is_name name) entries → (cause : Object → Option Refusal)
-    → object_cause now name cause ≡ Some NoObject
+pub none_found : {servers : List Bool} {layouts : List Layout} {counter : ℕ} {now : Cluster} (entries : List Entry) (name : List ℕ) →
+    cluster_of servers layouts entries counter ≡ now → None ≡ lookup (is_name name) entries →
+    (cause : Object → Option Refusal) → object_cause now name cause ≡ Some NoObject
 none_found entries name same none cause = no_object entries name same (ap (λ (o : Option State). is_some o) none) cause
 
 -- what an answer says, where it says something else

@@ -10,10 +10,12 @@ use Rattle.cluster.proofs.Stepping.{cluster_of}
 
 module _ {servers : List Bool} {layouts : List Layout} {counter : ℕ} {now : Cluster} (entries : List Entry) (place : ℕ)
     (same : cluster_of servers layouts entries counter ≡ now) where
-  looked_up : (o : Option Entry) → o ≡ slice_get entries place → object_at now.objects place ≡ option_map (λ x. x.state) (option_map object_of o)
+  looked_up : (o : Option Entry) → o ≡ slice_get entries place →
+      object_at now.objects place ≡ option_map (λ x. x.state) (option_map object_of o)
   looked_up o found =
       ap (λ (k : Cluster). object_at k.objects place) (sym same)
-      ∙ ap (λ (x : Option Named). option_map (λ y. y.state) x) (slice_get-map object_of entries place ∙ ap (λ x. option_map object_of x) (sym found))
+      ∙ ap (λ (x : Option Named). option_map (λ y. y.state) x)
+      (slice_get-map object_of entries place ∙ ap (λ x. option_map object_of x) (sym found))
 
   -- the object that was found
   pub placed_found : (e : Entry) → Some e ≡ slice_get entries place → object_at now.objects place ≡ Some e.1

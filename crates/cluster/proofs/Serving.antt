@@ -1,5 +1,6 @@
 -- The room that a request has which is served, and what else is read of a message.
-use Rattle.std.proofs.Common.{◌≡◌, ℕ, suc, ◌+◌, ◌≤◌, ◌⊎◌, Bool, true, false, nat_le, List, length, slice_get, option_map, Option, Some, None, Result, Ok, Err, IfErr, inl, inr, refl, sym, ap, ◌∙◌, arith}
+use Rattle.std.proofs.Common.{◌≡◌, ℕ, suc, ◌+◌, ◌≤◌, ◌⊎◌, Bool, true, false, nat_le, List, length, slice_get}
+use Rattle.std.proofs.Common.{option_map, Option, Some, None, Result, Ok, Err, IfErr, inl, inr, refl, sym, ap, ◌∙◌, arith}
 use Rattle.std.proofs.lemmas.Option.{slice_get_past}
 use Rattle.tag.specs.declared.limits.TheConstants.{MOST_BYTES, MOST_STEPS}
 use Rattle.tag.specs.declared.refusal.Refusal.{Refusal}
@@ -39,13 +40,16 @@ holds_true : (holds : Bool) (refusal : Refusal) (later : Option Refusal) → unl
 holds_true true refusal later none = refl
 holds_true false refusal later none = absurd (cc)
 
-pub has_room : (cluster : Cluster) (place : ℕ) (object : Object) → serving_cause cluster place object ≡ None → HasRoom cluster place object
+pub has_room : (cluster : Cluster) (place : ℕ) (object : Object) → serving_cause cluster place object ≡ None →
+    HasRoom cluster place object
 has_room cluster place object none = go (slice_get object.mail place) refl none
   where
-    in_body : (m : Message) → slice_get object.mail place ≡ Some m → (b : Body) → m.body ≡ b → served_cause cluster object m b ≡ None → HasRoom cluster place object
+    in_body : (m : Message) → slice_get object.mail place ≡ Some m → (b : Body) → m.body ≡ b →
+        served_cause cluster object m b ≡ None → HasRoom cluster place object
     in_body m waits (body.Request asked) is none =
         let room : Option Refusal = unless (nat_le (banks_all cluster.objects + request_bytes asked) MOST_BYTES) Full None in
-        let later : if_step (next cluster) room ≡ None = past_unless (is_reached cluster object m) Down (if_step (next cluster) room) none in
+        let later : if_step (next cluster) room ≡ None = past_unless (is_reached cluster object m) Down
+        (if_step (next cluster) room) none in
         let few = past_step (next cluster) room later in
         let fits : room ≡ None = sym (step_within (next cluster) room few) ∙ later in
         record {
@@ -79,7 +83,8 @@ own_none {cluster} {place} {object} room now few part =
 pub own_of : {cluster : Cluster} {bytes count : ℕ} → IsKept cluster bytes count → IsOf cluster cluster.servers cluster.counter bytes
 own_of kept = record { servers = refl; counter = refl; bytes = sym kept.stored }
 
-pub is_of : {cluster now : Cluster} {bytes count : ℕ} → IsKept cluster bytes count → cluster ≡ now → IsOf now cluster.servers cluster.counter bytes
+pub is_of : {cluster now : Cluster} {bytes count : ℕ} → IsKept cluster bytes count → cluster ≡ now →
+    IsOf now cluster.servers cluster.counter bytes
 is_of kept same = record {
   servers = ap (λ (k : Cluster). k.servers) (sym same);
   counter = ap (λ (k : Cluster). k.counter) (sym same);
@@ -93,19 +98,23 @@ pub handled_is : (cluster : Cluster) (object : Object) (place : ℕ) (m : Messag
 handled_is cluster object place m b waits is =
     ap (option_map (λ (message : Message). can_handle cluster object message message.body)) waits ∙ ap Some (sym is)
 
-pub place_past : (object : Object) (place : ℕ) (mail : List Message) → mail ≡ object.mail → length mail ≤ place → place_cause place object ≡ Some NoMessage
+pub place_past : (object : Object) (place : ℕ) (mail : List Message) → mail ≡ object.mail → length mail ≤ place →
+    place_cause place object ≡ Some NoMessage
 place_past object place mail same past =
     ap (λ (ms : List Message). if_message (slice_get ms place) (λ message. None)) (sym same)
     ∙ ap (λ (found : Option Message). if_message found (λ message. None)) (slice_get_past mail place past)
 
-pub place_there : (object : Object) (place : ℕ) (m : Message) → slice_get object.mail place ≡ Some m → place_cause place object ≡ None
+pub place_there : (object : Object) (place : ℕ) (m : Message) → slice_get object.mail place ≡ Some m →
+    place_cause place object ≡ None
 place_there object place m waits = ap (λ (found : Option Message). if_message found (λ message. None)) waits
 
 -- an answer that memory alone may refuse
-pub only_memory : {T : Type 0} {cause : Option Refusal} (answer : Result T Refusal) → cause ≡ None → IfErr answer (λ e. e ≡ NoMemory) → IsByCause cause answer
+pub only_memory : {T : Type 0} {cause : Option Refusal} (answer : Result T Refusal) → cause ≡ None →
+    IfErr answer (λ e. e ≡ NoMemory) → IsByCause cause answer
 only_memory (Ok x) none refused = none
 only_memory (Err e) none refused = inr (none, refused)
 
-pub memory_left : {a b : Option Refusal} {r : Refusal} → a ≡ None → b ≡ None → (b ≡ Some r) ⊎ ((b ≡ None) × (r ≡ NoMemory)) → (a ≡ Some r) ⊎ ((a ≡ None) × (r ≡ NoMemory))
+pub memory_left : {a b : Option Refusal} {r : Refusal} → a ≡ None → b ≡ None →
+    (b ≡ Some r) ⊎ ((b ≡ None) × (r ≡ NoMemory)) → (a ≡ Some r) ⊎ ((a ≡ None) × (r ≡ NoMemory))
 memory_left none own (inl some) = absurd (cc)
 memory_left none own (inr left) = inr (none, left.1)

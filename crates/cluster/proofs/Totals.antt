@@ -1,5 +1,6 @@
 -- What all servers store is what all banks store, where each member is a server and has a bank.
-use Rattle.std.proofs.Common.{◌≡◌, ℕ, zero, suc, ◌+◌, ◌≤◌, ◌<◌, ◌==◌, Bool, true, false, if◌then◌else◌, List, [], ◌∷◌, length, refl, arith}
+use Rattle.std.proofs.Common.{◌≡◌, ℕ, zero, suc, ◌+◌, ◌≤◌, ◌<◌, ◌==◌, Bool}
+use Rattle.std.proofs.Common.{true, false, if◌then◌else◌, List, [], ◌∷◌, length, refl, arith}
 use Rattle.std.specs.List.{AllByRecursion}
 use Rattle.std.proofs.lemmas.Bool.Decides.{nat_tests}
 use Rattle.std.proofs.lemmas.List.Sums.{sum_by-cons}
@@ -18,11 +19,13 @@ sum_none from zero = refl
 sum_none from (suc count) = let rest = sum_none (suc from) count in omega (arith, rest)
 
 -- the same, server by server
-pub sum_same : (f g : ℕ → ℕ) (from count : ℕ) → ((s : ℕ) → f s ≡ g s) → member_sum f from count ≡ member_sum g from count
+pub sum_same : (f g : ℕ → ℕ) (from count : ℕ) → ((s : ℕ) → f s ≡ g s) →
+    member_sum f from count ≡ member_sum g from count
 sum_same f g from zero same = refl
 sum_same f g from (suc count) same = let rest = sum_same f g (suc from) count same in let here = same from in omega (arith, rest, here)
 
-pub sum_added : (f g : ℕ → ℕ) (from count : ℕ) → member_sum (λ s. f s + g s) from count ≡ member_sum f from count + member_sum g from count
+pub sum_added : (f g : ℕ → ℕ) (from count : ℕ) →
+    member_sum (λ s. f s + g s) from count ≡ member_sum f from count + member_sum g from count
 sum_added f g from zero = refl
 sum_added f g from (suc count) = let rest = sum_added f g (suc from) count in omega (arith, rest)
 
@@ -60,8 +63,8 @@ sum_one k n from (suc count) low high = pick (k == from) refl (λ above. sum_one
         let here = passed (k == from) n e in
         omega (arith, rest, here)
 
-position_total : (servers : ℕ) (members : List ℕ) (banks : List Bank) → AllByRecursion (λ member. member < servers) members → length banks ≡ length members
-    → member_sum (λ s. position_bytes s members banks) 0 servers ≡ banks_bytes banks
+position_total : (servers : ℕ) (members : List ℕ) (banks : List Bank) → AllByRecursion (λ member. member < servers) members →
+    length banks ≡ length members → member_sum (λ s. position_bytes s members banks) 0 servers ≡ banks_bytes banks
 position_total servers [] [] below same = sum_none 0 servers
 position_total servers [] (b ∷ banks) below same = absurd (omega (arith, same))
 position_total servers (m ∷ members) [] below same = absurd (omega (arith, same))
@@ -74,8 +77,9 @@ position_total servers (m ∷ members) (b ∷ banks) below same =
     omega (arith, rest, one, both, all)
 
 -- of one object
-pub object_total : (servers : ℕ) (layouts : List Layout) (banks : List (List Bank)) → AllByRecursion (HasMembersBelow servers) layouts → AreBanked layouts banks
-    → member_sum (λ s. stored_bytes s layouts banks) 0 servers ≡ all_bytes banks
+pub object_total : (servers : ℕ) (layouts : List Layout) (banks : List (List Bank)) →
+    AllByRecursion (HasMembersBelow servers) layouts → AreBanked layouts banks →
+    member_sum (λ s. stored_bytes s layouts banks) 0 servers ≡ all_bytes banks
 object_total servers [] [] below banked = sum_none 0 servers
 object_total servers [] (b ∷ banks) below banked = absurd banked
 object_total servers (l ∷ layouts) [] below banked = absurd banked

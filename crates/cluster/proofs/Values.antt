@@ -32,8 +32,8 @@ member_part f member count high =
     let here : f (0 + member) ≡ f member = ap f (omega arith) in
     omega (arith, part, here)
 
-pub stored_part : {cluster : Cluster} {bytes count : ℕ} → IsKept cluster bytes count → (server : ℕ) → server < length cluster.servers
-    → object_sum (λ o. of.stored o.state.object server) cluster.objects ≤ bytes
+pub stored_part : {cluster : Cluster} {bytes count : ℕ} → IsKept cluster bytes count → (server : ℕ) →
+    server < length cluster.servers → object_sum (λ o. of.stored o.state.object server) cluster.objects ≤ bytes
 stored_part {cluster} kept server there =
     let part = member_part (λ s. object_sum (λ o. of.stored o.state.object s) cluster.objects) server (length cluster.servers) there in
     let all = objects_total (length cluster.servers) cluster.counter cluster.objects kept.objects in
@@ -41,14 +41,16 @@ stored_part {cluster} kept server there =
     omega (arith, part, all, total)
 
 -- what waits for one object
-bytes_few : (messages : List Message) → AllByRecursion (λ m. message_bytes m ≤ LONGEST_VALUE) messages → mail_bytes messages ≤ length messages * LONGEST_VALUE
+bytes_few : (messages : List Message) → AllByRecursion (λ m. message_bytes m ≤ LONGEST_VALUE) messages →
+    mail_bytes messages ≤ length messages * LONGEST_VALUE
 bytes_few [] short = omega arith
 bytes_few (m ∷ ms) short =
     let rest = bytes_few ms short.1 in
     let first = short.0 in
     omega (arith, sum_by-cons message_bytes m ms, rest, first)
 
-pub waiting_few : (object : Object) (step : ℕ) → IsSound fragment object step → length object.mail ≤ MOST_MESSAGES → mail_bytes object.mail ≤ MOST_MESSAGES * LONGEST_VALUE
+pub waiting_few : (object : Object) (step : ℕ) → IsSound fragment object step → length object.mail ≤ MOST_MESSAGES →
+    mail_bytes object.mail ≤ MOST_MESSAGES * LONGEST_VALUE
 waiting_few object step sound few =
     let bytes = bytes_few object.mail (mail_short object step sound) in
     omega (arith, bytes, few)

@@ -16,10 +16,12 @@ AreSound cluster = AllByRecursion (λ o. IsSound fragment o.state.object o.state
 abbrev pub AreWithinLimits : Cluster → Type 0
 AreWithinLimits cluster = AllByRecursion (λ o. IsWithinLimits o.state.object) cluster.objects
 
--- each tag in a bank, message or phase is in its object's journal, and each piece is its member's fragment of the journal's value
+-- each tag in a bank, message or phase is in its object's journal,
+-- and each piece is its member's fragment of the journal's value
 abbrev pub AreFragments : Cluster → Type 0
 AreFragments cluster = AllByRecursion (λ o. AreCoded fragment o.state.object) cluster.objects
 
--- the answered reads and writes of each object, with some unanswered writes, follow one register in an order that keeps answer before call
+-- the answered reads and writes of each object, with some unanswered
+-- writes, follow one register in an order that keeps answer before call
 abbrev pub AreAtomic : Cluster → Type 0
 AreAtomic cluster = AllByRecursion (λ o. IsAtomic (entries o.state.object)) cluster.objects

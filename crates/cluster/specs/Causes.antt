@@ -1,9 +1,11 @@
 -- Why each step is refused: of all that hold, the first by the order of refusals. `NoMemory` comes after these.
-use Rattle.std.specs.Prelude.{ℕ, suc, ◌+◌, Bool, true, not, nat_le, nat_lt, is_some, List, length, Option, Some, None, option_map, slice_get}
+use Rattle.std.specs.Prelude.{ℕ, suc, ◌+◌, Bool, true, not, nat_le, nat_lt, is_some}
+use Rattle.std.specs.Prelude.{List, length, Option, Some, None, option_map, slice_get}
 use Rattle.std.specs.List.{list_all}
 use Rattle.tag.specs.declared.limits.TheConstants.{LONGEST_NAME, MOST_BYTES, MOST_LAYOUTS, MOST_OBJECTS}
 use Rattle.tag.specs.declared.refusal.Refusal.{Refusal}
-use Rattle.tag.specs.declared.refusal.Refusal.TheVariants.{BadLayout, NoObject, ObjectExists, TooLong, NotNow, Down, MovePending, Full}
+use Rattle.tag.specs.declared.refusal.Refusal.TheVariants.{BadLayout, NoObject, ObjectExists}
+use Rattle.tag.specs.declared.refusal.Refusal.TheVariants.{TooLong, NotNow, Down, MovePending, Full}
 use Rattle.layout.specs.Layout.{Layout}
 use Rattle.mail.specs.declared.message.Message.{Message}
 use Rattle.mail.specs.declared.message.Body.{Body}
@@ -41,12 +43,15 @@ has_servers cluster layout = list_all (λ member. nat_lt member (length cluster.
 -- a layout is added where each member is a server, and where one more step and one more layout have room
 abbrev pub layout_cause : Cluster → Layout → Option Refusal
 layout_cause cluster layout =
-    unless (has_servers cluster layout) BadLayout (if_step (next cluster) (unless (nat_lt (length cluster.layouts) MOST_LAYOUTS) Full None))
+    unless (has_servers cluster layout) BadLayout
+    (if_step (next cluster) (unless (nat_lt (length cluster.layouts) MOST_LAYOUTS) Full None))
 
--- an object is added where no other has its name, there is such a layout, the name is short, and one more step and one more object have room
+-- an object is added where no other has its name, there is such a layout,
+-- the name is short, and one more step and one more object have room
 abbrev pub create_cause : Cluster → (name : List ℕ) → (id : ℕ) → Option Refusal
 create_cause cluster name id =
-    unless (not (is_some (named cluster.objects name))) ObjectExists (if_layout (slice_get cluster.layouts id) (λ layout.
+    unless (not (is_some (named cluster.objects name))) ObjectExists
+    (if_layout (slice_get cluster.layouts id) (λ layout.
     unless (nat_le (length name) LONGEST_NAME) TooLong
     (if_step (next cluster) (unless (nat_lt (length cluster.objects) MOST_OBJECTS) Full None))))
 
@@ -57,7 +62,8 @@ server_cause cluster server = unless (nat_lt server (length cluster.servers)) Ba
 -- a move that is open comes before a layout that is not there
 abbrev pub moving_cause : Cluster → (id : ℕ) → Object → Option Refusal
 moving_cause cluster id object =
-    unless (not (has_open_move object.calls)) MovePending (if_layout (slice_get cluster.layouts id) (λ layout. move_cause layout (next cluster) object))
+    unless (not (has_open_move object.calls)) MovePending
+    (if_layout (slice_get cluster.layouts id) (λ layout. move_cause layout (next cluster) object))
 
 -- a request is served where its server is up, and where its piece has room beside all that the cluster stores
 abbrev pub served_cause : Cluster → Object → Message → Body → Option Refusal
@@ -68,7 +74,8 @@ served_cause cluster object message (body.Reply kind made) = Some NotNow
 
 -- there is a message at this place, and then the cause of serving it
 abbrev pub serving_cause : Cluster → (place : ℕ) → Object → Option Refusal
-serving_cause cluster place object = if_message (slice_get object.mail place) (λ message. served_cause cluster object message message.body)
+serving_cause cluster place object =
+    if_message (slice_get object.mail place) (λ message. served_cause cluster object message message.body)
 
 -- whether a message is a reply, or a request to a server that is up
 abbrev pub can_handle : Cluster → Object → Message → Body → Bool
@@ -77,7 +84,8 @@ can_handle cluster object message (body.Reply kind made) = true
 
 -- whether the message at this place can be handled, where there is one
 abbrev pub handled_at : Cluster → (place : ℕ) → Object → Option Bool
-handled_at cluster place object = option_map (λ message. can_handle cluster object message message.body) (slice_get object.mail place)
+handled_at cluster place object =
+    option_map (λ message. can_handle cluster object message message.body) (slice_get object.mail place)
 
 -- there is a message at this place
 abbrev pub place_cause : (place : ℕ) → Object → Option Refusal

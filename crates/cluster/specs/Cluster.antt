@@ -1,5 +1,6 @@
 -- All objects, the layouts that they may have, and the servers.
-use Rattle.std.specs.Prelude.{ℕ, zero, suc, Bool, true, false, refl, List, [], ◌∷◌, Option, Some, None, if◌then◌else◌, bytes_eq, get_or, slice_get}
+use Rattle.std.specs.Prelude.{ℕ, zero, suc, Bool, true, false, refl, List, [], ◌∷◌, Option}
+use Rattle.std.specs.Prelude.{Some, None, if◌then◌else◌, bytes_eq, get_or, slice_get}
 use Rattle.std.specs.Coded.{Coded, code_by, coded×, coded_list, coded_ℕ, coded_bool}
 use Rattle.layout.specs.Layout.{Layout}
 use Rattle.mail.specs.declared.message.Message.{Message}
@@ -11,7 +12,8 @@ pub record Named : Type 0 where
   pub name : List ℕ
   pub state : State
 
--- whether each server is up, the layouts by their ids, the objects in order of creation, and the number of the last step
+-- whether each server is up, the layouts by their ids, the
+-- objects in order of creation, and the number of the last step
 pub record Cluster : Type 0 where
   pub servers : List Bool
   pub layouts : List Layout
@@ -20,7 +22,8 @@ pub record Cluster : Type 0 where
 
 -- a name and an object are stored as their pair
 abbrev pub named_code : Coded State → Coded Named
-named_code state = code_by (List ℕ × State) (coded× (coded_list coded_ℕ) state) (λ o. (o.name, o.state)) (λ p. record { name = p.0; state = p.1 }) (λ _. refl)
+named_code state = code_by (List ℕ × State) (coded× (coded_list coded_ℕ) state)
+    (λ o. (o.name, o.state)) (λ p. record { name = p.0; state = p.1 }) (λ _. refl)
 
 -- a cluster is stored as the tuple of its parts
 abbrev pub cluster_code : Coded Layout → Coded State → Coded Cluster
@@ -39,7 +42,8 @@ named (object ∷ objects) name = if bytes_eq name object.name then Some object.
 abbrev pub changed : List Named → List ℕ → (State → State) → List Named
 changed [] name change = []
 changed (object ∷ objects) name change =
-    if bytes_eq name object.name then record { name = object.name; state = change object.state } ∷ objects else object ∷ changed objects name change
+    if bytes_eq name object.name then record { name = object.name; state = change object.state } ∷ objects
+    else object ∷ changed objects name change
 
 -- the place of the object of this name, in order of creation
 abbrev pub place_of : List Named → List ℕ → ℕ

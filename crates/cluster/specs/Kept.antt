@@ -27,9 +27,11 @@ pub record IsPlaced (servers counter : ℕ) (object : Named) : Type 0 where
 -- no name is given twice
 abbrev pub AreNamedApart : List Named → Type 0
 AreNamedApart [] = Unit {0}
-AreNamedApart (object ∷ objects) = AllByRecursion (λ other. bytes_eq object.name other.name ≡ false) objects × AreNamedApart objects
+AreNamedApart (object ∷ objects) =
+    AllByRecursion (λ other. bytes_eq object.name other.name ≡ false) objects × AreNamedApart objects
 
--- the layouts and objects are of the cluster's servers and within the limits, and the running counts are what they count
+-- the layouts and objects are of the cluster's servers and
+-- within the limits, and the running counts are what they count
 pub record IsKept (cluster : Cluster) (bytes count : ℕ) : Type 0 where
   pub layouts : AllByRecursion (HasMembersBelow (length cluster.servers)) cluster.layouts
   pub objects : AllByRecursion (IsPlaced (length cluster.servers) cluster.counter) cluster.objects

@@ -7,3 +7,4 @@ pub mod Serving
 pub mod Summed
 pub mod Atomic
 pub mod Places
+pub mod Acts

@@ -14,4 +14,5 @@ pub record IsOf (cluster : Cluster) (up : List Bool) (last stored : ℕ) : Type 
 -- the message at this place goes to this server
 abbrev pub GoesTo : Object → (place server : ℕ) → Type 0
 GoesTo object place server =
-    (message : Message) → slice_get object.mail place ≡ Some message → slice_get (layout_at object message.position).members message.member ≡ Some server
+    (message : Message) → slice_get object.mail place ≡ Some message →
+    slice_get (layout_at object message.position).members message.member ≡ Some server

@@ -8,22 +8,30 @@ use Rattle.cluster.specs.Cluster.{Cluster, changed, layout_of}
 -- a step of the object of this name
 abbrev pub stepped : Cluster → (name : List ℕ) → Step → Cluster
 stepped cluster name step =
-    record cluster { objects = changed cluster.objects name (made step (suc cluster.counter)); counter = suc cluster.counter }
+    record cluster {
+      objects = changed cluster.objects name (made step (suc cluster.counter));
+      counter = suc cluster.counter;
+    }
 
 -- one more layout
 abbrev pub with_layout : Cluster → Layout → Cluster
-with_layout cluster layout = record cluster { layouts = cluster.layouts ++ layout ∷ []; counter = suc cluster.counter }
+with_layout cluster layout =
+    record cluster { layouts = cluster.layouts ++ layout ∷ []; counter = suc cluster.counter }
 
 -- one more object, opened with this layout
 abbrev pub with_object : Cluster → (name : List ℕ) → Layout → Cluster
 with_object cluster name layout = record cluster {
-  objects = cluster.objects ++ record { name = name; state = record { object = opened_object layout (suc cluster.counter); last = suc cluster.counter } } ∷ [];
+  objects = cluster.objects ++ record {
+    name = name;
+    state = record { object = opened_object layout (suc cluster.counter); last = suc cluster.counter };
+  } ∷ [];
   counter = suc cluster.counter;
 }
 
 -- a server goes up or down
 abbrev pub with_server : Cluster → (server : ℕ) → (up : Bool) → Cluster
-with_server cluster server up = record cluster { servers = slice_set cluster.servers server up; counter = suc cluster.counter }
+with_server cluster server up =
+    record cluster { servers = slice_set cluster.servers server up; counter = suc cluster.counter }
 
 -- a move of the object of this name to the layout of this number
 abbrev pub moved : Cluster → (name : List ℕ) → (id : ℕ) → Cluster

@@ -1,5 +1,6 @@
 -- The running sums of a cluster, beside what every step keeps of it.
-use Rattle.std.specs.Prelude.{◌≡◌, ℕ, zero, suc, ◌*◌, ◌≤◌, ◌<◌, List, [], ◌∷◌, length, get_or}
+use Rattle.std.specs.Prelude.{◌≡◌, ℕ, zero, suc, ◌*◌, ◌≤◌}
+use Rattle.std.specs.Prelude.{◌<◌, List, [], ◌∷◌, length, get_or}
 use Rattle.std.specs.List.{AllByRecursion}
 use Rattle.tag.specs.declared.limits.TheConstants.{LONGEST_VALUE, MOST_MESSAGES}
 use Rattle.record.specs.Accounts as of
@@ -12,12 +13,14 @@ abbrev pub all_none : (count : ℕ) → List ℕ
 all_none zero = []
 all_none (suc count) = 0 ∷ all_none count
 
--- the running sums are what waits in all messages and what each server stores, and what waits for each object is within the limit
+-- the running sums are what waits in all messages and what each
+-- server stores, and what waits for each object is within the limit
 pub record AreSummed (cluster : Cluster) (waiting : ℕ) (loads : List ℕ) : Type 0 where
   pub mailed : waiting ≡ all.mailed cluster
   pub few : AllByRecursion (λ o. of.mailed o.state.object ≤ MOST_MESSAGES * LONGEST_VALUE) cluster.objects
   pub servers : length loads ≡ length cluster.servers
-  pub stored : (server : ℕ) → server < length cluster.servers → get_or loads server 0 ≡ all.stored cluster server
+  pub stored : (server : ℕ) → server < length cluster.servers →
+      get_or loads server 0 ≡ all.stored cluster server
 
 -- what every step keeps, with the running sums
 pub record IsCounted (cluster : Cluster) (bytes count waiting : ℕ) (loads : List ℕ) : Type 0 where

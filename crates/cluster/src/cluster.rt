@@ -12,11 +12,13 @@ use std::marker::Model;
 use tag::{Refusal, Stamp};
 
 mod accounts;
+mod acts;
 mod calls;
 mod laws;
 mod mailing;
 mod messages;
 mod phases;
+mod reach;
 mod room;
 mod setup;
 

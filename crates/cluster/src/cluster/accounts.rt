@@ -47,7 +47,8 @@ impl Cluster {
 
     /// One entry for each call of an object. `NoObject` where there is none, else `NoMemory` is the only refusal.
     pub fn entries(&self, name: &str) -> Result<Vec<Entry>, Refusal>
-        ensures entries { IfOk result (λ es. if_named self.now name.now (λ object. Some (entries object)) ≡ Some es.items) }
+        ensures entries { IfOk result
+            (λ es. if_named self.now name.now (λ object. Some (entries object)) ≡ Some es.items) }
         ensures cause { IsByCause (object_cause self.now name.now (λ object. None)) result }
     {
         match self.objects.get(name) {

@@ -9,10 +9,9 @@ ghost use Rattle.cluster.specs.Cluster.{if_named, place_of};
 ghost use Rattle.cluster.specs.Steps.{stepped, moved};
 ghost use Rattle.cluster.specs.Causes.{next, object_cause, moving_cause};
 
-use crate::cluster::mailing::{exchanged, waiting};
 use crate::cluster::{Cluster, LayoutId};
 use bytes::Bytes;
-use register::Receipt;
+use register::{Act, Answered, Receipt};
 use tag::Refusal;
 
 impl Cluster {
@@ -21,49 +20,34 @@ impl Cluster {
     /// `NoObject` where there is none, and `Full` where a limit of the steps, of the calls or of the messages is met.
     pub fn call_read(&mut self, name: &str) -> Result<u64, Refusal>
         ensures step { OnOk result (self.new ≡ stepped self.old name.entry.now (Step.CallRead)) }
-        ensures number { IfOk result (λ n. if_named self.old name.entry.now (λ object. Some (suc (length object.calls))) ≡ Some n) }
-        ensures cause { IsByCause (object_cause self.old name.entry.now (λ object. read_cause (next self.old) object)) result }
+        ensures number { IfOk result
+            (λ n. if_named self.old name.entry.now (λ object. Some (suc (length object.calls))) ≡ Some n) }
+        ensures cause { IsByCause
+            (object_cause self.old name.entry.now (λ object. read_cause (next self.old) object)) result }
         ensures unchanged { OnErr result (self.new ≡ self.old) }
     {
-        let Some(place) = self.objects.get_index_of(name) else {
-            return Err(Refusal::NoObject);
-        };
-        let now = self.counter + 1;
-        let register = &mut self.objects[place];
-        let waited = waiting(register);
-        match register.call_read(now) {
-            Ok(number) => {
-                self.mailed = exchanged(self.mailed, waited, waiting(register));
-                self.counter = now;
-                self.called += 1;
-                Ok(number)
-            }
+        match self.act(name, Act::CallRead) {
+            Ok(Answered::Call(number)) => Ok(number),
+            Ok(_) => unreachable!(),
             Err(refusal) => Err(refusal),
         }
     }
 
     /// A write of a value to an object begins, with its first phase. It answers the call's number.
     ///
-    /// `NoObject` where there is none, `TooLong` where the value is longer than `LONGEST_VALUE`, and `Full` as for a read.
+    /// `NoObject` where there is none, `TooLong` where the value is longer than `LONGEST_VALUE`, and `Full` as for a
+    /// read.
     pub fn call_write(&mut self, name: &str, value: Bytes) -> Result<u64, Refusal>
         ensures step { OnOk result (self.new ≡ stepped self.old name.entry.now (Step.CallWrite value)) }
-        ensures number { IfOk result (λ n. if_named self.old name.entry.now (λ object. Some (suc (length object.calls))) ≡ Some n) }
-        ensures cause { IsByCause (object_cause self.old name.entry.now (λ object. write_cause value (next self.old) object)) result }
+        ensures number { IfOk result
+            (λ n. if_named self.old name.entry.now (λ object. Some (suc (length object.calls))) ≡ Some n) }
+        ensures cause { IsByCause
+            (object_cause self.old name.entry.now (λ object. write_cause value (next self.old) object)) result }
         ensures unchanged { OnErr result (self.new ≡ self.old) }
     {
-        let Some(place) = self.objects.get_index_of(name) else {
-            return Err(Refusal::NoObject);
-        };
-        let now = self.counter + 1;
-        let register = &mut self.objects[place];
-        let waited = waiting(register);
-        match register.call_write(value, now) {
-            Ok(number) => {
-                self.mailed = exchanged(self.mailed, waited, waiting(register));
-                self.counter = now;
-                self.called += 1;
-                Ok(number)
-            }
+        match self.act(name, Act::CallWrite(value)) {
+            Ok(Answered::Call(number)) => Ok(number),
+            Ok(_) => unreachable!(),
             Err(refusal) => Err(refusal),
         }
     }
@@ -75,7 +59,8 @@ impl Cluster {
     /// layout, and `Full` where a limit of the steps, of the positions, of the calls or of the messages is met.
     pub fn call_move(&mut self, name: &str, id: LayoutId) -> Result<u64, Refusal>
         ensures step { OnOk result (self.new ≡ moved self.old name.entry.now id) }
-        ensures number { IfOk result (λ n. if_named self.old name.entry.now (λ object. Some (suc (length object.calls))) ≡ Some n) }
+        ensures number { IfOk result
+            (λ n. if_named self.old name.entry.now (λ object. Some (suc (length object.calls))) ≡ Some n) }
         ensures cause { IsByCause (object_cause self.old name.entry.now (moving_cause self.old id)) result }
         ensures unchanged { OnErr result (self.new ≡ self.old) }
     {
@@ -89,44 +74,29 @@ impl Cluster {
             return Err(Refusal::BadLayout);
         };
         let layout = layout.clone()?;
-        let now = self.counter + 1;
-        let register = &mut self.objects[place];
-        let waited = waiting(register);
-        match register.call_move(layout, now) {
-            Ok(number) => {
-                self.mailed = exchanged(self.mailed, waited, waiting(register));
-                self.counter = now;
-                self.called += 1;
-                Ok(number)
-            }
+        match self.act(name, Act::CallMove(layout)) {
+            Ok(Answered::Call(number)) => Ok(number),
+            Ok(_) => unreachable!(),
             Err(refusal) => Err(refusal),
         }
     }
 
     /// The call of this number is answered. The receipt names the object by its place in order of creation.
     ///
-    /// `NoObject` or `NoCall` where there is none, `NotNow` unless it wants to be answered, and `Full` where the limit of
-    /// steps is met.
+    /// `NoObject` or `NoCall` where there is none, `NotNow` unless it wants to be answered, and `Full` where the limit
+    /// of steps is met.
     pub fn answer(&mut self, name: &str, call: u64) -> Result<Receipt, Refusal>
         ensures step { OnOk result (self.new ≡ stepped self.old name.entry.now (Step.AnswerCall (pred call))) }
         ensures receipt { IfOk result (λ r. if_named self.old name.entry.now (λ object.
             receipt_at object (place_of self.old.objects name.entry.now) call (next self.old)) ≡ Some r) }
 
-        ensures cause { IsByCause (object_cause self.old name.entry.now (λ object. answer_cause (next self.old) object call)) result }
+        ensures cause { IsByCause
+            (object_cause self.old name.entry.now (λ object. answer_cause (next self.old) object call)) result }
         ensures unchanged { OnErr result (self.new ≡ self.old) }
     {
-        let Some(place) = self.objects.get_index_of(name) else {
-            return Err(Refusal::NoObject);
-        };
-        let now = self.counter + 1;
-        let register = &mut self.objects[place];
-        let waited = waiting(register);
-        match register.answer(call, place as u32, now) {
-            Ok(receipt) => {
-                self.mailed = exchanged(self.mailed, waited, waiting(register));
-                self.counter = now;
-                Ok(receipt)
-            }
+        match self.act(name, Act::Answer(call)) {
+            Ok(Answered::Receipt(receipt)) => Ok(receipt),
+            Ok(_) => unreachable!(),
             Err(refusal) => Err(refusal),
         }
     }

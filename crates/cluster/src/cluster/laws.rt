@@ -9,9 +9,9 @@ use crate::cluster::Cluster;
 use history::atomic;
 
 impl Cluster {
-    /// Each object is atomic: its answered reads and writes, with some unanswered writes, follow one register in an order
-    /// that keeps answer before call. Each piece in a bank or a message is its member's fragment of the value that the
-    /// object's journal has for its tag, and what the servers store, one by one, is what all banks store.
+    /// Each object is atomic: its answered reads and writes, with some unanswered writes, follow one register in an
+    /// order that keeps answer before call. Each piece in a bank or a message is its member's fragment of the value
+    /// that the object's journal has for its tag, and what the servers store, one by one, is what all banks store.
     ///
     /// It does nothing, and takes no memory.
     pub fn atomic(&self)
@@ -25,8 +25,8 @@ impl Cluster {
         }
     }
 
-    /// What every step keeps: the record of each object is sound and within the limits, and no step of it is later than the
-    /// counter. It does nothing, and takes no memory.
+    /// What every step keeps: the record of each object is sound and within the limits, and no step of it is later than
+    /// the counter. It does nothing, and takes no memory.
     pub fn soundness(&self)
         ensures sound { AreSound self.now }
         ensures limits { AreWithinLimits self.now }

@@ -16,7 +16,7 @@ use crate::cluster::mailing::{exchanged, waiting};
 use crate::servers::Servers;
 use mail::{Body, Message};
 use phase::Took;
-use register::Register;
+use register::{Act, Answered, Register};
 use tag::{MOST_BYTES, MOST_STEPS, Refusal, Stamp};
 
 impl Cluster {
@@ -61,26 +61,19 @@ impl Cluster {
 
     /// The call that the reply at a place names takes it.
     ///
-    /// `NoObject` or `NoMessage` where there is none, `NotNow` where it is a request, and `Full` where the limit of steps is
-    /// met. It takes no memory.
+    /// `NoObject` or `NoMessage` where there is none, `NotNow` where it is a request, and `Full` where the limit of
+    /// steps is met. It takes no memory.
     pub fn take(&mut self, name: &str, place: usize) -> Result<Took, Refusal>
         ensures step { OnOk result (self.new ≡ stepped self.old name.entry.now (Step.Take place)) }
-        ensures took { IfOk result (λ t. if_named self.old name.entry.now (λ object. Some (took_at object place)) ≡ Some t) }
-        ensures cause { IsExactlyByCause (object_cause self.old name.entry.now (λ object. take_cause (next self.old) object place)) result }
+        ensures took { IfOk result
+            (λ t. if_named self.old name.entry.now (λ object. Some (took_at object place)) ≡ Some t) }
+        ensures cause { IsExactlyByCause
+            (object_cause self.old name.entry.now (λ object. take_cause (next self.old) object place)) result }
         ensures unchanged { OnErr result (self.new ≡ self.old) }
     {
-        let Some(index) = self.objects.get_index_of(name) else {
-            return Err(Refusal::NoObject);
-        };
-        let now = self.counter + 1;
-        let register = &mut self.objects[index];
-        let waited = waiting(register);
-        match register.take(place, now) {
-            Ok(took) => {
-                self.mailed = exchanged(self.mailed, waited, waiting(register));
-                self.counter = now;
-                Ok(took)
-            }
+        match self.act(name, Act::Take(place)) {
+            Ok(Answered::Took(took)) => Ok(took),
+            Ok(_) => unreachable!(),
             Err(refusal) => Err(refusal),
         }
     }
@@ -90,47 +83,28 @@ impl Cluster {
     /// `NoObject` or `NoMessage` where there is none, and `Full` where the limit of steps is met. It takes no memory.
     pub fn lose(&mut self, name: &str, place: usize) -> Result<(), Refusal>
         ensures step { OnOk result (self.new ≡ stepped self.old name.entry.now (Step.Lose place)) }
-        ensures cause { IsExactlyByCause (object_cause self.old name.entry.now (λ object. lose_cause (next self.old) object place)) result }
+        ensures cause { IsExactlyByCause
+            (object_cause self.old name.entry.now (λ object. lose_cause (next self.old) object place)) result }
         ensures unchanged { OnErr result (self.new ≡ self.old) }
     {
-        let Some(index) = self.objects.get_index_of(name) else {
-            return Err(Refusal::NoObject);
-        };
-        let now = self.counter + 1;
-        let register = &mut self.objects[index];
-        let with_it = waiting(register);
-        match register.lose(place, now) {
-            Ok(()) => {
-                let left = waiting(register);
-                self.mailed = exchanged(self.mailed, with_it, left);
-                self.counter = now;
-                Ok(())
-            }
+        match self.act(name, Act::Lose(place)) {
+            Ok(_) => Ok(()),
             Err(refusal) => Err(refusal),
         }
     }
 
     /// A copy of the message at a place is posted behind those that wait.
     ///
-    /// `NoObject` or `NoMessage` where there is none, and `Full` where the limit of steps is met or one more message has no
-    /// room.
+    /// `NoObject` or `NoMessage` where there is none, and `Full` where the limit of steps is met or one more message
+    /// has no room.
     pub fn repeat(&mut self, name: &str, place: usize) -> Result<(), Refusal>
         ensures step { OnOk result (self.new ≡ stepped self.old name.entry.now (Step.Repeat place)) }
-        ensures cause { IsByCause (object_cause self.old name.entry.now (λ object. repeat_cause (next self.old) object place)) result }
+        ensures cause { IsByCause
+            (object_cause self.old name.entry.now (λ object. repeat_cause (next self.old) object place)) result }
         ensures unchanged { OnErr result (self.new ≡ self.old) }
     {
-        let Some(index) = self.objects.get_index_of(name) else {
-            return Err(Refusal::NoObject);
-        };
-        let now = self.counter + 1;
-        let register = &mut self.objects[index];
-        let waited = waiting(register);
-        match register.repeat(place, now) {
-            Ok(()) => {
-                self.mailed = exchanged(self.mailed, waited, waiting(register));
-                self.counter = now;
-                Ok(())
-            }
+        match self.act(name, Act::Repeat(place)) {
+            Ok(_) => Ok(()),
             Err(refusal) => Err(refusal),
         }
     }
@@ -163,7 +137,8 @@ fn room_to_serve(
 ) -> Result<u8, Refusal>
     requires { stored ≤ MOST_BYTES }
     ensures server { IfOk result (λ server. GoesTo register.now.object place server) }
-    ensures cause { (cluster : Store) → IsOf cluster servers.now counter stored → IsExactlyByCause (serving_cause cluster place register.now.object) result }
+    ensures cause { (cluster : Store) → IsOf cluster servers.now counter stored
+        → IsExactlyByCause (serving_cause cluster place register.now.object) result }
 {
     let mail = register.mail_view();
     if mail.len() <= place {
@@ -188,9 +163,10 @@ fn room_to_serve(
     Ok(server)
 }
 
-// Whether a message is a reply, or a request to a server that is up.
-fn is_handled(servers: &Servers, register: &Register, message: &Message) -> bool
-    ensures { (cluster : Store) → cluster.servers ≡ servers.now → result ≡ can_handle cluster register.now.object message.now message.now.body }
+/// Whether a message is a reply, or a request to a server that is up.
+pub(crate) fn is_handled(servers: &Servers, register: &Register, message: &Message) -> bool
+    ensures { (cluster : Store) → cluster.servers ≡ servers.now
+        → result ≡ can_handle cluster register.now.object message.now message.now.body }
 {
     match &message.body {
         Body::Request(_) => is_reached(servers, register, message),
@@ -200,7 +176,8 @@ fn is_handled(servers: &Servers, register: &Register, message: &Message) -> bool
 
 // Whether the server of the member that a message names is up.
 fn is_reached(servers: &Servers, register: &Register, message: &Message) -> bool
-    ensures { (cluster : Store) → cluster.servers ≡ servers.now → result ≡ is_reached cluster register.now.object message.now }
+    ensures { (cluster : Store) → cluster.servers ≡ servers.now
+        → result ≡ is_reached cluster register.now.object message.now }
 {
     match register.server(message.position, message.member) {
         Some(server) => servers.is_up(server),

@@ -3,18 +3,19 @@
 ghost use Rattle.std.specs.Prelude.{◌≡◌, pred, Some, IfOk, OnOk, OnErr};
 ghost use Rattle.tag.specs.Refusal.{IsByCause, IsExactlyByCause};
 ghost use Rattle.record.specs.Steps.{Step};
-ghost use Rattle.register.specs.Causes.{number_cause, advance_cause, post_cause, value_cause, supply_cause, pieces_cause, settle_cause};
+ghost use Rattle.register.specs.Causes.{number_cause, advance_cause, post_cause, value_cause};
+ghost use Rattle.register.specs.Causes.{supply_cause, pieces_cause, settle_cause};
 ghost use Rattle.register.specs.View.{want_at, coding_at, pieces_at};
 ghost use Rattle.cluster.specs.Cluster.{if_named};
 ghost use Rattle.cluster.specs.Steps.{stepped};
 ghost use Rattle.cluster.specs.Causes.{next, object_cause};
 
 use crate::cluster::Cluster;
-use crate::cluster::mailing::{exchanged, waiting};
 use bytes::Bytes;
 use decoder::Decoded;
 use encoder::{Coded, Piece};
 use record::Want;
+use register::Act;
 use tag::Refusal;
 
 impl Cluster {
@@ -35,27 +36,18 @@ impl Cluster {
     /// steps, of its phases or of the messages is met.
     pub fn advance(&mut self, name: &str, call: u64) -> Result<(), Refusal>
         ensures step { OnOk result (self.new ≡ stepped self.old name.entry.now (Step.Advance (pred call))) }
-        ensures cause { IsByCause (object_cause self.old name.entry.now (λ object. advance_cause (next self.old) object call)) result }
+        ensures cause { IsByCause
+            (object_cause self.old name.entry.now (λ object. advance_cause (next self.old) object call)) result }
         ensures unchanged { OnErr result (self.new ≡ self.old) }
     {
-        let Some(place) = self.objects.get_index_of(name) else {
-            return Err(Refusal::NoObject);
-        };
-        let now = self.counter + 1;
-        let register = &mut self.objects[place];
-        let waited = waiting(register);
-        match register.advance(call, now) {
-            Ok(()) => {
-                self.mailed = exchanged(self.mailed, waited, waiting(register));
-                self.counter = now;
-                Ok(())
-            }
+        match self.act(name, Act::Advance(call)) {
+            Ok(_) => Ok(()),
             Err(refusal) => Err(refusal),
         }
     }
 
-    /// A copy, which shares its bytes, of the value whose pieces the call of this number is to send, with the k and the n of
-    /// the layout that they are for.
+    /// A copy, which shares its bytes, of the value whose pieces the call of this number is to send, with the k and the
+    /// n of the layout that they are for.
     ///
     /// `NoObject` or `NoCall` where there is none, and `NotNow` where there are no pieces to send.
     pub fn value_to_code(&self, name: &str, call: u64) -> Result<(Bytes, u8, u8), Refusal>
@@ -68,54 +60,36 @@ impl Cluster {
         }
     }
 
-    /// The coded value of the call of this number: its pieces begin the phase that is due, or, where that phase has begun,
-    /// they go again to each member without a recorded reply and without a waiting message of the phase.
+    /// The coded value of the call of this number: its pieces begin the phase that is due, or, where that phase has
+    /// begun, they go again to each member without a recorded reply and without a waiting message of the phase.
     ///
-    /// `NoObject`, `NoCall` and `NotNow` as for `value_to_code`, `WrongCode` unless the value is that one, coded for that k
-    /// and n, and `Full` where a limit of the steps, of the call's phases or of the messages is met.
+    /// `NoObject`, `NoCall` and `NotNow` as for `value_to_code`, `WrongCode` unless the value is that one, coded for
+    /// that k and n, and `Full` where a limit of the steps, of the call's phases or of the messages is met.
     pub fn supply(&mut self, name: &str, call: u64, coded: Coded) -> Result<(), Refusal>
         ensures step { OnOk result (self.new ≡ stepped self.old name.entry.now (Step.Supply (pred call))) }
-        ensures cause { IsByCause (object_cause self.old name.entry.now (λ object. supply_cause (next self.old) object call coded)) result }
+        ensures cause { IsByCause
+            (object_cause self.old name.entry.now (λ object. supply_cause (next self.old) object call coded)) result }
         ensures unchanged { OnErr result (self.new ≡ self.old) }
     {
-        let Some(place) = self.objects.get_index_of(name) else {
-            return Err(Refusal::NoObject);
-        };
-        let now = self.counter + 1;
-        let register = &mut self.objects[place];
-        let waited = waiting(register);
-        match register.supply(call, coded, now) {
-            Ok(()) => {
-                self.mailed = exchanged(self.mailed, waited, waiting(register));
-                self.counter = now;
-                Ok(())
-            }
+        match self.act(name, Act::Supply(call, coded)) {
+            Ok(_) => Ok(()),
             Err(refusal) => Err(refusal),
         }
     }
 
-    /// The current phase of the call of this number asks again: a request goes to each member without a recorded reply and
-    /// without a waiting message of the phase.
+    /// The current phase of the call of this number asks again: a request goes to each member without a recorded reply
+    /// and without a waiting message of the phase.
     ///
-    /// `NoObject` or `NoCall` where there is none, `NotNow` unless its current phase lacks a quorum and sends no pieces, and
-    /// `Full` where the limit of steps is met or the messages have no room.
+    /// `NoObject` or `NoCall` where there is none, `NotNow` unless its current phase lacks a quorum and sends no
+    /// pieces, and `Full` where the limit of steps is met or the messages have no room.
     pub fn post(&mut self, name: &str, call: u64) -> Result<(), Refusal>
         ensures step { OnOk result (self.new ≡ stepped self.old name.entry.now (Step.Post (pred call))) }
-        ensures cause { IsByCause (object_cause self.old name.entry.now (λ object. post_cause (next self.old) object call)) result }
+        ensures cause { IsByCause
+            (object_cause self.old name.entry.now (λ object. post_cause (next self.old) object call)) result }
         ensures unchanged { OnErr result (self.new ≡ self.old) }
     {
-        let Some(place) = self.objects.get_index_of(name) else {
-            return Err(Refusal::NoObject);
-        };
-        let now = self.counter + 1;
-        let register = &mut self.objects[place];
-        let waited = waiting(register);
-        match register.post(call, now) {
-            Ok(()) => {
-                self.mailed = exchanged(self.mailed, waited, waiting(register));
-                self.counter = now;
-                Ok(())
-            }
+        match self.act(name, Act::Post(call)) {
+            Ok(_) => Ok(()),
             Err(refusal) => Err(refusal),
         }
     }
@@ -124,7 +98,8 @@ impl Cluster {
     ///
     /// `NoObject` or `NoCall` where there is none, and `NotNow` unless it wants to settle a value.
     pub fn pieces(&self, name: &str, call: u64) -> Result<Vec<Piece>, Refusal>
-        ensures pieces { IfOk result (λ ps. if_named self.now name.now (λ object. Some (pieces_at object call)) ≡ Some ps.items) }
+        ensures pieces { IfOk result
+            (λ ps. if_named self.now name.now (λ object. Some (pieces_at object call)) ≡ Some ps.items) }
         ensures cause { IsByCause (object_cause self.now name.now (λ object. pieces_cause object call)) result }
     {
         match self.objects.get(name) {
@@ -135,26 +110,18 @@ impl Cluster {
 
     /// The call of this number settles the value that was decoded from pieces of its current phase.
     ///
-    /// `NoObject` or `NoCall` where there is none, `NotNow` unless it wants to settle a value, `WrongCode` unless the value
-    /// was decoded from k pieces that were all recorded in that phase, and `Full` where the limit of steps is met. It takes
-    /// no memory.
+    /// `NoObject` or `NoCall` where there is none, `NotNow` unless it wants to settle a value, `WrongCode` unless the
+    /// value was decoded from k pieces that were all recorded in that phase, and `Full` where the limit of steps is
+    /// met. It takes no memory.
     pub fn settle(&mut self, name: &str, call: u64, decoded: Decoded) -> Result<(), Refusal>
-        ensures step { OnOk result (self.new ≡ stepped self.old name.entry.now (Step.Settle (pred call) decoded.value)) }
-        ensures cause { IsExactlyByCause (object_cause self.old name.entry.now (λ object. settle_cause (next self.old) object call decoded)) result }
+        ensures step { OnOk result
+            (self.new ≡ stepped self.old name.entry.now (Step.Settle (pred call) decoded.value)) }
+        ensures cause { IsExactlyByCause (object_cause self.old name.entry.now
+            (λ object. settle_cause (next self.old) object call decoded)) result }
         ensures unchanged { OnErr result (self.new ≡ self.old) }
     {
-        let Some(place) = self.objects.get_index_of(name) else {
-            return Err(Refusal::NoObject);
-        };
-        let now = self.counter + 1;
-        let register = &mut self.objects[place];
-        let waited = waiting(register);
-        match register.settle(call, decoded, now) {
-            Ok(()) => {
-                self.mailed = exchanged(self.mailed, waited, waiting(register));
-                self.counter = now;
-                Ok(())
-            }
+        match self.act(name, Act::Settle(call, decoded)) {
+            Ok(_) => Ok(()),
             Err(refusal) => Err(refusal),
         }
     }

@@ -38,7 +38,8 @@ impl Cluster {
     /// The entry of the call of this number of the object at a place in order of creation. `NoObject` or `NoCall` where
     /// there is none.
     pub fn entry(&self, object: u32, call: u64) -> Result<Entry, Refusal>
-        ensures entry { IfOk result (λ e. if_placed self.now object (λ o. option_map (entry_of call) (call_at o call)) ≡ Some e) }
+        ensures entry { IfOk result
+            (λ e. if_placed self.now object (λ o. option_map (entry_of call) (call_at o call)) ≡ Some e) }
         ensures cause { IsByCause (placed_cause self.now object (λ o. number_cause o call)) result }
     {
         match self.objects.get_index(object as usize) {
@@ -49,8 +50,8 @@ impl Cluster {
 
     /// Whether a read may begin, or a write of a value of this length. It is no step, and takes no memory.
     ///
-    /// `NoObject` where there is none, `TooLong` where the length is above `LONGEST_VALUE`, and `Full` where a limit of the
-    /// steps, of the calls or of the messages is met.
+    /// `NoObject` where there is none, `TooLong` where the length is above `LONGEST_VALUE`, and `Full` where a limit of
+    /// the steps, of the calls or of the messages is met.
     pub fn may_call(&self, name: &str, len: usize) -> Result<(), Refusal>
         ensures cause { IsExactlyByCause (object_cause self.now name.now (λ object.
             unless (nat_le len LONGEST_VALUE) TooLong (read_cause (next self.now) object))) result }

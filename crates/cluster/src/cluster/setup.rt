@@ -36,8 +36,8 @@ impl Cluster {
 
     /// One more object, with one position of this layout and no calls.
     ///
-    /// `ObjectExists` where an object has this name, `BadLayout` where there is no such layout, `TooLong` where the name is
-    /// longer than `LONGEST_NAME` bytes, and `Full` where the limit of steps or of objects is met.
+    /// `ObjectExists` where an object has this name, `BadLayout` where there is no such layout, `TooLong` where the
+    /// name is longer than `LONGEST_NAME` bytes, and `Full` where the limit of steps or of objects is met.
     pub fn create(&mut self, alloc: Global, name: &str, id: LayoutId) -> Result<(), Refusal>
         ensures step { OnOk result (self.new ≡ created self.old name.now id) }
         ensures cause { IsByCause (create_cause self.old name.now id) result }
@@ -63,8 +63,8 @@ impl Cluster {
         Ok(())
     }
 
-    /// A server goes up or down. `BadLayout` where there is no such server, and `Full` where the limit of steps is met. It
-    /// takes no memory.
+    /// A server goes up or down. `BadLayout` where there is no such server, and `Full` where the limit of steps is met.
+    /// It takes no memory.
     pub fn set_server(&mut self, server: u8, up: bool) -> Result<(), Refusal>
         ensures step { OnOk result (self.new ≡ with_server self.old server up) }
         ensures cause { IsExactlyByCause (server_cause self.old server) result }

@@ -11,13 +11,17 @@ use Rattle.cluster.proofs.Stepping.{next_is}
 use Rattle.cluster.proofs.cluster.Cluster.may_call.Goals as goal
 
 pub returns-in_default : goal.returns-in_default
-returns-in_default c = record { cause = none_found c.self.inside.objects.entries c.args.name.now c.self.view_is c.in_default.ensures.value _ }
+returns-in_default c =
+    record { cause = none_found c.self.inside.objects.entries c.args.name.now c.self.view_is c.in_default.ensures.value _ }
 
 pub returns-then-len-gt-LONGEST_VALUE : goal.returns-then-len-gt-LONGEST_VALUE
 returns-then-len-gt-LONGEST_VALUE c =
     let found = named_found c.self.inside.objects.entries c.args.name.now c.in-Some.register.now c.self.view_is c.in-Some.ensures.value in
     let long : LONGEST_VALUE < c.args.len = omega (arith, c.if-len-gt-LONGEST_VALUE.true) in
-    record { cause = cause_found found _ ∙ ap (λ b. unless b TooLong (read_cause (next c.args.self.now) c.in-Some.register.now.object)) (not_le c.args.len LONGEST_VALUE long) }
+    record {
+      cause = cause_found found _ ∙ ap (λ b. unless b TooLong (read_cause (next c.args.self.now) c.in-Some.register.now.object))
+          (not_le c.args.len LONGEST_VALUE long);
+    }
 
 pub may_call-requires : goal.may_call-requires
 may_call-requires c =
@@ -33,6 +37,7 @@ returns c =
     let short : c.args.len ≤ LONGEST_VALUE = omega (arith, c.if-len-gt-LONGEST_VALUE.false) in
     record {
       cause = subst (λ o. IsExactlyByCause o c.may_call.result)
-          (sym (cause_found found _ ∙ ap (λ b. unless b TooLong (read_cause (next c.args.self.now) c.in-Some.register.now.object)) (is_le c.args.len LONGEST_VALUE short)
+          (sym (cause_found found _ ∙ ap (λ b. unless b TooLong (read_cause (next c.args.self.now) c.in-Some.register.now.object))
+          (is_le c.args.len LONGEST_VALUE short)
           ∙ ap (λ n. read_cause n c.in-Some.register.now.object) (next_is c.self.view_is))) c.may_call.ensures.cause;
     }

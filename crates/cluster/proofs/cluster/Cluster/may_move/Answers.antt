@@ -8,7 +8,8 @@ use Rattle.cluster.proofs.Reading.{named_found, cause_found, none_found}
 use Rattle.cluster.proofs.cluster.Cluster.may_move.Goals as goal
 
 pub returns-in_default : goal.returns-in_default
-returns-in_default c = record { cause = none_found c.self.inside.objects.entries c.args.name.now c.self.view_is c.in_default.ensures.value _ }
+returns-in_default c =
+    record { cause = none_found c.self.inside.objects.entries c.args.name.now c.self.view_is c.in_default.ensures.value _ }
 
 pub returns-then-is_moving : goal.returns-then-is_moving
 returns-then-is_moving c =
@@ -24,7 +25,8 @@ returns-then-id-len c =
     let past : length c.self.inside.layouts.items ≤ c.args.id = omega (arith, c.len.ensures, c.if-id-len.true) in
     record {
       cause = cause_found found (moving_cause c.args.self.now c.args.id)
-          ∙ move_nowhere c.self.view_is c.args.id c.in-Some.register.now.object (sym c.is_moving.ensures ∙ c.if-is_moving.false) refl past;
+          ∙ move_nowhere c.self.view_is c.args.id c.in-Some.register.now.object
+          (sym c.is_moving.ensures ∙ c.if-is_moving.false) refl past;
     }
 
 pub may_move-requires : goal.may_move-requires
@@ -37,7 +39,8 @@ may_move-requires c =
 
 pub returns : goal.returns
 returns c =
-    let found_object = named_found c.self.inside.objects.entries c.args.name.now c.in-Some.register.now c.self.view_is c.in-Some.ensures.value in
+    let found_object = named_found c.self.inside.objects.entries c.args.name.now c.in-Some.register.now c.self.view_is
+    c.in-Some.ensures.value in
     let within : c.args.id < length c.self.inside.layouts.items = omega (arith, c.len.ensures, c.if-id-len.false) in
     let there = found c.self.inside.layouts.items c.args.id within in
     let is : IsLayout c.self.inside.layouts.items c.args.id there.0 = record { here = there.1 } in

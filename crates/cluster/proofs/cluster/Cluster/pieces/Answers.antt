@@ -8,7 +8,8 @@ use Rattle.cluster.proofs.cluster.Cluster.pieces.Goals as goal
 pub returns-in-Some-clause-pieces : goal.returns-in-Some-clause-pieces
 returns-in-Some-clause-pieces c =
     let found = named_found c.self.inside.objects.entries c.args.name.now c.in-Some.register.now c.self.view_is c.in-Some.ensures.value in
-    if_ok c.pieces.result (λ x e. read_found found (λ object. Some (pieces_at object c.args.call)) ∙ ap Some (sym e)) c.pieces.ensures.pieces
+    if_ok c.pieces.result
+    (λ x e. read_found found (λ object. Some (pieces_at object c.args.call)) ∙ ap Some (sym e)) c.pieces.ensures.pieces
 
 pub returns-in-Some-clause-cause : goal.returns-in-Some-clause-cause
 returns-in-Some-clause-cause c =

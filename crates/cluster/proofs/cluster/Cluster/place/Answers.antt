@@ -9,14 +9,16 @@ use Rattle.cluster.proofs.cluster.Cluster.place.Goals as goal
 pub returns-in-Some-clause-place : goal.returns-in-Some-clause-place
 returns-in-Some-clause-place c =
     let entries = c.self.inside.objects.entries in
-    let there = found (values_of entries) c.in-Some.place (subst (λ n. c.in-Some.place < n) (sym (length_map (λ (e : Entry). e.1) entries)) c.in-Some.ensures.within) in
+    let there = found (values_of entries) c.in-Some.place
+    (subst (λ n. c.in-Some.place < n) (sym (length_map (λ (e : Entry). e.1) entries)) c.in-Some.ensures.within) in
     let at = at_place entries c.args.name.now c.in-Some.place there.0 c.in-Some.ensures.index there.1 in
     sym (place_at at) ∙ ap (λ (k : Cluster). place_of k.objects c.args.name.now) c.self.view_is
 
 pub returns-in-Some-clause-cause : goal.returns-in-Some-clause-cause
 returns-in-Some-clause-cause c =
     let entries = c.self.inside.objects.entries in
-    let there = found (values_of entries) c.in-Some.place (subst (λ n. c.in-Some.place < n) (sym (length_map (λ (e : Entry). e.1) entries)) c.in-Some.ensures.within) in
+    let there = found (values_of entries) c.in-Some.place
+    (subst (λ n. c.in-Some.place < n) (sym (length_map (λ (e : Entry). e.1) entries)) c.in-Some.ensures.within) in
     let at = at_place entries c.args.name.now c.in-Some.place there.0 c.in-Some.ensures.index there.1 in
     own_cause_at c.self.view_is at (λ object. None)
 

@@ -8,7 +8,8 @@ returns-in-Some-clause-object c =
 
 pub returns-in-Some-clause-cause : goal.returns-in-Some-clause-cause
 returns-in-Some-clause-cause c =
-    cause_found (named_found c.self.inside.objects.entries c.args.name.now c.in-Some.register.now c.self.view_is c.in-Some.ensures.value) (λ object. None)
+    cause_found (named_found c.self.inside.objects.entries c.args.name.now c.in-Some.register.now c.self.view_is c.in-Some.ensures.value)
+    (λ object. None)
 
 pub returns-in-None-clause-cause : goal.returns-in-None-clause-cause
 returns-in-None-clause-cause c = none_found c.self.inside.objects.entries c.args.name.now c.self.view_is c.in-None.ensures.value _

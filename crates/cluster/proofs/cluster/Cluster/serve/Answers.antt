@@ -11,62 +11,80 @@ use Rattle.cluster.proofs.Summing.{part_mailed, refused_counted}
 use Rattle.cluster.proofs.cluster.Cluster.serve.Goals as goal
 
 pub returns-in_default-clause-cause : goal.returns-in_default-clause-cause
-returns-in_default-clause-cause c = inl (no_object c.self.inside.objects.entries c.args.name.now c.self.view_is c.in_default.ensures.found _)
+returns-in_default-clause-cause c =
+    inl (no_object c.self.inside.objects.entries c.args.name.now c.self.view_is c.in_default.ensures.found _)
 
 pub invariant_of-self : goal.invariant_of-self
 invariant_of-self c =
-    let at = at_place c.self.inside.objects.entries c.args.name.now c.in-Some.index c.index_mut-register.result.now c.in-Some.ensures.index c.index_mut-register.ensures.value in
+    let at = at_place c.self.inside.objects.entries c.args.name.now c.in-Some.index c.index_mut-register.result.now c.in-Some.ensures.index
+    c.index_mut-register.ensures.value in
     refused_counted c.self.invariant at refl
 
 pub returns-in-Err-clause-cause : goal.returns-in-Err-clause-cause
 returns-in-Err-clause-cause c =
-    let at = at_place c.self.inside.objects.entries c.args.name.now c.in-Some.index c.index_mut-register.result.now c.in-Some.ensures.index c.index_mut-register.ensures.value in
+    let at = at_place c.self.inside.objects.entries c.args.name.now c.in-Some.index c.index_mut-register.result.now c.in-Some.ensures.index
+    c.index_mut-register.ensures.value in
     inl (own_cause_at c.self.view_is at (serving_cause c.args.self.now c.args.place)
     ∙ c.in-Err.ensures.cause c.args.self.now (is_of c.self.invariant.kept c.self.view_is))
 
 pub returns-in-Err-clause-unchanged : goal.returns-in-Err-clause-unchanged
 returns-in-Err-clause-unchanged c =
-    let at = at_place c.self.inside.objects.entries c.args.name.now c.in-Some.index c.index_mut-register.result.now c.in-Some.ensures.index c.index_mut-register.ensures.value in
+    let at = at_place c.self.inside.objects.entries c.args.name.now c.in-Some.index c.index_mut-register.result.now c.in-Some.ensures.index
+    c.index_mut-register.ensures.value in
     unchanged_at at refl ∙ c.self.view_is
 
 pub serve-requires : goal.serve-requires
 serve-requires c =
-    let at = at_place c.self.inside.objects.entries c.args.name.now c.in-Some.index c.index_mut-register.result.now c.in-Some.ensures.index c.index_mut-register.ensures.value in
+    let at = at_place c.self.inside.objects.entries c.args.name.now c.in-Some.index c.index_mut-register.result.now c.in-Some.ensures.index
+    c.index_mut-register.ensures.value in
     record { after = last_before c.self.invariant.kept at }
 
 pub invariant_of-self-in-Ok-serve : goal.invariant_of-self-in-Ok-serve
 invariant_of-self-in-Ok-serve c =
-    let at = at_place c.self.inside.objects.entries c.args.name.now c.in-Some.index c.index_mut-register.result.now c.in-Some.ensures.index c.index_mut-register.ensures.value in
-    let here = c.in-Ok.ensures.cause (cluster_of c.self.inside.servers c.self.inside.layouts.items c.self.inside.objects.entries c.self.inside.counter) (own_of c.self.invariant.kept) in
-    let room = has_room (cluster_of c.self.inside.servers c.self.inside.layouts.items c.self.inside.objects.entries c.self.inside.counter) c.args.place c.index_mut-register.result.now.object here in
+    let at = at_place c.self.inside.objects.entries c.args.name.now c.in-Some.index c.index_mut-register.result.now c.in-Some.ensures.index
+    c.index_mut-register.ensures.value in
+    let here = c.in-Ok.ensures.cause
+    (cluster_of c.self.inside.servers c.self.inside.layouts.items c.self.inside.objects.entries c.self.inside.counter)
+    (own_of c.self.invariant.kept) in
+    let room = has_room (cluster_of c.self.inside.servers c.self.inside.layouts.items c.self.inside.objects.entries c.self.inside.counter)
+    c.args.place c.index_mut-register.result.now.object here in
     let next = room.few in
     let few : c.self.inside.counter + 1 ≤ MOST_STEPS = omega (arith, next) in
-    serve_counted c.self.invariant at room c.in-Ok.server c.in-Ok.ensures.server c.waiting-waited.ensures.sound c.serve.new.self c.in-Ok-serve.ensures.step few
+    serve_counted c.self.invariant at room c.in-Ok.server c.in-Ok.ensures.server c.waiting-waited.ensures.sound c.serve.new.self
+    c.in-Ok-serve.ensures.step few
     c.stored_in_all-before.result c.stored_in_all.result c.stored_in_all-before.ensures.value c.stored_in_all.ensures.value
     c.add.new.self c.add.ensures
-    c.waiting-waited.result c.waiting.result c.exchanged-self-inside.result c.waiting-waited.ensures.value c.waiting.ensures.value c.waiting.ensures.within c.exchanged-self-inside.ensures
+    c.waiting-waited.result c.waiting.result c.exchanged-self-inside.result c.waiting-waited.ensures.value c.waiting.ensures.value
+    c.waiting.ensures.within c.exchanged-self-inside.ensures
 
 pub invariant_of-self-in-Err-serve : goal.invariant_of-self-in-Err-serve
 invariant_of-self-in-Err-serve c =
-    let at = at_place c.self.inside.objects.entries c.args.name.now c.in-Some.index c.index_mut-register.result.now c.in-Some.ensures.index c.index_mut-register.ensures.value in
+    let at = at_place c.self.inside.objects.entries c.args.name.now c.in-Some.index c.index_mut-register.result.now c.in-Some.ensures.index
+    c.index_mut-register.ensures.value in
     refused_counted c.self.invariant at c.in-Err-serve.ensures.unchanged
 
 pub returns-in-Ok-serve-clause-step : goal.returns-in-Ok-serve-clause-step
 returns-in-Ok-serve-clause-step c =
-    let at = at_place c.self.inside.objects.entries c.args.name.now c.in-Some.index c.index_mut-register.result.now c.in-Some.ensures.index c.index_mut-register.ensures.value in
+    let at = at_place c.self.inside.objects.entries c.args.name.now c.in-Some.index c.index_mut-register.result.now c.in-Some.ensures.index
+    c.index_mut-register.ensures.value in
     stepped_at c.self.view_is at (Step.Serve c.args.place) c.in-Ok-serve.ensures.step
 
 pub returns-in-Ok-serve-clause-cause : goal.returns-in-Ok-serve-clause-cause
 returns-in-Ok-serve-clause-cause c =
-    let at = at_place c.self.inside.objects.entries c.args.name.now c.in-Some.index c.index_mut-register.result.now c.in-Some.ensures.index c.index_mut-register.ensures.value in
+    let at = at_place c.self.inside.objects.entries c.args.name.now c.in-Some.index c.index_mut-register.result.now c.in-Some.ensures.index
+    c.index_mut-register.ensures.value in
     own_cause_at c.self.view_is at (serving_cause c.args.self.now c.args.place)
     ∙ c.in-Ok.ensures.cause c.args.self.now (is_of c.self.invariant.kept c.self.view_is)
 
 pub returns-in-Err-serve-clause-cause : goal.returns-in-Err-serve-clause-cause
 returns-in-Err-serve-clause-cause c =
-    let at = at_place c.self.inside.objects.entries c.args.name.now c.in-Some.index c.index_mut-register.result.now c.in-Some.ensures.index c.index_mut-register.ensures.value in
-    let here = c.in-Ok.ensures.cause (cluster_of c.self.inside.servers c.self.inside.layouts.items c.self.inside.objects.entries c.self.inside.counter) (own_of c.self.invariant.kept) in
-    let room = has_room (cluster_of c.self.inside.servers c.self.inside.layouts.items c.self.inside.objects.entries c.self.inside.counter) c.args.place c.index_mut-register.result.now.object here in
+    let at = at_place c.self.inside.objects.entries c.args.name.now c.in-Some.index c.index_mut-register.result.now c.in-Some.ensures.index
+    c.index_mut-register.ensures.value in
+    let here = c.in-Ok.ensures.cause
+    (cluster_of c.self.inside.servers c.self.inside.layouts.items c.self.inside.objects.entries c.self.inside.counter)
+    (own_of c.self.invariant.kept) in
+    let room = has_room (cluster_of c.self.inside.servers c.self.inside.layouts.items c.self.inside.objects.entries c.self.inside.counter)
+    c.args.place c.index_mut-register.result.now.object here in
     let next = room.few in
     let few : c.self.inside.counter + 1 ≤ MOST_STEPS = omega (arith, next) in
     let part = part_at c.self.invariant.kept at in
@@ -77,38 +95,56 @@ returns-in-Err-serve-clause-cause c =
 
 pub returns-in-Err-serve-clause-unchanged : goal.returns-in-Err-serve-clause-unchanged
 returns-in-Err-serve-clause-unchanged c =
-    let at = at_place c.self.inside.objects.entries c.args.name.now c.in-Some.index c.index_mut-register.result.now c.in-Some.ensures.index c.index_mut-register.ensures.value in
+    let at = at_place c.self.inside.objects.entries c.args.name.now c.in-Some.index c.index_mut-register.result.now c.in-Some.ensures.index
+    c.index_mut-register.ensures.value in
     unchanged_at at c.in-Err-serve.ensures.unchanged ∙ c.self.view_is
 
 pub overflow_sub-more : goal.overflow_sub-more
 overflow_sub-more c =
-    let at = at_place c.self.inside.objects.entries c.args.name.now c.in-Some.index c.index_mut-register.result.now c.in-Some.ensures.index c.index_mut-register.ensures.value in
-    let here = c.in-Ok.ensures.cause (cluster_of c.self.inside.servers c.self.inside.layouts.items c.self.inside.objects.entries c.self.inside.counter) (own_of c.self.invariant.kept) in
-    let room = has_room (cluster_of c.self.inside.servers c.self.inside.layouts.items c.self.inside.objects.entries c.self.inside.counter) c.args.place c.index_mut-register.result.now.object here in
-    let grows = served_grows c.self.invariant at room c.in-Ok.server c.in-Ok.ensures.server c.waiting-waited.ensures.sound c.serve.new.self c.in-Ok-serve.ensures.step
+    let at = at_place c.self.inside.objects.entries c.args.name.now c.in-Some.index c.index_mut-register.result.now c.in-Some.ensures.index
+    c.index_mut-register.ensures.value in
+    let here = c.in-Ok.ensures.cause
+    (cluster_of c.self.inside.servers c.self.inside.layouts.items c.self.inside.objects.entries c.self.inside.counter)
+    (own_of c.self.invariant.kept) in
+    let room = has_room (cluster_of c.self.inside.servers c.self.inside.layouts.items c.self.inside.objects.entries c.self.inside.counter)
+    c.args.place c.index_mut-register.result.now.object here in
+    let grows = served_grows c.self.invariant at room c.in-Ok.server c.in-Ok.ensures.server c.waiting-waited.ensures.sound c.serve.new.self
+    c.in-Ok-serve.ensures.step
     c.stored_in_all-before.result c.stored_in_all.result c.stored_in_all-before.ensures.value c.stored_in_all.ensures.value in
     let less = grows.less in omega (arith, less)
 
 pub overflow_add-self : goal.overflow_add-self
 overflow_add-self c =
-    let at = at_place c.self.inside.objects.entries c.args.name.now c.in-Some.index c.index_mut-register.result.now c.in-Some.ensures.index c.index_mut-register.ensures.value in
-    let here = c.in-Ok.ensures.cause (cluster_of c.self.inside.servers c.self.inside.layouts.items c.self.inside.objects.entries c.self.inside.counter) (own_of c.self.invariant.kept) in
-    let room = has_room (cluster_of c.self.inside.servers c.self.inside.layouts.items c.self.inside.objects.entries c.self.inside.counter) c.args.place c.index_mut-register.result.now.object here in
-    let grows = served_grows c.self.invariant at room c.in-Ok.server c.in-Ok.ensures.server c.waiting-waited.ensures.sound c.serve.new.self c.in-Ok-serve.ensures.step
+    let at = at_place c.self.inside.objects.entries c.args.name.now c.in-Some.index c.index_mut-register.result.now c.in-Some.ensures.index
+    c.index_mut-register.ensures.value in
+    let here = c.in-Ok.ensures.cause
+    (cluster_of c.self.inside.servers c.self.inside.layouts.items c.self.inside.objects.entries c.self.inside.counter)
+    (own_of c.self.invariant.kept) in
+    let room = has_room (cluster_of c.self.inside.servers c.self.inside.layouts.items c.self.inside.objects.entries c.self.inside.counter)
+    c.args.place c.index_mut-register.result.now.object here in
+    let grows = served_grows c.self.invariant at room c.in-Ok.server c.in-Ok.ensures.server c.waiting-waited.ensures.sound c.serve.new.self
+    c.in-Ok-serve.ensures.step
     c.stored_in_all-before.result c.stored_in_all.result c.stored_in_all-before.ensures.value c.stored_in_all.ensures.value in
     let within = grows.within in omega (arith, within)
 
 pub add-requires : goal.add-requires
 add-requires c =
-    let at = at_place c.self.inside.objects.entries c.args.name.now c.in-Some.index c.index_mut-register.result.now c.in-Some.ensures.index c.index_mut-register.ensures.value in
-    let here = c.in-Ok.ensures.cause (cluster_of c.self.inside.servers c.self.inside.layouts.items c.self.inside.objects.entries c.self.inside.counter) (own_of c.self.invariant.kept) in
-    let room = has_room (cluster_of c.self.inside.servers c.self.inside.layouts.items c.self.inside.objects.entries c.self.inside.counter) c.args.place c.index_mut-register.result.now.object here in
-    let grows = served_grows c.self.invariant at room c.in-Ok.server c.in-Ok.ensures.server c.waiting-waited.ensures.sound c.serve.new.self c.in-Ok-serve.ensures.step
+    let at = at_place c.self.inside.objects.entries c.args.name.now c.in-Some.index c.index_mut-register.result.now c.in-Some.ensures.index
+    c.index_mut-register.ensures.value in
+    let here = c.in-Ok.ensures.cause
+    (cluster_of c.self.inside.servers c.self.inside.layouts.items c.self.inside.objects.entries c.self.inside.counter)
+    (own_of c.self.invariant.kept) in
+    let room = has_room (cluster_of c.self.inside.servers c.self.inside.layouts.items c.self.inside.objects.entries c.self.inside.counter)
+    c.args.place c.index_mut-register.result.now.object here in
+    let grows = served_grows c.self.invariant at room c.in-Ok.server c.in-Ok.ensures.server c.waiting-waited.ensures.sound c.serve.new.self
+    c.in-Ok-serve.ensures.step
     c.stored_in_all-before.result c.stored_in_all.result c.stored_in_all-before.ensures.value c.stored_in_all.ensures.value in
     record { there = grows.there; within = grows.load }
 
 pub exchanged-self-inside-requires : goal.exchanged-self-inside-requires
 exchanged-self-inside-requires c =
-    let at = at_place c.self.inside.objects.entries c.args.name.now c.in-Some.index c.index_mut-register.result.now c.in-Some.ensures.index c.index_mut-register.ensures.value in
-    let room = part_mailed c.self.invariant at c.waiting-waited.result c.waiting.result c.waiting-waited.ensures.value c.waiting.ensures.within in
+    let at = at_place c.self.inside.objects.entries c.args.name.now c.in-Some.index c.index_mut-register.result.now c.in-Some.ensures.index
+    c.index_mut-register.ensures.value in
+    let room = part_mailed c.self.invariant at c.waiting-waited.result c.waiting.result c.waiting-waited.ensures.value
+    c.waiting.ensures.within in
     record { part = room.0; within = room.1 }

@@ -18,12 +18,14 @@ each c =
     let held = c.self.inside.objects.entries in
     let start : c.into_iter-register-iterator.result ≡ values_of held =
     cc (c.into_iter-register-iterator.ensures.into_iter_gives, c.values-register-items.ensures.rest) in
-    all_done IsObjectSound held c.into_iter-register-iterator.result c.loop-register.register-iterator c.loop-register.invariant start c.in-None.ensures.steps.0
+    all_done IsObjectSound held c.into_iter-register-iterator.result c.loop-register.register-iterator c.loop-register.invariant start
+    c.in-None.ensures.steps.0
 
 pub returns-clause-sound : goal.returns-clause-sound
 returns-clause-sound c =
     subst AreSound c.self.view_is
-    (all_weaker IsObjectSound (λ s. IsSound fragment s.object s.last) (λ s held. held.sound) (objects_of c.self.inside.objects.entries) (each c))
+    (all_weaker IsObjectSound (λ s. IsSound fragment s.object s.last)
+    (λ s held. held.sound) (objects_of c.self.inside.objects.entries) (each c))
 
 pub returns-clause-limits : goal.returns-clause-limits
 returns-clause-limits c =

@@ -5,11 +5,13 @@ use Rattle.cluster.proofs.cluster.Cluster.stored.Goals as goal
 
 pub at-requires : goal.at-requires
 at-requires c =
-    let there : c.args.server < length c.self.inside.servers = subst (λ (k : Cluster). c.args.server < length k.servers) (sym c.self.view_is) c.requires in
+    let there : c.args.server < length c.self.inside.servers = subst (λ (k : Cluster). c.args.server < length k.servers)
+    (sym c.self.view_is) c.requires in
     let same = c.self.invariant.summed.servers in
     omega (arith, there, same)
 
 pub returns : goal.returns
 returns c =
-    let there : c.args.server < length c.self.inside.servers = subst (λ (k : Cluster). c.args.server < length k.servers) (sym c.self.view_is) c.requires in
+    let there : c.args.server < length c.self.inside.servers = subst (λ (k : Cluster). c.args.server < length k.servers)
+    (sym c.self.view_is) c.requires in
     c.at.ensures ∙ c.self.invariant.summed.stored c.args.server there ∙ ap (λ (k : Cluster). stored k c.args.server) c.self.view_is

@@ -13,7 +13,8 @@ returns-in-Some-clause-value c =
 pub returns-in-Some-clause-cause : goal.returns-in-Some-clause-cause
 returns-in-Some-clause-cause c =
     let found = named_found c.self.inside.objects.entries c.args.name.now c.in-Some.register.now c.self.view_is c.in-Some.ensures.value in
-    subst (λ o. IsByCause o c.value_to_code.result) (sym (cause_found found (λ object. value_cause object c.args.call))) c.value_to_code.ensures.cause
+    subst (λ o. IsByCause o c.value_to_code.result)
+    (sym (cause_found found (λ object. value_cause object c.args.call))) c.value_to_code.ensures.cause
 
 pub returns-in-None-clause-cause : goal.returns-in-None-clause-cause
 returns-in-None-clause-cause c = inl (none_found c.self.inside.objects.entries c.args.name.now c.self.view_is c.in-None.ensures.value _)

@@ -13,7 +13,8 @@ returns-in-Some-clause-want c =
 pub returns-in-Some-clause-cause : goal.returns-in-Some-clause-cause
 returns-in-Some-clause-cause c =
     let found = named_found c.self.inside.objects.entries c.args.name.now c.in-Some.register.now c.self.view_is c.in-Some.ensures.value in
-    subst (λ o. IsExactlyByCause o c.want.result) (sym (cause_found found (λ object. number_cause object c.args.call))) c.want.ensures.cause
+    subst (λ o. IsExactlyByCause o c.want.result)
+    (sym (cause_found found (λ object. number_cause object c.args.call))) c.want.ensures.cause
 
 pub returns-in-None-clause-cause : goal.returns-in-None-clause-cause
 returns-in-None-clause-cause c = none_found c.self.inside.objects.entries c.args.name.now c.self.view_is c.in-None.ensures.value _

@@ -1,0 +1,18 @@
+-- What an act asks of a cluster, beside its step of one object.
+use Rattle.std.specs.Prelude.{ℕ}
+use Rattle.register.specs.declared.act.Act.{Act}
+use Rattle.register.specs.declared.act.Act.TheVariants as act
+use Rattle.cluster.specs.Kept.{HasMembersBelow}
+
+-- a move's layout is of the cluster's servers; what is served is stored at a server, and is no act of this kind
+abbrev pub IsReady : (servers : ℕ) → Act → Type 0
+IsReady servers (act.CallMove layout) = HasMembersBelow servers layout
+IsReady servers (act.Serve place) = ⊥
+IsReady servers _ = Unit {0}
+
+-- how many calls an act begins
+abbrev pub begun_by : Act → ℕ
+begun_by act.CallRead = 1
+begun_by (act.CallWrite value) = 1
+begun_by (act.CallMove layout) = 1
+begun_by _ = 0

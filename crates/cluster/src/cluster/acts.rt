@@ -1,0 +1,53 @@
+//! One act of one object, whatever it asks for.
+
+ghost use Rattle.std.specs.Prelude.{◌≡◌, ◌≤◌, length, Some, IfOk, OnOk, OnErr};
+ghost use Rattle.register.specs.Act.{IsActCause, act_cause, answered_by, step_of};
+ghost use Rattle.cluster.specs.Acts.{IsReady, begun_by};
+ghost use Rattle.cluster.specs.Causes.{next, object_cause};
+ghost use Rattle.cluster.specs.Cluster.{if_named, place_of};
+ghost use Rattle.cluster.specs.Steps.{stepped};
+
+use crate::cluster::Cluster;
+use crate::cluster::mailing::{exchanged, waiting};
+use register::{Act, Answered};
+use tag::Refusal;
+
+impl Cluster {
+    // The step that an act asks for, of the object of this name.
+    pub(crate) fn act(&mut self, name: &str, act: Act) -> Result<Answered, Refusal>
+        requires ready { IsReady (length self.old.servers) act }
+        ensures step { OnOk result (self.new ≡ stepped self.old name.entry.now (step_of act)) }
+        ensures answered { IfOk result (λ a. if_named self.old name.entry.now
+            (answered_by act (place_of self.old.objects name.entry.now) (next self.old)) ≡ Some a) }
+        ensures cause { IsActCause act (object_cause self.old name.entry.now (act_cause act (next self.old))) result }
+        ensures unchanged { OnErr result (self.new ≡ self.old) }
+    {
+        let Some(place) = self.objects.get_index_of(name) else {
+            return Err(Refusal::NoObject);
+        };
+        let now = self.counter + 1;
+        let begun = begun(&act);
+        let register = &mut self.objects[place];
+        let waited = waiting(register);
+        match register.act(act, place as u32, now) {
+            Ok(answered) => {
+                self.mailed = exchanged(self.mailed, waited, waiting(register));
+                self.counter = now;
+                self.called += begun;
+                Ok(answered)
+            }
+            Err(refusal) => Err(refusal),
+        }
+    }
+}
+
+// How many calls an act begins.
+fn begun(act: &Act) -> u64
+    ensures count { result ≡ begun_by act.now }
+    ensures within { result ≤ 1 }
+{
+    match act {
+        Act::CallRead | Act::CallWrite(_) | Act::CallMove(_) => 1,
+        _ => 0,
+    }
+}
