@@ -29,7 +29,9 @@ module _ {C : Type 0} (chooses : C → ℕ → ℕ → C → Type 0) (name : Lis
 
 -- a layout gets the next number, or is refused
 abbrev pub AddsLayout : Layout → Result ℕ Refusal → Type 0
-AddsLayout layout answer = (cluster : Cluster) × (IsByCause (layout_cause cluster layout) answer × IfOk answer (λ id. id ≡ length cluster.layouts))
+AddsLayout layout answer =
+    (cluster : Cluster)
+    × (IsByCause (layout_cause cluster layout) answer × IfOk answer (λ id. id ≡ length cluster.layouts))
 
 -- an object is created, or refused
 abbrev pub Creates : {T : Type 0} → (name : List ℕ) → (id : ℕ) → Result T Refusal → Type 0
@@ -42,14 +44,19 @@ SetsServer server answer = (cluster : Cluster) × IsByCause (server_cause cluste
 -- a move to this layout began, where none was open, and is over with this receipt
 abbrev pub Moves : Option Moving → (name : List ℕ) → (layout : ℕ) → Receipt → Option Moving → Type 0
 Moves old name layout receipt new =
-    (old ≡ None) × ((cluster : Cluster) × (begin_move_cause cluster old name layout ≡ None) × Ends (move_begun cluster name) receipt new)
+    (old ≡ None)
+    × ((cluster : Cluster) × (begin_move_cause cluster old name layout ≡ None)
+    × Ends (move_begun cluster name) receipt new)
 
 -- a move to this layout began, where none was open, and stays open
 abbrev pub BeginsMove : Option Moving → (name : List ℕ) → (layout : ℕ) → Option Moving → Type 0
 BeginsMove old name layout new =
-    (old ≡ None) × ((cluster : Cluster) × (begin_move_cause cluster old name layout ≡ None) × (new ≡ move_begun cluster name))
+    (old ≡ None)
+    × ((cluster : Cluster) × (begin_move_cause cluster old name layout ≡ None) × (new ≡ move_begun cluster name))
 
 -- there is a state of the cluster in which the move does not begin for this cause
 abbrev pub MovesNot : Option Moving → (name : List ℕ) → (layout : ℕ) → Refusal → Type 0
 MovesNot old name layout r =
-    (cluster : Cluster) × ((begin_move_cause cluster old name layout ≡ Some r) ⊎ ((begin_move_cause cluster old name layout ≡ None) × (r ≡ NoMemory)))
+    (cluster : Cluster)
+    × ((begin_move_cause cluster old name layout ≡ Some r)
+    ⊎ ((begin_move_cause cluster old name layout ≡ None) × (r ≡ NoMemory)))

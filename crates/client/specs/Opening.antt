@@ -11,4 +11,5 @@ use Rattle.client.specs.declared.store.TheConstants.{MOST_SEATS}
 -- why a store is not opened: the cluster has a call, or there are too many seats or workers
 abbrev pub open_store_cause : Cluster → (seats workers : ℕ) → Option Refusal
 open_store_cause cluster seats workers =
-    unless (calls cluster.objects == 0) NotNow (unless (nat_le seats MOST_SEATS) Full (unless (nat_le workers MOST_WORKERS) Full None))
+    unless (calls cluster.objects == 0) NotNow
+    (unless (nat_le seats MOST_SEATS) Full (unless (nat_le workers MOST_WORKERS) Full None))

@@ -17,8 +17,9 @@ use std::sync::ledger::Blank;
 use std::sync::{Mutex, Wait};
 use tag::{MOST_WORKERS, Refusal};
 
+mod caller;
 mod calls;
-mod drive;
+mod finish;
 mod moves;
 
 /// The most seats of one store.
@@ -68,10 +69,11 @@ impl<L: StoreName> Store<L> {
         Ok((store, list, admin))
     }
 
-    /// One message of an object that can be handled is served or taken, the chosen one. It answers whether there is one.
+    /// One message of an object that can be handled is served or taken, the chosen one. It answers whether there is
+    /// one.
     ///
-    /// `NoObject` where there is none of this name, and else as the step is refused: `Full` where the limit of steps is met,
-    /// or `NoMemory`.
+    /// `NoObject` where there is none of this name, and else as the step is refused: `Full` where the limit of steps is
+    /// met, or `NoMemory`.
     pub fn stir<R: Wait, C: Chooser>(
         &self,
         rt: &R,
@@ -84,10 +86,11 @@ impl<L: StoreName> Store<L> {
         stir_in(&mut *self.booked.lock(rt), name, chooser)
     }
 
-    /// One waiting message of an object, the chosen one, is lost or repeated, as is chosen. It answers whether there is one.
+    /// One waiting message of an object, the chosen one, is lost or repeated, as is chosen. It answers whether there is
+    /// one.
     ///
-    /// `NoObject` where there is none of this name, and else as the step is refused: `Full` where the limit of the steps or
-    /// of the messages is met, or `NoMemory`.
+    /// `NoObject` where there is none of this name, and else as the step is refused: `Full` where the limit of the
+    /// steps or of the messages is met, or `NoMemory`.
     pub fn disturb<R: Wait, C: Chooser>(
         &self,
         rt: &R,
@@ -102,13 +105,15 @@ impl<L: StoreName> Store<L> {
 
     /// Closes the store with all its seats, once all clients have ended.
     ///
-    /// `Stranger` where the seats are not those of the store, or their records do not fit its history; `NoMemory` may come
-    /// before. Both hand the cluster and the seats back.
+    /// `Stranger` where the seats are not those of the store, or their records do not fit its history; `NoMemory` may
+    /// come before. Both hand the cluster and the seats back.
     pub fn close(self, seats: Vec<Seat<L>>) -> Result<Closed, NotClosed<L>>
         ensures accounted { IfOk result (λ closed. IsAccounted closed.cluster seats.items) }
         ensures fit { IfOk result (λ closed. Fit L.seats closed.cluster seats.items) }
         ensures receipts { IfOk result (λ closed. closed.receipts ≡ receipts_of (all_records seats.items)) }
-        ensures stranger { IfErr result (λ e. (e.refusal ≡ Refusal.NoMemory) ⊎ ((e.refusal ≡ Refusal.Stranger) × (¬ Fit L.seats e.cluster seats.items))) }
+        ensures stranger { IfErr result
+            (λ e. (e.refusal ≡ Refusal.NoMemory)
+            ⊎ ((e.refusal ≡ Refusal.Stranger) × (¬ Fit L.seats e.cluster seats.items))) }
         ensures seats { IfErr result (λ e. e.seats.items ≡ seats.items) }
     {
         let Store {

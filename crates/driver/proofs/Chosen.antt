@@ -1,7 +1,8 @@
 -- The places of the messages that pass a test, from a place on.
-use Rattle.std.proofs.Common.{◌≡◌, ℕ, zero, suc, ◌+◌, ◌<◌, ◌≤◌, Bool, true, false, cond, ◌-◌, List, [], ◌∷◌, length, drop, Option, Some, None, slice_get, refl, sym, ap, ◌∙◌, arith, add-one}
+use Rattle.std.proofs.Common.{◌≡◌, ℕ, zero, suc, ◌+◌, ◌<◌, ◌≤◌, Bool, true, false, cond, ◌-◌, List, [], ◌∷◌, length, drop, Option, Some}
+use Rattle.std.proofs.Common.{None, slice_get, refl, sym, ap, ◌∙◌, arith, add-one}
 use Rattle.mail.specs.declared.message.Message.{Message}
-use Rattle.register.proofs.Lists.{found}
+use Rattle.register.proofs.Lists.{found, same_some}
 use Rattle.driver.specs.Choices.{places}
 
 drop_at : {X : Type 0} (xs : List X) (i : ℕ) (x : X) → slice_get xs i ≡ Some x → drop i xs ≡ x ∷ drop (suc i) xs
@@ -14,6 +15,12 @@ drop_end [] zero past = refl
 drop_end [] (suc i) past = refl
 drop_end (x ∷ xs) zero past = absurd (omega (arith, past))
 drop_end (x ∷ xs) (suc i) past = drop_end xs i (omega (arith, past))
+
+drop_few : {X : Type 0} (xs : List X) (i : ℕ) → length (drop i xs) ≤ length xs
+drop_few [] zero = omega arith
+drop_few [] (suc i) = omega arith
+drop_few (x ∷ xs) zero = omega arith
+drop_few (x ∷ xs) (suc i) = let rest = drop_few xs i in omega (arith, rest)
 
 places_few : (test : Message → Bool) (place : ℕ) (messages : List Message) → length (places test place messages) ≤ length messages
 places_few test place [] = omega arith
@@ -32,7 +39,8 @@ module _ (test : Message → Bool) (mail : List Message) (place : ℕ) where
   later = places test (suc place) (drop (suc place) mail)
 
   -- the message at the place, and those behind it
-  pub from_is : (b : Bool) → place < length mail → ((message : Message) → slice_get mail place ≡ Some message → b ≡ test message) → from ≡ cond b (place ∷ later) later
+  pub from_is : (b : Bool) → place < length mail → ((message : Message) → slice_get mail place ≡ Some message → b ≡ test message)
+      → from ≡ cond b (place ∷ later) later
   from_is b within told =
       let m = found mail place within in
       ap (places test place) (drop_at mail place m.0 m.1) ∙ ap (λ b. cond b (place ∷ later) later) (sym (told m.0 m.1))
@@ -40,9 +48,19 @@ module _ (test : Message → Bool) (mail : List Message) (place : ℕ) where
   pub from_end : length mail ≤ place → from ≡ []
   from_end past = ap (places test place) (drop_end mail place past)
 
+-- what is known of the message at a place of the mail that is seen
+pub told_of : (test : Message → Bool) (mail seen : List Message) (place : ℕ) (m : Message) (b : Bool) → seen ≡ mail
+    → slice_get seen place ≡ Some m → b ≡ test m → (message : Message) → slice_get mail place ≡ Some message → b ≡ test message
+told_of test mail seen place m b same at is message there =
+    is ∙ ap test (same_some m message (sym at ∙ ap (λ (xs : List Message). slice_get xs place) same ∙ there))
+
 -- all of them are no more than the messages
-pub choices_few : (test : Message → Bool) (mail : List Message) → length (places test 0 mail) ≤ length mail
-choices_few test mail = places_few test 0 mail
+pub choices_few : (test : Message → Bool) (mail : List Message) (from : ℕ)
+    → length (places test from (drop from mail)) ≤ length mail
+choices_few test mail from =
+    let few = places_few test from (drop from mail) in
+    let less = drop_few mail from in
+    omega (arith, few, less)
 
 module _ (test : Message → Bool) (mail : List Message) (place : ℕ) (b : Bool) (within : place < length mail)
     (told : (message : Message) → slice_get mail place ≡ Some message → b ≡ test message) where
@@ -55,23 +73,28 @@ module _ (test : Message → Bool) (mail : List Message) (place : ℕ) (b : Bool
       omega (arith, so_far, e, n)
     where
       so_length : b ≡ true → length (from test mail place) ≡ suc (length (later test mail place))
-      so_length passes = ap length (from_is test mail place b within told) ∙ ap (λ b. length (cond b (place ∷ later test mail place) (later test mail place))) passes
+      so_length passes =
+          ap length (from_is test mail place b within told)
+          ∙ ap (λ b. length (cond b (place ∷ later test mail place) (later test mail place))) passes
 
-      add-one-of : (place : ℕ) → length (places test (place + 1) (drop (place + 1) mail)) ≡ length (places test (suc place) (drop (suc place) mail))
+      add-one-of : (place : ℕ)
+          → length (places test (place + 1) (drop (place + 1) mail)) ≡ length (places test (suc place) (drop (suc place) mail))
       add-one-of place = ap (λ n. length (places test n (drop n mail))) (add-one place)
 
   pub uncounted : (count total : ℕ) → b ≡ false → count + length (from test mail place) ≡ total
       → count + length (places test (place + 1) (drop (place + 1) mail)) ≡ total
   uncounted count total passes so_far =
       let e : length (from test mail place) ≡ length (later test mail place) =
-      ap length (from_is test mail place b within told) ∙ ap (λ b. length (cond b (place ∷ later test mail place) (later test mail place))) passes in
+      ap length (from_is test mail place b within told)
+      ∙ ap (λ b. length (cond b (place ∷ later test mail place) (later test mail place))) passes in
       let n = ap (λ n. length (places test n (drop n mail))) (add-one place) in
       omega (arith, so_far, e, n)
 
   pub few : (count total : ℕ) → b ≡ true → count + length (from test mail place) ≡ total → total ≤ length mail → count < length mail
   few count total passes so_far all =
       let e : length (from test mail place) ≡ suc (length (later test mail place)) =
-      ap length (from_is test mail place b within told) ∙ ap (λ b. length (cond b (place ∷ later test mail place) (later test mail place))) passes in
+      ap length (from_is test mail place b within told)
+      ∙ ap (λ b. length (cond b (place ∷ later test mail place) (later test mail place))) passes in
       omega (arith, so_far, e, all)
 
   -- the one that is looked for

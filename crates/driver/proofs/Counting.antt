@@ -1,5 +1,6 @@
 -- How many members a list without repeats names, and how many pieces they brought.
-use Rattle.std.proofs.Common.{◌≡◌, ℕ, zero, suc, ◌+◌, ◌<◌, ◌≤◌, nat_eq, Bool, true, false, is_some, List, [], ◌∷◌, length, Option, Some, None, sym, subst, refl, arith}
+use Rattle.std.proofs.Common.{◌≡◌, ℕ, zero, suc, ◌+◌, ◌<◌, ◌≤◌, nat_eq, Bool, true, false, is_some, List, [], ◌∷◌, length, Option, Some}
+use Rattle.std.proofs.Common.{None, sym, subst, refl, arith}
 use Rattle.std.specs.List.{AllByRecursion, IsDistinct}
 use Rattle.std.proofs.lemmas.Bool.{eqb-true, eq-eqb}
 use Rattle.encoder.specs.declared.fragment.Piece.{Piece}
@@ -19,7 +20,8 @@ record IsWithout (n brought : ℕ) (test : ℕ → Bool) (xs : List ℕ) : Type 
 apart_below : (n x : ℕ) → x < suc n → nat_eq n x ≡ false → x < n
 apart_below n x less apart = let no_same : n ≡ x → ⊥ = λ e. (let t = eq-eqb n x e in cc) in omega (arith, less, no_same)
 
-all_below : (n : ℕ) (xs : List ℕ) → AllByRecursion (λ x. x < suc n) xs → AllByRecursion (λ x. nat_eq n x ≡ false) xs → AllByRecursion (λ x. x < n) xs
+all_below : (n : ℕ) (xs : List ℕ) → AllByRecursion (λ x. x < suc n) xs → AllByRecursion (λ x. nat_eq n x ≡ false) xs
+    → AllByRecursion (λ x. x < n) xs
 all_below n [] less apart = tt
 all_below n (x ∷ xs) less apart = (apart_below n x less.0 apart.0, all_below n xs less.1 apart.1)
 
@@ -35,7 +37,8 @@ without_head n brought test x xs some same below pass distinct = record {
   few = omega (arith, some);
 }
 
-without_later : (n brought : ℕ) (test : ℕ → Bool) (x : ℕ) (xs : List ℕ) → x < n → test x ≡ true → IsDistinct nat_eq (x ∷ xs) → IsWithout n brought test xs
+without_later : (n brought : ℕ) (test : ℕ → Bool) (x : ℕ) (xs : List ℕ) → x < n → test x ≡ true → IsDistinct nat_eq (x ∷ xs)
+    → IsWithout n brought test xs
     → IsWithout n brought test (x ∷ xs)
 unfolding IsDistinct
 without_later n brought test x xs less passes distinct w = record {
@@ -57,7 +60,8 @@ none_distinct = tt
 
 without : (n brought : ℕ) (test : ℕ → Bool) → (test n ≡ true → 1 ≤ brought) → (xs : List ℕ) → AllByRecursion (λ x. x < suc n) xs
     → AllByRecursion (λ x. test x ≡ true) xs → IsDistinct nat_eq xs → IsWithout n brought test xs
-without n brought test some [] below all distinct = record { rest = []; pass = tt; apart = λ x all. tt; below = tt; distinct = none_distinct; few = omega arith }
+without n brought test some [] below all distinct =
+    record { rest = []; pass = tt; apart = λ x all. tt; below = tt; distinct = none_distinct; few = omega arith }
 without n brought test some (x ∷ xs) below all distinct =
     go (nat_eq n x) refl (without n brought test some xs below.1 all.1 (tail_distinct x xs distinct))
   where
@@ -72,7 +76,8 @@ some_listed None e = absurd (cc)
 some_listed (Some piece) e = omega arith
 
 -- pieces of that many members
-pub count_below : (replies : List Taken) (n : ℕ) (xs : List ℕ) → AllByRecursion (λ x. x < n) xs → AllByRecursion (λ x. is_some (piece_by replies x) ≡ true) xs
+pub count_below : (replies : List Taken) (n : ℕ) (xs : List ℕ) → AllByRecursion (λ x. x < n) xs
+    → AllByRecursion (λ x. is_some (piece_by replies x) ≡ true) xs
     → IsDistinct nat_eq xs → length xs ≤ length (pieces_below replies n)
 count_below replies zero [] below all distinct = omega arith
 count_below replies zero (x ∷ xs) below all distinct = absurd (let less = below.0 in omega (arith, less))

@@ -1,7 +1,10 @@
 -- The turns of a whole call.
-use Rattle.std.proofs.Common.{◌≡◌, ◌≢◌, ℕ, zero, suc, ◌+◌, ◌<◌, ◌⊎◌, Bool, List, Option, Some, None, sym, ap, subst, ◌∙◌, inl, inr, add-one, arith}
+use Rattle.std.proofs.Common.{◌≡◌, ◌≢◌, ℕ, zero, suc, ◌+◌, ◌<◌, ◌⊎◌, Bool, List, Option, Some, None, sym, ap, subst, ◌∙◌, inl, inr, add-one}
+use Rattle.std.proofs.Common.{arith}
 use Rattle.tag.specs.declared.refusal.Refusal.{Refusal}
-use Rattle.tag.specs.declared.refusal.Refusal.TheVariants.{NoMemory, BadLayout, NoObject, ObjectExists, TooLong, NoCall, NotNow, NoMessage, Down, WrongCode, MovePending, Full, Stuck, GaveUp, BadPieces, Collected, Stranger}
+use Rattle.tag.specs.declared.refusal.Refusal.TheVariants.{NoMemory, BadLayout, NoObject, ObjectExists, TooLong, NoCall, NotNow, NoMessage}
+use Rattle.tag.specs.declared.refusal.Refusal.TheVariants.{Down, WrongCode, MovePending, Full, Stuck, GaveUp, BadPieces, Collected}
+use Rattle.tag.specs.declared.refusal.Refusal.TheVariants.{Stranger}
 use Rattle.record.specs.Records.{Call}
 use Rattle.record.specs.declared.stage.Want.{Want}
 use Rattle.record.specs.declared.stage.Want.TheVariants as want
@@ -16,7 +19,8 @@ use Rattle.driver.proofs.Named.{is_there, cause_there}
 use Rattle.driver.proofs.Pieces.{wants_at}
 
 -- an open call is there
-open_there : (cluster : Cluster) (name : List ℕ) (call : ℕ) (r : Refusal) → IsOpen cluster name call → object_cause cluster name (λ object. number_cause object call) ≡ Some r → ⊥
+open_there : (cluster : Cluster) (name : List ℕ) (call : ℕ) (r : Refusal) → IsOpen cluster name call
+    → object_cause cluster name (λ object. number_cause object call) ≡ Some r → ⊥
 open_there cluster name call r opened e =
     let s = is_there cluster name (λ object. want_at object call) opened.0 opened.1 in
     let w = wants_at s.0.object call opened.0 s.2 in
@@ -30,7 +34,8 @@ open_undone cluster name call opened e = opened.2 (same opened.0 want.Done (sym 
     same : (a b : Want) → Some a ≡ Some b → a ≡ b
     same a b e = cc
 
-number_missing : (cluster : Cluster) (name : List ℕ) (call : ℕ) (r : Refusal) → object_cause cluster name (λ object. number_cause object call) ≡ Some r
+number_missing : (cluster : Cluster) (name : List ℕ) (call : ℕ) (r : Refusal)
+    → object_cause cluster name (λ object. number_cause object call) ≡ Some r
     → (r ≡ NoObject) ⊎ (r ≡ NoCall)
 number_missing cluster name call r = go (named cluster.objects name)
   where
@@ -42,8 +47,10 @@ number_missing cluster name call r = go (named cluster.objects name)
     go None e = inl (let same : r ≡ NoObject = cc in same)
     go (Some state) e = at_call (call_at state.object call) e
 
-module _ {C : Type 0} (chooses : C → ℕ → ℕ → C → Type 0) (name : List ℕ) (call : ℕ) (resumed : Bool) (turns : ℕ) (old : Cluster) (before : C) where
-  pub turned : (count : ℕ) (middle : Cluster) (held : C) (new : Cluster) (after : C) → Drives chooses name call resumed count old before middle held
+module _ {C : Type 0} (chooses : C → ℕ → ℕ → C → Type 0) (name : List ℕ) (call : ℕ) (resumed : Bool) (turns : ℕ) (old : Cluster)
+    (before : C) where
+  pub turned : (count : ℕ) (middle : Cluster) (held : C) (new : Cluster) (after : C)
+      → Drives chooses name call resumed count old before middle held
       → (again : Bool) → again ≡ asks_again resumed count → IsTurn chooses name call again middle held new after
       → Drives chooses name call resumed (count + 1) old before new after
   turned count middle held new after drives again is turn =
@@ -52,7 +59,8 @@ module _ {C : Type 0} (chooses : C → ℕ → ℕ → C → Type 0) (name : Lis
 
   pub finished : (count : ℕ) (middle : Cluster) (held : C) (new : Cluster) (after : C) (receipt : Receipt) → count < turns
       → Drives chooses name call resumed count old before middle held → (again : Bool) → again ≡ asks_again resumed count
-      → IsAnswer chooses name call again middle held new after receipt → IsFinished chooses name call resumed turns old before new after receipt
+      → IsAnswer chooses name call again middle held new after receipt
+      → IsFinished chooses name call resumed turns old before new after receipt
   finished count middle held new after receipt within drives again is answers = record {
     count = count;
     within = within;
@@ -63,7 +71,8 @@ module _ {C : Type 0} (chooses : C → ℕ → ℕ → C → Type 0) (name : Lis
   }
 
   -- before the first turn all is as it was
-  idle : (count : ℕ) (middle : Cluster) (held : C) → count ≡ 0 → Drives chooses name call resumed count old before middle held → (middle ≡ old) × (held ≡ before)
+  idle : (count : ℕ) (middle : Cluster) (held : C) → count ≡ 0 → Drives chooses name call resumed count old before middle held
+      → (middle ≡ old) × (held ≡ before)
   idle zero middle held e drives = drives
   idle (suc count) middle held e drives = absurd (omega (arith, e))
 
@@ -73,13 +82,15 @@ module _ {C : Type 0} (chooses : C → ℕ → ℕ → C → Type 0) (name : Lis
         → ((middle ≡ old) × (after ≡ before)) × (object_cause old name (λ object. number_cause object call) ≡ Some r)
     no_call r same cause = go at_start
       where
-        go : (count ≡ 0) ⊎ IsOpen middle name call → ((middle ≡ old) × (after ≡ before)) × (object_cause old name (λ object. number_cause object call) ≡ Some r)
+        go : (count ≡ 0) ⊎ IsOpen middle name call → ((middle ≡ old) × (after ≡ before))
+            × (object_cause old name (λ object. number_cause object call) ≡ Some r)
         go (inl start) =
             let i = idle count middle held start drives in
             ((i.0, same ∙ i.1), subst (λ m. object_cause m name (λ object. number_cause object call) ≡ Some r) i.0 cause)
         go (inr opened) = absurd (open_there middle name call r opened cause)
 
-    pub done_at : after ≡ held → wanted middle name call ≡ Some want.Done → ((middle ≡ old) × (after ≡ before)) × (wanted old name call ≡ Some want.Done)
+    pub done_at : after ≡ held → wanted middle name call ≡ Some want.Done → ((middle ≡ old) × (after ≡ before))
+        × (wanted old name call ≡ Some want.Done)
     done_at same done = go at_start
       where
         go : (count ≡ 0) ⊎ IsOpen middle name call → ((middle ≡ old) × (after ≡ before)) × (wanted old name call ≡ Some want.Done)
@@ -88,14 +99,17 @@ module _ {C : Type 0} (chooses : C → ℕ → ℕ → C → Type 0) (name : Lis
             ((i.0, same ∙ i.1), subst (λ m. wanted m name call ≡ Some want.Done) i.0 done)
         go (inr opened) = absurd (open_undone middle name call opened done)
 
-    pub stopped : (r : Refusal) → count < turns → (again : Bool) → again ≡ asks_again resumed count → IsRefused chooses name call middle again held after r
+    pub stopped : (r : Refusal) → count < turns → (again : Bool) → again ≡ asks_again resumed count
+        → IsRefused chooses name call middle again held after r
         → IsUnfinished chooses name call resumed turns old before middle after r
     stopped r within again is refused = go r (subst (λ again. IsRefused chooses name call middle again held after r) is refused)
       where
-        by : (r : Refusal) → IsRefused chooses name call middle (asks_again resumed count) held after r → IsStopped chooses name call resumed turns old before middle after r
+        by : (r : Refusal) → IsRefused chooses name call middle (asks_again resumed count) held after r
+            → IsStopped chooses name call resumed turns old before middle after r
         by r refused = record { count = count; within = within; held = held; drives = drives; refused = refused }
 
-        go : (r : Refusal) → IsRefused chooses name call middle (asks_again resumed count) held after r → IsUnfinished chooses name call resumed turns old before middle after r
+        go : (r : Refusal) → IsRefused chooses name call middle (asks_again resumed count) held after r
+            → IsUnfinished chooses name call resumed turns old before middle after r
         go NoObject refused = no_call NoObject refused.0 refused.1
         go NoCall refused = no_call NoCall refused.0 refused.1
         go NotNow refused = done_at refused.0 refused.1
@@ -124,10 +138,12 @@ module _ {C : Type 0} (chooses : C → ℕ → ℕ → C → Type 0) (name : Lis
             → IsUnfinished chooses name call resumed turns old before middle after r
         named_so r (inl is) all =
             subst (λ r. IsUnfinished chooses name call resumed turns old before middle after r) (sym is)
-            (subst (λ r. ((middle ≡ old) × (after ≡ before)) × (object_cause old name (λ object. number_cause object call) ≡ Some r)) is all)
+            (subst (λ r. ((middle ≡ old) × (after ≡ before)) × (object_cause old name (λ object. number_cause object call) ≡ Some r)) is
+            all)
         named_so r (inr is) all =
             subst (λ r. IsUnfinished chooses name call resumed turns old before middle after r) (sym is)
-            (subst (λ r. ((middle ≡ old) × (after ≡ before)) × (object_cause old name (λ object. number_cause object call) ≡ Some r)) is all)
+            (subst (λ r. ((middle ≡ old) × (after ≡ before)) × (object_cause old name (λ object. number_cause object call) ≡ Some r)) is
+            all)
 
         is_missing : (r : Refusal) → object_cause middle name (λ object. number_cause object call) ≡ Some r → (r ≡ NoObject) ⊎ (r ≡ NoCall)
         is_missing r e = number_missing middle name call r e
@@ -135,6 +151,7 @@ module _ {C : Type 0} (chooses : C → ℕ → ℕ → C → Type 0) (name : Lis
     pub gave_up : (w : Want) → count ≡ turns → after ≡ held → wanted middle name call ≡ Some w → w ≢ want.Done
         → IsUnfinished chooses name call resumed turns old before middle after GaveUp
     gave_up w all same wants other = (
-      subst (λ n. Drives chooses name call resumed n old before middle after) all (subst (λ h. Drives chooses name call resumed count old before middle h) (sym same) drives),
+      subst (λ n. Drives chooses name call resumed n old before middle after) all
+          (subst (λ h. Drives chooses name call resumed count old before middle h) (sym same) drives),
       (w, wants, other),
     )

@@ -1,5 +1,6 @@
 -- What is read of the object of a name, and its cause.
-use Rattle.std.proofs.Common.{◌≡◌, ℕ, Bool, true, false, cond, bytes_eq, List, [], ◌∷◌, Option, Some, None, Result, Ok, Err, refl, sym, ap, ◌∙◌, inl, inr}
+use Rattle.std.proofs.Common.{◌≡◌, ℕ, Bool, true, false, cond, bytes_eq, List, [], ◌∷◌, Option, Some, None, Result, Ok, Err, refl, sym, ap}
+use Rattle.std.proofs.Common.{◌∙◌, inl, inr}
 use Rattle.tag.specs.declared.refusal.Refusal.{Refusal}
 use Rattle.tag.specs.Refusal.{IsByCause, IsExactlyByCause}
 use Rattle.record.specs.Records.{Object}
@@ -9,10 +10,12 @@ use Rattle.cluster.specs.Causes.{if_object, object_cause}
 use Rattle.driver.specs.Coding.{IsByCauseOrMemory}
 
 module _ (cluster : Cluster) (name : List ℕ) where
-  pub read_there : {X : Type 0} (state : State) (read : Object → Option X) → named cluster.objects name ≡ Some state → if_named cluster name read ≡ read state.object
+  pub read_there : {X : Type 0} (state : State) (read : Object → Option X) → named cluster.objects name ≡ Some state
+      → if_named cluster name read ≡ read state.object
   read_there state read there = ap (λ o. if_some o read) there
 
-  pub cause_there : (state : State) (cause : Object → Option Refusal) → named cluster.objects name ≡ Some state → object_cause cluster name cause ≡ cause state.object
+  pub cause_there : (state : State) (cause : Object → Option Refusal) → named cluster.objects name ≡ Some state
+      → object_cause cluster name cause ≡ cause state.object
   cause_there state cause there = ap (λ o. if_object o cause) there
 
   pub is_there : {X : Type 0} (read : Object → Option X) (x : X) → if_named cluster name read ≡ Some x
@@ -24,7 +27,8 @@ module _ (cluster : Cluster) (name : List ℕ) where
       go None is e = absurd (cc)
       go (Some state) is e = (state, is, e)
 
-  pub same_cause : (a b : Object → Option Refusal) → ((state : State) → named cluster.objects name ≡ Some state → a state.object ≡ b state.object)
+  pub same_cause : (a b : Object → Option Refusal)
+      → ((state : State) → named cluster.objects name ≡ Some state → a state.object ≡ b state.object)
       → object_cause cluster name a ≡ object_cause cluster name b
   same_cause a b same = go (named cluster.objects name) refl
     where
@@ -47,8 +51,10 @@ named_changed (object ∷ objects) name change state e = go (named_changed objec
     there : (a b : State) → Some a ≡ Some b → a ≡ b
     there a b e = cc
 
-    go : (named objects name ≡ Some state → named (changed objects name change) name ≡ Some (change state)) → (b : Bool) → bytes_eq name object.name ≡ b
-        → named (cond b (record { name = object.name; state = change object.state } ∷ objects) (object ∷ changed objects name change)) name ≡ Some (change state)
+    go : (named objects name ≡ Some state → named (changed objects name change) name ≡ Some (change state)) → (b : Bool)
+        → bytes_eq name object.name ≡ b
+        → named (cond b (record { name = object.name; state = change object.state } ∷ objects) (object ∷ changed objects name change))
+        name ≡ Some (change state)
     go rest true is =
         ap (λ b. cond b (Some (change object.state)) (named objects name)) is
         ∙ ap (λ s. Some (change s)) (there object.state state (sym (ap (λ b. cond b (Some object.state) (named objects name)) is) ∙ e))
@@ -62,7 +68,8 @@ by_cause a b (Ok x) e h = sym e ∙ h
 by_cause a b (Err r) e (inl some) = inl (sym e ∙ some)
 by_cause a b (Err r) e (inr none) = inr (sym e ∙ none.0, none.1)
 
-pub by_cause_or : {T : Type 0} (no_value a b : Option Refusal) (r : Result T Refusal) → no_value ≡ None → a ≡ b → IsByCause a r → IsByCauseOrMemory no_value b r
+pub by_cause_or : {T : Type 0} (no_value a b : Option Refusal) (r : Result T Refusal) → no_value ≡ None → a ≡ b → IsByCause a r
+    → IsByCauseOrMemory no_value b r
 by_cause_or no_value a b (Ok x) none e h = sym e ∙ h
 by_cause_or no_value a b (Err r) none e (inl some) = inl (sym e ∙ some)
 by_cause_or no_value a b (Err r) none e (inr memory) = inr (none, memory.1)

@@ -1,5 +1,6 @@
 -- The messages before a place stay those of other calls, whatever the driver does.
-use Rattle.std.proofs.Common.{◌≡◌, ◌≢◌, ℕ, zero, suc, pred, ◌+◌, ◌%◌, ◌==◌, ◌&&◌, Bool, true, false, cond, is_some, List, [], ◌∷◌, ◌++◌, drop, length, Option, Some, None, slice_get, slice_set, refl, sym, ap, subst, ◌∙◌, arith}
+use Rattle.std.proofs.Common.{◌≡◌, ◌≢◌, ℕ, zero, suc, pred, ◌+◌, ◌%◌, ◌==◌, ◌&&◌, Bool, true, false, cond, is_some, List, [], ◌∷◌, ◌++◌}
+use Rattle.std.proofs.Common.{drop, length, Option, Some, None, slice_get, slice_set, refl, sym, ap, subst, ◌∙◌, arith}
 use Rattle.std.specs.List.{AllByRecursion, remove}
 use Rattle.std.proofs.lemmas.Bool.{cond_both, eqb-true}
 use Rattle.bank.specs.declared.kind.Kind.{Kind}
@@ -12,7 +13,8 @@ use Rattle.record.specs.Courses.{due}
 use Rattle.record.specs.Legal.{stage_of}
 use Rattle.record.specs.Records.{Call, Object}
 use Rattle.record.specs.Sound.{IsPosted, IsSound}
-use Rattle.record.specs.Steps.{Step, stepped, on_call, on_message, begun_object, supplied_by, asked_again, advanced_object, served_by, taken_by}
+use Rattle.record.specs.Steps.{Step, stepped, on_call, on_message, begun_object, supplied_by, asked_again, advanced_object, served_by}
+use Rattle.record.specs.Steps.{taken_by}
 use Rattle.record.specs.Wants.{current_phase}
 use Rattle.record.specs.declared.stage.Want.{Want}
 use Rattle.record.specs.declared.stage.Want.TheVariants as want
@@ -41,21 +43,25 @@ others_set call zero mail place old new at same others = tt
 others_set call (suc from) [] place old new at same others = absurd others
 others_set call (suc from) (m ∷ mail) zero old new at same others =
     (λ e. others.0 (ap (λ (x : Message). x.call) (same_some m old at) ∙ sym same ∙ e), others.1)
-others_set call (suc from) (m ∷ mail) (suc place) old new at same others = (others.0, others_set call from mail place old new at same others.1)
+others_set call (suc from) (m ∷ mail) (suc place) old new at same others =
+    (others.0, others_set call from mail place old new at same others.1)
 
 -- a message of the call stands behind them
 others_remove : (call from : ℕ) (mail : List Message) (place : ℕ) (taken : Message) → slice_get mail place ≡ Some taken → taken.call ≡ call
     → AreOthers call from mail → AreOthers call from (remove mail place)
 others_remove call zero mail place taken at own others = tt
 others_remove call (suc from) [] place taken at own others = absurd others
-others_remove call (suc from) (m ∷ mail) zero taken at own others = absurd (others.0 (ap (λ (x : Message). x.call) (same_some m taken at) ∙ own))
-others_remove call (suc from) (m ∷ mail) (suc place) taken at own others = (others.0, others_remove call from mail place taken at own others.1)
+others_remove call (suc from) (m ∷ mail) zero taken at own others =
+    absurd (others.0 (ap (λ (x : Message). x.call) (same_some m taken at) ∙ own))
+others_remove call (suc from) (m ∷ mail) (suc place) taken at own others =
+    (others.0, others_remove call from mail place taken at own others.1)
 
 -- one more message is of another call
 pub others_next : (call place : ℕ) (mail : List Message) (message : Message) → slice_get mail place ≡ Some message → message.call ≢ call
     → AreOthers call place mail → AreOthers call (suc place) mail
 others_next call zero [] message at other others = absurd (cc)
-others_next call zero (m ∷ mail) message at other others = (λ e. other (ap (λ (x : Message). x.call) (sym (same_some m message at)) ∙ e), tt)
+others_next call zero (m ∷ mail) message at other others =
+    (λ e. other (ap (λ (x : Message). x.call) (sym (same_some m message at)) ∙ e), tt)
 others_next call (suc place) [] message at other others = absurd others
 others_next call (suc place) (m ∷ mail) message at other others = (others.0, others_next call place mail message at other others.1)
 
@@ -66,7 +72,8 @@ all_others call (m ∷ mail) all = (all.0, all_others call mail all.1)
 
 -- the places of the call's messages are behind them
 module _ (test : Message → Bool) (call : ℕ) (own : (m : Message) → m.call ≢ call → test m ≡ false) where
-  places_behind : (from base : ℕ) (mail : List Message) → AreOthers call from mail → places test base mail ≡ places test (base + from) (drop from mail)
+  places_behind : (from base : ℕ) (mail : List Message) → AreOthers call from mail
+      → places test base mail ≡ places test (base + from) (drop from mail)
   places_behind zero base mail others = ap (λ n. places test n mail) (let e : base ≡ base + 0 = omega arith in e)
   places_behind (suc from) base [] others = absurd others
   places_behind (suc from) base (m ∷ mail) others =
@@ -86,10 +93,6 @@ pub choices_behind : (cluster : Cluster) (call from : ℕ) (object : Object) →
 choices_behind cluster call from object others =
     ap (λ n. places (is_choice cluster call object) n (drop from object.mail)) (let e : from ≡ 0 + from = omega arith in e)
     ∙ sym (places_behind (is_choice cluster call object) call (not_choice cluster call object) from 0 object.mail others)
-
-pub count_behind : (cluster : Cluster) (call from : ℕ) (object : Object) → AreOthers call from object.mail
-    → 0 + length (places (is_choice cluster call object) from (drop from object.mail)) ≡ length (choices cluster call object)
-count_behind cluster call from object others = let e = ap length (choices_behind cluster call from object others) in omega (arith, e)
 
 -- Steps
 
@@ -117,7 +120,8 @@ module _ (call from now : ℕ) (object : Object) (others : AreOthers call from o
       cond_both (is_some phase.end) (advanced_object fragment object i a now) (asked_again fragment object a (Some phase)) Stay
       (λ e. begun_stays i a (due (stage_of object i a))) (λ e. asked_stays a (Some phase))
 
-  served_stays : (place : ℕ) (message : Message) (b : Body) → slice_get object.mail place ≡ Some message → Stay (served_by object place message b now)
+  served_stays : (place : ℕ) (message : Message) (b : Body) → slice_get object.mail place ≡ Some message
+      → Stay (served_by object place message b now)
   served_stays place message (body.Request asked) at = others_set call from object.mail place message _ at refl others
   served_stays place message (body.Reply kind made) at = others
 
@@ -145,9 +149,11 @@ module _ (call from now : ℕ) (object : Object) (others : AreOthers call from o
   stays (Step.Settle i value) spares = on_call_stays _ (λ a. others) (slice_get object.calls i)
   stays (Step.AnswerCall i) spares = on_call_stays _ (λ a. others) (slice_get object.calls i)
   stays (Step.Serve place) spares = on_message_stays place _ (λ m at. served_stays place m m.body at) (slice_get object.mail place) refl
-  stays (Step.Take place) spares = on_message_stays place _ (λ m at. taken_stays place m m.body at (spares m at)) (slice_get object.mail place) refl
+  stays (Step.Take place) spares =
+      on_message_stays place _ (λ m at. taken_stays place m m.body at (spares m at)) (slice_get object.mail place) refl
   stays (Step.Lose place) spares = absurd spares
-  stays (Step.Repeat place) spares = on_message_stays place _ (λ m at. others_append call from object.mail _ others) (slice_get object.mail place) refl
+  stays (Step.Repeat place) spares =
+      on_message_stays place _ (λ m at. others_append call from object.mail _ others) (slice_get object.mail place) refl
 
 behind_step : (old new : Cluster) (name : List ℕ) (step : Step) (state : State) (call from : ℕ) → named old.objects name ≡ Some state
     → new ≡ of.stepped old name step → Spares call state.object step → IsBehind old name call from → IsBehind new name call from
@@ -160,7 +166,8 @@ behind_step old new name step state call from there is spares behind after found
 
 -- Turns
 
-spares_handling : (call : ℕ) (object : Object) (place : ℕ) (b : Body) → ((message : Message) → slice_get object.mail place ≡ Some message → message.call ≡ call)
+spares_handling : (call : ℕ) (object : Object) (place : ℕ) (b : Body)
+    → ((message : Message) → slice_get object.mail place ≡ Some message → message.call ≡ call)
     → Spares call object (handling place b)
 spares_handling call object place (body.Request asked) own = tt
 spares_handling call object place (body.Reply kind made) own = own
@@ -183,7 +190,8 @@ module _ {C : Type 0} (chooses : C → ℕ → ℕ → C → Type 0) (name : Lis
       → IsWaitingStep chooses name call cluster object again before after step → Spares call object step
   spares_waiting cluster object true before after step w =
       subst (Spares call object) (sym w.1.2)
-      (cond_both (is_plain (current_phase w.1.0.phases)) (Step.Post (pred call)) (Step.Supply (pred call)) (Spares call object) (λ _. tt) (λ _. tt))
+      (cond_both (is_plain (current_phase w.1.0.phases)) (Step.Post (pred call)) (Step.Supply (pred call)) (Spares call object) (λ _. tt)
+      (λ _. tt))
   spares_waiting cluster object false before after step w =
       subst (Spares call object) (sym w.4)
       (spares_handling call object w.0 w.1.body (own_choice cluster call object (w.2.0 % length (choices cluster call object)) w.0 w.2.2))
@@ -198,7 +206,8 @@ module _ {C : Type 0} (chooses : C → ℕ → ℕ → C → Type 0) (name : Lis
   spares_next cluster object again before after step want.Done next = absurd next
 
   -- a turn brings no message of the call before the place
-  pub behind_turn : (from : ℕ) (again : Bool) (old : Cluster) (before : C) (new : Cluster) (after : C) → IsTurn chooses name call again old before new after
+  pub behind_turn : (from : ℕ) (again : Bool) (old : Cluster) (before : C) (new : Cluster) (after : C)
+      → IsTurn chooses name call again old before new after
       → IsBehind old name call from → IsBehind new name call from
   behind_turn from again old before new after turn =
       let due = turn.due in
@@ -228,7 +237,8 @@ behind_next cluster name state from there sound is call number other found =
     same_some _ _ (ap (λ (s : State). Some (suc (length s.object.calls))) (one_state cluster name state s.0 there s.1) ∙ s.2) in
     let mail = all_others (suc (length state.object.calls)) state.object.mail (posted_others state.object state.object.mail sound.mail) in
     subst (λ (s : State). AreOthers call from s.object.mail) (one_state cluster name state other there found)
-    (subst (λ n. AreOthers n from state.object.mail) first (subst (λ n. AreOthers (suc (length state.object.calls)) n state.object.mail) (sym is) mail))
+    (subst (λ n. AreOthers n from state.object.mail) first
+    (subst (λ n. AreOthers (suc (length state.object.calls)) n state.object.mail) (sym is) mail))
 
 -- the steps by which a call begins
 abbrev pub Begins : Step → Type 0
@@ -258,7 +268,9 @@ behind_begun old new name step call from begins behind number is =
     behind_step old new name step s.0 call from s.1 is (spares_begin call s.0.object step begins) (behind call number)
 
 -- what is found in one mail holds of the object
-pub behind_at : (cluster : Cluster) (name : List ℕ) (state : State) (mail : List Message) (call from : ℕ) → named cluster.objects name ≡ Some state
+pub behind_at : (cluster : Cluster) (name : List ℕ) (state : State) (mail : List Message) (call from : ℕ)
+    → named cluster.objects name ≡ Some state
     → mail ≡ state.object.mail → AreOthers call from mail → IsBehind cluster name call from
 behind_at cluster name state mail call from there is others other found =
-    subst (λ (s : State). AreOthers call from s.object.mail) (one_state cluster name state other there found) (subst (AreOthers call from) is others)
+    subst (λ (s : State). AreOthers call from s.object.mail) (one_state cluster name state other there found)
+    (subst (AreOthers call from) is others)

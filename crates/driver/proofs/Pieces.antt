@@ -1,5 +1,7 @@
 -- The pieces of a complete fetch: they are k pieces of one value.
-use Rattle.std.proofs.Common.{◌≡◌, ℕ, zero, suc, pred, ◌<◌, ◌≤◌, ◌==◌, nat_eq, Bool, true, false, cond, is_some, List, [], ◌∷◌, ◌++◌, length, take, Option, Some, None, IsSome, option_map, slice_get, inl, inr, sym, ap, subst, subst₂, ◌∙◌, refl, arith}
+use Rattle.std.proofs.Common.{◌≡◌, ℕ, zero, suc, pred, ◌<◌, ◌≤◌, ◌==◌, nat_eq, Bool, true, false, cond, is_some, List, [], ◌∷◌, ◌++◌}
+use Rattle.std.proofs.Common.{length, take, Option, Some, None, IsSome, option_map, slice_get, inl, inr, sym, ap, subst, subst₂, ◌∙◌, refl}
+use Rattle.std.proofs.Common.{arith}
 use Rattle.std.specs.List.{AllByRecursion, IsDistinct}
 use Rattle.std.proofs.lemmas.Bool.{eqb-true, eq-eqb}
 use Rattle.std.proofs.lemmas.Bool.Decides.{Decides-eqb}
@@ -26,11 +28,12 @@ use Rattle.record.specs.Legal.{stage_of}
 use Rattle.record.specs.Wants.{current_phase, is_fetch, value_len, len_or, want_for, want_after, want_of}
 use Rattle.record.specs.declared.stage.Want.{Want}
 use Rattle.record.specs.declared.stage.Want.TheVariants as want
-use Rattle.record.proofs.Enough.{fetch_has_enough}
-use Rattle.record.proofs.Keeping.{all_get}
-use Rattle.record.proofs.Quorums.{lawful_at}
-use Rattle.record.proofs.Values.{journal_unique}
-use Rattle.record.proofs.Wanting.{Unsettled, last_at, unsettled_of}
+use Rattle.record.proofs.Sound.Enough.Fetches.{fetch_has_enough}
+use Rattle.record.proofs.Lists.{all_get}
+use Rattle.record.proofs.Atomic.Quorums.Meeting.{lawful_at}
+use Rattle.record.proofs.Atomic.Values.Coded.{journal_unique}
+use Rattle.record.proofs.Sound.Waiting.{Unsettled, last_at}
+use Rattle.record.proofs.Sound.Wanting.{unsettled_of}
 use Rattle.register.specs.Causes.{call_at}
 use Rattle.register.specs.Coding.{piece_by, listed, pieces_below, least_of}
 use Rattle.register.specs.View.{want_at, pieces_at, pieces_of}
@@ -44,13 +47,17 @@ Brought value k t = (piece : Piece) → answer_piece t.reply.answer ≡ Some pie
 abbrev IsOf : (value : List ℕ) → (k n : ℕ) → Piece → Type 0
 IsOf value k n piece = (piece ≡ piece_of value k piece.point) × (piece.point < n)
 
-by_member : (value : List ℕ) (k : ℕ) (replies : List Taken) (member : ℕ) (piece : Piece) → AllByRecursion (Brought value k) replies → piece_by replies member ≡ Some piece
+by_member : (value : List ℕ) (k : ℕ) (replies : List Taken) (member : ℕ) (piece : Piece) → AllByRecursion (Brought value k) replies
+    → piece_by replies member ≡ Some piece
     → piece ≡ piece_of value k member
 by_member value k [] member piece all e = absurd (cc)
 by_member value k (t ∷ replies) member piece all e = go (by_member value k replies member piece all.1) (t.member == member) refl
   where
-    go : (piece_by replies member ≡ Some piece → piece ≡ piece_of value k member) → (b : Bool) → (t.member == member) ≡ b → piece ≡ piece_of value k member
-    go rest true same = all.0 piece (sym (ap (λ b. cond b (answer_piece t.reply.answer) (piece_by replies member)) same) ∙ e) ∙ ap (piece_of value k) (eqb-true t.member member same)
+    go : (piece_by replies member ≡ Some piece → piece ≡ piece_of value k member) → (b : Bool) → (t.member == member) ≡ b
+        → piece ≡ piece_of value k member
+    go rest true same =
+        all.0 piece (sym (ap (λ b. cond b (answer_piece t.reply.answer) (piece_by replies member)) same) ∙ e)
+        ∙ ap (piece_of value k) (eqb-true t.member member same)
     go rest false apart = rest (sym (ap (λ b. cond b (answer_piece t.reply.answer) (piece_by replies member)) apart) ∙ e)
 
 is_of : (value : List ℕ) (k member : ℕ) (piece : Piece) → piece ≡ piece_of value k member → IsOf value k (suc member) piece
@@ -80,10 +87,12 @@ take_length zero xs within = refl
 take_length (suc k) [] within = absurd (omega (arith, within))
 take_length (suc k) (x ∷ xs) within = ap suc (take_length k xs (omega (arith, within)))
 
-all_below : (value : List ℕ) (k : ℕ) (replies : List Taken) (n : ℕ) → AllByRecursion (Brought value k) replies → AllByRecursion (IsOf value k n) (pieces_below replies n)
+all_below : (value : List ℕ) (k : ℕ) (replies : List Taken) (n : ℕ) → AllByRecursion (Brought value k) replies
+    → AllByRecursion (IsOf value k n) (pieces_below replies n)
 all_below value k replies zero all = tt
 all_below value k replies (suc n) all =
-    all_both (IsOf value k (suc n)) (pieces_below replies n) (listed (piece_by replies n)) (all_wider value k n (pieces_below replies n) (all_below value k replies n all))
+    all_both (IsOf value k (suc n)) (pieces_below replies n) (listed (piece_by replies n))
+    (all_wider value k n (pieces_below replies n) (all_below value k replies n all))
     (all_listed (IsOf value k (suc n)) (piece_by replies n) (λ piece e. is_of value k n piece (by_member value k replies n piece all e)))
 
 -- no two points are the same
@@ -102,10 +111,12 @@ no_same a b less = go (nat_eq a b) refl
     go true e = absurd (let same = eqb-true a b e in omega (arith, less, same))
     go false e = e
 
-apart_push : (value : List ℕ) (k n : ℕ) (xs : List Piece) (y : Piece) → AllByRecursion (IsOf value k n) xs → y.point ≡ n → AreApart xs → AreApart (xs ++ y ∷ [])
+apart_push : (value : List ℕ) (k n : ℕ) (xs : List Piece) (y : Piece) → AllByRecursion (IsOf value k n) xs → y.point ≡ n → AreApart xs
+    → AreApart (xs ++ y ∷ [])
 apart_push value k n [] y below is apart = (tt, tt)
 apart_push value k n (x ∷ xs) y below is apart = (
-  apart_all (λ q. nat_eq x.point q.point ≡ false) xs x y apart.0 (no_same x.point y.point (let less = below.0.1 in omega (arith, less, is))),
+  apart_all (λ q. nat_eq x.point q.point ≡ false) xs x y apart.0
+      (no_same x.point y.point (let less = below.0.1 in omega (arith, less, is))),
   apart_push value k n xs y below.1 is apart.1,
 )
 
@@ -113,14 +124,16 @@ none_more : (xs : List Piece) → AreApart xs → AreApart (xs ++ [])
 none_more [] apart = tt
 none_more (x ∷ xs) apart = (all_both (λ q. nat_eq x.point q.point ≡ false) xs [] apart.0 tt, none_more xs apart.1)
 
-apart_below : (value : List ℕ) (k : ℕ) (replies : List Taken) (n : ℕ) → AllByRecursion (Brought value k) replies → AreApart (pieces_below replies n)
+apart_below : (value : List ℕ) (k : ℕ) (replies : List Taken) (n : ℕ) → AllByRecursion (Brought value k) replies
+    → AreApart (pieces_below replies n)
 apart_below value k replies zero all = tt
 apart_below value k replies (suc n) all = go (apart_below value k replies n all) (piece_by replies n) refl
   where
     go : AreApart (pieces_below replies n) → (o : Option Piece) → piece_by replies n ≡ o → AreApart (pieces_below replies n ++ listed o)
     go apart None e = none_more (pieces_below replies n) apart
     go apart (Some piece) e =
-        apart_push value k n (pieces_below replies n) piece (all_below value k replies n all) (ap (λ (p : Piece). p.point) (by_member value k replies n piece all e))
+        apart_push value k n (pieces_below replies n) piece (all_below value k replies n all)
+        (ap (λ (p : Piece). p.point) (by_member value k replies n piece all e))
         apart
 
 apart_take : (k : ℕ) (xs : List Piece) → AreApart xs → AreApart (take k xs)
@@ -144,25 +157,31 @@ unfolding IsDistinct
 first_reply [] place t distinct within = absurd (cc)
 first_reply (first ∷ replies) zero t distinct within =
     let same : first ≡ t = cc in
-    ap (λ b. cond b (answer_piece first.reply.answer) (piece_by replies t.member)) (eq-eqb first.member t.member (ap (λ (t : Taken). t.member) same))
+    ap (λ b. cond b (answer_piece first.reply.answer) (piece_by replies t.member))
+    (eq-eqb first.member t.member (ap (λ (t : Taken). t.member) same))
     ∙ ap (λ (t : Taken). answer_piece t.reply.answer) same
 first_reply (first ∷ replies) (suc place) t distinct within =
     ap (λ b. cond b (answer_piece first.reply.answer) (piece_by replies t.member)) (apart_of replies place t distinct.0 within)
     ∙ first_reply replies place t distinct.1 within
   where
-    apart_of : (replies : List Taken) (place : ℕ) (t : Taken) → AllByRecursion (λ y. nat_eq first.member y ≡ false) (members_of replies) → slice_get replies place ≡ Some t
+    apart_of : (replies : List Taken) (place : ℕ) (t : Taken) → AllByRecursion (λ y. nat_eq first.member y ≡ false) (members_of replies)
+        → slice_get replies place ≡ Some t
         → nat_eq first.member t.member ≡ false
     apart_of [] place t all within = absurd (cc)
-    apart_of (r ∷ replies) zero t all within = let same : r ≡ t = cc in subst (λ (t : Taken). nat_eq first.member t.member ≡ false) same all.0
+    apart_of (r ∷ replies) zero t all within = let same : r ≡ t =
+        cc in subst (λ (t : Taken). nat_eq first.member t.member ≡ false) same all.0
     apart_of (r ∷ replies) (suc place) t all within = apart_of replies place t all.1 within
 
-pub len_is : (value : List ℕ) (k : ℕ) (replies : List Taken) (place : ℕ) (t : Taken) (piece : Piece) → AllByRecursion (Brought value k) replies
+pub len_is : (value : List ℕ) (k : ℕ) (replies : List Taken) (place : ℕ) (t : Taken) (piece : Piece)
+    → AllByRecursion (Brought value k) replies
     → slice_get replies place ≡ Some t → answer_piece t.reply.answer ≡ Some piece → value_len replies ≡ length value
 len_is value k [] place t piece all within e = absurd (cc)
 len_is value k (first ∷ replies) place t piece all within e =
     go (λ place within. len_is value k replies place t piece all.1 within e) (answer_piece first.reply.answer) refl place within
   where
-    go : ((place : ℕ) → slice_get replies place ≡ Some t → value_len replies ≡ length value) → (o : Option Piece) → answer_piece first.reply.answer ≡ o → (place : ℕ) → slice_get (first ∷ replies) place ≡ Some t → len_or o (value_len replies) ≡ length value
+    go : ((place : ℕ) → slice_get replies place ≡ Some t → value_len replies ≡ length value) → (o : Option Piece)
+        → answer_piece first.reply.answer ≡ o → (place : ℕ) → slice_get (first ∷ replies) place ≡ Some t
+        → len_or o (value_len replies) ≡ length value
     go rest (Some other) is place within = ap (λ (p : Piece). p.len) (all.0 other is)
     go rest None is zero within = absurd (let same : first ≡ t = cc in let f = ap (λ (t : Taken). answer_piece t.reply.answer) same in cc)
     go rest None is (suc place) within = rest place within
@@ -203,7 +222,8 @@ coded_value object position member tag (answer.Pointer status) piece e coded = a
 coded_value object position member tag (answer.Greatest t) piece e coded = absurd (cc)
 coded_value object position member tag (answer.Piece o) piece e coded = (coded.value, coded.journaled)
 
-journaled_value : (object : Object) (last : ℕ) (tag : Tag) (value : List ℕ) → IsSound fragment object last → IsJournaled object tag value → IsValue value
+journaled_value : (object : Object) (last : ℕ) (tag : Tag) (value : List ℕ) → IsSound fragment object last → IsJournaled object tag value
+    → IsValue value
 journaled_value object last tag value sound (inl opening) = subst (λ v. IsValue v) (sym opening.1) (tt, omega arith)
 journaled_value object last tag value sound (inr written) = sound.values.written written.index written.call value written.at written.kind
 
@@ -212,11 +232,14 @@ all_weaker P Q [] each all = tt
 all_weaker P Q (x ∷ xs) each all = (each x all.0, all_weaker P Q xs each all.1)
 
 -- what a call wants that is to settle a value
-pub settles_is : (object : Object) (index : ℕ) (call : Call) (u : Unsettled call) → want_of object index call ≡ want.Settle (layout_at object u.phase.position).k (value_len u.phase.replies)
+pub settles_is : (object : Object) (index : ℕ) (call : Call) (u : Unsettled call)
+    → want_of object index call ≡ want.Settle (layout_at object u.phase.position).k (value_len u.phase.replies)
 settles_is object index call u =
     ap (λ a. cond (is_some a) want.Done (want_after object next call.settled (current_phase call.phases))) u.open_call
     ∙ ap (λ p. want_after object next call.settled p) u.current
-    ∙ ap (λ e. cond (is_some e) (cond (is_fetch u.phase.kind) (cond (is_some call.settled) (want_for object next) settle) (want_for object next)) want.Replies) u.ended
+    ∙ ap (λ e. cond (is_some e)
+    (cond (is_fetch u.phase.kind) (cond (is_some call.settled) (want_for object next) settle) (want_for object next)) want.Replies)
+    u.ended
     ∙ ap (λ k. cond (is_fetch k) (cond (is_some call.settled) (want_for object next) settle) (want_for object next)) u.fetch.1
     ∙ ap (λ s. cond (is_some s) (want_for object next) settle) u.none
   where
@@ -234,7 +257,8 @@ record IsBrought (replies : List Taken) (n member : ℕ) : Type 0 where
   below : member < n
   brought : is_some (piece_by replies member) ≡ true
 
-module _ (object : Object) (last index : ℕ) (call : Call) (sound : IsSound fragment object last) (at : slice_get object.calls index ≡ Some call) (u : Unsettled call) where
+module _ (object : Object) (last index : ℕ) (call : Call) (sound : IsSound fragment object last)
+    (at : slice_get object.calls index ≡ Some call) (u : Unsettled call) where
   abbrev layout : Layout
   layout = layout_at object u.phase.position
 
@@ -257,11 +281,17 @@ module _ (object : Object) (last index : ℕ) (call : Call) (sound : IsSound fra
   enough : HasEnough object u.phase
   enough = fetch_has_enough object sound.legal sound.open_banks index place call u.phase at within truth u.fetch u.end u.ended
 
-  coded : AllByRecursion (λ t. IfCoded fragment object u.phase.position t.member (answer_tag (Fetch tag) t.reply.answer) (answer_piece t.reply.answer)) u.phase.replies
-  coded = subst (λ kind. AllByRecursion (λ t. IfCoded fragment object u.phase.position t.member (answer_tag kind t.reply.answer) (answer_piece t.reply.answer)) u.phase.replies)
+  coded : AllByRecursion
+      (λ t. IfCoded fragment object u.phase.position t.member (answer_tag (Fetch tag) t.reply.answer) (answer_piece t.reply.answer))
+      u.phase.replies
+  coded = subst
+      (λ kind. AllByRecursion
+      (λ t. IfCoded fragment object u.phase.position t.member (answer_tag kind t.reply.answer) (answer_piece t.reply.answer))
+      u.phase.replies)
       u.fetch.1 (sound.coded.phases index place call u.phase at within)
 
-  first_piece : (members : List ℕ) → layout.k ≤ length members → AllByRecursion (TookPiece u.phase) members → (member : ℕ) × TookPiece u.phase member
+  first_piece : (members : List ℕ) → layout.k ≤ length members → AllByRecursion (TookPiece u.phase) members → (member : ℕ)
+      × TookPiece u.phase member
   first_piece [] many all = absurd (let some = lawful.some in omega (arith, many))
   first_piece (member ∷ members) many all = (member, all.0)
 
@@ -289,7 +319,8 @@ module _ (object : Object) (last index : ℕ) (call : Call) (sound : IsSound fra
 
   is_brought : (member : ℕ) → TookPiece u.phase member → IsBrought u.phase.replies (length layout.members) member
   is_brought member t = record {
-    below = subst (λ m. m < length layout.members) t.same_member (all_get (IsTrueReply object u.phase) u.phase.replies t.place t.reply truth.replies t.within).within;
+    below = subst (λ m. m < length layout.members) t.same_member
+        (all_get (IsTrueReply object u.phase) u.phase.replies t.place t.reply truth.replies t.within).within;
     brought = ap (λ m. is_some (piece_by u.phase.replies m)) (sym t.same_member)
         ∙ ap is_some (first_reply u.phase.replies t.place t.reply truth.one_each t.within)
         ∙ some_is (answer_piece t.reply.reply.answer) t.some_piece;
@@ -318,15 +349,20 @@ module _ (object : Object) (last index : ℕ) (call : Call) (sound : IsSound fra
     bytes = All-from_recursion (λ b. b < 256) value is_value.0;
     count = take_length layout.k (pieces_below u.phase.replies (length layout.members)) many;
     distinct = AllPairs-from_IsDistinct Decides-eqb (points_of ps)
-        (points_apart ps (apart_take layout.k (pieces_below u.phase.replies (length layout.members)) (apart_below value layout.k u.phase.replies (length layout.members) brought)));
-    pieces_of = All-from_recursion (λ p. p ≡ piece_of value layout.k p.point) ps (all_weaker _ (λ p. p ≡ piece_of value layout.k p.point) ps (λ p is. is.0) all_of);
+        (points_apart ps
+        (apart_take layout.k (pieces_below u.phase.replies (length layout.members))
+        (apart_below value layout.k u.phase.replies (length layout.members) brought)));
+    pieces_of =
+        All-from_recursion (λ p. p ≡ piece_of value layout.k p.point) ps
+        (all_weaker _ (λ p. p ≡ piece_of value layout.k p.point) ps (λ p is. is.0) all_of);
   }
 
   pub len_of : value_len u.phase.replies ≡ length value
   len_of = len_is value layout.k u.phase.replies took.1.place took.1.reply one_piece.0 brought took.1.within one_piece.1
 
 -- a call that wants to settle a value, by its number
-pub place_of_call : (object : Object) (number : ℕ) (call : Call) → call_at object number ≡ Some call → slice_get object.calls (pred number) ≡ Some call
+pub place_of_call : (object : Object) (number : ℕ) (call : Call) → call_at object number ≡ Some call
+    → slice_get object.calls (pred number) ≡ Some call
 place_of_call object zero call e = absurd (cc)
 place_of_call object (suc index) call e = e
 
@@ -339,7 +375,8 @@ pub record WantsAt (object : Object) (number : ℕ) (wanted : Want) : Type 0 whe
 pub wants_at : (object : Object) (number : ℕ) (wanted : Want) → want_at object number ≡ Some wanted → WantsAt object number wanted
 wants_at object number wanted e = go (call_at object number) refl e
   where
-    go : (o : Option Call) → call_at object number ≡ o → option_map (λ (call : Call). want_of object (pred number) call) o ≡ Some wanted → WantsAt object number wanted
+    go : (o : Option Call) → call_at object number ≡ o → option_map (λ (call : Call). want_of object (pred number) call) o ≡ Some wanted
+        → WantsAt object number wanted
     go None is e = absurd (cc)
     go (Some call) is e = record { call = call; at = is; wants = cc }
 
@@ -350,8 +387,11 @@ pieces_are object last number k len sound wanted =
     let w = wants_at object number (want.Settle k len) wanted in
     let at = place_of_call object number w.call w.at in
     let u = unsettled_of object (pred number) w.call k len w.wants in
-    let parts = settle_parts k len (layout_at object u.phase.position).k (value_len u.phase.replies) (sym w.wants ∙ settles_is object (pred number) w.call u) in
-    let read : pieces_at object number ≡ ps object last (pred number) w.call sound at u = ap (pieces_of object) w.at ∙ ap (least_of object) u.current in (
+    let parts =
+    settle_parts k len (layout_at object u.phase.position).k (value_len u.phase.replies)
+    (sym w.wants ∙ settles_is object (pred number) w.call u) in
+    let read : pieces_at object number ≡ ps object last (pred number) w.call sound at u =
+    ap (pieces_of object) w.at ∙ ap (least_of object) u.current in (
       value object last (pred number) w.call sound at u,
       sym (parts.1 ∙ len_of object last (pred number) w.call sound at u),
       subst₂ (λ k pieces. ArePiecesOf (value object last (pred number) w.call sound at u) k pieces) (sym parts.0) (sym read)

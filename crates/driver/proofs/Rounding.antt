@@ -26,18 +26,22 @@ some_same : {X : Type 0} (x y : X) → Some x ≡ Some y → x ≡ y
 some_same x y e = cc
 
 module _ (cluster : Cluster) (name : List ℕ) (call : ℕ) where
-  pub to_encode : (state : State) (k n : ℕ) (value : List ℕ) → named cluster.objects name ≡ Some state → IsSound fragment state.object state.last
+  pub to_encode : (state : State) (k n : ℕ) (value : List ℕ) → named cluster.objects name ≡ Some state
+      → IsSound fragment state.object state.last
       → if_named cluster name (λ object. coding_at object call) ≡ Some (value, k, n) → IsToEncode cluster name call k n value
   to_encode state k n value there sound sent = record {
     sent = sent;
-    lawful = codable state.object state.last call k n value sound (sym (read_there cluster name state (λ object. coding_at object call) there) ∙ sent);
+    lawful = codable state.object state.last call k n value sound
+        (sym (read_there cluster name state (λ object. coding_at object call) there) ∙ sent);
   }
 
-  pub to_decode : (state : State) (k len : ℕ) (pieces : List Piece) → named cluster.objects name ≡ Some state → IsSound fragment state.object state.last
+  pub to_decode : (state : State) (k len : ℕ) (pieces : List Piece) → named cluster.objects name ≡ Some state
+      → IsSound fragment state.object state.last
       → wanted cluster name call ≡ Some (want.Settle k len) → suc cluster.counter ≤ MOST_STEPS
       → if_named cluster name (λ object. Some (pieces_at object call)) ≡ Some pieces → IsToDecode cluster name call k len pieces
   to_decode state k len pieces there sound wants within taken =
-      let here : want_at state.object call ≡ Some (want.Settle k len) = sym (read_there cluster name state (λ object. want_at object call) there) ∙ wants in
+      let here : want_at state.object call ≡ Some (want.Settle k len) =
+      sym (read_there cluster name state (λ object. want_at object call) there) ∙ wants in
       let given = pieces_are state.object state.last call k len sound here in
       let same : pieces_at state.object call ≡ pieces =
       some_same _ _ (sym (read_there cluster name state (λ object. Some (pieces_at object call)) there) ∙ taken) in
@@ -55,13 +59,18 @@ module _ (cluster : Cluster) (name : List ℕ) (call : ℕ) where
   supply_same k n value is =
       same_cause cluster name (λ object. supply_cause (next cluster) object call (record { k = k; n = n; value = value }))
       (λ object. supplying_cause (next cluster) object call)
-      (λ state there. supply_is state.object call k n (next cluster) value (sym (read_there cluster name state (λ object. coding_at object call) there) ∙ is.sent))
+      (λ state there. supply_is state.object call k n (next cluster) value
+      (sym (read_there cluster name state (λ object. coding_at object call) there) ∙ is.sent))
 
-  pub settle_same : (k len : ℕ) (pieces : List Piece) (decoded : Decoding) → IsToDecode cluster name call k len pieces → decoded.k ≡ k → decoded.pieces ≡ pieces
-      → object_cause cluster name (λ object. settle_cause (next cluster) object call decoded) ≡ object_cause cluster name (λ object. settling_cause (next cluster) object call)
+  pub settle_same : (k len : ℕ) (pieces : List Piece) (decoded : Decoding) → IsToDecode cluster name call k len pieces → decoded.k ≡ k
+      → decoded.pieces ≡ pieces
+      → object_cause cluster name (λ object. settle_cause (next cluster) object call decoded) ≡ object_cause cluster name
+      (λ object. settling_cause (next cluster) object call)
   settle_same k len pieces decoded is same_k same_pieces =
-      same_cause cluster name (λ object. settle_cause (next cluster) object call decoded) (λ object. settling_cause (next cluster) object call)
-      (λ state there. settle_is state.object call k len (next cluster) decoded (sym (read_there cluster name state (λ object. want_at object call) there) ∙ is.wants)
+      same_cause cluster name (λ object. settle_cause (next cluster) object call decoded)
+      (λ object. settling_cause (next cluster) object call)
+      (λ state there. settle_is state.object call k len (next cluster) decoded
+      (sym (read_there cluster name state (λ object. want_at object call) there) ∙ is.wants)
       same_k (same_pieces ∙ some_same _ _ (sym is.taken ∙ read_there cluster name state (λ object. Some (pieces_at object call)) there)))
 
   -- the pieces give a value
@@ -69,14 +78,18 @@ module _ (cluster : Cluster) (name : List ℕ) (call : ℕ) where
       → wanted cluster name call ≡ Some (want.Settle k len) → (state : State) → named cluster.objects name ≡ Some state
       → (value : List ℕ) × IsInterpolated k len (pieces_at state.object call) value
   given_there old k len there sound wants state at =
-      let here : want_at old.object call ≡ Some (want.Settle k len) = sym (read_there cluster name old (λ object. want_at object call) there) ∙ wants in
+      let here : want_at old.object call ≡ Some (want.Settle k len) =
+      sym (read_there cluster name old (λ object. want_at object call) there) ∙ wants in
       let given = pieces_are old.object old.last call k len sound here in
-      let value = IsInterpolated-pieces_of given.0 k len (pieces_at old.object call) given.1 given.2 in
-      (given.0, subst (λ (s : State). IsInterpolated k len (pieces_at s.object call) given.0) (one_state cluster name old state there at) value)
+      let value = IsInterpolated-pieces_of given.0 k len (pieces_at old.object call) given.1 given.2 in (
+        given.0,
+        subst (λ (s : State). IsInterpolated k len (pieces_at s.object call) given.0) (one_state cluster name old state there at) value,
+      )
 
   -- a call without a value to send is not supplied
   pub no_value : {T : Type 0} (r : Result T Refusal) (e : Refusal) → IsErrAnd r (λ y. y ≡ e)
-      → (object_cause cluster name (λ object. value_cause object call) ≡ Some e) ⊎ ((object_cause cluster name (λ object. value_cause object call) ≡ None) × (e ≡ NoMemory))
+      → (object_cause cluster name (λ object. value_cause object call) ≡ Some e)
+      ⊎ ((object_cause cluster name (λ object. value_cause object call) ≡ None) × (e ≡ NoMemory))
       → IsByCauseOrMemory (object_cause cluster name (λ object. value_cause object call))
       (object_cause cluster name (λ object. supplying_cause (next cluster) object call)) r
   no_value (Ok x) e is by = absurd is

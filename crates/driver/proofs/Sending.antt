@@ -1,5 +1,6 @@
 -- What a call sends can be coded, and is what it is to be supplied with; what it fetched is what it is to settle.
-use Rattle.std.proofs.Common.{◌≡◌, ℕ, zero, suc, pred, ◌<◌, ◌≤◌, ◌==◌, ◌&&◌, ◌||◌, Bool, true, false, cond, is_some, List, [], ◌∷◌, ◌++◌, length, take, Option, Some, None, option_map, slice_get, sym, ap, subst, ◌∙◌, refl, arith}
+use Rattle.std.proofs.Common.{◌≡◌, ℕ, zero, suc, pred, ◌<◌, ◌≤◌, ◌==◌, ◌&&◌, ◌||◌, Bool, true, false, cond, is_some, List, [], ◌∷◌, ◌++◌}
+use Rattle.std.proofs.Common.{length, take, Option, Some, None, option_map, slice_get, sym, ap, subst, ◌∙◌, refl, arith}
 use Rattle.std.specs.List.{list_all}
 use Rattle.std.proofs.lemmas.Bool.{eq-eqb}
 use Rattle.tag.specs.declared.limits.TheConstants.{LONGEST_VALUE, MOST_STEPS}
@@ -25,12 +26,15 @@ use Rattle.record.specs.Steps.{sent_value, value_or_empty}
 use Rattle.record.specs.Wants.{current_phase, value_len, want_of}
 use Rattle.record.specs.declared.stage.Want.{Want}
 use Rattle.record.specs.declared.stage.Want.TheVariants as want
-use Rattle.record.proofs.Due.{due_there}
-use Rattle.record.proofs.Keeping.{all_get}
-use Rattle.record.proofs.Quorums.{lawful_at}
-use Rattle.record.proofs.Wanting.{Unsettled, last_at, unsettled_of}
-use Rattle.register.specs.Causes.{call_at, if_call, if_step, unless, is_settle, is_decoded_in, supply_cause, supplied_cause, supply_room_cause, settle_cause, value_cause}
-use Rattle.register.specs.Coding.{bytes_eq, pieces_position, pieces_due, is_coded_for, same_piece, has_piece, is_recorded, piece_by, listed, pieces_below, least_of}
+use Rattle.record.proofs.Sound.Due.{due_there}
+use Rattle.record.proofs.Lists.{all_get}
+use Rattle.record.proofs.Atomic.Quorums.Meeting.{lawful_at}
+use Rattle.record.proofs.Sound.Waiting.{Unsettled, last_at}
+use Rattle.record.proofs.Sound.Wanting.{unsettled_of}
+use Rattle.register.specs.Causes.{call_at, if_call, if_step, unless, is_settle, is_decoded_in, supply_cause, supplied_cause}
+use Rattle.register.specs.Causes.{supply_room_cause, settle_cause, value_cause}
+use Rattle.register.specs.Coding.{bytes_eq, pieces_position, pieces_due, is_coded_for, same_piece, has_piece, is_recorded, piece_by, listed}
+use Rattle.register.specs.Coding.{pieces_below, least_of}
 use Rattle.register.specs.View.{want_at, coding_at, coding_of, to_code, pieces_at, pieces_of}
 use Rattle.register.proofs.Rooms.{step_within}
 use Rattle.register.proofs.Sendings.{sending_of}
@@ -49,18 +53,22 @@ some_pair a b e = go a b e
     go : (a b : Kind × ℕ) → Some a ≡ Some b → a.1 ≡ b.1
     go a b e = ap unwrapped e
 
-due_position : (object : Object) (last index position : ℕ) (call : Call) → IsSound fragment object last → slice_get object.calls index ≡ Some call
-    → (o : Option (Kind × ℕ)) → due (stage_of object index call) ≡ o → option_map (λ (n : Kind × ℕ). n.1) o ≡ Some position → position < length object.layouts
+due_position : (object : Object) (last index position : ℕ) (call : Call) → IsSound fragment object last
+    → slice_get object.calls index ≡ Some call
+    → (o : Option (Kind × ℕ)) → due (stage_of object index call) ≡ o → option_map (λ (n : Kind × ℕ). n.1) o ≡ Some position
+    → position < length object.layouts
 due_position object last index position call sound at None is e = absurd (cc)
 due_position object last index position call sound at (Some next) is e =
     let same : next.1 ≡ position = cc in
     subst (λ p. p < length object.layouts) same (due_there object sound.legal sound.shape index call at next.0 next.1 is)
 
-sent_there : (object : Object) (last index position : ℕ) (call : Call) → IsSound fragment object last → slice_get object.calls index ≡ Some call
+sent_there : (object : Object) (last index position : ℕ) (call : Call) → IsSound fragment object last
+    → slice_get object.calls index ≡ Some call
     → pieces_due object index call ≡ Some position → position < length object.layouts
 sent_there object last index position call sound at = go (want_of object index call)
   where
-    go : (w : Want) → pieces_position w (due (stage_of object index call)) (current_phase call.phases) ≡ Some position → position < length object.layouts
+    go : (w : Want) → pieces_position w (due (stage_of object index call)) (current_phase call.phases) ≡ Some position
+        → position < length object.layouts
     go (want.Supply k n) e = due_position object last index position call sound at (due (stage_of object index call)) refl e
     go want.Replies e =
         let s = sending_of (current_phase call.phases) position e in
@@ -95,11 +103,13 @@ pub record Sends (object : Object) (number k n : ℕ) (value : List ℕ) : Type 
   pub k_is : (layout_at object position).k ≡ k
   pub n_is : length (layout_at object position).members ≡ n
 
-pub sends : (object : Object) (number k n : ℕ) (value : List ℕ) → coding_at object number ≡ Some (value, k, n) → Sends object number k n value
+pub sends : (object : Object) (number k n : ℕ) (value : List ℕ) → coding_at object number ≡ Some (value, k, n)
+    → Sends object number k n value
 sends object number k n value e = go (call_at object number) refl e
   where
     parts : (call : Call) (position : ℕ) → Some (to_code object call position) ≡ Some (value, k, n)
-        → (value_or_empty (sent_value call.kind call.settled) ≡ value) × ((layout_at object position).k ≡ k) × (length (layout_at object position).members ≡ n)
+        → (value_or_empty (sent_value call.kind call.settled) ≡ value) × ((layout_at object position).k ≡ k)
+        × (length (layout_at object position).members ≡ n)
     parts call position e = (ap first e, ap second e, ap third e)
       where
         first : Option (List ℕ × ℕ × ℕ) → List ℕ
@@ -126,11 +136,13 @@ sends object number k n value e = go (call_at object number) refl e
     go (Some call) is e = at_position call is (pieces_due object (pred number) call) refl e
 
 -- it can be coded
-pub codable : (object : Object) (last number k n : ℕ) (value : List ℕ) → IsSound fragment object last → coding_at object number ≡ Some (value, k, n) → coded.IsLawful k n value
+pub codable : (object : Object) (last number k n : ℕ) (value : List ℕ) → IsSound fragment object last
+    → coding_at object number ≡ Some (value, k, n) → coded.IsLawful k n value
 codable object last number k n value sound e =
     let s = sends object number k n value e in
     let at = place_of_call object number s.call s.at in
-    let lawful = lawful_at object s.position sound.legal.layouts (sent_there object last (pred number) s.position s.call sound at s.due_at) in
+    let lawful =
+    lawful_at object s.position sound.legal.layouts (sent_there object last (pred number) s.position s.call sound at s.due_at) in
     let short = sent_short object last (pred number) s.call sound at in
     let some = lawful.some in
     let enough = lawful.enough in
@@ -163,7 +175,9 @@ supply_is object number k n now value e =
     ∙ ap (supplied_cause now object (pred number) s.call given) s.due_at
     ∙ ap (λ b. unless b WrongCode (supply_room_cause now object (pred number) s.call)) right
     ∙ sym (ap (λ (o : Option ℕ). unless (is_some o) NotNow (supply_room_cause now object (pred number) s.call)) s.due_at)
-    ∙ sym (ap (λ o. if_call o (λ call. unless (is_some (pieces_due object (pred number) call)) NotNow (supply_room_cause now object (pred number) call))) s.at)
+    ∙ sym (ap
+    (λ o. if_call o
+    (λ call. unless (is_some (pieces_due object (pred number) call)) NotNow (supply_room_cause now object (pred number) call))) s.at)
   where
     s : Sends object number k n value
     s = sends object number k n value e
@@ -177,15 +191,19 @@ supply_is object number k n now value e =
         (eq-eqb n (length (layout_at object s.position).members) (sym s.n_is))
 
 -- where there is a value to send, what is refused otherwise is refused so
-pub value_refused : (object : Object) (number now : ℕ) (refusal : Refusal) → value_cause object number ≡ Some refusal → supplying_cause now object number ≡ Some refusal
+pub value_refused : (object : Object) (number now : ℕ) (refusal : Refusal) → value_cause object number ≡ Some refusal
+    → supplying_cause now object number ≡ Some refusal
 value_refused object number now refusal = go (call_at object number)
   where
-    due : (call : Call) (o : Option ℕ) → unless (is_some o) NotNow None ≡ Some refusal → unless (is_some o) NotNow (supply_room_cause now object (pred number) call) ≡ Some refusal
+    due : (call : Call) (o : Option ℕ) → unless (is_some o) NotNow None ≡ Some refusal
+        → unless (is_some o) NotNow (supply_room_cause now object (pred number) call) ≡ Some refusal
     due call None e = e
     due call (Some position) e = absurd (cc)
 
     go : (o : Option Call) → if_call o (λ call. unless (is_some (pieces_due object (pred number) call)) NotNow None) ≡ Some refusal
-        → if_call o (λ call. unless (is_some (pieces_due object (pred number) call)) NotNow (supply_room_cause now object (pred number) call)) ≡ Some refusal
+        → if_call o
+        (λ call. unless (is_some (pieces_due object (pred number) call)) NotNow
+        (supply_room_cause now object (pred number) call)) ≡ Some refusal
     go None e = e
     go (Some call) e = due call (pieces_due object (pred number) call) e
 
@@ -202,9 +220,11 @@ recorded : (replies : List Taken) (member : ℕ) (p : Piece) → piece_by replie
 recorded [] member p e = absurd (cc)
 recorded (t ∷ replies) member p e = go (recorded replies member p) (t.member == member) refl
   where
-    go : (piece_by replies member ≡ Some p → is_recorded replies p ≡ true) → (b : Bool) → (t.member == member) ≡ b → is_recorded (t ∷ replies) p ≡ true
+    go : (piece_by replies member ≡ Some p → is_recorded replies p ≡ true) → (b : Bool) → (t.member == member) ≡ b
+        → is_recorded (t ∷ replies) p ≡ true
     go rest true is =
-        ap (λ o. has_piece p o || is_recorded replies p) (sym (ap (λ b. cond b (answer_piece t.reply.answer) (piece_by replies member)) is) ∙ e)
+        ap (λ o. has_piece p o || is_recorded replies p)
+        (sym (ap (λ b. cond b (answer_piece t.reply.answer) (piece_by replies member)) is) ∙ e)
         ∙ ap (λ b. b || is_recorded replies p) (same_self p)
     go rest false is =
         or_right (has_piece p (answer_piece t.reply.answer)) (is_recorded replies p)
@@ -214,7 +234,8 @@ all_both : (test : Piece → Bool) (xs ys : List Piece) → list_all test xs ≡
 all_both test [] ys a b = b
 all_both test (x ∷ xs) ys a b = go (all_both test xs ys) (test x) refl a
   where
-    go : (list_all test xs ≡ true → list_all test ys ≡ true → list_all test (xs ++ ys) ≡ true) → (t : Bool) → test x ≡ t → (t && list_all test xs) ≡ true
+    go : (list_all test xs ≡ true → list_all test ys ≡ true → list_all test (xs ++ ys) ≡ true) → (t : Bool) → test x ≡ t
+        → (t && list_all test xs) ≡ true
         → (t && list_all test (xs ++ ys)) ≡ true
     go rest true is a = rest a b
     go rest false is a = absurd (cc)
@@ -224,7 +245,8 @@ all_take test zero xs a = refl
 all_take test (suc k) [] a = refl
 all_take test (suc k) (x ∷ xs) a = go (all_take test k xs) (test x) a
   where
-    go : (list_all test xs ≡ true → list_all test (take k xs) ≡ true) → (t : Bool) → (t && list_all test xs) ≡ true → (t && list_all test (take k xs)) ≡ true
+    go : (list_all test xs ≡ true → list_all test (take k xs) ≡ true) → (t : Bool) → (t && list_all test xs) ≡ true
+        → (t && list_all test (take k xs)) ≡ true
     go rest true a = rest a
     go rest false a = absurd (cc)
 
@@ -242,7 +264,8 @@ both_true : (a b : Bool) → a ≡ true → b ≡ true → (a && b) ≡ true
 both_true true b p q = q
 both_true false b p q = absurd (cc)
 
-pub settle_is : (object : Object) (number k len now : ℕ) (decoded : Decoding) → want_at object number ≡ Some (want.Settle k len) → decoded.k ≡ k
+pub settle_is : (object : Object) (number k len now : ℕ) (decoded : Decoding) → want_at object number ≡ Some (want.Settle k len)
+    → decoded.k ≡ k
     → decoded.pieces ≡ pieces_at object number → settle_cause now object number decoded ≡ settling_cause now object number
 settle_is object number k len now decoded e same_k same_pieces =
     ap (λ o. if_call o (λ call. unless (is_settle (want_of object (pred number) call)) NotNow
@@ -270,10 +293,12 @@ settle_is object number k len now decoded e same_k same_pieces =
         ap (λ p. is_decoded_in object p decoded) u.current
         ∙ both_true _ _ (eq-eqb decoded.k here.k k_is)
         (ap (list_all (is_recorded u.phase.replies)) pieces_is
-        ∙ all_take (is_recorded u.phase.replies) here.k (pieces_below u.phase.replies (length here.members)) (all_recorded u.phase.replies (length here.members)))
+        ∙ all_take (is_recorded u.phase.replies) here.k (pieces_below u.phase.replies (length here.members))
+        (all_recorded u.phase.replies (length here.members)))
 
 -- it is not past the limit of steps
-pub settling_none : (object : Object) (number k len now : ℕ) → want_at object number ≡ Some (want.Settle k len) → now ≤ MOST_STEPS → settling_cause now object number ≡ None
+pub settling_none : (object : Object) (number k len now : ℕ) → want_at object number ≡ Some (want.Settle k len) → now ≤ MOST_STEPS
+    → settling_cause now object number ≡ None
 settling_none object number k len now e within =
     let w = wants_at object number (want.Settle k len) e in
     ap (λ o. if_call o (λ call. unless (is_settle (want_of object (pred number) call)) NotNow (if_step now None))) w.at

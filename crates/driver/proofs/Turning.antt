@@ -34,13 +34,16 @@ module _ {C : Type 0} (chooses : C → ℕ → ℕ → C → Type 0) (name : Lis
   abbrev Made : Cluster → C → Type 0
   Made new after = IsTurn chooses name call again old before new after × IsOpen new name call
 
-  no_answer : (after : C) (step : Step) → IsDue chooses name call old again before after step → step ≢ Step.AnswerCall (pred call) → wanted old name call ≢ Some want.Answer
+  no_answer : (after : C) (step : Step) → IsDue chooses name call old again before after step → step ≢ Step.AnswerCall (pred call)
+      → wanted old name call ≢ Some want.Answer
   no_answer after step due other e =
-      let is = same_want due.want want.Answer (sym due.wants ∙ sym (read_there old name due.state (λ object. want_at object call) due.there) ∙ e) in
+      let is = same_want due.want want.Answer
+      (sym due.wants ∙ sym (read_there old name due.state (λ object. want_at object call) due.there) ∙ e) in
       let n = subst (λ w. IsNext chooses name call old due.state.object again before after step w) is due.next in
       other n.1
 
-  made : (new : Cluster) (after : C) (step : Step) → IsDue chooses name call old again before after step → step ≢ Step.AnswerCall (pred call)
+  made : (new : Cluster) (after : C) (step : Step) → IsDue chooses name call old again before after step
+      → step ≢ Step.AnswerCall (pred call)
       → turn_cause old name call step ≡ None → new ≡ stepped old name step → Made new after
   made new after step due other room is =
       let turn : IsTurn chooses name call again old before new after = record { step = step; due = due; room = room; made = is } in
@@ -52,22 +55,26 @@ module _ {C : Type 0} (chooses : C → ℕ → ℕ → C → Type 0) (name : Lis
   no_settle : (value : List ℕ) → Step.Settle (pred call) value ≢ Step.AnswerCall (pred call)
   no_settle value e = cc
 
-  pub stepped_turn : (new : Cluster) (after : C) (o : Round) → o ≡ round.Stepped → IsRound chooses name call again old before new after o → Made new after
+  pub stepped_turn : (new : Cluster) (after : C) (o : Round) → o ≡ round.Stepped → IsRound chooses name call again old before new after o
+      → Made new after
   stepped_turn new after o is made =
       let r = subst (λ o. IsRound chooses name call again old before new after o) is made in
       (r.0, turn_open chooses name call again old before new after r.0 r.1)
 
   module _ (middle : Cluster) (after : C) (o : Round) (made_by : IsRound chooses name call again old before middle after o) where
     pub encode_turn : (value : List ℕ) (k n : ℕ) (new : Cluster) → o ≡ round.Encode value k n
-        → object_cause middle name (λ object. supplying_cause (next middle) object call) ≡ None → new ≡ stepped middle name (Step.Supply (pred call)) → Made new after
+        → object_cause middle name (λ object. supplying_cause (next middle) object call) ≡ None
+        → new ≡ stepped middle name (Step.Supply (pred call)) → Made new after
     encode_turn value k n new is room step =
         let r = subst (λ o. IsRound chooses name call again old before middle after o) is made_by in
-        made new after (Step.Supply (pred call)) (subst (λ a. IsDue chooses name call old again before a (Step.Supply (pred call))) (sym r.1) r.2) no_supply
+        made new after (Step.Supply (pred call))
+        (subst (λ a. IsDue chooses name call old again before a (Step.Supply (pred call))) (sym r.1) r.2) no_supply
         (subst (λ (m : Cluster). object_cause m name (λ object. supplying_cause (next m) object call) ≡ None) r.0 room)
         (step ∙ ap (λ m. stepped m name (Step.Supply (pred call))) r.0)
 
     pub encode_refused : (value : List ℕ) (k n : ℕ) (refusal : Refusal) → o ≡ round.Encode value k n
-        → (object_cause middle name (λ object. supplying_cause (next middle) object call) ≡ Some refusal) ⊎ ((◌≡◌ {A = Option Refusal} None None) × (refusal ≡ NoMemory))
+        → (object_cause middle name (λ object. supplying_cause (next middle) object call) ≡ Some refusal)
+        ⊎ ((◌≡◌ {A = Option Refusal} None None) × (refusal ≡ NoMemory))
         → IsRefused chooses name call old again before after refusal
     encode_refused value k n refusal is by =
         let r = subst (λ o. IsRound chooses name call again old before middle after o) is made_by in
@@ -77,7 +84,8 @@ module _ {C : Type 0} (chooses : C → ℕ → ℕ → C → Type 0) (name : Lis
         ⊎ ((◌≡◌ {A = Option Refusal} None None) × (refusal ≡ NoMemory))) r.0 by))
 
     pub decode_turn : (pieces : Vec Piece Global) (k len : ℕ) (new : Cluster) → o ≡ round.Decode pieces k len
-        → object_cause middle name (λ object. settling_cause (next middle) object call) ≡ None → SettlesOwn middle name call new → Made new after
+        → object_cause middle name (λ object. settling_cause (next middle) object call) ≡ None → SettlesOwn middle name call new
+        → Made new after
     decode_turn pieces k len new is room settles =
         let r = subst (λ o. IsRound chooses name call again old before middle after o) is made_by in
         let own = subst (λ m. SettlesOwn m name call new) r.0 settles in

@@ -7,16 +7,19 @@ use Rattle.driver.specs.declared.whole_call.NotAnswered.{NotAnswered}
 use Rattle.driver.specs.declared.whole_call.NotAnswered.TheVariants as unanswered
 use Rattle.driver.specs.Driver.{IsFinished, IsUnfinished}
 use Rattle.driver.specs.Others.{next_number}
-use Rattle.driver.specs.WholeCalls.{IsWhole}
+use Rattle.driver.specs.WholeCalls.{IsWholeCall}
 
-module _ {C : Type 0} (chooses : C → ℕ → ℕ → C → Type 0) (name : List ℕ) (turns : ℕ) (old : Cluster) (before : C) (new : Cluster) (after : C) where
-  pub carried : (cause : Option Refusal) (begun middle : Cluster) (call : ℕ) (answer : Result Receipt NotAnswered) → cause ≡ None → next_number old name ≡ Some call
+module _ {C : Type 0} (chooses : C → ℕ → ℕ → C → Type 0) (name : List ℕ) (turns : ℕ) (old : Cluster) (before : C) (new : Cluster)
+    (after : C) where
+  pub carried : (cause : Option Refusal) (begun middle : Cluster) (call : ℕ) (answer : Result Receipt NotAnswered) → cause ≡ None
+      → next_number old name ≡ Some call
       → middle ≡ begun
       → MatchResult answer (λ receipt. IsFinished chooses name call false turns middle before new after receipt)
-      (λ e. (refusal : Refusal) × (e ≡ unanswered.Open call refusal) × IsUnfinished chooses name call false turns middle before new after refusal)
-      → IsWhole chooses name turns old before new after cause begun answer
+      (λ e. (refusal : Refusal) × (e ≡ unanswered.Open call refusal)
+      × IsUnfinished chooses name call false turns middle before new after refusal)
+      → IsWholeCall chooses name turns old before new after cause begun answer
   carried cause begun middle call (Ok receipt) none number is came =
       (call, none, number, subst (λ m. IsFinished chooses name call false turns m before new after receipt) is came)
   carried cause begun middle call (Err e) none number is came =
-      subst (λ e. IsWhole chooses name turns old before new after cause begun (Err e)) (sym came.1)
+      subst (λ e. IsWholeCall chooses name turns old before new after cause begun (Err e)) (sym came.1)
       (none, number, subst (λ m. IsUnfinished chooses name call false turns m before new after came.0) is came.2)

@@ -1,5 +1,6 @@
 -- The messages of a call that can be handled, which of them is chosen, and how one is handled.
-use Rattle.std.specs.Prelude.{◌≡◌, ℕ, suc, ◌%◌, ◌==◌, ◌&&◌, Bool, true, false, if◌then◌else◌, List, [], ◌∷◌, length, Option, Some, option_map, slice_get}
+use Rattle.std.specs.Prelude.{◌≡◌, ℕ, suc, ◌%◌, ◌==◌, ◌&&◌, Bool, true, false, if◌then◌else◌, List, [], ◌∷◌, length}
+use Rattle.std.specs.Prelude.{drop, Option, Some, option_map, slice_get}
 use Rattle.tag.specs.declared.refusal.Refusal.{Refusal}
 use Rattle.mail.specs.declared.message.Message.{Message}
 use Rattle.mail.specs.declared.message.Body.{Body}
@@ -10,13 +11,16 @@ use Rattle.register.specs.Causes.{if_message, taken_cause}
 use Rattle.register.specs.View.{took_at}
 use Rattle.cluster.specs.Cluster.{Cluster}
 use Rattle.cluster.specs.Causes.{next, served_cause, can_handle}
+use Rattle.driver.specs.declared.choices.Among.{Among}
+use Rattle.driver.specs.declared.choices.Among.TheVariants as among
 use Rattle.driver.specs.declared.messages.Handled.{Handled}
 use Rattle.driver.specs.declared.messages.Handled.TheVariants as handled
 
 -- the places of the messages that pass a test, where the first message stands at `place`
 abbrev pub places : (Message → Bool) → (place : ℕ) → List Message → List ℕ
 places test place [] = []
-places test place (message ∷ messages) = if test message then place ∷ places test (suc place) messages else places test (suc place) messages
+places test place (message ∷ messages) =
+    if test message then place ∷ places test (suc place) messages else places test (suc place) messages
 
 -- whether a message is the call's, and a reply or a request to a server that is up
 abbrev pub is_choice : Cluster → (call : ℕ) → Object → Message → Bool
@@ -26,8 +30,18 @@ is_choice cluster call object message = message.call == call && can_handle clust
 abbrev pub choices : Cluster → (call : ℕ) → Object → List ℕ
 choices cluster call object = places (is_choice cluster call object) 0 object.mail
 
+-- whether a message is of those that are looked at, and a reply or a request to a server that is up
+abbrev pub is_among : Cluster → Object → Among → Message → Bool
+is_among cluster object among.Every message = can_handle cluster object message message.body
+is_among cluster object (among.Call call) message = is_choice cluster call object message
+
+-- where those messages are from a place of the mail on, in mail order
+abbrev pub choices_from : Cluster → Object → Among → (place : ℕ) → List ℕ
+choices_from cluster object among place = places (is_among cluster object among) place (drop place object.mail)
+
 -- the chooser answers a number, and this is the place at its remainder by their count
-abbrev pub Picks : {C : Type 0} → (C → ℕ → ℕ → C → Type 0) → (among : List ℕ) → (before after : C) → (place : ℕ) → Type 0
+abbrev pub Picks : {C : Type 0} → (C → ℕ → ℕ → C → Type 0) → (among : List ℕ) → (before after : C) → (place : ℕ)
+    → Type 0
 Picks chooses among before after place =
     (answer : ℕ) × chooses before (length among) answer after × (slice_get among (answer % length among) ≡ Some place)
 
@@ -47,7 +61,8 @@ handled_as object place (body.Reply kind made) = handled.Taken (took_at object p
 
 -- what is done with the message at a place
 abbrev pub handled_at : (place : ℕ) → Object → Option Handled
-handled_at place object = option_map (λ (message : Message). handled_as object place message.body) (slice_get object.mail place)
+handled_at place object =
+    option_map (λ (message : Message). handled_as object place message.body) (slice_get object.mail place)
 
 abbrev pub handled_cause : Cluster → Object → Message → Body → Option Refusal
 handled_cause cluster object message (body.Request asked) = served_cause cluster object message (body.Request asked)
@@ -55,7 +70,8 @@ handled_cause cluster object message (body.Reply kind made) = taken_cause (next 
 
 -- why the message at a place is not handled
 abbrev pub handling_cause : Cluster → (place : ℕ) → Object → Option Refusal
-handling_cause cluster place object = if_message (slice_get object.mail place) (λ message. handled_cause cluster object message message.body)
+handling_cause cluster place object =
+    if_message (slice_get object.mail place) (λ message. handled_cause cluster object message message.body)
 
 abbrev pub is_request : Body → Bool
 is_request (body.Request asked) = true

@@ -22,10 +22,11 @@ supplying_cause now object number =
 -- why a call does not settle the value of its own pieces: it wants none, or the limit of steps is met
 abbrev pub settling_cause : (now : ℕ) → Object → (number : ℕ) → Option Refusal
 settling_cause now object number =
-    if_call (call_at object number) (λ call. unless (is_settle (want_of object (pred number) call)) NotNow (if_step now None))
+    if_call (call_at object number)
+    (λ call. unless (is_settle (want_of object (pred number) call)) NotNow (if_step now None))
 
--- Ok where there is no cause of refusal, else that refusal; but the memory to code the value may be wanting first, where
--- there is a value to code
+-- Ok where there is no cause of refusal, else that refusal; but the memory to code the value may be wanting first,
+-- where there is a value to code
 abbrev pub IsByCauseOrMemory : {T : Type 0} → (no_value cause : Option Refusal) → Result T Refusal → Type 0
 IsByCauseOrMemory no_value cause answer =
     MatchResult answer (λ _. cause ≡ None) (λ r. (cause ≡ Some r) ⊎ ((no_value ≡ None) × (r ≡ NoMemory)))

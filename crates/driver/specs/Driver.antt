@@ -1,5 +1,6 @@
 -- The driver of one call: which step comes next, why it is refused, and what a list of steps leads to.
-use Rattle.std.specs.Prelude.{◌≡◌, ◌≢◌, ℕ, zero, suc, pred, ◌<◌, ◌==◌, ◌&&◌, Bool, true, false, if◌then◌else◌, List, [], Option, Some, None, slice_get}
+use Rattle.std.specs.Prelude.{◌≡◌, ◌≢◌, ℕ, zero, suc, pred, ◌<◌, ◌==◌, ◌&&◌, Bool, true, false, if◌then◌else◌, List, []}
+use Rattle.std.specs.Prelude.{Option, Some, None, slice_get}
 use Rattle.tag.specs.declared.refusal.Refusal.{Refusal}
 use Rattle.tag.specs.declared.refusal.Refusal.TheVariants.{NoMemory, NoObject, NoCall, NotNow, Full, Stuck, GaveUp}
 use Rattle.mail.specs.declared.message.Message.{Message}
@@ -26,7 +27,8 @@ wanted cluster name call = if_named cluster name (λ object. want_at object call
 abbrev pub IsOpen : Cluster → (name : List ℕ) → (call : ℕ) → Type 0
 IsOpen cluster name call = (w : Want) × (wanted cluster name call ≡ Some w) × (w ≢ want.Done)
 
--- the step by which the current phase of a call asks again: the pieces of a value are supplied, other requests are posted
+-- the step by which the current phase of a call asks again: the pieces of a value are supplied, other requests are
+-- posted
 abbrev pub asking : (number : ℕ) → Call → Step
 asking number call = if is_plain (current_phase call.phases) then Step.Post (pred number) else Step.Supply (pred number)
 
@@ -69,7 +71,8 @@ module _ {C : Type 0} (chooses : C → ℕ → ℕ → C → Type 0) (name : Lis
   IsNext cluster object again before after step want.Replies = IsWaitingStep cluster object again before after step
   IsNext cluster object again before after step want.Advance = (after ≡ before) × (step ≡ Step.Advance (pred call))
   IsNext cluster object again before after step (want.Supply k n) = (after ≡ before) × (step ≡ Step.Supply (pred call))
-  IsNext cluster object again before after step (want.Settle k len) = (after ≡ before) × Settles object call step (want.Settle k len)
+  IsNext cluster object again before after step (want.Settle k len) =
+      (after ≡ before) × Settles object call step (want.Settle k len)
   IsNext cluster object again before after step want.Answer = (after ≡ before) × (step ≡ Step.AnswerCall (pred call))
   IsNext cluster object again before after step want.Done = ⊥
 
@@ -89,10 +92,12 @@ module _ {C : Type 0} (chooses : C → ℕ → ℕ → C → Type 0) (name : Lis
     pub made : new ≡ stepped old name step
 
   -- a turn that answers the call, with this receipt
-  pub record IsAnswer (again : Bool) (old : Cluster) (before : C) (new : Cluster) (after : C) (receipt : Receipt) : Type 0 where
+  pub record IsAnswer (again : Bool) (old : Cluster) (before : C) (new : Cluster) (after : C) (receipt : Receipt)
+      : Type 0 where
     pub wants : wanted old name call ≡ Some want.Answer
     pub turn : IsTurn again old before new after
-    pub handed : if_named old name (λ object. receipt_at object (place_of old.objects name) call (next old)) ≡ Some receipt
+    pub handed : if_named old name
+        (λ object. receipt_at object (place_of old.objects name) call (next old)) ≡ Some receipt
 
   -- no message of a call that wants replies can be handled
   pub record IsStuck (cluster : Cluster) (again : Bool) : Type 0 where
@@ -102,23 +107,29 @@ module _ {C : Type 0} (chooses : C → ℕ → ℕ → C → Type 0) (name : Lis
 
   -- why a turn is refused; with no other refusal
   abbrev pub IsRefused : Cluster → (again : Bool) → (before after : C) → Refusal → Type 0
-  IsRefused cluster again before after NoObject = (after ≡ before) × (object_cause cluster name (λ object. number_cause object call) ≡ Some NoObject)
-  IsRefused cluster again before after NoCall = (after ≡ before) × (object_cause cluster name (λ object. number_cause object call) ≡ Some NoCall)
+  IsRefused cluster again before after NoObject =
+      (after ≡ before) × (object_cause cluster name (λ object. number_cause object call) ≡ Some NoObject)
+  IsRefused cluster again before after NoCall =
+      (after ≡ before) × (object_cause cluster name (λ object. number_cause object call) ≡ Some NoCall)
   IsRefused cluster again before after NotNow = (after ≡ before) × (wanted cluster name call ≡ Some want.Done)
   IsRefused cluster again before after Stuck = (after ≡ before) × IsStuck cluster again
-  IsRefused cluster again before after Full = (step : Step) × IsDue cluster again before after step × (turn_cause cluster name call step ≡ Some Full)
+  IsRefused cluster again before after Full =
+      (step : Step) × IsDue cluster again before after step × (turn_cause cluster name call step ≡ Some Full)
   IsRefused cluster again before after NoMemory =
       (step : Step) × IsDue cluster again before after step × IsForMemory step (turn_cause cluster name call step)
   IsRefused cluster again before after _ = ⊥
 
   -- so many turns, one after another, lead from one cluster to another
-  abbrev pub Drives : (resumed : Bool) → (count : ℕ) → (old : Cluster) → (before : C) → (new : Cluster) → (after : C) → Type 0
+  abbrev pub Drives : (resumed : Bool) → (count : ℕ) → (old : Cluster) → (before : C) → (new : Cluster) → (after : C)
+      → Type 0
   Drives resumed zero old before new after = (new ≡ old) × (after ≡ before)
   Drives resumed (suc count) old before new after =
-      (middle : Cluster) × (held : C) × Drives resumed count old before middle held × IsTurn (asks_again resumed count) middle held new after
+      (middle : Cluster) × (held : C) × Drives resumed count old before middle held
+      × IsTurn (asks_again resumed count) middle held new after
 
   -- the turns before the last, which answers the call
-  pub record IsFinished (resumed : Bool) (turns : ℕ) (old : Cluster) (before : C) (new : Cluster) (after : C) (receipt : Receipt) : Type 0 where
+  pub record IsFinished (resumed : Bool) (turns : ℕ) (old : Cluster) (before : C) (new : Cluster) (after : C)
+      (receipt : Receipt) : Type 0 where
     pub count : ℕ
     pub within : count < turns
     pub middle : Cluster
@@ -127,7 +138,8 @@ module _ {C : Type 0} (chooses : C → ℕ → ℕ → C → Type 0) (name : Lis
     pub answers : IsAnswer (asks_again resumed count) middle held new after receipt
 
   -- the turns before one that is refused
-  pub record IsStopped (resumed : Bool) (turns : ℕ) (old : Cluster) (before : C) (new : Cluster) (after : C) (refusal : Refusal) : Type 0 where
+  pub record IsStopped (resumed : Bool) (turns : ℕ) (old : Cluster) (before : C) (new : Cluster) (after : C)
+      (refusal : Refusal) : Type 0 where
     pub count : ℕ
     pub within : count < turns
     pub held : C
@@ -135,17 +147,20 @@ module _ {C : Type 0} (chooses : C → ℕ → ℕ → C → Type 0) (name : Lis
     pub refused : IsRefused new (asks_again resumed count) held after refusal
 
   -- nothing is done
-  abbrev pub IsIdle : (old : Cluster) → (before : C) → (new : Cluster) → (after : C) → Type 0
-  IsIdle old before new after = (new ≡ old) × (after ≡ before)
+  abbrev pub IsUntouched : (old : Cluster) → (before : C) → (new : Cluster) → (after : C) → Type 0
+  IsUntouched old before new after = (new ≡ old) × (after ≡ before)
 
   -- why `finish` is refused; with no other refusal
-  abbrev pub IsUnfinished : (resumed : Bool) → (turns : ℕ) → (old : Cluster) → (before : C) → (new : Cluster) → (after : C) → Refusal → Type 0
+  abbrev pub IsUnfinished : (resumed : Bool) → (turns : ℕ) → (old : Cluster) → (before : C) → (new : Cluster)
+      → (after : C) → Refusal → Type 0
   IsUnfinished resumed turns old before new after NoObject =
-      IsIdle old before new after × (object_cause old name (λ object. number_cause object call) ≡ Some NoObject)
+      IsUntouched old before new after × (object_cause old name (λ object. number_cause object call) ≡ Some NoObject)
   IsUnfinished resumed turns old before new after NoCall =
-      IsIdle old before new after × (object_cause old name (λ object. number_cause object call) ≡ Some NoCall)
-  IsUnfinished resumed turns old before new after NotNow = IsIdle old before new after × (wanted old name call ≡ Some want.Done)
-  IsUnfinished resumed turns old before new after GaveUp = Drives resumed turns old before new after × IsOpen new name call
+      IsUntouched old before new after × (object_cause old name (λ object. number_cause object call) ≡ Some NoCall)
+  IsUnfinished resumed turns old before new after NotNow =
+      IsUntouched old before new after × (wanted old name call ≡ Some want.Done)
+  IsUnfinished resumed turns old before new after GaveUp =
+      Drives resumed turns old before new after × IsOpen new name call
   IsUnfinished resumed turns old before new after Stuck = IsStopped resumed turns old before new after Stuck
   IsUnfinished resumed turns old before new after Full = IsStopped resumed turns old before new after Full
   IsUnfinished resumed turns old before new after NoMemory = IsStopped resumed turns old before new after NoMemory

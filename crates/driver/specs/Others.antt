@@ -12,7 +12,8 @@ AreOthers call (suc from) (message ∷ messages) = (message.call ≢ call) × Ar
 
 -- no message of the call stands before this place of the object's mail
 abbrev pub IsBehind : Cluster → (name : List ℕ) → (call from : ℕ) → Type 0
-IsBehind cluster name call from = (state : State) → named cluster.objects name ≡ Some state → AreOthers call from state.object.mail
+IsBehind cluster name call from =
+    (state : State) → named cluster.objects name ≡ Some state → AreOthers call from state.object.mail
 
 -- the number of the next call of the object of this name
 abbrev pub next_number : Cluster → (name : List ℕ) → Option ℕ

@@ -43,7 +43,10 @@ module _ {C : Type 0} (chooses : C → ℕ → ℕ → C → Type 0) (name : Lis
   IsRound again old before new after round.Stepped =
       IsTurn chooses name call again old before new after × (wanted old name call ≢ Some want.Answer)
   IsRound again old before new after (round.Encode value k n) =
-      (new ≡ old) × (after ≡ before) × IsDue chooses name call old again before before (Step.Supply (pred call)) × IsToEncode old name call k n value
+      (new ≡ old) × (after ≡ before) × IsDue chooses name call old again before before (Step.Supply (pred call))
+      × IsToEncode old name call k n value
   IsRound again old before new after (round.Decode pieces k len) =
       (new ≡ old) × (after ≡ before) × IsToDecode old name call k len pieces.items
-  IsRound again old before new after (round.Answered receipt) = IsAnswer chooses name call again old before new after receipt
+  IsRound again old before new after (round.Answered receipt) =
+      IsAnswer chooses name call again old before new after receipt
+  IsRound again old before new after round.Late = ⊥

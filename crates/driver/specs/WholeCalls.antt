@@ -13,26 +13,32 @@ use Rattle.driver.specs.declared.whole_call.NotAnswered.TheVariants as unanswere
 use Rattle.driver.specs.Driver.{IsFinished, IsUnfinished}
 use Rattle.driver.specs.Others.{next_number}
 
-module _ {C : Type 0} (chooses : C → ℕ → ℕ → C → Type 0) (name : List ℕ) (turns : ℕ) (old : Cluster) (before : C) (new : Cluster) (after : C) where
-  -- the call step has no cause of refusal and leads to `begun`, from where the driver brings the call to its answer, or is
-  -- refused; or the call step is refused, and nothing is done
-  abbrev pub IsWhole : (cause : Option Refusal) → (begun : Cluster) → Result Receipt NotAnswered → Type 0
-  IsWhole cause begun (Ok receipt) =
-      (call : ℕ) × (cause ≡ None) × (next_number old name ≡ Some call) × IsFinished chooses name call false turns begun before new after receipt
-  IsWhole cause begun (Err (unanswered.Open call refusal)) =
-      (cause ≡ None) × (next_number old name ≡ Some call) × IsUnfinished chooses name call false turns begun before new after refusal
-  IsWhole cause begun (Err (unanswered.NotCalled refusal)) =
+module _ {C : Type 0} (chooses : C → ℕ → ℕ → C → Type 0) (name : List ℕ) (turns : ℕ) (old : Cluster) (before : C)
+    (new : Cluster) (after : C) where
+  -- the call step has no cause of refusal and leads to `begun`, from where the driver brings the call to its answer, or
+  -- is refused; or the call step is refused, and nothing is done
+  abbrev pub IsWholeCall : (cause : Option Refusal) → (begun : Cluster) → Result Receipt NotAnswered → Type 0
+  IsWholeCall cause begun (Ok receipt) =
+      (call : ℕ) × (cause ≡ None) × (next_number old name ≡ Some call)
+      × IsFinished chooses name call false turns begun before new after receipt
+  IsWholeCall cause begun (Err (unanswered.Open call refusal)) =
+      (cause ≡ None) × (next_number old name ≡ Some call)
+      × IsUnfinished chooses name call false turns begun before new after refusal
+  IsWholeCall cause begun (Err (unanswered.NotCalled refusal)) =
       ((cause ≡ Some refusal) ⊎ ((cause ≡ None) × (refusal ≡ NoMemory))) × (new ≡ old) × (after ≡ before)
 
   -- a whole read
   abbrev pub IsWholeRead : Result Receipt NotAnswered → Type 0
-  IsWholeRead answer = IsWhole (object_cause old name (λ object. read_cause (next old) object)) (stepped old name Step.CallRead) answer
+  IsWholeRead answer =
+      IsWholeCall (object_cause old name (λ object. read_cause (next old) object)) (stepped old name Step.CallRead)
+      answer
 
   -- a whole write of this value
   abbrev pub IsWholeWrite : (value : List ℕ) → Result Receipt NotAnswered → Type 0
   IsWholeWrite value answer =
-      IsWhole (object_cause old name (λ object. write_cause value (next old) object)) (stepped old name (Step.CallWrite value)) answer
+      IsWholeCall (object_cause old name (λ object. write_cause value (next old) object))
+      (stepped old name (Step.CallWrite value)) answer
 
   -- a whole move to the layout of this number
   abbrev pub IsWholeMove : (id : ℕ) → Result Receipt NotAnswered → Type 0
-  IsWholeMove id answer = IsWhole (object_cause old name (moving_cause old id)) (moved old name id) answer
+  IsWholeMove id answer = IsWholeCall (object_cause old name (moving_cause old id)) (moved old name id) answer

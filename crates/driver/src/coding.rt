@@ -24,8 +24,9 @@ use tag::{MOST_STEPS, Refusal};
 
 /// The value that the call of this number is to send is coded, and the call is supplied with it.
 ///
-/// `NoObject` or `NoCall` where there is none, `NotNow` where it sends no value, and `Full` where a limit of the steps, of
-/// its phases or of the messages is met. `NoMemory` comes before `Full` where the memory to code the value is refused.
+/// `NoObject` or `NoCall` where there is none, `NotNow` where it sends no value, and `Full` where a limit of the steps,
+/// of its phases or of the messages is met. `NoMemory` comes before `Full` where the memory to code the value is
+/// refused.
 pub fn supply(alloc: Global, cluster: &mut Cluster, name: &str, call: u64) -> Result<(), Refusal>
     ensures step { OnOk result (cluster.new ≡ stepped cluster.old name.entry.now (Step.Supply (pred call))) }
     ensures cause { IsByCauseOrMemory (object_cause cluster.old name.entry.now (λ object. value_cause object call))
@@ -39,11 +40,12 @@ pub fn supply(alloc: Global, cluster: &mut Cluster, name: &str, call: u64) -> Re
 
 /// The value that the call of this number is to settle is decoded from the pieces that it took, and settled.
 ///
-/// `NoObject` or `NoCall` where there is none, `NotNow` unless it wants to settle a value, and `Full` where the limit of
-/// steps is met.
+/// `NoObject` or `NoCall` where there is none, `NotNow` unless it wants to settle a value, and `Full` where the limit
+/// of steps is met.
 pub fn settle(alloc: Global, cluster: &mut Cluster, name: &str, call: u64) -> Result<(), Refusal>
     ensures step { OnOk result (SettlesOwn cluster.old name.entry.now call cluster.new) }
-    ensures cause { IsByCause (object_cause cluster.old name.entry.now (λ object. settling_cause (next cluster.old) object call)) result }
+    ensures cause { IsByCause
+        (object_cause cluster.old name.entry.now (λ object. settling_cause (next cluster.old) object call)) result }
     ensures unchanged { OnErr result (cluster.new ≡ cluster.old) }
 {
     match cluster.want(name, call)? {
@@ -80,7 +82,8 @@ pub(crate) fn pieces_to_decode(
     ensures pieces { IfOk result (λ ps. IsToDecode cluster.now name.now call k len ps.items) }
     ensures given { (state : State) → named cluster.now.objects name.now ≡ Some state
         → (value : List ℕ) × IsInterpolated k len (pieces_at state.object call) value }
-    ensures cause { IsByCause (object_cause cluster.now name.now (λ object. settling_cause (next cluster.now) object call)) result }
+    ensures cause { IsByCause
+        (object_cause cluster.now name.now (λ object. settling_cause (next cluster.now) object call)) result }
 {
     cluster.register(name)?.soundness();
     if cluster.counter() >= MOST_STEPS {
@@ -101,7 +104,8 @@ pub(crate) fn supply_value(
 ) -> Result<(), Refusal>
     requires { IsToEncode cluster.old name.now call k n value }
     ensures step { OnOk result (cluster.new ≡ stepped cluster.old name.entry.now (Step.Supply (pred call))) }
-    ensures cause { IsByCauseOrMemory None (object_cause cluster.old name.entry.now (λ object. supplying_cause (next cluster.old) object call)) result }
+    ensures cause { IsByCauseOrMemory None
+        (object_cause cluster.old name.entry.now (λ object. supplying_cause (next cluster.old) object call)) result }
     ensures unchanged { OnErr result (cluster.new ≡ cluster.old) }
 {
     let coded = encode(alloc, k, n, value)?;
@@ -120,7 +124,8 @@ pub(crate) fn settle_pieces(
 ) -> Result<(), Refusal>
     requires { IsToDecode cluster.old name.now call k len pieces.items }
     ensures step { OnOk result (SettlesOwn cluster.old name.entry.now call cluster.new) }
-    ensures cause { IsByCause (object_cause cluster.old name.entry.now (λ object. settling_cause (next cluster.old) object call)) result }
+    ensures cause { IsByCause
+        (object_cause cluster.old name.entry.now (λ object. settling_cause (next cluster.old) object call)) result }
     ensures unchanged { OnErr result (cluster.new ≡ cluster.old) }
 {
     let decoded = decode(alloc, k, len, pieces)?;

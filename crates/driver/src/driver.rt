@@ -14,12 +14,12 @@ use std::alloc::Global;
 use tag::Refusal;
 
 /// Carries the call of this number on to its answer, in at most `turns` steps: each handles one of the call's messages,
-/// where it wants replies, or is the one that the call wants. With `resumed` the first step of a call that wants replies
-/// is that its current phase asks again.
+/// where it wants replies, or is the one that the call wants. With `resumed` the first step of a call that wants
+/// replies is that its current phase asks again.
 ///
-/// `NoObject` or `NoCall` where there is none; `NotNow` where the call is answered; `GaveUp` once the turns are used up;
-/// `Stuck` where the call wants replies and none of its messages can be handled; and `Full` as the step that comes next.
-/// The steps before a refusal stay made, and the call stays open.
+/// `NoObject` or `NoCall` where there is none; `NotNow` where the call is answered; `GaveUp` once the turns are used
+/// up; `Stuck` where the call wants replies and none of its messages can be handled; and `Full` as the step that comes
+/// next. The steps before a refusal stay made, and the call stays open.
 pub fn finish<C: Chooser>(
     alloc: Global,
     cluster: &mut Cluster,
@@ -29,15 +29,19 @@ pub fn finish<C: Chooser>(
     chooser: &mut C,
     turns: u64,
 ) -> Result<Receipt, Refusal>
-    ensures finished { IfOk result (λ r. IsFinished C.chooses name.entry.now call resumed turns cluster.old chooser.old cluster.new chooser.new r) }
-    ensures refused { IfErr result (λ e. IsUnfinished C.chooses name.entry.now call resumed turns cluster.old chooser.old cluster.new chooser.new e) }
+    ensures finished { IfOk result
+        (λ r. IsFinished C.chooses name.entry.now call resumed turns cluster.old chooser.old cluster.new
+        chooser.new r) }
+    ensures refused { IfErr result
+        (λ e. IsUnfinished C.chooses name.entry.now call resumed turns cluster.old chooser.old cluster.new chooser.new
+        e) }
 {
     let from = first_place(cluster, name, call);
-    drive(alloc, cluster, name, call, from, resumed, chooser, turns)
+    finish_from(alloc, cluster, name, call, from, resumed, chooser, turns)
 }
 
 /// As `finish`, for a call with no message before a place of the mail. No turn brings one there.
-pub(crate) fn drive<C: Chooser>(
+pub(crate) fn finish_from<C: Chooser>(
     alloc: Global,
     cluster: &mut Cluster,
     name: &str,
@@ -48,8 +52,12 @@ pub(crate) fn drive<C: Chooser>(
     turns: u64,
 ) -> Result<Receipt, Refusal>
     requires { IsBehind cluster.old name.now call from }
-    ensures finished { IfOk result (λ r. IsFinished C.chooses name.entry.now call resumed turns cluster.old chooser.old cluster.new chooser.new r) }
-    ensures refused { IfErr result (λ e. IsUnfinished C.chooses name.entry.now call resumed turns cluster.old chooser.old cluster.new chooser.new e) }
+    ensures finished { IfOk result
+        (λ r. IsFinished C.chooses name.entry.now call resumed turns cluster.old chooser.old cluster.new
+        chooser.new r) }
+    ensures refused { IfErr result
+        (λ e. IsUnfinished C.chooses name.entry.now call resumed turns cluster.old chooser.old cluster.new chooser.new
+        e) }
 {
     for turn in 0..turns {
         let again = asks_again(resumed, turn);
@@ -103,13 +111,18 @@ fn make_turn<C: Chooser>(
     chooser: &mut C,
 ) -> Result<Option<Receipt>, Refusal>
     requires { IsBehind cluster.old name.now call from }
-    ensures turn { IfOk result (λ o. MatchOption o (IsTurn C.chooses name.entry.now call asks_again cluster.old chooser.old cluster.new chooser.new × IsOpen cluster.new name.entry.now call)
+    ensures turn { IfOk result
+        (λ o. MatchOption o
+        (IsTurn C.chooses name.entry.now call asks_again cluster.old chooser.old cluster.new chooser.new
+        × IsOpen cluster.new name.entry.now call)
         (λ r. IsAnswer C.chooses name.entry.now call asks_again cluster.old chooser.old cluster.new chooser.new r)) }
 
-    ensures refused { IfErr result (λ e. IsRefused C.chooses name.entry.now call cluster.old asks_again chooser.old chooser.new e) }
+    ensures refused { IfErr result
+        (λ e. IsRefused C.chooses name.entry.now call cluster.old asks_again chooser.old chooser.new e) }
     ensures unchanged { OnErr result (cluster.new ≡ cluster.old) }
 {
-    match make_round_from(cluster, name, call, from, asks_again, chooser)? {
+    let want = cluster.want(name, call)?;
+    match make_round_from(cluster, name, call, want, from, asks_again, chooser)? {
         Round::Stepped => Ok(None),
         Round::Encode { value, k, n } => {
             supply_value(alloc, cluster, name, call, value, k, n)?;
@@ -120,5 +133,6 @@ fn make_turn<C: Chooser>(
             Ok(None)
         }
         Round::Answered(receipt) => Ok(Some(receipt)),
+        Round::Late => unreachable!(),
     }
 }

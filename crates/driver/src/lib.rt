@@ -1,6 +1,7 @@
 //! The driver of one call: its rounds, and whole calls for one thread.
 #![tactic(auto)]
 
+pub use choices::{Among, choice_at, choose};
 pub use chooser::{Chooser, First};
 pub use coding::{settle, supply};
 pub use driver::finish;
@@ -8,6 +9,7 @@ pub use messages::{Handled, handle};
 pub use round::{Round, make_round};
 pub use whole_call::{NotAnswered, move_to, read, write};
 
+mod choices;
 mod chooser;
 mod coding;
 mod driver;

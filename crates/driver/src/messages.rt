@@ -1,16 +1,16 @@
 //! The messages of a call: which one is handled next, and how.
-ghost use Rattle.std.specs.Prelude.{◌≡◌, ◌<◌, [], length, slice_get, Some, IfOk, IfErr, OnErr, OnOk, MatchOption, false};
+ghost use Rattle.std.specs.Prelude.{◌≡◌, [], Some, IfOk, IfErr, OnErr, OnOk, MatchOption, false};
 ghost use Rattle.tag.specs.Refusal.{IsByCause, IsExactlyByCause};
-ghost use Rattle.mail.specs.declared.message.Message.{Message as MessageOf};
 ghost use Rattle.record.specs.declared.stage.Want.TheVariants as want;
-ghost use Rattle.cluster.specs.Cluster.{if_named, named};
+ghost use Rattle.cluster.specs.Cluster.{if_named};
 ghost use Rattle.cluster.specs.Causes.{object_cause, place_cause};
 ghost use Rattle.cluster.specs.Steps.{stepped};
-ghost use Rattle.driver.specs.Choices.{Picks, choices, handled_at, handling_cause, is_choice, request_at, step_of};
+ghost use Rattle.driver.specs.Choices.{Picks, choices, handled_at, handling_cause, request_at, step_of};
 ghost use Rattle.driver.specs.Driver.{wanted, IsTurn, IsRefused};
 ghost use Rattle.driver.specs.Others.{AreOthers, IsBehind};
 
 use crate::Chooser;
+use crate::choices::{Among, choose};
 use cluster::Cluster;
 use mail::Body;
 use phase::Took;
@@ -54,12 +54,14 @@ pub(crate) fn handle_chosen<C: Chooser>(
 ) -> Result<(), Refusal>
     requires wants { wanted cluster.old name.now call ≡ Some want.Replies }
     requires behind { IsBehind cluster.old name.now call from }
-    ensures turn { OnOk result (IsTurn C.chooses name.entry.now call false cluster.old chooser.old cluster.new chooser.new) }
-    ensures refused { IfErr result (λ e. IsRefused C.chooses name.entry.now call cluster.old false chooser.old chooser.new e) }
+    ensures turn { OnOk result
+        (IsTurn C.chooses name.entry.now call false cluster.old chooser.old cluster.new chooser.new) }
+    ensures refused { IfErr result
+        (λ e. IsRefused C.chooses name.entry.now call cluster.old false chooser.old chooser.new e) }
     ensures unchanged { OnErr result (cluster.new ≡ cluster.old) }
 {
     let register = cluster.register(name)?;
-    let Some(place) = chosen(cluster, register, name, call, from, chooser) else {
+    let Some(place) = chosen(cluster, register, call, from, chooser) else {
         return Err(Refusal::Stuck);
     };
     handle(cluster, name, place)?;
@@ -85,76 +87,13 @@ fn is_request(cluster: &Cluster, name: &str, place: usize) -> Result<bool, Refus
 fn chosen<C: Chooser>(
     cluster: &Cluster,
     register: &Register,
-    name: &str,
     call: u64,
     from: usize,
     chooser: &mut C,
 ) -> Option<usize>
-    requires object { named cluster.now.objects name.now ≡ Some register.now }
-    requires others { AreOthers call from register.now.object.mail }
+    requires { AreOthers call from register.now.object.mail }
     ensures { MatchOption result ((choices cluster.now call register.now.object ≡ []) × (chooser.new ≡ chooser.old))
         (λ place. Picks C.chooses (choices cluster.now call register.now.object) chooser.old chooser.new place) }
 {
-    let count = choice_count(cluster, register, name, call, from);
-    if count == 0 {
-        return None;
-    }
-    let skipped = chooser.choose(count) % count;
-    choice_at(cluster, register, name, call, from, skipped)
-}
-
-// How many messages of the call can be handled.
-fn choice_count(cluster: &Cluster, register: &Register, name: &str, call: u64, from: usize) -> usize
-    requires object { named cluster.now.objects name.now ≡ Some register.now }
-    requires others { AreOthers call from register.now.object.mail }
-    ensures { result ≡ length (choices cluster.now call register.now.object) }
-{
-    let mut count = 0;
-    for place in from..register.mail_view().len() {
-        if is_choice(cluster, register, name, call, place) {
-            count += 1;
-        }
-    }
-    count
-}
-
-// The place of the message behind `skipped` others of the call that can be handled.
-fn choice_at(
-    cluster: &Cluster,
-    register: &Register,
-    name: &str,
-    call: u64,
-    from: usize,
-    skipped: usize,
-) -> Option<usize>
-    requires object { named cluster.now.objects name.now ≡ Some register.now }
-    requires others { AreOthers call from register.now.object.mail }
-    ensures { result ≡ slice_get (choices cluster.now call register.now.object) skipped }
-{
-    let mut left = skipped;
-    for place in from..register.mail_view().len() {
-        if is_choice(cluster, register, name, call, place) {
-            if left == 0 {
-                return Some(place);
-            }
-            left -= 1;
-        }
-    }
-    None
-}
-
-// Whether the message at a place is the call's and can be handled.
-fn is_choice(cluster: &Cluster, register: &Register, name: &str, call: u64, place: usize) -> bool
-    requires object { named cluster.now.objects name.now ≡ Some register.now }
-    requires place { place < length register.now.object.mail }
-    ensures { (message : MessageOf) → slice_get register.now.object.mail place ≡ Some message
-        → result ≡ is_choice cluster.now call register.now.object message }
-{
-    if register.mail_view().at(place).call != call {
-        return false;
-    }
-    match cluster.can_handle(name, place) {
-        Ok(can_handle) => can_handle,
-        Err(_) => false,
-    }
+    choose(cluster, register, Among::Call(call), from, chooser)
 }

@@ -26,23 +26,31 @@ pub enum Round {
     Decode { pieces: Vec<Piece>, k: u8, len: u32 },
     /// The call is answered.
     Answered(Receipt),
+    /// What was coded for the call came too late, since its phase is complete, and no step is made. Only a round that
+    /// is handed a coded value comes to this.
+    Late,
 }
 
-/// One round for the call of this number, but for the coding.
+/// One round for the call of this number, which wants this, but for the coding.
 ///
-/// Where the call wants replies one of its messages is handled, or, where it `asks_again`, its current phase asks again.
+/// Where the call wants replies one of its messages is handled, or, where it `asks_again`, its current phase asks
+/// again.
 pub fn make_round<C: Chooser>(
     cluster: &mut Cluster,
     name: &str,
     call: u64,
+    want: Want,
     asks_again: bool,
     chooser: &mut C,
 ) -> Result<Round, Refusal>
-    ensures round { IfOk result (λ r. IsRound C.chooses name.entry.now call asks_again cluster.old chooser.old cluster.new chooser.new r) }
-    ensures refused { IfErr result (λ e. IsRefused C.chooses name.entry.now call cluster.old asks_again chooser.old chooser.new e) }
+    requires { wanted cluster.old name.now call ≡ Some want }
+    ensures round { IfOk result
+        (λ r. IsRound C.chooses name.entry.now call asks_again cluster.old chooser.old cluster.new chooser.new r) }
+    ensures refused { IfErr result
+        (λ e. IsRefused C.chooses name.entry.now call cluster.old asks_again chooser.old chooser.new e) }
     ensures unchanged { OnErr result (cluster.new ≡ cluster.old) }
 {
-    make_round_from(cluster, name, call, 0, asks_again, chooser)
+    make_round_from(cluster, name, call, want, 0, asks_again, chooser)
 }
 
 /// The same, where no message of the call stands before a place of the mail.
@@ -50,16 +58,20 @@ pub(crate) fn make_round_from<C: Chooser>(
     cluster: &mut Cluster,
     name: &str,
     call: u64,
+    want: Want,
     from: usize,
     asks_again: bool,
     chooser: &mut C,
 ) -> Result<Round, Refusal>
-    requires { IsBehind cluster.old name.now call from }
-    ensures round { IfOk result (λ r. IsRound C.chooses name.entry.now call asks_again cluster.old chooser.old cluster.new chooser.new r) }
-    ensures refused { IfErr result (λ e. IsRefused C.chooses name.entry.now call cluster.old asks_again chooser.old chooser.new e) }
+    requires wants { wanted cluster.old name.now call ≡ Some want }
+    requires behind { IsBehind cluster.old name.now call from }
+    ensures round { IfOk result
+        (λ r. IsRound C.chooses name.entry.now call asks_again cluster.old chooser.old cluster.new chooser.new r) }
+    ensures refused { IfErr result
+        (λ e. IsRefused C.chooses name.entry.now call cluster.old asks_again chooser.old chooser.new e) }
     ensures unchanged { OnErr result (cluster.new ≡ cluster.old) }
 {
-    match cluster.want(name, call)? {
+    match want {
         Want::Replies => {
             if asks_again {
                 return ask_again(cluster, name, call, chooser);
@@ -92,8 +104,11 @@ fn ask_again<C: Chooser>(
     chooser: &C,
 ) -> Result<Round, Refusal>
     requires { wanted cluster.old name.now call ≡ Some want.Replies }
-    ensures round { IfOk result (λ r. IsRound C.chooses name.entry.now call true cluster.old chooser.entry.now cluster.new chooser.entry.now r) }
-    ensures refused { IfErr result (λ e. IsRefused C.chooses name.entry.now call cluster.old true chooser.entry.now chooser.entry.now e) }
+    ensures round { IfOk result
+        (λ r. IsRound C.chooses name.entry.now call true cluster.old chooser.entry.now cluster.new
+        chooser.entry.now r) }
+    ensures refused { IfErr result
+        (λ e. IsRefused C.chooses name.entry.now call cluster.old true chooser.entry.now chooser.entry.now e) }
     ensures unchanged { OnErr result (cluster.new ≡ cluster.old) }
 {
     cluster.register(name)?.soundness();

@@ -6,7 +6,7 @@ ghost use Rattle.driver.specs.WholeCalls.{IsWholeRead, IsWholeWrite, IsWholeMove
 ghost use Rattle.driver.specs.declared.whole_call.NotAnswered.TheVariants as unanswered;
 
 use crate::Chooser;
-use crate::driver::drive;
+use crate::driver::finish_from;
 use bytes::Bytes;
 use cluster::{Cluster, LayoutId};
 use register::Receipt;
@@ -36,7 +36,7 @@ pub fn read<C: Chooser>(
 {
     let from = next_place(cluster, name);
     match cluster.call_read(name) {
-        Ok(call) => carry_on(alloc, cluster, name, call, from, chooser, turns),
+        Ok(call) => finish_begun(alloc, cluster, name, call, from, chooser, turns),
         Err(refusal) => Err(NotAnswered::NotCalled(refusal)),
     }
 }
@@ -54,7 +54,7 @@ pub fn write<C: Chooser>(
 {
     let from = next_place(cluster, name);
     match cluster.call_write(name, value) {
-        Ok(call) => carry_on(alloc, cluster, name, call, from, chooser, turns),
+        Ok(call) => finish_begun(alloc, cluster, name, call, from, chooser, turns),
         Err(refusal) => Err(NotAnswered::NotCalled(refusal)),
     }
 }
@@ -72,7 +72,7 @@ pub fn move_to<C: Chooser>(
 {
     let from = next_place(cluster, name);
     match cluster.call_move(name, id) {
-        Ok(call) => carry_on(alloc, cluster, name, call, from, chooser, turns),
+        Ok(call) => finish_begun(alloc, cluster, name, call, from, chooser, turns),
         Err(refusal) => Err(NotAnswered::NotCalled(refusal)),
     }
 }
@@ -91,7 +91,7 @@ fn next_place(cluster: &Cluster, name: &str) -> usize
 }
 
 // The driver goes on with a call that has begun.
-fn carry_on<C: Chooser>(
+fn finish_begun<C: Chooser>(
     alloc: Global,
     cluster: &mut Cluster,
     name: &str,
@@ -102,11 +102,13 @@ fn carry_on<C: Chooser>(
 ) -> Result<Receipt, NotAnswered>
     requires { IsBehind cluster.old name.now call from }
     ensures { MatchResult result
-        (λ receipt. IsFinished C.chooses name.entry.now call false turns cluster.old chooser.old cluster.new chooser.new receipt)
+        (λ receipt. IsFinished C.chooses name.entry.now call false turns cluster.old chooser.old cluster.new chooser.new
+        receipt)
         (λ e. (refusal : Refusal) × (e ≡ unanswered.Open call refusal)
-        × IsUnfinished C.chooses name.entry.now call false turns cluster.old chooser.old cluster.new chooser.new refusal) }
+        × IsUnfinished C.chooses name.entry.now call false turns cluster.old chooser.old cluster.new chooser.new
+        refusal) }
 {
-    match drive(alloc, cluster, name, call, from, false, chooser, turns) {
+    match finish_from(alloc, cluster, name, call, from, false, chooser, turns) {
         Ok(receipt) => Ok(receipt),
         Err(refusal) => Err(NotAnswered::Open { call, refusal }),
     }

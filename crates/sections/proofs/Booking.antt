@@ -1,5 +1,6 @@
 -- How many reads and writes there are after each step.
-use Rattle.std.proofs.Common.{◌≡◌, ℕ, zero, suc, pred, ◌+◌, ◌≤◌, Bool, true, false, if◌then◌else◌, is_some, List, [], ◌∷◌, ◌++◌, length, slice_get, slice_set, Option, Some, None, Result, Ok, Err, OnOk, IfOk, bytes_eq, refl, sym, ap, ◌∙◌, arith}
+use Rattle.std.proofs.Common.{◌≡◌, ℕ, zero, suc, pred, ◌+◌, ◌≤◌, Bool, true, false, if◌then◌else◌, is_some, List, [], ◌∷◌, ◌++◌, length}
+use Rattle.std.proofs.Common.{slice_get, slice_set, Option, Some, None, Result, Ok, Err, OnOk, IfOk, bytes_eq, refl, sym, ap, ◌∙◌, arith}
 use Rattle.tag.specs.Refusal.{IsByCause}
 use Rattle.tag.specs.declared.refusal.Refusal.{Refusal}
 use Rattle.layout.specs.Layout.{Layout}
@@ -13,7 +14,9 @@ use Rattle.record.specs.Courses.{due}
 use Rattle.record.specs.Legal.{stage_of}
 use Rattle.record.specs.Records.{Call, Object}
 use Rattle.record.specs.Wants.{current_phase}
-use Rattle.record.specs.Steps.{Step, stepped, on_call, on_message, begun_object, advanced_object, answered_object, asked_again, repeated_object, settled_object, supplied_by, supplied_object, taken_calls, taken_by, served_by, opened_object}
+use Rattle.record.specs.Steps.{Step, stepped, on_call, on_message, begun_object, advanced_object, answered_object, asked_again}
+use Rattle.record.specs.Steps.{repeated_object, settled_object, supplied_by, supplied_object, taken_calls, taken_by, served_by}
+use Rattle.record.specs.Steps.{opened_object}
 use Rattle.register.specs.State.{State, made}
 use Rattle.register.proofs.Lists.{same_some}
 use Rattle.cluster.specs.Accounts.{object_sum, calls}
@@ -58,12 +61,13 @@ abbrev IsQuiet : Object → Object → Type 0
 IsQuiet object later = client_count later.calls ≡ client_count object.calls
 
 on_call_quiet : (object : Object) (index : ℕ) (found : Option Call) (change : Call → Object) → slice_get object.calls index ≡ found
-    → ((call : Call) → slice_get object.calls index ≡ Some call → IsQuiet object (change call)) → IsQuiet object (on_call object found change)
+    → ((call : Call) → slice_get object.calls index ≡ Some call → IsQuiet object (change call))
+    → IsQuiet object (on_call object found change)
 on_call_quiet object index None change at quiet = refl
 on_call_quiet object index (Some call) change at quiet = quiet call at
 
-on_message_quiet : (object : Object) (found : Option Message) (change : Message → Object) → ((message : Message) → IsQuiet object (change message))
-    → IsQuiet object (on_message object found change)
+on_message_quiet : (object : Object) (found : Option Message) (change : Message → Object)
+    → ((message : Message) → IsQuiet object (change message)) → IsQuiet object (on_message object found change)
 on_message_quiet object None change quiet = refl
 on_message_quiet object (Some message) change quiet = quiet message
 
@@ -81,7 +85,8 @@ supplied_quiet : (object : Object) (index : ℕ) (call : Call) (now : ℕ) (phas
 supplied_quiet object index call now None at = refl
 supplied_quiet object index call now (Some phase) at = pick (is_some phase.end)
   where
-    pick : (b : Bool) → IsQuiet object (if b then advanced_object fragment object index call now else asked_again fragment object call (Some phase))
+    pick : (b : Bool)
+        → IsQuiet object (if b then advanced_object fragment object index call now else asked_again fragment object call (Some phase))
     pick true = begun_quiet object index call (due (stage_of object index call)) now at
     pick false = asked_quiet object call (Some phase)
 
@@ -90,11 +95,14 @@ taken_count : (calls : List Call) (message : Message) (now : ℕ) (found : Optio
 taken_count calls message now None at = refl
 taken_count calls message now (Some call) at = count_set calls (pred message.call) call _ at refl
 
-taken_quiet : (object : Object) (place : ℕ) (message : Message) (it : Body) (now : ℕ) → IsQuiet object (taken_by object place message it now)
+taken_quiet : (object : Object) (place : ℕ) (message : Message) (it : Body) (now : ℕ)
+    → IsQuiet object (taken_by object place message it now)
 taken_quiet object place message (body.Request asked) now = refl
-taken_quiet object place message (body.Reply kind made) now = taken_count object.calls message now (slice_get object.calls (pred message.call)) refl
+taken_quiet object place message (body.Reply kind made) now =
+    taken_count object.calls message now (slice_get object.calls (pred message.call)) refl
 
-served_quiet : (object : Object) (place : ℕ) (message : Message) (it : Body) (now : ℕ) → IsQuiet object (served_by object place message it now)
+served_quiet : (object : Object) (place : ℕ) (message : Message) (it : Body) (now : ℕ)
+    → IsQuiet object (served_by object place message it now)
 served_quiet object place message (body.Request asked) now = refl
 served_quiet object place message (body.Reply kind made) now = refl
 
@@ -105,18 +113,25 @@ begins (Step.CallWrite value) = 1
 begins _ = 0
 
 -- the reads and writes of one object
-pub count_stepped : (step : Step) (now : ℕ) (object : Object) → client_count (stepped fragment step now object).calls ≡ client_count object.calls + begins step
+pub count_stepped : (step : Step) (now : ℕ) (object : Object)
+    → client_count (stepped fragment step now object).calls ≡ client_count object.calls + begins step
 count_stepped Step.CallRead now object = count_begun object.calls _ _
 count_stepped (Step.CallWrite value) now object = count_begun object.calls _ _
 count_stepped (Step.CallMove layout) now object = count_begun object.calls _ _
 count_stepped (Step.Advance index) now object =
-    let same = on_call_quiet object index (slice_get object.calls index) (λ call. advanced_object fragment object index call now) refl (λ call at. begun_quiet object index call (due (stage_of object index call)) now at) in
+    let same =
+    on_call_quiet object index (slice_get object.calls index) (λ call. advanced_object fragment object index call now) refl
+    (λ call at. begun_quiet object index call (due (stage_of object index call)) now at) in
     omega (arith, same)
 count_stepped (Step.Supply index) now object =
-    let same = on_call_quiet object index (slice_get object.calls index) (λ call. supplied_object fragment object index call now) refl (λ call at. supplied_quiet object index call now (current_phase call.phases) at) in
+    let same =
+    on_call_quiet object index (slice_get object.calls index) (λ call. supplied_object fragment object index call now) refl
+    (λ call at. supplied_quiet object index call now (current_phase call.phases) at) in
     omega (arith, same)
 count_stepped (Step.Post index) now object =
-    let same = on_call_quiet object index (slice_get object.calls index) (λ call. asked_again fragment object call (current_phase call.phases)) refl (λ call at. asked_quiet object call (current_phase call.phases)) in
+    let same =
+    on_call_quiet object index (slice_get object.calls index) (λ call. asked_again fragment object call (current_phase call.phases))
+    refl (λ call at. asked_quiet object call (current_phase call.phases)) in
     omega (arith, same)
 count_stepped (Step.Settle index value) now object =
     let same = on_call_quiet object index (slice_get object.calls index) (λ call. settled_object object index call value) refl
@@ -127,10 +142,14 @@ count_stepped (Step.AnswerCall index) now object =
     (λ call at. count_set object.calls index call (record call { answered = Some now }) at refl) in
     omega (arith, same)
 count_stepped (Step.Serve place) now object =
-    let same = on_message_quiet object (slice_get object.mail place) (λ message. served_by object place message message.body now) (λ message. served_quiet object place message message.body now) in
+    let same =
+    on_message_quiet object (slice_get object.mail place) (λ message. served_by object place message message.body now)
+    (λ message. served_quiet object place message message.body now) in
     omega (arith, same)
 count_stepped (Step.Take place) now object =
-    let same = on_message_quiet object (slice_get object.mail place) (λ message. taken_by object place message message.body now) (λ message. taken_quiet object place message message.body now) in
+    let same =
+    on_message_quiet object (slice_get object.mail place) (λ message. taken_by object place message message.body now)
+    (λ message. taken_quiet object place message message.body now) in
     omega (arith, same)
 count_stepped (Step.Lose place) now object = omega arith
 count_stepped (Step.Repeat place) now object =
@@ -158,8 +177,10 @@ there cluster name cause none = pick (named cluster.objects name) none
     pick (Some old) none = (old, refl)
 
 -- a step that was made
-pub counted_ok : {T : Type 0} (answer : Result T Refusal) (old new : Cluster) (name : List ℕ) (step : Step) (cause : Object → Option Refusal)
-    → OnOk answer (new ≡ of.stepped old name step) → IsByCause (object_cause old name cause) answer → OnOk answer (client_calls new ≡ client_calls old + begins step)
+pub counted_ok : {T : Type 0} (answer : Result T Refusal) (old new : Cluster) (name : List ℕ) (step : Step)
+    (cause : Object → Option Refusal)
+    → OnOk answer (new ≡ of.stepped old name step) → IsByCause (object_cause old name cause) answer
+    → OnOk answer (client_calls new ≡ client_calls old + begins step)
 counted_ok (Ok x) old new name step cause made by =
     let at = there old name cause by in
     ap client_calls made ∙ calls_stepped old name step at.0 at.1
@@ -167,7 +188,8 @@ counted_ok (Err e) old new name step cause made by = tt
 
 -- the number of a call that began
 pub numbered_ok : (answer : Result ℕ Refusal) (old : Cluster) (name : List ℕ)
-    → IfOk answer (λ n. if_named old name (λ object. Some (suc (length object.calls))) ≡ Some n) → IfOk answer (λ n. n ≡ suc (call_count (named old.objects name)))
+    → IfOk answer (λ n. if_named old name (λ object. Some (suc (length object.calls))) ≡ Some n)
+    → IfOk answer (λ n. n ≡ suc (call_count (named old.objects name)))
 numbered_ok (Ok n) old name is = pick (named old.objects name) is
   where
     pick : (found : Option State) → if_some found (λ object. Some (suc (length object.calls))) ≡ Some n → n ≡ suc (call_count found)
@@ -181,25 +203,31 @@ sum_kept name change [] same = refl
 sum_kept name change (o ∷ os) same = pick (bytes_eq name o.name) (sum_kept name change os same)
   where
     pick : (b : Bool) → object_sum (λ x. count_of x.state) (changed os name change) ≡ object_sum (λ x. count_of x.state) os
-        → object_sum (λ x. count_of x.state) (if b then record { name = o.name; state = change o.state } ∷ os else o ∷ changed os name change)
+        → object_sum (λ x. count_of x.state)
+        (if b then record { name = o.name; state = change o.state } ∷ os else o ∷ changed os name change)
         ≡ count_of o.state + object_sum (λ x. count_of x.state) os
     pick true rest = let one = same o.state in omega (arith, one)
     pick false rest = omega (arith, rest)
 
 -- a step that begins neither a read nor a write
-pub calls_kept : (cluster : Cluster) (name : List ℕ) (step : Step) → begins step ≡ 0 → client_calls (of.stepped cluster name step) ≡ client_calls cluster
+pub calls_kept : (cluster : Cluster) (name : List ℕ) (step : Step) → begins step ≡ 0
+    → client_calls (of.stepped cluster name step) ≡ client_calls cluster
 calls_kept cluster name step none =
     sum_kept name (made step (suc cluster.counter)) cluster.objects (λ state.
     let one = count_stepped step (suc cluster.counter) state.object in omega (arith, one, none))
 
-sum_pushed : (objects : List Named) (o : Named) → object_sum (λ x. count_of x.state) (objects ++ o ∷ []) ≡ object_sum (λ x. count_of x.state) objects + count_of o.state
+sum_pushed : (objects : List Named) (o : Named)
+    → object_sum (λ x. count_of x.state) (objects ++ o ∷ []) ≡ object_sum (λ x. count_of x.state) objects + count_of o.state
 sum_pushed [] o = omega arith
 sum_pushed (x ∷ xs) o = let rest = sum_pushed xs o in omega (arith, rest)
 
 -- one more object
-pub calls_created : (cluster : Cluster) (name : List ℕ) (layout : Layout) → client_calls (of.with_object cluster name layout) ≡ client_calls cluster
+pub calls_created : (cluster : Cluster) (name : List ℕ) (layout : Layout)
+    → client_calls (of.with_object cluster name layout) ≡ client_calls cluster
 calls_created cluster name layout =
-    let all = sum_pushed cluster.objects (record { name = name; state = record { object = opened_object layout (suc cluster.counter); last = suc cluster.counter } }) in
+    let all =
+    sum_pushed cluster.objects
+    (record { name = name; state = record { object = opened_object layout (suc cluster.counter); last = suc cluster.counter } }) in
     omega (arith, all)
 
 count_most : (calls : List Call) → client_count calls ≤ length calls

@@ -1,5 +1,6 @@
 -- A round of a call begins neither a read nor a write; where it answers, what it tells is the call's value.
-use Rattle.std.proofs.Common.{◌≡◌, ℕ, zero, suc, pred, ◌<◌, ◌≤◌, inr, Bool, true, false, if◌then◌else◌, is_some, List, [], ◌∷◌, Option, Some, None, slice_get, Result, Ok, Err, OnOk, OnErr, refl, sym, ap, subst, ◌∙◌, arith}
+use Rattle.std.proofs.Common.{◌≡◌, ℕ, zero, suc, pred, ◌<◌, ◌≤◌, inr, Bool, true, false, if◌then◌else◌, is_some, List, [], ◌∷◌, Option}
+use Rattle.std.proofs.Common.{Some, None, slice_get, Result, Ok, Err, OnOk, OnErr, refl, sym, ap, subst, ◌∙◌, arith}
 use Rattle.std.specs.Prelude.{option_map}
 use Rattle.std.specs.List.{AllByRecursion}
 use Rattle.tag.specs.declared.limits.TheConstants.{MOST_STEPS}
@@ -40,7 +41,8 @@ use Rattle.driver.proofs.Refusing.{answer_refused}
 
 -- How many reads and writes there are
 
-pub kept_step : (old new : Cluster) (name : List ℕ) (step : Step) → begins step ≡ 0 → new ≡ of.stepped old name step → client_calls new ≡ client_calls old
+pub kept_step : (old new : Cluster) (name : List ℕ) (step : Step) → begins step ≡ 0 → new ≡ of.stepped old name step
+    → client_calls new ≡ client_calls old
 kept_step old new name step none made = ap client_calls made ∙ calls_kept old name step none
 
 -- a step that was made or refused
@@ -77,13 +79,15 @@ module _ {C : Type 0} (chooses : C → ℕ → ℕ → C → Type 0) (name : Lis
 
   module _ (again : Bool) (old : Cluster) (before : C) (new : Cluster) (after : C) where
     counted_turn : IsTurn chooses name call again old before new after → client_calls new ≡ client_calls old
-    counted_turn t = kept_step old new name t.step (quiet_next old t.due.state.object again before after t.step t.due.want t.due.next) t.made
+    counted_turn t =
+        kept_step old new name t.step (quiet_next old t.due.state.object again before after t.step t.due.want t.due.next) t.made
 
     pub counted_round : (r : Round) → IsRound chooses name call again old before new after r → client_calls new ≡ client_calls old
     counted_round round.Stepped h = counted_turn h.0
     counted_round (round.Encode value k n) h = ap client_calls h.0
     counted_round (round.Decode pieces k len) h = ap client_calls h.0
     counted_round (round.Answered receipt) h = counted_turn h.turn
+    counted_round round.Late h = absurd h
 
 -- What an answer tells
 
@@ -114,7 +118,8 @@ all_at P object (suc index) c at all = all_found P object.calls index c at all
 
 -- the calls of the object were made by the last step
 abbrev pub ArePast : Cluster → List ℕ → Type 0
-ArePast cluster name = (state : State) → named cluster.objects name ≡ Some state → AllByRecursion (λ call. call.called ≤ cluster.counter) state.object.calls
+ArePast cluster name =
+    (state : State) → named cluster.objects name ≡ Some state → AllByRecursion (λ call. call.called ≤ cluster.counter) state.object.calls
 
 told : (old : Cluster) (name : List ℕ) (call : ℕ) (receipt : Receipt) (copy : Option (List ℕ))
     → if_named old name (λ object. receipt_at object (place_of old.objects name) call (next old)) ≡ Some receipt
@@ -143,34 +148,41 @@ told old name call receipt copy handed is past =
 same_want : (a b : Want) → Some a ≡ Some b → a ≡ b
 same_want a b e = cc
 
-module _ {C : Type 0} (chooses : C → ℕ → ℕ → C → Type 0) (name : List ℕ) (call : ℕ) (again : Bool) (old : Cluster) (before : C) (new : Cluster) (after : C) where
+module _ {C : Type 0} (chooses : C → ℕ → ℕ → C → Type 0) (name : List ℕ) (call : ℕ) (again : Bool) (old : Cluster) (before : C)
+    (new : Cluster) (after : C) where
   room : IsTurn chooses name call again old before new after → new.counter ≤ MOST_STEPS → old.counter < MOST_STEPS
   room t few = let is = ap (λ (k : Cluster). k.counter) t.made in omega (arith, is, few)
 
-  pub copies : (h : Hand) (r : Option Round) (w : Want) (copy : Option (List ℕ)) → Goes chooses name call h again old before new after r → wanted old name call ≡ Some w
-      → (w ≡ want.Answer → h ≡ hand.Empty → old.counter < MOST_STEPS → copy ≡ if_named old name (λ object. value_at object call)) → ArePast old name
+  pub copies : (h : Hand) (r : Round) (w : Want) (copy : Option (List ℕ)) → Goes chooses name call h again old before new after r
+      → wanted old name call ≡ Some w
+      → (w ≡ want.Answer → h ≡ hand.Empty → old.counter < MOST_STEPS → copy ≡ if_named old name (λ object. value_at object call))
+      → ArePast old name
       → new.counter ≤ MOST_STEPS → Copies old call r (if tells r then copy else None)
-  copies h None w copy goes is value past few = tt
-  copies h (Some round.Stepped) w copy goes is value past few = tt
-  copies h (Some (round.Encode v k n)) w copy goes is value past few = tt
-  copies h (Some (round.Decode pieces k len)) w copy goes is value past few = tt
-  copies hand.Empty (Some (round.Answered receipt)) w copy goes is value past few =
+  copies h round.Stepped w copy goes is value past few = tt
+  copies h (round.Encode v k n) w copy goes is value past few = tt
+  copies h (round.Decode pieces k len) w copy goes is value past few = tt
+  copies h round.Late w copy goes is value past few = tt
+  copies hand.Empty (round.Answered receipt) w copy goes is value past few =
       told old name call receipt copy goes.handed (value (same_want w want.Answer (sym is ∙ goes.wants)) refl (room goes.turn few)) past
-  copies (hand.Coded coded) (Some (round.Answered receipt)) w copy goes is value past few = absurd goes
-  copies (hand.Decoded decoded) (Some (round.Answered receipt)) w copy goes is value past few = absurd goes
+  copies (hand.Coded coded) (round.Answered receipt) w copy goes is value past few = absurd goes
+  copies (hand.Decoded decoded) (round.Answered receipt) w copy goes is value past few = absurd goes
 
 -- Want of memory for an answer
 
-answer_none : (object : Object) (number now : ℕ) → want_at object number ≡ Some want.Answer → now ≤ MOST_STEPS → answer_cause now object number ≡ None
+answer_none : (object : Object) (number now : ℕ) → want_at object number ≡ Some want.Answer → now ≤ MOST_STEPS
+    → answer_cause now object number ≡ None
 answer_none object number now wants few =
     let w = wants_at object number want.Answer wants in
     ap (λ o. if_call o (λ call. unless (is_answer (want_of object (pred number) call)) NotNow (if_step now None))) w.at
     ∙ ap (λ v. unless (is_answer v) NotNow (if_step now None)) w.wants ∙ step_within now None few
 
-pub memory_refused : {C : Type 0} (chooses : C → ℕ → ℕ → C → Type 0) (name : List ℕ) (call : ℕ) (old : Cluster) (again : Bool) (before : C) (r : Refusal)
-    → wanted old name call ≡ Some want.Answer → old.counter < MOST_STEPS → r ≡ NoMemory → IsRefused chooses name call old again before before r
+pub memory_refused : {C : Type 0} (chooses : C → ℕ → ℕ → C → Type 0) (name : List ℕ) (call : ℕ) (old : Cluster) (again : Bool) (before : C)
+    (r : Refusal)
+    → wanted old name call ≡ Some want.Answer → old.counter < MOST_STEPS → r ≡ NoMemory
+    → IsRefused chooses name call old again before before r
 memory_refused chooses name call old again before r wants few is =
     let s = is_there old name (λ object. want_at object call) want.Answer wants in
     let none : object_cause old name (λ object. answer_cause (next old) object call) ≡ None =
-    cause_there old name s.0 (λ object. answer_cause (next old) object call) s.1 ∙ answer_none s.0.object call (next old) s.2 (omega (arith, few)) in
+    cause_there old name s.0 (λ object. answer_cause (next old) object call) s.1
+    ∙ answer_none s.0.object call (next old) s.2 (omega (arith, few)) in
     answer_refused chooses name call old again before r wants (inr (none, is))

@@ -1,5 +1,6 @@
 -- What a seat keeps of its calls.
-use Rattle.std.specs.Prelude.{◌≡◌, ◌⊎◌, ℕ, zero, suc, ◌<◌, ◌≤◌, nat_le, not, is_some, List, [], ◌∷◌, ◌++◌, length, Option, Some, None, MatchOption, max}
+use Rattle.std.specs.Prelude.{◌≡◌, ◌⊎◌, ℕ, zero, suc, ◌<◌, ◌≤◌, nat_le, not, is_some, List, [], ◌∷◌, ◌++◌, length}
+use Rattle.std.specs.Prelude.{Option, Some, None, MatchOption, max}
 use Rattle.std.specs.Option.{option_map_or}
 use Rattle.tag.specs.declared.refusal.Refusal.{Refusal}
 use Rattle.tag.specs.declared.refusal.Refusal.TheVariants.{NoMemory, NotNow, Stranger}
@@ -21,8 +22,8 @@ pub record Pending : Type 0 where
   pub name : List ℕ
   pub kept : CallRecord
 
--- a seat: its number, the greatest answer step that it has seen, its calls that were answered or abandoned, and then the
--- one that is neither
+-- a seat: its number, the greatest answer step that it has seen, its calls that were answered or abandoned, and then
+-- the one that is neither
 pub record SeatState : Type 0 where
   pub number : ℕ
   pub floor : ℕ
@@ -56,10 +57,11 @@ IsAnsweredLater receipt = MatchOption receipt (Unit {0}) (λ t. t.called < t.ans
 abbrev pub IsRising : ℕ → List CallRecord → ℕ → Type 0
 IsRising low [] high = low ≤ high
 IsRising low (r ∷ rs) high =
-    (low ≤ r.floor) × (r.floor < r.called) × IsAnsweredLater r.receipt × IsRising (least_after r.floor r.receipt) rs high
+    (low ≤ r.floor) × (r.floor < r.called) × IsAnsweredLater r.receipt
+    × IsRising (least_after r.floor r.receipt) rs high
 
--- of the receipts, in their order: the floor at the call, the call and the answer rise, and the next floor is not below this
--- answer, up to the seat's floor
+-- of the receipts, in their order: the floor at the call, the call and the answer rise, and the next floor is not below
+-- this answer, up to the seat's floor
 abbrev pub IsInOrder : ℕ → List CallRecord → ℕ → Type 0
 IsInOrder low [] high = low ≤ high
 IsInOrder low (r ∷ rs) high =
@@ -108,7 +110,12 @@ with_pending s name r = record s { pending = Some (record { name = name; kept = 
 
 -- the seat after its pending call is answered
 abbrev pub settled : SeatState → CallRecord → Receipt → SeatState
-settled s r t = record s { floor = max s.floor t.answered; records = s.records ++ (record r { receipt = Some t }) ∷ []; pending = None }
+settled s r t =
+    record s {
+      floor = max s.floor t.answered;
+      records = s.records ++ (record r { receipt = Some t }) ∷ [];
+      pending = None;
+    }
 
 -- the receipt is of the pending call
 abbrev pub IsOf : Option Pending → Receipt → Type 0
@@ -119,7 +126,8 @@ IsOf (Some p) receipt = receipt.call ≡ p.kept.call
 abbrev pub Settles : Option Pending → SeatState → Receipt → SeatState → Type 0
 Settles None s receipt t = ⊥
 Settles (Some p) s receipt t =
-    (receipt.call ≡ p.kept.call) × (receipt.called < receipt.answered) × (s.floor < receipt.answered) × (t ≡ settled s p.kept receipt)
+    (receipt.call ≡ p.kept.call) × (receipt.called < receipt.answered) × (s.floor < receipt.answered)
+    × (t ≡ settled s p.kept receipt)
 
 abbrev pub abandoned : SeatState → SeatState
 abandoned s = record s { records = records_of s; pending = None }
@@ -148,18 +156,23 @@ calling_cause (begin.Write value) now object = write_cause value now object
 -- why a call of a seat does not begin
 abbrev pub begin_cause : Cluster → SeatState → (name : List ℕ) → Begin → Option Refusal
 begin_cause cluster s name what =
-    unless_stranger cluster s (object_cause cluster name (λ object. unless (not (is_some s.pending)) NotNow (calling_cause what (next cluster) object)))
+    unless_stranger cluster s
+    (object_cause cluster name
+    (λ object. unless (not (is_some s.pending)) NotNow (calling_cause what (next cluster) object)))
 
 -- one record more, of a call that begins in some state of the cluster and stays pending
 abbrev pub AddsPending : SeatState → (name : List ℕ) → Begin → SeatState → Type 0
 AddsPending s name what new =
-    (cluster : Cluster) × (begin_cause cluster s name what ≡ None) × (new ≡ with_pending s name (begun cluster name s.floor what))
+    (cluster : Cluster) × (begin_cause cluster s name what ≡ None)
+    × (new ≡ with_pending s name (begun cluster name s.floor what))
 
 -- one record more, of a call that begins so and gets this receipt
 abbrev pub AddsAnswered : SeatState → (name : List ℕ) → Begin → Receipt → SeatState → Type 0
-AddsAnswered s name what receipt new = (begun_seat : SeatState) × AddsPending s name what begun_seat × Settles begun_seat.pending begun_seat receipt new
+AddsAnswered s name what receipt new =
+    (begun_seat : SeatState) × AddsPending s name what begun_seat × Settles begun_seat.pending begun_seat receipt new
 
 -- there is a state of the cluster in which the call does not begin for this cause
 abbrev pub BeginsNot : SeatState → (name : List ℕ) → Begin → Refusal → Type 0
 BeginsNot s name what r =
-    (cluster : Cluster) × ((begin_cause cluster s name what ≡ Some r) ⊎ ((begin_cause cluster s name what ≡ None) × (r ≡ NoMemory)))
+    (cluster : Cluster)
+    × ((begin_cause cluster s name what ≡ Some r) ⊎ ((begin_cause cluster s name what ≡ None) × (r ≡ NoMemory)))

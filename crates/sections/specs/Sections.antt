@@ -1,5 +1,6 @@
 -- What each locked section does.
-use Rattle.std.specs.Prelude.{◌≡◌, ◌≢◌, ◌⊎◌, ℕ, suc, pred, ◌<◌, ◌%◌, ◌==◌, nat_lt, not, Bool, true, false, is_some, if◌then◌else◌, List, [], length, Option, Some, None, slice_get}
+use Rattle.std.specs.Prelude.{◌≡◌, ◌≢◌, ◌⊎◌, ℕ, suc, pred, ◌<◌, ◌%◌, ◌==◌, nat_lt, not, Bool, true, false, is_some}
+use Rattle.std.specs.Prelude.{if◌then◌else◌, List, [], length, Option, Some, None, slice_get}
 use Rattle.tag.specs.declared.refusal.Refusal.{Refusal}
 use Rattle.tag.specs.declared.refusal.Refusal.TheVariants.{NoMemory, NoCall, NotNow, MovePending, GaveUp}
 use Rattle.mail.specs.declared.message.Message.{Message}
@@ -48,33 +49,41 @@ round_cause cluster s turns = unless_stranger cluster s (pending_cause cluster s
 -- why what is handed in is refused
 abbrev pub hand_cause : Cluster → (name : List ℕ) → (call : ℕ) → Hand → Option Refusal
 hand_cause cluster name call hand.Empty = None
-hand_cause cluster name call (hand.Coded coded) = object_cause cluster name (λ object. supply_cause (next cluster) object call coded)
-hand_cause cluster name call (hand.Decoded decoded) = object_cause cluster name (λ object. settle_cause (next cluster) object call decoded)
+hand_cause cluster name call (hand.Coded coded) =
+    object_cause cluster name (λ object. supply_cause (next cluster) object call coded)
+hand_cause cluster name call (hand.Decoded decoded) =
+    object_cause cluster name (λ object. settle_cause (next cluster) object call decoded)
 
 -- refused for its cause, or, where there is none, for want of memory
 abbrev pub IsRefusedBy : Option Refusal → Refusal → Type 0
 IsRefusedBy cause r = (cause ≡ Some r) ⊎ ((cause ≡ None) × (r ≡ NoMemory))
 
 -- a step was made, and nothing was chosen
-abbrev pub HandsIn : {C : Type 0} → (name : List ℕ) → Step → (old : Cluster) → (before : C) → (new : Cluster) → (after : C) → Option Round → Type 0
-HandsIn name step old before new after (Some round.Stepped) = (new ≡ stepped old name step) × (after ≡ before)
+abbrev pub HandsIn : {C : Type 0} → (name : List ℕ) → Step
+    → (old : Cluster) → (before : C) → (new : Cluster) → (after : C) → Round → Type 0
+HandsIn name step old before new after round.Stepped = (new ≡ stepped old name step) × (after ≡ before)
 HandsIn name step old before new after _ = ⊥
 
 -- the coded value came too late: its phase is complete
-abbrev pub IsOvertaken : {C : Type 0} → Option Refusal → (old : Cluster) → (before : C) → (new : Cluster) → (after : C) → Type 0
+abbrev pub IsOvertaken : {C : Type 0} → Option Refusal
+    → (old : Cluster) → (before : C) → (new : Cluster) → (after : C) → Type 0
 IsOvertaken cause old before new after = (cause ≡ Some NotNow) × (new ≡ old) × (after ≡ before)
 
 module _ {C : Type 0} (chooses : C → ℕ → ℕ → C → Type 0) where
   -- a round of the driver; what is handed in is supplied or settled
-  abbrev pub Goes : (name : List ℕ) → (call : ℕ) → Hand → (again : Bool) → (old : Cluster) → (before : C) → (new : Cluster) → (after : C) → Option Round → Type 0
-  Goes name call hand.Empty again old before new after None = ⊥
-  Goes name call hand.Empty again old before new after (Some r) = IsRound chooses name call again old before new after r
-  Goes name call (hand.Coded coded) again old before new after None = IsOvertaken (hand_cause old name call (hand.Coded coded)) old before new after
-  Goes name call (hand.Coded coded) again old before new after (Some r) = HandsIn name (Step.Supply (pred call)) old before new after (Some r)
-  Goes name call (hand.Decoded decoded) again old before new after r = HandsIn name (Step.Settle (pred call) decoded.value) old before new after r
+  abbrev pub Goes : (name : List ℕ) → (call : ℕ) → Hand → (again : Bool)
+      → (old : Cluster) → (before : C) → (new : Cluster) → (after : C) → Round → Type 0
+  Goes name call hand.Empty again old before new after r = IsRound chooses name call again old before new after r
+  Goes name call (hand.Coded coded) again old before new after round.Late =
+      IsOvertaken (hand_cause old name call (hand.Coded coded)) old before new after
+  Goes name call (hand.Coded coded) again old before new after r =
+      HandsIn name (Step.Supply (pred call)) old before new after r
+  Goes name call (hand.Decoded decoded) again old before new after r =
+      HandsIn name (Step.Settle (pred call) decoded.value) old before new after r
 
   -- why a round is refused that may be made; a coded value that came too late is not refused
-  abbrev pub GoesNot : (name : List ℕ) → (call : ℕ) → Hand → (again : Bool) → (old : Cluster) → (before after : C) → Refusal → Type 0
+  abbrev pub GoesNot : (name : List ℕ) → (call : ℕ) → Hand → (again : Bool) → (old : Cluster) → (before after : C)
+      → Refusal → Type 0
   GoesNot name call hand.Empty again old before after r = IsRefused chooses name call old again before after r
   GoesNot name call (hand.Coded coded) again old before after r =
       (after ≡ before) × (r ≢ NotNow) × IsRefusedBy (hand_cause old name call (hand.Coded coded)) r
@@ -82,28 +91,32 @@ module _ {C : Type 0} (chooses : C → ℕ → ℕ → C → Type 0) where
       (after ≡ before) × IsRefusedBy (hand_cause old name call (hand.Decoded decoded)) r
 
   -- the rounds of a seat's call
-  abbrev pub SeatGoes : Option Pending → Hand → (again : Bool) → (old : Cluster) → (before : C) → (new : Cluster) → (after : C) → Option Round → Type 0
+  abbrev pub SeatGoes : Option Pending → Hand → (again : Bool) → (old : Cluster) → (before : C) → (new : Cluster)
+      → (after : C) → Round → Type 0
   SeatGoes None h again old before new after r = ⊥
   SeatGoes (Some p) h again old before new after r = Goes p.name p.kept.call h again old before new after r
 
-  abbrev pub SeatGoesNot : Option Pending → Hand → (again : Bool) → (old : Cluster) → (before after : C) → Refusal → Type 0
+  abbrev pub SeatGoesNot : Option Pending → Hand → (again : Bool) → (old : Cluster) → (before after : C) → Refusal
+      → Type 0
   SeatGoesNot None h again old before after r = ⊥
   SeatGoesNot (Some p) h again old before after r = GoesNot p.name p.kept.call h again old before after r
 
 -- what a round leaves in the seat
-abbrev pub Leaves : SeatState → Option Round → SeatState → Type 0
-Leaves s (Some (round.Answered receipt)) t = Settles s.pending s receipt t
-Leaves s _ t = t ≡ s
+abbrev pub SeatLeaves : SeatState → Round → SeatState → Type 0
+SeatLeaves s (round.Answered receipt) t = Settles s.pending s receipt t
+SeatLeaves s _ t = t ≡ s
 
 -- whether a round answered its call and told a value
-abbrev pub tells : Option Round → Bool
-tells (Some (round.Answered receipt)) = is_some receipt.value
+abbrev pub tells : Round → Bool
+tells (round.Answered receipt) = is_some receipt.value
 tells _ = false
 
--- where a round answered its call, the receipt is of that call and of the next step, and this is a second copy of its value
-abbrev pub Copies : Cluster → (call : ℕ) → Option Round → Option (List ℕ) → Type 0
-Copies old call (Some (round.Answered receipt)) copy =
-    (copy ≡ receipt.value) × (receipt.called < receipt.answered) × (receipt.call ≡ call) × (receipt.answered ≡ next old)
+-- where a round answered its call, the receipt is of that call and of the next step, and this is a second copy of its
+-- value
+abbrev pub Copies : Cluster → (call : ℕ) → Round → Option (List ℕ) → Type 0
+Copies old call (round.Answered receipt) copy =
+    (copy ≡ receipt.value) × (receipt.called < receipt.answered) × (receipt.call ≡ call)
+    × (receipt.answered ≡ next old)
 Copies old call _ copy = Unit {0}
 
 -- Messages
@@ -126,22 +139,27 @@ module _ {C : Type 0} (chooses : C → ℕ → ℕ → C → Type 0) (name : Lis
 
   -- the message that is chosen is served or taken; there is none exactly where none can be handled
   abbrev pub Stirs : Bool → (new : Cluster) → (after : C) → Type 0
-  Stirs true new after = (place : ℕ) × (message : Message) × IsStirred after place message × (new ≡ stepped old name (handling place message.body))
+  Stirs true new after =
+      (place : ℕ) × (message : Message) × IsStirred after place message
+      × (new ≡ stepped old name (handling place message.body))
   Stirs false new after =
-      (state : State) × (named old.objects name ≡ Some state) × (any_choices old state.object ≡ []) × (new ≡ old) × (after ≡ before)
+      (state : State) × (named old.objects name ≡ Some state) × (any_choices old state.object ≡ []) × (new ≡ old)
+      × (after ≡ before)
 
   abbrev pub StirsNot : (after : C) → Refusal → Type 0
   StirsNot after r =
       ((object_cause old name (λ object. None) ≡ Some r) × (after ≡ before))
       ⊎ ((place : ℕ) × (message : Message) × IsStirred after place message
-      × ((object_cause old name (handling_cause old place) ≡ Some r) ⊎ ((object_cause old name (handling_cause old place) ≡ None) × (r ≡ NoMemory))))
+      × ((object_cause old name (handling_cause old place) ≡ Some r)
+      ⊎ ((object_cause old name (handling_cause old place) ≡ None) × (r ≡ NoMemory))))
 
 -- an even number loses the message at a place, an odd one repeats it
 abbrev pub disturbing : (place answer : ℕ) → Step
 disturbing place answer = if (answer % 2) == 0 then Step.Lose place else Step.Repeat place
 
 abbrev pub disturb_cause : Cluster → (place answer : ℕ) → Object → Option Refusal
-disturb_cause cluster place answer object = if (answer % 2) == 0 then lose_cause (next cluster) object place else repeat_cause (next cluster) object place
+disturb_cause cluster place answer object =
+    if (answer % 2) == 0 then lose_cause (next cluster) object place else repeat_cause (next cluster) object place
 
 module _ {C : Type 0} (chooses : C → ℕ → ℕ → C → Type 0) (name : List ℕ) (old : Cluster) (before : C) where
   -- a place and what is done there are chosen
@@ -155,14 +173,18 @@ module _ {C : Type 0} (chooses : C → ℕ → ℕ → C → Type 0) (name : Lis
     pub deed : chooses middle 2 answer after
 
   abbrev pub Disturbs : Bool → (new : Cluster) → (after : C) → Type 0
-  Disturbs true new after = (place : ℕ) × (answer : ℕ) × IsDisturbed after place answer × (new ≡ stepped old name (disturbing place answer))
-  Disturbs false new after = (state : State) × (named old.objects name ≡ Some state) × (state.object.mail ≡ []) × (new ≡ old) × (after ≡ before)
+  Disturbs true new after =
+      (place : ℕ) × (answer : ℕ) × IsDisturbed after place answer × (new ≡ stepped old name (disturbing place answer))
+  Disturbs false new after =
+      (state : State) × (named old.objects name ≡ Some state) × (state.object.mail ≡ []) × (new ≡ old)
+      × (after ≡ before)
 
   abbrev pub DisturbsNot : (after : C) → Refusal → Type 0
   DisturbsNot after r =
       ((object_cause old name (λ object. None) ≡ Some r) × (after ≡ before))
       ⊎ ((place : ℕ) × (answer : ℕ) × IsDisturbed after place answer
-      × ((object_cause old name (disturb_cause old place answer) ≡ Some r) ⊎ ((object_cause old name (disturb_cause old place answer) ≡ None) × (r ≡ NoMemory))))
+      × ((object_cause old name (disturb_cause old place answer) ≡ Some r)
+      ⊎ ((object_cause old name (disturb_cause old place answer) ≡ None) × (r ≡ NoMemory))))
 
 -- The administrator
 
@@ -196,15 +218,17 @@ move_cause_of cluster None turns = Some NoCall
 move_cause_of cluster (Some m) turns = going_cause cluster m.name m.call turns
 
 module _ {C : Type 0} (chooses : C → ℕ → ℕ → C → Type 0) where
-  abbrev pub MoveGoes : Option Moving → Hand → (again : Bool) → (old : Cluster) → (before : C) → (new : Cluster) → (after : C) → Option Round → Type 0
+  abbrev pub MoveGoes : Option Moving → Hand → (again : Bool) → (old : Cluster) → (before : C) → (new : Cluster)
+      → (after : C) → Round → Type 0
   MoveGoes None h again old before new after r = ⊥
   MoveGoes (Some m) h again old before new after r = Goes chooses m.name m.call h again old before new after r
 
-  abbrev pub MoveGoesNot : Option Moving → Hand → (again : Bool) → (old : Cluster) → (before after : C) → Refusal → Type 0
+  abbrev pub MoveGoesNot : Option Moving → Hand → (again : Bool) → (old : Cluster) → (before after : C) → Refusal
+      → Type 0
   MoveGoesNot None h again old before after r = ⊥
   MoveGoesNot (Some m) h again old before after r = GoesNot chooses m.name m.call h again old before after r
 
 -- what a round leaves of the administrator's move
-abbrev pub MoveLeaves : Option Moving → Option Round → Option Moving → Type 0
-MoveLeaves m (Some (round.Answered receipt)) n = Ends m receipt n
+abbrev pub MoveLeaves : Option Moving → Round → Option Moving → Type 0
+MoveLeaves m (round.Answered receipt) n = Ends m receipt n
 MoveLeaves m _ n = n ≡ m

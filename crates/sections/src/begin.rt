@@ -16,9 +16,9 @@ use tag::Refusal;
 
 /// A read or a write begins: one step, with its record in the seat.
 ///
-/// `Stranger` where the seat has seen a later step than there was, `NoObject` where there is none of this name, `NotNow`
-/// where the seat has a call without an answer, `TooLong` where the value is too long, and `Full` where a limit of the
-/// steps, of the calls or of the messages is met.
+/// `Stranger` where the seat has seen a later step than there was, `NoObject` where there is none of this name,
+/// `NotNow` where the seat has a call without an answer, `TooLong` where the value is too long, and `Full` where a
+/// limit of the steps, of the calls or of the messages is met.
 pub fn begin_in<L: StoreName>(
     booked: &mut Booked<L>,
     seat: &mut Seat<L>,
@@ -26,7 +26,8 @@ pub fn begin_in<L: StoreName>(
     what: Begin,
 ) -> Result<(), Refusal>
     ensures step { OnOk result (booked.new ≡ stepped booked.old name.now (call_step what)) }
-    ensures seat { OnOk result (seat.new ≡ with_pending seat.old name.now (begun booked.old name.now seat.old.floor what)) }
+    ensures seat { OnOk result
+        (seat.new ≡ with_pending seat.old name.now (begun booked.old name.now seat.old.floor what)) }
     ensures cause { IsByCause (begin_cause booked.old seat.old name.now what) result }
     ensures unchanged { OnErr result (booked.new ≡ booked.old) }
     ensures kept { OnErr result (seat.new ≡ seat.old) }
@@ -62,7 +63,8 @@ fn begin_call(cluster: &mut Cluster, name: &str, what: Begin) -> Result<u64, Ref
     ensures step { OnOk result (cluster.new ≡ stepped cluster.old name.entry.now (call_step what)) }
     ensures number { IfOk result (λ n. n ≡ suc (call_count (named cluster.old.objects name.entry.now))) }
     ensures count { OnOk result (client_calls cluster.new ≡ client_calls cluster.old + 1) }
-    ensures cause { IsByCause (object_cause cluster.old name.entry.now (λ object. calling_cause what (next cluster.old) object)) result }
+    ensures cause { IsByCause
+        (object_cause cluster.old name.entry.now (λ object. calling_cause what (next cluster.old) object)) result }
     ensures unchanged { OnErr result (cluster.new ≡ cluster.old) }
 {
     match what {

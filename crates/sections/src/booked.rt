@@ -39,7 +39,8 @@ impl<L: StoreName> Model for Booked<L> {
 
     ghost view = { λ b. b.cluster };
 
-    ghost invariant = { λ b. (b.book.total ≡ client_calls b.cluster) × (b.own.parts ≡ 1) × (b.own.amount ≡ 0) × (b.seats ≡ L.seats) × (L.parts ≡ L.seats + 1) };
+    ghost invariant = { λ b. (b.book.total ≡ client_calls b.cluster) × (b.own.parts ≡ 1) × (b.own.amount ≡ 0)
+        × (b.seats ≡ L.seats) × (L.parts ≡ L.seats + 1) };
 }
 
 impl<L: StoreName> Booked<L> {

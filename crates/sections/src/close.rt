@@ -26,17 +26,19 @@ pub struct NotClosed<L: StoreName> {
 
 /// Closes a store that nobody uses any more.
 ///
-/// `Stranger` where the seats are not those of the store, or do not fit its history: a record or receipt does not stand in
-/// it, a call is recorded twice, or one without a receipt is answered. `NoMemory` may come before.
+/// `Stranger` where the seats are not those of the store, or do not fit its history: a record or receipt does not stand
+/// in it, a call is recorded twice, or one without a receipt is answered. `NoMemory` may come before.
 pub fn close_in<L: StoreName>(
     alloc: Global,
     booked: Booked<L>,
     seats: Vec<Seat<L>>,
 ) -> Result<Closed, NotClosed<L>>
-    ensures cluster { MatchResult result (λ closed. closed.cluster ≡ booked) (λ e. (e.cluster ≡ booked) × (e.seats.items ≡ seats.items)) }
+    ensures cluster { MatchResult result (λ closed. closed.cluster ≡ booked)
+        (λ e. (e.cluster ≡ booked) × (e.seats.items ≡ seats.items)) }
     ensures accounted { IfOk result (λ closed. IsAccounted booked seats.items) }
     ensures fit { IfOk result (λ closed. Fit L.seats booked seats.items) }
-    ensures stranger { IfErr result (λ e. (e.refusal ≡ Refusal.NoMemory) ⊎ ((e.refusal ≡ Refusal.Stranger) × (¬ Fit L.seats booked seats.items))) }
+    ensures stranger { IfErr result
+        (λ e. (e.refusal ≡ Refusal.NoMemory) ⊎ ((e.refusal ≡ Refusal.Stranger) × (¬ Fit L.seats booked seats.items))) }
     ensures receipts { IfOk result (λ closed. closed.receipts ≡ receipts_of (all_records seats.items)) }
 {
     let Booked {

@@ -1,5 +1,6 @@
 //! Whether seats fit the history, and how many receipts they have.
-ghost use Rattle.std.specs.Prelude.{◌≡◌, ◌+◌, ◌^◌, ◌<◌, ◌==◌, ◌↔◌, ◌++◌, true, Ok, IsTrue, IfOk, IfErr, count_by, length, map, vec_len};
+ghost use Rattle.std.specs.Prelude.{◌≡◌, ◌+◌, ◌^◌, ◌<◌, ◌==◌, ◌↔◌, ◌++◌, true, Ok, IsTrue, IfOk, IfErr, count_by};
+ghost use Rattle.std.specs.Prelude.{length, map, vec_len};
 ghost use Rattle.std.specs.List.{AllByRecursion};
 ghost use Rattle.tag.specs.declared.refusal.Refusal.TheVariants.{NoMemory};
 ghost use Rattle.sections.specs.Closing.{AllStand, AreNumbered, Fit, all_records, are_distinct, key_of, receipts_of};

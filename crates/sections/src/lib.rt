@@ -1,4 +1,5 @@
-//! The locked sections: each is one call of a function that is lent the cluster with its book, and says which steps it made.
+//! The locked sections: each is one call of a function that is lent the cluster with its book, and says which steps it
+//! made.
 #![tactic(auto)]
 
 pub use admin::{Admin, Order};

@@ -7,11 +7,12 @@ ghost use Rattle.cluster.specs.Cluster.{named};
 ghost use Rattle.cluster.specs.Steps.{moved};
 ghost use Rattle.sections.specs.Calls.{client_calls};
 ghost use Rattle.sections.specs.Seats.{call_count};
-ghost use Rattle.sections.specs.Sections.{MoveGoes, MoveGoesNot, MoveLeaves, begin_move_cause, move_begun, move_cause_of};
+ghost use Rattle.sections.specs.Sections.{MoveGoes, MoveGoesNot, MoveLeaves, begin_move_cause, move_begun};
+ghost use Rattle.sections.specs.Sections.{move_cause_of};
 
 use crate::admin::Admin;
 use crate::booked::{Booked, StoreName};
-use crate::rounds::{Hand, go, past_calls, want_to_go};
+use crate::rounds::{Hand, past_calls, round_with, want_to_go};
 use crate::seat::hold;
 use cluster::{Cluster, LayoutId};
 use driver::{Chooser, Round};
@@ -19,8 +20,8 @@ use tag::Refusal;
 
 /// A move begins: one step.
 ///
-/// `NoObject` where there is none of this name, `MovePending` where the object or the administrator has a move without an
-/// answer, `BadLayout` where there is no such layout, and `Full` where a limit is met.
+/// `NoObject` where there is none of this name, `MovePending` where the object or the administrator has a move without
+/// an answer, `BadLayout` where there is no such layout, and `Full` where a limit is met.
 pub fn begin_move_in<L: StoreName>(
     booked: &mut Booked<L>,
     admin: &mut Admin<L>,
@@ -64,12 +65,14 @@ pub fn move_round_in<L: StoreName, C: Chooser>(
     hand: Hand,
     asks_again: bool,
     turns: u64,
-) -> Result<Option<Round>, Refusal>
-    ensures steps { IfOk result (λ r. MoveGoes C.chooses admin.old hand asks_again booked.old chooser.old booked.new chooser.new r) }
+) -> Result<Round, Refusal>
+    ensures steps { IfOk result
+        (λ r. MoveGoes C.chooses admin.old hand asks_again booked.old chooser.old booked.new chooser.new r) }
     ensures admin { IfOk result (λ r. MoveLeaves admin.old r admin.new) }
     ensures cause { MatchResult result (λ r. move_cause_of booked.old admin.old turns ≡ None) (λ e.
         ((move_cause_of booked.old admin.old turns ≡ Some e) × (chooser.new ≡ chooser.old))
-        ⊎ ((move_cause_of booked.old admin.old turns ≡ None) × MoveGoesNot C.chooses admin.old hand asks_again booked.old chooser.old chooser.new e)) }
+        ⊎ ((move_cause_of booked.old admin.old turns ≡ None)
+        × MoveGoesNot C.chooses admin.old hand asks_again booked.old chooser.old chooser.new e)) }
 
     ensures unchanged { OnErr result (booked.new ≡ booked.old) }
     ensures kept { OnErr result (admin.new ≡ admin.old) }
@@ -78,10 +81,18 @@ pub fn move_round_in<L: StoreName, C: Chooser>(
         return Err(Refusal::NoCall);
     };
     let name = admin.name.as_str();
-    want_to_go(&booked.cluster, name, call, turns)?;
+    let want = want_to_go(&booked.cluster, name, call, turns)?;
     past_calls(&booked.cluster, name);
-    let round = go(&mut booked.cluster, name, call, hand, asks_again, chooser)?;
-    if let Some(Round::Answered(_)) = &round {
+    let round = round_with(
+        &mut booked.cluster,
+        name,
+        call,
+        want,
+        hand,
+        asks_again,
+        chooser,
+    )?;
+    if let Round::Answered(_) = &round {
         admin.pending = None;
     }
     Ok(round)

@@ -1,5 +1,6 @@
 //! The rounds of a seat's call.
-ghost use Rattle.std.specs.Prelude.{◌≡◌, ◌⊎◌, ◌<◌, ◌≤◌, ◌↔◌, None, Some, is_some, if◌then◌else◌, IsTrue, IfOk, IfErr, OnOk, OnErr, MatchResult};
+ghost use Rattle.std.specs.Prelude.{◌≡◌, ◌⊎◌, ◌<◌, ◌≤◌, ◌↔◌, None, Some, is_some, if◌then◌else◌, IsTrue, IfOk, IfErr};
+ghost use Rattle.std.specs.Prelude.{OnOk, OnErr, MatchResult};
 ghost use Rattle.std.specs.List.{AllByRecursion};
 ghost use Rattle.tag.specs.declared.limits.TheConstants.{MOST_STEPS};
 ghost use Rattle.tag.specs.declared.refusal.Refusal.TheVariants.{NoMemory};
@@ -9,7 +10,8 @@ ghost use Rattle.register.specs.View.{value_at};
 ghost use Rattle.cluster.specs.Cluster.{if_named, named};
 ghost use Rattle.sections.specs.Calls.{client_calls};
 ghost use Rattle.driver.specs.Driver.{wanted};
-ghost use Rattle.sections.specs.Sections.{Copies, Goes, GoesNot, SeatGoes, SeatGoesNot, Leaves, going_cause, round_cause, tells};
+ghost use Rattle.sections.specs.Sections.{Copies, Goes, GoesNot, SeatGoes, SeatGoesNot, SeatLeaves, going_cause};
+ghost use Rattle.sections.specs.Sections.{round_cause, tells};
 ghost use Rattle.sections.specs.declared.rounds.Hand.TheVariants as hands;
 
 use crate::booked::{Booked, StoreName};
@@ -42,11 +44,12 @@ impl Hand {
     }
 }
 
-/// One round of the seat's pending call: one step of the call, or of one of its messages, or none and a copy of what is to be
-/// coded or decoded for the next round. None where what is handed in came too late, since its phase is complete.
+/// One round of the seat's pending call: one step of the call, or of one of its messages; or none and a copy of what is
+/// to be coded or decoded for the next round, or none where what is handed in came too late.
 ///
-/// `Stranger` where the seat has seen a later step than there was, `NoCall` where it has no pending call, `NotNow` where that
-/// is answered, `GaveUp` where no turns are left, and else as `make_round`, `supply` and `settle` are refused.
+/// `Stranger` where the seat has seen a later step than there was, `NoCall` where it has no pending call, `NotNow`
+/// where that is answered, `GaveUp` where no turns are left, and else as `make_round`, `supply` and `settle` are
+/// refused.
 pub fn round_in<L: StoreName, C: Chooser>(
     booked: &mut Booked<L>,
     seat: &mut Seat<L>,
@@ -54,12 +57,14 @@ pub fn round_in<L: StoreName, C: Chooser>(
     hand: Hand,
     asks_again: bool,
     turns: u64,
-) -> Result<Option<Round>, Refusal>
-    ensures steps { IfOk result (λ r. SeatGoes C.chooses seat.old.pending hand asks_again booked.old chooser.old booked.new chooser.new r) }
-    ensures seat { IfOk result (λ r. Leaves seat.old r seat.new) }
+) -> Result<Round, Refusal>
+    ensures steps { IfOk result
+        (λ r. SeatGoes C.chooses seat.old.pending hand asks_again booked.old chooser.old booked.new chooser.new r) }
+    ensures seat { IfOk result (λ r. SeatLeaves seat.old r seat.new) }
     ensures cause { MatchResult result (λ r. round_cause booked.old seat.old turns ≡ None) (λ e.
         ((round_cause booked.old seat.old turns ≡ Some e) × (chooser.new ≡ chooser.old))
-        ⊎ ((round_cause booked.old seat.old turns ≡ None) × SeatGoesNot C.chooses seat.old.pending hand asks_again booked.old chooser.old chooser.new e)) }
+        ⊎ ((round_cause booked.old seat.old turns ≡ None)
+        × SeatGoesNot C.chooses seat.old.pending hand asks_again booked.old chooser.old chooser.new e)) }
 
     ensures unchanged { OnErr result (booked.new ≡ booked.old) }
     ensures kept { OnErr result (seat.new ≡ seat.old) }
@@ -71,7 +76,7 @@ pub fn round_in<L: StoreName, C: Chooser>(
         return Err(Refusal::NoCall);
     };
     let call = record.call;
-    let (round, copy) = go_with_copy(
+    let (round, copy) = round_with_copy(
         &mut booked.cluster,
         seat.name.as_str(),
         call,
@@ -80,14 +85,15 @@ pub fn round_in<L: StoreName, C: Chooser>(
         turns,
         chooser,
     )?;
-    if let Some(Round::Answered(receipt)) = &round {
+    if let Round::Answered(receipt) = &round {
         seat.settle(receipt, copy);
     }
     Ok(round)
 }
 
-// One round of a call, and, where that answers it, a second copy of the value that it tells, which is had before the step.
-fn go_with_copy<C: Chooser>(
+// One round of a call, and, where that answers it, a second copy of the value that it tells, which is had before the
+// step.
+fn round_with_copy<C: Chooser>(
     cluster: &mut Cluster,
     name: &str,
     call: u64,
@@ -95,12 +101,14 @@ fn go_with_copy<C: Chooser>(
     asks_again: bool,
     turns: u64,
     chooser: &mut C,
-) -> Result<(Option<Round>, Option<Bytes>), Refusal>
-    ensures steps { IfOk result (λ r. Goes C.chooses name.entry.now call hand asks_again cluster.old chooser.old cluster.new chooser.new r.0) }
+) -> Result<(Round, Option<Bytes>), Refusal>
+    ensures steps { IfOk result
+        (λ r. Goes C.chooses name.entry.now call hand asks_again cluster.old chooser.old cluster.new chooser.new r.0) }
     ensures copy { IfOk result (λ r. Copies cluster.old call r.0 r.1) }
     ensures cause { MatchResult result (λ r. going_cause cluster.old name.entry.now call turns ≡ None) (λ e.
         ((going_cause cluster.old name.entry.now call turns ≡ Some e) × (chooser.new ≡ chooser.old))
-        ⊎ ((going_cause cluster.old name.entry.now call turns ≡ None) × GoesNot C.chooses name.entry.now call hand asks_again cluster.old chooser.old chooser.new e)) }
+        ⊎ ((going_cause cluster.old name.entry.now call turns ≡ None)
+        × GoesNot C.chooses name.entry.now call hand asks_again cluster.old chooser.old chooser.new e)) }
 
     ensures unchanged { OnErr result (cluster.new ≡ cluster.old) }
     ensures count { client_calls cluster.new ≡ client_calls cluster.old }
@@ -108,7 +116,7 @@ fn go_with_copy<C: Chooser>(
     let want = want_to_go(cluster, name, call, turns)?;
     let copy = copy_to_keep(cluster, name, call, want, &hand)?;
     past_calls(cluster, name);
-    let round = go(cluster, name, call, hand, asks_again, chooser)?;
+    let round = round_with(cluster, name, call, want, hand, asks_again, chooser)?;
     cluster.keeping();
     let copy = kept_value(&round, copy);
     Ok((round, copy))
@@ -126,7 +134,9 @@ fn copy_to_keep(
     ensures value { due ≡ want.Answer → hand.now ≡ hands.Empty → cluster.now.counter < MOST_STEPS
         → IfOk result (λ v. v ≡ if_named cluster.now name.now (λ object. value_at object call)) }
 
-    ensures refused { IfErr result (λ e. (e ≡ NoMemory) × ((due ≡ want.Answer) × ((hand.now ≡ hands.Empty) × (cluster.now.counter < MOST_STEPS)))) }
+    ensures refused { IfErr result
+        (λ e. (e ≡ NoMemory) × ((due ≡ want.Answer) × ((hand.now ≡ hands.Empty)
+        × (cluster.now.counter < MOST_STEPS)))) }
 {
     if due != Want::Answer {
         return Ok(None);
@@ -159,11 +169,11 @@ pub(crate) fn past_calls(cluster: &Cluster, name: &str)
 }
 
 // The copy, where the round answered the call and told a value.
-fn kept_value(round: &Option<Round>, copy: Option<Bytes>) -> Option<Bytes>
+fn kept_value(round: &Round, copy: Option<Bytes>) -> Option<Bytes>
     ensures { result ≡ (if tells round.now then copy else None) }
 {
     match round {
-        Some(Round::Answered(receipt)) => { if receipt.value.is_some() { copy } else { None } }
+        Round::Answered(receipt) => { if receipt.value.is_some() { copy } else { None } }
         _ => None,
     }
 }
@@ -176,7 +186,8 @@ pub(crate) fn want_to_go(
     turns: u64,
 ) -> Result<Want, Refusal>
     ensures want { IfOk result (λ w. wanted cluster.now name.now call ≡ Some w) }
-    ensures cause { MatchResult result (λ w. going_cause cluster.now name.now call turns ≡ None) (λ e. going_cause cluster.now name.now call turns ≡ Some e) }
+    ensures cause { MatchResult result (λ w. going_cause cluster.now name.now call turns ≡ None)
+        (λ e. going_cause cluster.now name.now call turns ≡ Some e) }
 {
     let want = cluster.want(name, call)?;
     if want == Want::Done {
@@ -188,32 +199,36 @@ pub(crate) fn want_to_go(
     Ok(want)
 }
 
-/// One round of a call, which answers it only where it wants to be answered and nothing is handed in.
-pub(crate) fn go<C: Chooser>(
+/// One round of a call that wants this, which answers it only where it wants to be answered and nothing is handed in.
+pub(crate) fn round_with<C: Chooser>(
     cluster: &mut Cluster,
     name: &str,
     call: u64,
+    due: Want,
     hand: Hand,
     asks_again: bool,
     chooser: &mut C,
-) -> Result<Option<Round>, Refusal>
-    ensures steps { IfOk result (λ r. Goes C.chooses name.entry.now call hand asks_again cluster.old chooser.old cluster.new chooser.new r) }
-    ensures refused { IfErr result (λ e. GoesNot C.chooses name.entry.now call hand asks_again cluster.old chooser.old chooser.new e) }
+) -> Result<Round, Refusal>
+    requires { wanted cluster.old name.now call ≡ Some due }
+    ensures steps { IfOk result
+        (λ r. Goes C.chooses name.entry.now call hand asks_again cluster.old chooser.old cluster.new chooser.new r) }
+    ensures refused { IfErr result
+        (λ e. GoesNot C.chooses name.entry.now call hand asks_again cluster.old chooser.old chooser.new e) }
     ensures unchanged { OnErr result (cluster.new ≡ cluster.old) }
     ensures count { client_calls cluster.new ≡ client_calls cluster.old }
 {
     match hand {
-        Hand::Empty => match make_round(cluster, name, call, asks_again, chooser) {
-            Ok(round) => Ok(Some(round)),
+        Hand::Empty => match make_round(cluster, name, call, due, asks_again, chooser) {
+            Ok(round) => Ok(round),
             Err(refusal) => Err(refusal),
         },
         Hand::Coded(coded) => match cluster.supply(name, call, coded) {
-            Ok(()) => Ok(Some(Round::Stepped)),
-            Err(Refusal::NotNow) => Ok(None),
+            Ok(()) => Ok(Round::Stepped),
+            Err(Refusal::NotNow) => Ok(Round::Late),
             Err(refusal) => Err(refusal),
         },
         Hand::Decoded(decoded) => match cluster.settle(name, call, decoded) {
-            Ok(()) => Ok(Some(Round::Stepped)),
+            Ok(()) => Ok(Round::Stepped),
             Err(refusal) => Err(refusal),
         },
     }

@@ -35,7 +35,12 @@ impl<L: StoreName> Model for Seat<L> {
 
     ghost Value = { SeatState };
 
-    ghost view = { λ s. record { number = s.number; floor = s.floor; records = s.records.items; pending = pending_of (string_bytes s.name) s.pending } };
+    ghost view = { λ s. record {
+      number = s.number;
+      floor = s.floor;
+      records = s.records.items;
+      pending = pending_of (string_bytes s.name) s.pending;
+    } };
 
     ghost invariant = { λ s. let pending = pending_of (string_bytes s.name) s.pending in
         (s.share.parts ≡ 1) × (s.share.amount ≡ length (s.records.items ++ listed pending))
@@ -82,7 +87,8 @@ impl<L: StoreName> Seat<L> {
         }
     }
 
-    /// Its pending call is answered with a receipt, of which it keeps a copy with this copy of the value. It takes no memory.
+    /// Its pending call is answered with a receipt, of which it keeps a copy with this copy of the value. It takes no
+    /// memory.
     pub(crate) fn settle(&mut self, receipt: &Receipt, value: Option<Bytes>)
         requires pending { IsSome self.old.pending }
         requires call { IsOf self.old.pending receipt.now }

@@ -18,9 +18,9 @@ impl<L: StoreName> Store<L> {
     /// Writes a value, in at most so many turns beside the call step.
     ///
     /// Where the call does not begin, the seat is as it was: `Stranger` where it has seen a later step than there was,
-    /// `NoObject` where there is none of this name, `NotNow` where it has a pending call, `TooLong` where the value is too
-    /// long, `Full` where a limit of the steps, of the calls or of the messages is met, and else `NoMemory`. A refusal after
-    /// that leaves the call pending, as of `resume`.
+    /// `NoObject` where there is none of this name, `NotNow` where it has a pending call, `TooLong` where the value is
+    /// too long, `Full` where a limit of the steps, of the calls or of the messages is met, and else `NoMemory`. A
+    /// refusal after that leaves the call pending, as of `resume`.
     pub fn write<R: Threads + Wait + Sync, C: Chooser>(
         &self,
         rt: &R,
@@ -55,9 +55,9 @@ impl<L: StoreName> Store<L> {
 
     /// Goes on with the seat's pending call, in at most so many turns.
     ///
-    /// `Stranger` where the seat has seen a later step than there was; `NoCall` where it has no pending call; `GaveUp` once
-    /// the turns are used up; `Stuck` where the call wants replies and none of its messages can be handled; `Full` where a
-    /// limit is met; and `NoMemory`. The seat stays as it was, its call pending.
+    /// `Stranger` where the seat has seen a later step than there was; `NoCall` where it has no pending call; `GaveUp`
+    /// once the turns are used up; `Stuck` where the call wants replies and none of its messages can be handled; `Full`
+    /// where a limit is met; and `NoMemory`. The seat stays as it was, its call pending.
     pub fn resume<R: Threads + Wait + Sync, C: Chooser>(
         &self,
         rt: &R,
@@ -67,14 +67,15 @@ impl<L: StoreName> Store<L> {
     ) -> Result<Receipt, Refusal>
         ensures ok { IfOk result (λ receipt. Settles seat.old.pending seat.old receipt seat.new) }
         ensures err { OnErr result (seat.new ≡ seat.old) }
-        ensures without_call { IfErr result (λ r. (seat.old.pending ≡ None) → (r ≡ Refusal.NoCall) ⊎ (r ≡ Refusal.Stranger)) }
+        ensures without_call { IfErr result
+            (λ r. (seat.old.pending ≡ None) → (r ≡ Refusal.NoCall) ⊎ (r ≡ Refusal.Stranger)) }
     {
-        self.drive(rt, &NoGate, seat, true, chooser, turns)
+        self.finish(rt, &NoGate, seat, true, chooser, turns)
     }
 
-    /// A whole read or write, as `read` and `write` make them, through a gate that is told of each coding: the number of the
-    /// piece that a worker makes, and 0 where the client decodes. The growths for its record are made before the lock is
-    /// taken, where they can be.
+    /// A whole read or write, as `read` and `write` make them, through a gate that is told of each coding: the number
+    /// of the piece that a worker makes, and 0 where the client decodes. The growths for its record are made before the
+    /// lock is taken, where they can be.
     pub fn call<G: Gate, R: Threads + Wait + Sync, C: Chooser>(
         &self,
         rt: &R,
@@ -91,6 +92,6 @@ impl<L: StoreName> Store<L> {
     {
         let _ = seat.make_room(name);
         begin_in(&mut *self.booked.lock(rt), seat, name, what)?;
-        self.drive(rt, gate, seat, false, chooser, turns)
+        self.finish(rt, gate, seat, false, chooser, turns)
     }
 }

@@ -7,10 +7,10 @@ ghost use Rattle.sections.specs.Moves.{Ends};
 use crate::store::Store;
 use cluster::LayoutId;
 use coding_pool::NoGate;
-use driver::{Chooser, Round};
+use driver::Chooser;
 use layout::Layout;
 use register::Receipt;
-use sections::{Admin, Hand, Order, StoreName, admin_in, begin_move_in, move_round_in};
+use sections::{Admin, Order, StoreName, admin_in, begin_move_in};
 use std::sync::Wait;
 use std::thread::Threads;
 use tag::Refusal;
@@ -37,8 +37,8 @@ impl<L: StoreName> Store<L> {
 
     /// One more object, with one position of this layout.
     ///
-    /// `ObjectExists` where an object has this name, `BadLayout` where there is no such layout, `TooLong` where the name is
-    /// too long, and `Full` where the limit of steps or of objects is met.
+    /// `ObjectExists` where an object has this name, `BadLayout` where there is no such layout, `TooLong` where the
+    /// name is too long, and `Full` where the limit of steps or of objects is met.
     pub fn create<R: Wait>(
         &self,
         rt: &R,
@@ -72,9 +72,9 @@ impl<L: StoreName> Store<L> {
 
     /// Moves an object to a layout, in at most so many turns beside the call step.
     ///
-    /// Where the move does not begin: `NoObject` where there is none of this name, `MovePending` where the object or the
-    /// administrator has a move without an answer, `BadLayout` where there is no such layout, `Full` where a limit is met,
-    /// and else `NoMemory`. A refusal after that leaves the move pending, as of `resume_move`.
+    /// Where the move does not begin: `NoObject` where there is none of this name, `MovePending` where the object or
+    /// the administrator has a move without an answer, `BadLayout` where there is no such layout, `Full` where a limit
+    /// is met, and else `NoMemory`. A refusal after that leaves the move pending, as of `resume_move`.
     pub fn move_object<R: Threads + Wait + Sync, C: Chooser>(
         &self,
         rt: &R,
@@ -89,11 +89,11 @@ impl<L: StoreName> Store<L> {
             ⊎ BeginsMove admin.old name.now layout admin.new) }
     {
         begin_move_in(&mut *self.booked.lock(rt), admin, name, layout)?;
-        self.drive_move(rt, admin, false, chooser, turns)
+        self.finish(rt, &NoGate, admin, false, chooser, turns)
     }
 
-    /// Goes on with the administrator's pending move, in at most so many turns. Refused as `resume`, but never as a stranger:
-    /// `NoCall` where there is no move.
+    /// Goes on with the administrator's pending move, in at most so many turns. Refused as `resume`, but never as a
+    /// stranger: `NoCall` where there is no move.
     pub fn resume_move<R: Threads + Wait + Sync, C: Chooser>(
         &self,
         rt: &R,
@@ -105,45 +105,6 @@ impl<L: StoreName> Store<L> {
         ensures err { OnErr result (admin.new ≡ admin.old) }
         ensures without_move { IfErr result (λ r. (admin.old ≡ None) → r ≡ Refusal.NoCall) }
     {
-        self.drive_move(rt, admin, true, chooser, turns)
-    }
-
-    // Rounds until the answer.
-    fn drive_move<R: Threads + Wait + Sync, C: Chooser>(
-        &self,
-        rt: &R,
-        admin: &mut Admin<L>,
-        resumed: bool,
-        chooser: &mut C,
-        turns: u64,
-    ) -> Result<Receipt, Refusal>
-        ensures ok { IfOk result (λ receipt. Ends admin.old receipt admin.new) }
-        ensures err { OnErr result (admin.new ≡ admin.old) }
-        ensures without_move { IfErr result (λ r. (admin.old ≡ None) → r ≡ Refusal.NoCall) }
-    {
-        let mut asks_again = resumed;
-        let mut left = turns;
-        let mut hand = Hand::Empty;
-        for _ in rt.forever() {
-            let round = move_round_in(
-                &mut *self.booked.lock(rt),
-                admin,
-                chooser,
-                hand,
-                asks_again,
-                left,
-            )?;
-            asks_again = false;
-            match round {
-                Some(Round::Answered(receipt)) => return Ok(receipt),
-                Some(Round::Stepped) => {
-                    left = left.saturating_sub(1);
-                    hand = Hand::Empty;
-                }
-                Some(copied) => hand = self.coded(rt, &NoGate, copied)?,
-                None => hand = Hand::Empty,
-            }
-        }
-        unreachable!()
+        self.finish(rt, &NoGate, admin, true, chooser, turns)
     }
 }

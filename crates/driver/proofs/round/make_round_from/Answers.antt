@@ -6,22 +6,24 @@ pub returns-in_err-advance-in-Advance-clause-refused : goal.returns-in_err-advan
 returns-in_err-advance-in-Advance-clause-refused g c =
     err_of _ _ _ c.from_residual-in_err-advance-in-Advance.ensures.1
     (advance_refused g.C.Chooser.chooses c.args.name.now c.args.call c.args.cluster.now c.args.asks_again c.args.chooser.now _
-    (c.in_ok-want.ensures.want ∙ ap Some c.in-Advance.is) c.in_err-advance-in-Advance.ensures.cause)
+    (c.requires.wants ∙ ap Some c.in-Advance.is) c.in_err-advance-in-Advance.ensures.cause)
 
 pub returns-in_err-value-in-Supply-clause-refused : goal.returns-in_err-value-in-Supply-clause-refused
 returns-in_err-value-in-Supply-clause-refused g c =
     err_of _ _ _ c.from_residual-in_err-value-in-Supply.ensures.1
-    (value_refused g.C.Chooser.chooses c.args.name.now c.args.call c.args.cluster.now c.args.asks_again c.args.chooser.now c.in-Supply.k c.in-Supply.n _
-    (c.in_ok-want.ensures.want ∙ ap Some c.in-Supply.is) c.in_err-value-in-Supply.ensures.cause)
+    (value_refused g.C.Chooser.chooses c.args.name.now c.args.call c.args.cluster.now c.args.asks_again c.args.chooser.now c.in-Supply.k
+    c.in-Supply.n _
+    (c.requires.wants ∙ ap Some c.in-Supply.is) c.in_err-value-in-Supply.ensures.cause)
 
 pub returns-in_err-pieces-in-Settle-clause-refused : goal.returns-in_err-pieces-in-Settle-clause-refused
 returns-in_err-pieces-in-Settle-clause-refused g c =
     err_of _ _ _ c.from_residual-in_err-pieces-in-Settle.ensures.1
-    (settle_refused g.C.Chooser.chooses c.args.name.now c.args.call c.args.cluster.now c.args.asks_again c.args.chooser.now c.in-Settle.k c.in-Settle.len _
-    (c.in_ok-want.ensures.want ∙ ap Some c.in-Settle.is) c.in_err-pieces-in-Settle.ensures.given c.in_err-pieces-in-Settle.ensures.cause)
+    (settle_refused g.C.Chooser.chooses c.args.name.now c.args.call c.args.cluster.now c.args.asks_again c.args.chooser.now c.in-Settle.k
+    c.in-Settle.len _
+    (c.requires.wants ∙ ap Some c.in-Settle.is) c.in_err-pieces-in-Settle.ensures.given c.in_err-pieces-in-Settle.ensures.cause)
 
 pub returns-in_err-answer-in-Answer-clause-refused : goal.returns-in_err-answer-in-Answer-clause-refused
 returns-in_err-answer-in-Answer-clause-refused g c =
     err_of _ _ _ c.from_residual-in_err-answer-in-Answer.ensures.1
     (answer_refused g.C.Chooser.chooses c.args.name.now c.args.call c.args.cluster.now c.args.asks_again c.args.chooser.now _
-    (c.in_ok-want.ensures.want ∙ ap Some c.in-Answer.is) c.in_err-answer-in-Answer.ensures.cause)
+    (c.requires.wants ∙ ap Some c.in-Answer.is) c.in_err-answer-in-Answer.ensures.cause)

@@ -4,14 +4,16 @@ use Rattle.sections.proofs.begin.begin_call.Goals as goal
 
 pub returns-in-Read-clause-count : goal.returns-in-Read-clause-count
 returns-in-Read-clause-count c =
-    counted_ok c.call_read.result c.args.cluster.now c.call_read.new.self c.args.name.now Step.CallRead _ c.call_read.ensures.step c.call_read.ensures.cause
+    counted_ok c.call_read.result c.args.cluster.now c.call_read.new.self c.args.name.now Step.CallRead _ c.call_read.ensures.step
+    c.call_read.ensures.cause
 
 pub returns-in-Read-clause-number : goal.returns-in-Read-clause-number
 returns-in-Read-clause-number c = numbered_ok c.call_read.result c.args.cluster.now c.args.name.now c.call_read.ensures.number
 
 pub returns-in-Write-clause-count : goal.returns-in-Write-clause-count
 returns-in-Write-clause-count c =
-    counted_ok c.call_write.result c.args.cluster.now c.call_write.new.self c.args.name.now (Step.CallWrite c.in-Write.value) _ c.call_write.ensures.step c.call_write.ensures.cause
+    counted_ok c.call_write.result c.args.cluster.now c.call_write.new.self c.args.name.now (Step.CallWrite c.in-Write.value) _
+    c.call_write.ensures.step c.call_write.ensures.cause
 
 pub returns-in-Write-clause-number : goal.returns-in-Write-clause-number
 returns-in-Write-clause-number c = numbered_ok c.call_write.result c.args.cluster.now c.args.name.now c.call_write.ensures.number

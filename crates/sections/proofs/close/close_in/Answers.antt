@@ -14,6 +14,7 @@ returns-clause-accounted g c =
     let ss : List SeatState = c.args.seats.items in
     let value = c.as_slice.ensures.value in
     let f : Fit n h ss = rw (← value) (c.in-Ok.ensures.fit.0 c.if-not-fits.false) in
-    let order : AllByRecursion (λ s. IsRising 0 (records_of s) s.floor) ss = rw (← value) (c.in-Ok.ensures.order (ap Ok c.if-not-fits.false)) in
+    let order : AllByRecursion (λ s. IsRising 0 (records_of s) s.floor) ss =
+    rw (← value) (c.in-Ok.ensures.order (ap Ok c.if-not-fits.false)) in
     let count : client_calls h ≡ length (all_records ss) = sym c.booked.invariant.0 ∙ c.account.ensures in
     subst (λ (b : Cluster). IsAccounted b ss) c.booked.view_is (accounted n h ss f order count)

@@ -9,5 +9,6 @@ use Rattle.sections.proofs.fitting.answered_in.Goals as goal
 pub returns : goal.returns
 returns c =
     count_from_yields_List c.filter.result _ c.count.ensures.ran
-    (YieldsList-from_filter _ (λ (r : CallRecord). is_some r.receipt) (YieldsList-from_slice c.args.records.now cc) c.filter.ensures.closure (λ x b q k. search (rules, tests)))
+    (YieldsList-from_filter _ (λ (r : CallRecord). is_some r.receipt) (YieldsList-from_slice c.args.records.now cc) c.filter.ensures.closure
+    (λ x b q k. search (rules, tests)))
     ∙ length-filter (λ (r : CallRecord). is_some r.receipt) c.args.records.now

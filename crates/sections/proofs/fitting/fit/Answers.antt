@@ -27,7 +27,8 @@ loop-seat-preserved g c =
     let is : s ≡ get_or ss i s = c.seat-item.is in
     let more = all_records_more ss i s less in
     let mine : AllStand h (records_of s) = c.in_ok-check_seat.ensures.stand.0 c.if-not-branch.false in
-    let keys : c.check_seat.new.keys.items ≡ c.loop-seat.keys.items ++ map key_of (records_of s) = c.in_ok-check_seat.ensures.keys (ap Ok c.if-not-branch.false) in
+    let keys : c.check_seat.new.keys.items ≡ c.loop-seat.keys.items ++ map key_of (records_of s) =
+    c.in_ok-check_seat.ensures.keys (ap Ok c.if-not-branch.false) in
     record {
       stand = rw (more, ← is) (all_append _ _ _ c.loop-seat.invariant.stand mine);
       keys = rw (more, ← is, map-append, keys) (ap (λ l. l ++ map key_of (records_of s)) c.loop-seat.invariant.keys);

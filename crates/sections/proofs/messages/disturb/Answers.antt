@@ -8,17 +8,27 @@ use Rattle.sections.proofs.messages.disturb.Goals as goal
 
 pub returns-in_err-lose-clause-refused : goal.returns-in_err-lose-clause-refused
 returns-in_err-lose-clause-refused g c =
-    let d = disturbed g.C.Chooser.chooses c.args.name.now c.args.cluster.now c.args.chooser.now c.choose.new.self c.choose-2.new.self c.in_ok-register.field-0.now
+    let d = disturbed g.C.Chooser.chooses c.args.name.now c.args.cluster.now c.args.chooser.now c.choose.new.self c.choose-2.new.self
+    c.in_ok-register.field-0.now
     c.in_ok-register.ensures.object c.len-count.result c.choose.result c.choose-2.result (c.choose.result % c.len-count.result)
     (c.len-count.ensures.value ∙ ap length c.mail_view.ensures) c.choose.ensures c.choose-2.ensures refl in
-    err_of _ _ _ c.from_residual-in_err-lose.ensures.1 (inr (c.choose.result % c.len-count.result, c.choose-2.result, d, inl (lose_is c.args.name.now c.args.cluster.now c.in_ok-register.field-0.now c.in_ok-register.ensures.object (c.choose.result % c.len-count.result) c.choose-2.result c.if-choose-eq0.true ∙ c.in_err-lose.ensures.cause)))
+    err_of _ _ _ c.from_residual-in_err-lose.ensures.1
+    (inr (
+      c.choose.result % c.len-count.result,
+      c.choose-2.result,
+      d,
+      inl (lose_is c.args.name.now c.args.cluster.now c.in_ok-register.field-0.now c.in_ok-register.ensures.object
+          (c.choose.result % c.len-count.result) c.choose-2.result c.if-choose-eq0.true ∙ c.in_err-lose.ensures.cause),
+    ))
 
 pub returns-in_ok-lose-clause-step : goal.returns-in_ok-lose-clause-step
 returns-in_ok-lose-clause-step g c =
-    let d = disturbed g.C.Chooser.chooses c.args.name.now c.args.cluster.now c.args.chooser.now c.choose.new.self c.choose-2.new.self c.in_ok-register.field-0.now
+    let d = disturbed g.C.Chooser.chooses c.args.name.now c.args.cluster.now c.args.chooser.now c.choose.new.self c.choose-2.new.self
+    c.in_ok-register.field-0.now
     c.in_ok-register.ensures.object c.len-count.result c.choose.result c.choose-2.result (c.choose.result % c.len-count.result)
     (c.len-count.ensures.value ∙ ap length c.mail_view.ensures) c.choose.ensures c.choose-2.ensures refl in
-    let is = even (Step.Lose (c.choose.result % c.len-count.result)) (Step.Repeat (c.choose.result % c.len-count.result)) c.choose-2.result c.if-choose-eq0.true in (
+    let is = even (Step.Lose (c.choose.result % c.len-count.result)) (Step.Repeat (c.choose.result % c.len-count.result)) c.choose-2.result
+    c.if-choose-eq0.true in (
       c.choose.result % c.len-count.result,
       c.choose-2.result,
       d,
@@ -27,21 +37,32 @@ returns-in_ok-lose-clause-step g c =
 
 pub returns-in_ok-lose-clause-count : goal.returns-in_ok-lose-clause-count
 returns-in_ok-lose-clause-count g c =
-    kept_step c.args.cluster.now c.lose.new.self c.args.name.now (Step.Lose (c.choose.result % c.len-count.result)) refl c.in_ok-lose.ensures.step
+    kept_step c.args.cluster.now c.lose.new.self c.args.name.now (Step.Lose (c.choose.result % c.len-count.result)) refl
+    c.in_ok-lose.ensures.step
 
 pub returns-in_err-repeat-clause-refused : goal.returns-in_err-repeat-clause-refused
 returns-in_err-repeat-clause-refused g c =
-    let d = disturbed g.C.Chooser.chooses c.args.name.now c.args.cluster.now c.args.chooser.now c.choose.new.self c.choose-2.new.self c.in_ok-register.field-0.now
+    let d = disturbed g.C.Chooser.chooses c.args.name.now c.args.cluster.now c.args.chooser.now c.choose.new.self c.choose-2.new.self
+    c.in_ok-register.field-0.now
     c.in_ok-register.ensures.object c.len-count.result c.choose.result c.choose-2.result (c.choose.result % c.len-count.result)
     (c.len-count.ensures.value ∙ ap length c.mail_view.ensures) c.choose.ensures c.choose-2.ensures refl in
-    err_of _ _ _ c.from_residual-in_err-repeat.ensures.1 (inr (c.choose.result % c.len-count.result, c.choose-2.result, d, moved_by (repeat_is c.args.name.now c.args.cluster.now c.in_ok-register.field-0.now c.in_ok-register.ensures.object (c.choose.result % c.len-count.result) c.choose-2.result c.if-choose-eq0.false) c.in_err-repeat.ensures.cause))
+    err_of _ _ _ c.from_residual-in_err-repeat.ensures.1
+    (inr (
+      c.choose.result % c.len-count.result,
+      c.choose-2.result,
+      d,
+      moved_by (repeat_is c.args.name.now c.args.cluster.now c.in_ok-register.field-0.now c.in_ok-register.ensures.object
+          (c.choose.result % c.len-count.result) c.choose-2.result c.if-choose-eq0.false) c.in_err-repeat.ensures.cause,
+    ))
 
 pub returns-in_ok-repeat-clause-step : goal.returns-in_ok-repeat-clause-step
 returns-in_ok-repeat-clause-step g c =
-    let d = disturbed g.C.Chooser.chooses c.args.name.now c.args.cluster.now c.args.chooser.now c.choose.new.self c.choose-2.new.self c.in_ok-register.field-0.now
+    let d = disturbed g.C.Chooser.chooses c.args.name.now c.args.cluster.now c.args.chooser.now c.choose.new.self c.choose-2.new.self
+    c.in_ok-register.field-0.now
     c.in_ok-register.ensures.object c.len-count.result c.choose.result c.choose-2.result (c.choose.result % c.len-count.result)
     (c.len-count.ensures.value ∙ ap length c.mail_view.ensures) c.choose.ensures c.choose-2.ensures refl in
-    let is = odd (Step.Lose (c.choose.result % c.len-count.result)) (Step.Repeat (c.choose.result % c.len-count.result)) c.choose-2.result c.if-choose-eq0.false in (
+    let is = odd (Step.Lose (c.choose.result % c.len-count.result)) (Step.Repeat (c.choose.result % c.len-count.result)) c.choose-2.result
+    c.if-choose-eq0.false in (
       c.choose.result % c.len-count.result,
       c.choose-2.result,
       d,
@@ -50,4 +71,5 @@ returns-in_ok-repeat-clause-step g c =
 
 pub returns-in_ok-repeat-clause-count : goal.returns-in_ok-repeat-clause-count
 returns-in_ok-repeat-clause-count g c =
-    kept_step c.args.cluster.now c.repeat.new.self c.args.name.now (Step.Repeat (c.choose.result % c.len-count.result)) refl c.in_ok-repeat.ensures.step
+    kept_step c.args.cluster.now c.repeat.new.self c.args.name.now (Step.Repeat (c.choose.result % c.len-count.result)) refl
+    c.in_ok-repeat.ensures.step

@@ -6,5 +6,6 @@ use Rattle.sections.proofs.moves.call_move.Goals as goal
 
 pub returns-clause-count : goal.returns-clause-count
 returns-clause-count c =
-    kept_both c.call_move.result c.args.cluster.now c.call_move.new.self c.args.name.now (Step.CallMove (layout_of c.args.cluster.now c.args.layout)) refl
+    kept_both c.call_move.result c.args.cluster.now c.call_move.new.self c.args.name.now
+    (Step.CallMove (layout_of c.args.cluster.now c.args.layout)) refl
     c.call_move.ensures.step c.call_move.ensures.unchanged

@@ -1,7 +1,7 @@
 use Rattle.std.proofs.Common.{◌≡◌, ◌⊎◌}
 use Rattle.driver.specs.Driver.{Drives, IsOpen}
 use Rattle.driver.specs.Others.{IsBehind}
-use Rattle.driver.proofs.driver.drive.Given as goal
+use Rattle.driver.proofs.driver.finish_from.Given as goal
 
 abbrev pub invariant-loop-turn : goal.invariant-loop-turn
 invariant-loop-turn g l = record {

@@ -1,61 +1,53 @@
-//! The driver of a whole call through the lock.
+//! Whole calls through the lock.
 
-ghost use Rattle.std.specs.Prelude.{◌≡◌, ◌⊎◌, None, IfErr, IfOk, OnErr};
-ghost use Rattle.sections.specs.Seats.{Settles};
+ghost use Rattle.std.specs.Prelude.{◌≡◌, IfErr, IfOk, OnErr};
 
 use crate::store::Store;
+use crate::store::caller::Caller;
 use coding_pool::{Gate, encode_all};
 use decoder::decode;
 use driver::{Chooser, Round};
 use register::Receipt;
-use sections::{Hand, Seat, StoreName, round_in};
+use sections::{Hand, StoreName};
 use std::sync::Wait;
 use std::thread::Threads;
 use tag::Refusal;
 
 impl<L: StoreName> Store<L> {
     // Rounds until the answer. What is to be coded or decoded is so with the lock free.
-    pub(crate) fn drive<G: Gate, R: Threads + Wait + Sync, C: Chooser>(
+    pub(crate) fn finish<G: Gate, R: Threads + Wait + Sync, C: Chooser, K: Caller<L>>(
         &self,
         rt: &R,
         gate: &G,
-        seat: &mut Seat<L>,
+        caller: &mut K,
         resumed: bool,
         chooser: &mut C,
         turns: u64,
     ) -> Result<Receipt, Refusal>
-        ensures ok { IfOk result (λ receipt. Settles seat.old.pending seat.old receipt seat.new) }
-        ensures err { OnErr result (seat.new ≡ seat.old) }
-        ensures without_call { IfErr result (λ r. (seat.old.pending ≡ None) → (r ≡ Refusal.NoCall) ⊎ (r ≡ Refusal.Stranger)) }
+        ensures ok { IfOk result (λ receipt. K.ends caller.old receipt caller.new) }
+        ensures err { OnErr result (caller.new ≡ caller.old) }
+        ensures free { IfErr result (λ e. K.is_free caller.old → K.refused_free e) }
     {
         let mut asks_again = resumed;
         let mut left = turns;
         let mut hand = Hand::Empty;
         for _ in rt.forever() {
-            let round = round_in(
-                &mut *self.booked.lock(rt),
-                seat,
-                chooser,
-                hand,
-                asks_again,
-                left,
-            )?;
+            let round = caller.round(&mut *self.booked.lock(rt), chooser, hand, asks_again, left)?;
             asks_again = false;
             match round {
-                Some(Round::Answered(receipt)) => return Ok(receipt),
-                Some(Round::Stepped) => {
+                Round::Answered(receipt) => return Ok(receipt),
+                Round::Stepped => {
                     left = left.saturating_sub(1);
                     hand = Hand::Empty;
                 }
-                Some(copied) => hand = self.coded(rt, gate, copied)?,
-                None => hand = Hand::Empty,
+                other => hand = self.coded(rt, gate, other)?,
             }
         }
         unreachable!()
     }
 
     // What is to be handed in at the next round: the value coded, or the pieces decoded.
-    pub(crate) fn coded<G: Gate, R: Threads + Wait + Sync>(
+    fn coded<G: Gate, R: Threads + Wait + Sync>(
         &self,
         rt: &R,
         gate: &G,

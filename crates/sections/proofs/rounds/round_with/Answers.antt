@@ -1,11 +1,12 @@
 use Rattle.std.proofs.Common.{pred, refl}
 use Rattle.record.specs.Steps.{Step}
 use Rattle.sections.proofs.Going.{counted_round, kept_step}
-use Rattle.sections.proofs.rounds.go.Goals as goal
+use Rattle.sections.proofs.rounds.round_with.Goals as goal
 
 pub returns-in-Ok-clause-count : goal.returns-in-Ok-clause-count
 returns-in-Ok-clause-count g c =
-    counted_round g.C.Chooser.chooses c.args.name.now c.args.call c.args.asks_again c.args.cluster.now c.args.chooser.now c.make_round.new.cluster c.make_round.new.chooser
+    counted_round g.C.Chooser.chooses c.args.name.now c.args.call c.args.asks_again c.args.cluster.now c.args.chooser.now
+    c.make_round.new.cluster c.make_round.new.chooser
     c.in-Ok.round c.in-Ok.ensures.round
 
 pub returns-in-Ok-supply-clause-count : goal.returns-in-Ok-supply-clause-count
@@ -14,4 +15,5 @@ returns-in-Ok-supply-clause-count g c =
 
 pub returns-in-Ok-settle-clause-count : goal.returns-in-Ok-settle-clause-count
 returns-in-Ok-settle-clause-count g c =
-    kept_step c.args.cluster.now c.settle.new.self c.args.name.now (Step.Settle (pred c.args.call) c.in-Decoded.decoded.value) refl c.in-Ok-settle.ensures.step
+    kept_step c.args.cluster.now c.settle.new.self c.args.name.now (Step.Settle (pred c.args.call) c.in-Decoded.decoded.value) refl
+    c.in-Ok-settle.ensures.step

@@ -1,0 +1,77 @@
+//! Who carries a call to its answer.
+
+ghost use Rattle.std.specs.Prelude.{◌≡◌, ◌⊎◌, None, IfErr, IfOk, OnErr, OnOk};
+ghost use Rattle.tag.specs.declared.refusal.Refusal.{Refusal as RefusalOf};
+ghost use Rattle.tag.specs.declared.refusal.Refusal.TheVariants.{NoCall, Stranger};
+ghost use Rattle.register.specs.declared.receipt.Receipt.{Receipt as ReceiptOf};
+ghost use Rattle.sections.specs.Moves.{Ends};
+ghost use Rattle.sections.specs.Seats.{Settles};
+ghost use Rattle.client.specs.Callers.{LeavesBy};
+
+use driver::{Chooser, Round};
+use sections::{Admin, Booked, Hand, Seat, StoreName, move_round_in, round_in};
+use tag::Refusal;
+
+/// A client's seat, or the administrator.
+pub(crate) trait Caller<L: StoreName> {
+    /// Itself before the answer, the receipt, and itself after.
+    ghost ends: { Self → ReceiptOf → Self → Type 0 };
+
+    /// It has no call to carry on.
+    ghost is_free: { Self → Type 0 };
+
+    /// What it is refused as without a call.
+    ghost refused_free: { RefusalOf → Type 0 };
+
+    /// One round of its call.
+    fn round<C: Chooser>(
+        &mut self,
+        booked: &mut Booked<L>,
+        chooser: &mut C,
+        hand: Hand,
+        asks_again: bool,
+        turns: u64,
+    ) -> Result<Round, Refusal>
+        ensures leaves { IfOk result (λ r. LeavesBy ends self.old r self.new) }
+        ensures called { OnOk result (is_free self.old → ⊥) }
+        ensures kept { OnErr result (self.new ≡ self.old) }
+        ensures free { IfErr result (λ e. is_free self.old → refused_free e) };
+}
+
+impl<L: StoreName> Caller<L> for Seat<L> {
+    ghost ends = { λ before receipt after. Settles before.pending before receipt after };
+
+    ghost is_free = { λ seat. seat.pending ≡ None };
+
+    ghost refused_free = { λ e. (e ≡ NoCall) ⊎ (e ≡ Stranger) };
+
+    fn round<C: Chooser>(
+        &mut self,
+        booked: &mut Booked<L>,
+        chooser: &mut C,
+        hand: Hand,
+        asks_again: bool,
+        turns: u64,
+    ) -> Result<Round, Refusal> {
+        round_in(booked, self, chooser, hand, asks_again, turns)
+    }
+}
+
+impl<L: StoreName> Caller<L> for Admin<L> {
+    ghost ends = { λ before receipt after. Ends before receipt after };
+
+    ghost is_free = { λ admin. admin ≡ None };
+
+    ghost refused_free = { λ e. e ≡ NoCall };
+
+    fn round<C: Chooser>(
+        &mut self,
+        booked: &mut Booked<L>,
+        chooser: &mut C,
+        hand: Hand,
+        asks_again: bool,
+        turns: u64,
+    ) -> Result<Round, Refusal> {
+        move_round_in(booked, self, chooser, hand, asks_again, turns)
+    }
+}

@@ -1,0 +1,92 @@
+//! The messages of an object that can be handled, and which of them is chosen.
+ghost use Rattle.std.specs.Prelude.{◌≡◌, [], length, slice_get, MatchOption};
+ghost use Rattle.driver.specs.Choices.{Picks, choices_from, is_among};
+
+use crate::Chooser;
+use cluster::Cluster;
+use mail::Message;
+use register::Register;
+
+/// Whose messages are looked at.
+#[derive(Clone, Copy, Debug)]
+pub enum Among {
+    /// All that wait for the object.
+    Every,
+    /// Those of the call of this number.
+    Call(u64),
+}
+
+/// The place of the message that is chosen among those that can be handled, from a place of the mail on. None where
+/// there is none.
+pub fn choose<C: Chooser>(
+    cluster: &Cluster,
+    register: &Register,
+    among: Among,
+    from: usize,
+    chooser: &mut C,
+) -> Option<usize>
+    ensures { MatchOption result
+        ((choices_from cluster.now register.now.object among from ≡ []) × (chooser.new ≡ chooser.old))
+        (λ place. Picks C.chooses (choices_from cluster.now register.now.object among from) chooser.old chooser.new
+        place) }
+{
+    let count = choice_count(cluster, register, among, from);
+    if count == 0 {
+        return None;
+    }
+    choice_at(
+        cluster,
+        register,
+        among,
+        from,
+        chooser.choose(count) % count,
+    )
+}
+
+/// The place of the message behind `skipped` others of those that can be handled, from a place of the mail on. None
+/// where there are no more.
+pub fn choice_at(
+    cluster: &Cluster,
+    register: &Register,
+    among: Among,
+    from: usize,
+    skipped: usize,
+) -> Option<usize>
+    ensures { result ≡ slice_get (choices_from cluster.now register.now.object among from) skipped }
+{
+    let mail = register.mail_view();
+    let mut left = skipped;
+    for place in from..mail.len() {
+        if is_among(cluster, register, among, mail.at(place)) {
+            if left == 0 {
+                return Some(place);
+            }
+            left -= 1;
+        }
+    }
+    None
+}
+
+// How many messages can be handled, from a place of the mail on.
+fn choice_count(cluster: &Cluster, register: &Register, among: Among, from: usize) -> usize
+    ensures { result ≡ length (choices_from cluster.now register.now.object among from) }
+{
+    let mail = register.mail_view();
+    let mut count = 0;
+    for place in from..mail.len() {
+        if is_among(cluster, register, among, mail.at(place)) {
+            count += 1;
+        }
+    }
+    count
+}
+
+// Whether a message is of those that are looked at, and can be handled.
+fn is_among(cluster: &Cluster, register: &Register, among: Among, message: &Message) -> bool
+    ensures { result ≡ is_among cluster.now register.now.object among message.now }
+{
+    match among {
+        Among::Every => cluster.handles(register, message),
+        Among::Call(call) => message.call == call && cluster.handles(register, message),
+    }
+}
