@@ -1,7 +1,8 @@
 -- Sums over members and positions.
 use Rattle.std.proofs.lemmas.Option.{slice_get_within, get_or_from_slice_get}
 use Rattle.std.proofs.lemmas.List.Sums.{sum_by_more}
-use Rattle.std.proofs.Common.{◌≡◌, ◌∙◌, ◌+◌, ◌≤◌, ℕ, zero, suc, List, [], ◌∷◌, length, Option, Some, None, ap, ap₂, arith, refl, sym, get_or, take, nat_eq, codes, ◌<◌, ◌^◌}
+use Rattle.std.proofs.Common.{◌≡◌, ◌∙◌, ◌+◌, ◌≤◌, ℕ, zero, suc, List, [], ◌∷◌, length, Option, Some, None, ap, ap₂, arith, refl, sym}
+use Rattle.std.proofs.Common.{get_or, take, nat_eq, codes, ◌<◌, ◌^◌}
 use Rattle.std.specs.Prelude.{slice_get, sum_by, IsTrue, ◌↔◌}
 use Rattle.std.proofs.lemmas.Bool.Decides.{nat_tests}
 use Rattle.std.specs.List.{AllByRecursion}
@@ -54,7 +55,8 @@ no_members server (m ∷ ms) = refl
 
 -- what the banks of an object store, position by position
 pub positions_sum : (server : ℕ) (layouts : List Layout) (banks : List (List Bank)) (count : ℕ) → length layouts ≤ count
-    → member_sum (λ p. position_bytes server (get_or layouts p no_layout).members (get_or banks p [])) 0 count ≡ stored_bytes server layouts banks
+    → member_sum (λ p. position_bytes server (get_or layouts p no_layout).members (get_or banks p [])) 0 count ≡ stored_bytes server layouts
+    banks
 positions_sum server [] banks count few = none_sum _ (λ i. refl) 0 count
 positions_sum server (l ∷ ls) [] count few = none_sum _ (λ i. no_members server (get_or (l ∷ ls) i no_layout).members) 0 count
 positions_sum server (l ∷ ls) (b ∷ bs) zero few = absurd (omega arith)
@@ -79,7 +81,8 @@ capped_sum a b = grind arith
 
 -- a capped total grows by a capped number
 pub capped_more : (total s x y sum more : ℕ) → total ≡ capped s → x ≡ capped y → sum ≡ capped (total + x) → more ≡ s + y → sum ≡ capped more
-capped_more total s x y sum more is part added grown = added ∙ (ap₂ (λ a b. capped (a + b)) is part ∙ (capped_sum s y ∙ ap capped (sym grown)))
+capped_more total s x y sum more is part added grown =
+    added ∙ (ap₂ (λ a b. capped (a + b)) is part ∙ (capped_sum s y ∙ ap capped (sym grown)))
 
 -- sums of equal numbers
 pub sum_same : (f g : ℕ → ℕ) → ((i : ℕ) → f i ≡ g i) → (from count : ℕ) → member_sum f from count ≡ member_sum g from count
@@ -87,7 +90,8 @@ sum_same f g same from zero = refl
 sum_same f g same from (suc count) = ap₂ (λ a b. a + b) (same from) (sum_same f g same (suc from) count)
 
 -- each layout has few members
-few_members : (layouts : List Layout) → AllByRecursion IsLawful layouts → (p : ℕ) → length (get_or layouts p no_layout).members ≤ MOST_MEMBERS
+few_members : (layouts : List Layout) → AllByRecursion IsLawful layouts → (p : ℕ)
+    → length (get_or layouts p no_layout).members ≤ MOST_MEMBERS
 few_members [] lawful p = omega arith
 few_members (l ∷ ls) lawful zero = lawful.0.few
 few_members (l ∷ ls) lawful (suc p) = few_members ls lawful.1 p
@@ -96,7 +100,9 @@ few_members (l ∷ ls) lawful (suc p) = few_members ls lawful.1 p
 pub stored_sum : (object : Object) (server : ℕ) → AllByRecursion IsLawful object.layouts → length object.layouts ≤ MOST_POSITIONS
     → member_sum (λ p. member_sum (bytes_at object server p) 0 MOST_MEMBERS) 0 MOST_POSITIONS ≡ stored object server
 stored_sum object server lawful few =
-    sum_same _ _ (λ p. members_sum server (get_or object.layouts p no_layout).members (get_or object.banks p []) MOST_MEMBERS (few_members object.layouts lawful p)) 0 MOST_POSITIONS
+    sum_same _ _
+    (λ p. members_sum server (get_or object.layouts p no_layout).members (get_or object.banks p []) MOST_MEMBERS
+    (few_members object.layouts lawful p)) 0 MOST_POSITIONS
     ∙ positions_sum server object.layouts object.banks MOST_POSITIONS few
 
 -- a number below the cap is itself
@@ -104,7 +110,8 @@ pub capped_small : (x y : ℕ) → x ≡ y → y < 2 ^ 64 → x ≡ capped y
 capped_small x y same small = grind (arith, same, small)
 
 -- one element more of a sum
-pub sum_at : {X : Type 0} (f : X → ℕ) (xs : List X) (i : ℕ) (x : X) → slice_get xs i ≡ Some x → sum_by f (take (i + 1) xs) ≡ sum_by f (take i xs) + f x
+pub sum_at : {X : Type 0} (f : X → ℕ) (xs : List X) (i : ℕ) (x : X) → slice_get xs i ≡ Some x
+    → sum_by f (take (i + 1) xs) ≡ sum_by f (take i xs) + f x
 sum_at f xs i x at =
     let below : i < length xs = slice_get_within xs i x at in
     let is : get_or xs i x ≡ x = get_or_from_slice_get xs i x x at in
@@ -117,12 +124,14 @@ pub capped_equal : (x y s a : ℕ) → x ≡ capped s → y ≡ a → a ≤ 2 ^ 
 capped_equal x y s a is at few = ((λ e. grind (arith, nat_tests, is, at, few, e)), λ e. grind (arith, nat_tests, is, at, few, e))
 
 -- what is read of both objects, where they are there
-both_is : (cluster : Cluster) (one other : State) → named cluster.objects (codes "a") ≡ Some one → named cluster.objects (codes "b") ≡ Some other
+both_is : (cluster : Cluster) (one other : State) → named cluster.objects (codes "a") ≡ Some one
+    → named cluster.objects (codes "b") ≡ Some other
     → (read : Object → ℕ) → of_both cluster read ≡ read one.object + read other.object
 both_is cluster one other first second read = ap₂ (λ a b. of_object a read + of_object b read) first second
 
 -- the accounts are those of the two objects
-pub accounted_of : (cluster : Cluster) (one other : State) → named cluster.objects (codes "a") ≡ Some one → named cluster.objects (codes "b") ≡ Some other
+pub accounted_of : (cluster : Cluster) (one other : State) → named cluster.objects (codes "a") ≡ Some one
+    → named cluster.objects (codes "b") ≡ Some other
     → AreAdded cluster one.object other.object ↔ AreAccounted cluster
 accounted_of cluster one other first second = (
   (λ added. record {

@@ -1,5 +1,6 @@
 -- What a client's calls leave in its seat, and how many receipts that are.
-use Rattle.std.proofs.Common.{◌≡◌, ℕ, zero, suc, ◌+◌, ◌*◌, List, [], ◌∷◌, ◌++◌, length, Option, Some, None, Result, Ok, Err, IfOk, refl, sym, ap, ◌∙◌, subst, arith}
+use Rattle.std.proofs.Common.{◌≡◌, ℕ, zero, suc, ◌+◌, ◌*◌, List, [], ◌∷◌, ◌++◌, length, Option, Some, None, Result, Ok, Err, IfOk, refl}
+use Rattle.std.proofs.Common.{sym, ap, ◌∙◌, subst, arith}
 use Rattle.std.specs.Prelude.{cond, is_some}
 use Rattle.std.specs.List.{AllByRecursion}
 use Rattle.std.proofs.Math.Nat.{suc-mul}
@@ -22,12 +23,14 @@ MakesAll-more n s between t first last =
     let next : suc n ≡ n + 1 = omega arith in subst (λ k. MakesAll k s t) next (between, first, last)
 
 -- the last of a list is taken off
-pub all_popped : {X : Type 0} (P : X → Type 0) (xs rest : List X) (x : X) → xs ≡ rest ++ x ∷ [] → AllByRecursion P xs → AllByRecursion P rest × P x
+pub all_popped : {X : Type 0} (P : X → Type 0) (xs rest : List X) (x : X) → xs ≡ rest ++ x ∷ [] → AllByRecursion P xs
+    → AllByRecursion P rest × P x
 all_popped P xs rest x is all =
     let both = subst (AllByRecursion P) is all in (all_front P rest (x ∷ []) both, (all_back P rest (x ∷ []) both).0)
 
 -- one is put behind a list
-pub all_pushed : {X : Type 0} (P : X → Type 0) (xs more : List X) (x : X) → more ≡ xs ++ x ∷ [] → AllByRecursion P xs → P x → AllByRecursion P more
+pub all_pushed : {X : Type 0} (P : X → Type 0) (xs more : List X) (x : X) → more ≡ xs ++ x ∷ [] → AllByRecursion P xs → P x
+    → AllByRecursion P more
 all_pushed P xs more x is all here = subst (AllByRecursion P) (sym is) (all_append P xs (x ∷ []) all (here, tt))
 
 -- the seats of a new store are new
@@ -49,7 +52,8 @@ settles-counts n number s t r p name was settles =
     let is = settles.3 in
     let one = receipts-append s.records ((record p { receipt = Some r }) ∷ []) in
     let before = was.receipts in
-    let after : receipts_of t.records ≡ receipts_of (s.records ++ (record p { receipt = Some r }) ∷ []) = ap (λ (u : SeatState). receipts_of u.records) is in
+    let after : receipts_of t.records ≡ receipts_of (s.records ++ (record p { receipt = Some r }) ∷ []) =
+    ap (λ (u : SeatState). receipts_of u.records) is in
     record { receipts = omega (arith, one, before, after); settled = ap (λ (u : SeatState). u.pending) is }
 
 MakesAll-counts : (n number : ℕ) (t : SeatState) → MakesAll n (new_seat number) t → Counts n t
@@ -78,7 +82,8 @@ all-receipts n (s ∷ seats) made =
     omega (arith, both, here, rest, step)
 
 -- so a store that was closed gave each call of each client its receipt
-pub IsOfClosed-receipts : (client_count call_count : ℕ) (summary : Summary) → IsOfClosed client_count call_count summary → summary.receipts ≡ client_count * call_count
+pub IsOfClosed-receipts : (client_count call_count : ℕ) (summary : Summary) → IsOfClosed client_count call_count summary
+    → summary.receipts ≡ client_count * call_count
 IsOfClosed-receipts client_count call_count summary closed =
     closed.sums_up.receipts ∙ all-receipts call_count closed.seats closed.made ∙ ap (λ k. k * call_count) closed.fit.numbered.length
 

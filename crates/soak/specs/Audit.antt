@@ -1,5 +1,6 @@
 -- The accounts of a cluster, added anew over banks and mail.
-use Rattle.std.specs.Prelude.{◌≡◌, ℕ, ◌+◌, ◌<◌, ◌==◌, ◌-◌, ◌^◌, min, if◌then◌else◌, length, Option, Some, None, slice_get, codes}
+use Rattle.std.specs.Prelude.{◌≡◌, ℕ, ◌+◌, ◌<◌, ◌==◌, ◌-◌, ◌^◌, min, if◌then◌else◌, length, Option, Some, None}
+use Rattle.std.specs.Prelude.{slice_get, codes}
 use Rattle.bank.specs.Bank.{Bank}
 use Rattle.bank.specs.Bytes.{bank_bytes}
 use Rattle.record.specs.Accounts as of
@@ -20,7 +21,8 @@ bytes_if server (Some member) (Some bank) = if member == server then bank_bytes 
 
 -- what the bank of a member of a position stores, where the member is this server
 abbrev pub bytes_at : Object → (server position member : ℕ) → ℕ
-bytes_at object server position member = bytes_if server (slice_get (layout_at object position).members member) (bank_there object position member)
+bytes_at object server position member =
+    bytes_if server (slice_get (layout_at object position).members member) (bank_there object position member)
 
 -- a number, or the greatest of 64 bits where it is more
 abbrev pub capped : ℕ → ℕ
@@ -33,18 +35,22 @@ of_object (Some state) read = read state.object
 
 -- what is read of the two objects, in sum
 abbrev pub of_both : Cluster → (Object → ℕ) → ℕ
-of_both cluster read = of_object (named cluster.objects (codes "a")) read + of_object (named cluster.objects (codes "b")) read
+of_both cluster read =
+    of_object (named cluster.objects (codes "a")) read + of_object (named cluster.objects (codes "b")) read
 
 -- each account is the sum over the banks or the mail of both objects
 pub record AreAccounted (cluster : Cluster) : Type 0 where
-  pub servers : (server : ℕ) → server < length cluster.servers → all.stored cluster server ≡ of_both cluster (λ o. of.stored o server)
-  pub together : all.stored_all cluster ≡ member_sum (λ server. of_both cluster (λ o. of.stored o server)) 0 (length cluster.servers)
+  pub servers : (server : ℕ) → server < length cluster.servers
+      → all.stored cluster server ≡ of_both cluster (λ o. of.stored o server)
+  pub together : all.stored_all cluster ≡ member_sum (λ server. of_both cluster (λ o. of.stored o server)) 0
+      (length cluster.servers)
   pub mailed : all.mailed cluster ≡ of_both cluster of.mailed
 
 -- the same, of two objects
 abbrev pub AreAdded : Cluster → (one other : Object) → Type 0
 AreAdded cluster one other =
-    ((server : ℕ) → server < length cluster.servers → all.stored cluster server ≡ of.stored one server + of.stored other server)
+    ((server : ℕ) → server < length cluster.servers
+    → all.stored cluster server ≡ of.stored one server + of.stored other server)
     × (all.stored_all cluster ≡ member_sum (λ s. of.stored one s + of.stored other s) 0 (length cluster.servers))
     × (all.mailed cluster ≡ of.mailed one + of.mailed other)
 

@@ -8,9 +8,9 @@ use Rattle.soak.specs.Made.{HasMade}
 use Rattle.soak.specs.Summary.{IsSummaryOf}
 use Rattle.soak.specs.declared.summary.Summary.{Summary}
 
--- a store of this cluster was closed with these seats, one for each client, with which so many calls were made, and the summary
--- is of that cluster and of their receipts: so the reads and writes of the history that it counts are those that the seats
--- recorded, each once
+-- a store of this cluster was closed with these seats, one for each client, with which so many calls were made, and the
+-- summary is of that cluster and of their receipts: so the reads and writes of the history that it counts are those
+-- that the seats recorded, each once
 pub record IsOfClosed (client_count call_count : ℕ) (summary : Summary) : Type 0 where
   pub cluster : Cluster
   pub seats : List SeatState

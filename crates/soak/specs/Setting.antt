@@ -10,7 +10,8 @@ five_servers = record { servers = all_up 5; layouts = []; objects = []; counter 
 -- the three layouts, by their k and their members
 abbrev pub with_layouts : Cluster
 with_layouts = with_layout (with_layout (with_layout five_servers
-    (record { k = 2; members = 0 ∷ 1 ∷ 2 ∷ 3 ∷ [] })) (record { k = 3; members = 0 ∷ 1 ∷ 2 ∷ 3 ∷ 4 ∷ [] })) (record { k = 1; members = 2 ∷ 3 ∷ 4 ∷ [] })
+    (record { k = 2; members = 0 ∷ 1 ∷ 2 ∷ 3 ∷ [] })) (record { k = 3; members = 0 ∷ 1 ∷ 2 ∷ 3 ∷ 4 ∷ [] }))
+    (record { k = 1; members = 2 ∷ 3 ∷ 4 ∷ [] })
 
 -- with the objects `a` and `b`, which have the first layout
 abbrev pub setting : Cluster

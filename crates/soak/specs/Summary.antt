@@ -1,5 +1,6 @@
 -- What a soak comes to.
-use Rattle.std.specs.Prelude.{◌≡◌, ◌↔◌, ℕ, ◌+◌, ◌==◌, ◌&&◌, Bool, true, false, is_some, IsTrue, List, [], ◌∷◌, ◌++◌, Option, Some, None, count_by, codes, if◌then◌else◌}
+use Rattle.std.specs.Prelude.{◌≡◌, ◌↔◌, ℕ, ◌+◌, ◌==◌, ◌&&◌, Bool, true, false, is_some, IsTrue, List, [], ◌∷◌, ◌++◌}
+use Rattle.std.specs.Prelude.{Option, Some, None, count_by, codes, if◌then◌else◌}
 use Rattle.std.specs.Fmt.{decimal}
 use Rattle.record.specs.Journals.{entries}
 use Rattle.record.specs.declared.call.Entry.{Entry}
@@ -36,8 +37,8 @@ answered_calls cluster name = count_by must_stand (entries_of cluster name)
 abbrev pub answered_moves : Cluster → (name : List ℕ) → ℕ
 answered_moves cluster name = count_by is_answered_move (entries_of cluster name)
 
--- what a cluster with the objects `a` and `b` comes to, where the seats had so many receipts. That each object's history has
--- the sequence of its tags is no question: it always does
+-- what a cluster with the objects `a` and `b` comes to, where the seats had so many receipts. That each object's
+-- history has the sequence of its tags is no question: it always does
 pub record IsSummaryOf (cluster : Cluster) (receipt_count : ℕ) (s : Summary) : Type 0 where
   pub calls : s.calls ≡ answered_calls cluster (codes "a") + answered_calls cluster (codes "b")
   pub receipts : s.receipts ≡ receipt_count

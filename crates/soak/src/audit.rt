@@ -59,7 +59,8 @@ fn are_stored(cluster: &Cluster, one: &Register, other: &Register) -> bool
 
 fn is_stored(cluster: &Cluster, one: &Register, other: &Register, server: u8) -> bool
     requires { server < length cluster.now.servers }
-    ensures { IsTrue result ↔ (all.stored cluster.now server ≡ stored one.now.object server + stored other.now.object server) }
+    ensures { IsTrue result ↔
+        (all.stored cluster.now server ≡ stored one.now.object server + stored other.now.object server) }
 {
     let _most = cluster.stored_all();
     both_anew(one, other, server) == cluster.stored(server)

@@ -28,7 +28,8 @@ impl Chooser for Congruential {
     ghost use Rattle.std.specs.Prelude.{◌≡◌};
     ghost use Rattle.soak.specs.Chooser.{chosen, state_after};
 
-    ghost chooses = { λ before below answer after. (after.state ≡ state_after before.state) × (answer ≡ chosen after.state) };
+    ghost chooses = { λ before below answer after. (after.state ≡ state_after before.state)
+        × (answer ≡ chosen after.state) };
 
     fn choose(&mut self, _below: usize) -> usize {
         self.state = self.state.wrapping_mul(FACTOR).wrapping_add(STEP);

@@ -27,8 +27,8 @@ impl<L: StoreName> Promise<Ended<L>> for CallsMade {
 // The thread of a client, or why there is none.
 type Started<L> = Result<PromisedHandle<Ended<L>, CallsMade>, Refusal>;
 
-/// Lets each client work in a thread of its own, and the administrator in another, and gives the seats back once all have
-/// ended, each with all calls of the plan made. The first client's refusal is passed on, or else that of the
+/// Lets each client work in a thread of its own, and the administrator in another, and gives the seats back once all
+/// have ended, each with all calls of the plan made. The first client's refusal is passed on, or else that of the
 /// administrator; a thread that cannot be started is refused with `NoMemory`, and hinders no other.
 pub(crate) fn work_all<L: StoreName + Send + Sync, R: Threads + Wait + Sync>(
     rt: &R,
@@ -51,8 +51,8 @@ pub(crate) fn work_all<L: StoreName + Send + Sync, R: Threads + Wait + Sync>(
     )
 }
 
-// Starts the threads, and waits for them. A refusal is passed on once all have ended, since the scope waits for those that
-// nobody joins.
+// Starts the threads, and waits for them. A refusal is passed on once all have ended, since the scope waits for those
+// that nobody joins.
 fn work_in<'s, E, L: StoreName + Send + Sync, R: Threads + Wait + Sync>(
     scope: &Scope<'s, E>,
     rt: &'s R,
@@ -82,7 +82,8 @@ fn start_all<'s, E, L: StoreName + Send + Sync, R: Threads + Wait + Sync>(
     plan: Plan,
 ) -> Result<Vec<Started<L>>, Refusal>
     requires { AllByRecursion IsNew seats.items }
-    ensures { IfOk result (λ started. AllByRecursion (λ client. IfOk client (λ handle. handle.promise.0 ≡ plan.calls)) started.items) }
+    ensures { IfOk result
+        (λ started. AllByRecursion (λ client. IfOk client (λ handle. handle.promise.0 ≡ plan.calls)) started.items) }
 {
     let mut started = Vec::with_capacity(alloc, seats.len())?;
     while let Some(seat) = seats.pop() {
@@ -131,7 +132,9 @@ fn end_all<L: StoreName, R: Threads>(
     alloc: Global,
     mut started: Vec<Started<L>>,
 ) -> Result<Vec<Seat<L>>, Refusal>
-    ensures { IfOk result (λ seats. (calls : ℕ) → AllByRecursion (λ client. IfOk client (λ handle. handle.promise.0 ≡ calls)) started.items
+    ensures { IfOk result
+        (λ seats. (calls : ℕ)
+        → AllByRecursion (λ client. IfOk client (λ handle. handle.promise.0 ≡ calls)) started.items
         → AllByRecursion (HasMade calls) seats.items) }
 {
     let mut seats = Vec::with_capacity(alloc, started.len())?;
@@ -142,7 +145,8 @@ fn end_all<L: StoreName, R: Threads>(
 }
 
 fn end_of<L: StoreName, R: Threads>(rt: &R, client: Started<L>) -> Ended<L>
-    ensures { IfOk result (λ seat. (calls : ℕ) → IfOk client (λ handle. handle.promise.0 ≡ calls) → HasMade calls seat) }
+    ensures { IfOk result
+        (λ seat. (calls : ℕ) → IfOk client (λ handle. handle.promise.0 ≡ calls) → HasMade calls seat) }
 {
     client?.join(rt)
 }

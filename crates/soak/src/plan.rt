@@ -11,7 +11,8 @@ pub const MOST_CALLS: u64 = 10_000;
 /// The most moves of the administrator.
 pub const MOST_MOVES: u64 = 100;
 
-/// So many clients make so many calls each, the administrator makes so many moves, and the choosers start from a number.
+/// So many clients make so many calls each, the administrator makes so many moves, and the choosers start from a
+/// number.
 #[derive(Clone, Copy, Debug, PartialEq, Eq)]
 pub struct Plan {
     pub clients: u32,

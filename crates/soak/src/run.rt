@@ -18,8 +18,8 @@ use tag::Refusal;
 const WORKERS: usize = 2;
 
 /// Lets the clients and the administrator of a plan work through one store at once, closes it once all have ended, and
-/// says what it comes to: each client has made all its calls, each with a receipt, and the summary is of a cluster whose
-/// reads and writes are those that the clients' seats recorded, each once.
+/// says what it comes to: each client has made all its calls, each with a receipt, and the summary is of a cluster
+/// whose reads and writes are those that the clients' seats recorded, each once.
 ///
 /// In place of a summary it passes on the refusal of a call, and `NoMemory` where a thread cannot be started.
 pub fn run_plan<R: Threads + Wait + Sync>(

@@ -1,5 +1,5 @@
-//! One write and one read of which one allocation, whichever it is, may be refused: `rt try --test --fail-alloc N` refuses the
-//! Nth.
+//! One write and one read of which one allocation, whichever it is, may be refused: `rt try --test --fail-alloc N`
+//! refuses the Nth.
 
 ghost use Rattle.std.specs.Prelude.{◌≡◌, ◌+◌};
 

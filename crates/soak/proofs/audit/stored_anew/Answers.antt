@@ -8,11 +8,13 @@ use Rattle.soak.proofs.audit.stored_anew.Goals as goal
 pub loop-position-preserved : goal.loop-position-preserved
 loop-position-preserved c =
     let f : ℕ → ℕ = λ p. member_sum (bytes_at c.args.register.now.object c.args.server p) 0 MOST_MEMBERS in
-    capped_more _ _ _ _ _ _ c.loop-position.invariant c.position_anew.ensures c.saturating_add-total.ensures (sum_more f c.loop-position.position)
+    capped_more _ _ _ _ _ _ c.loop-position.invariant c.position_anew.ensures c.saturating_add-total.ensures
+    (sum_more f c.loop-position.position)
 
 pub returns : goal.returns
 returns c =
     let f : ℕ → ℕ = λ p. member_sum (bytes_at c.args.register.now.object c.args.server p) 0 MOST_MEMBERS in
     let all : c.loop-position.position ≡ MOST_POSITIONS = omega arith in
     c.loop-position.invariant ∙ (ap (λ n. capped (member_sum f 0 n)) all
-    ∙ ap capped (stored_sum c.args.register.now.object c.args.server c.soundness.ensures.sound.legal.layouts c.soundness.ensures.limits.positions))
+    ∙ ap capped
+    (stored_sum c.args.register.now.object c.args.server c.soundness.ensures.sound.legal.layouts c.soundness.ensures.limits.positions))

@@ -9,8 +9,10 @@ pub returns-clause-check : goal.returns-clause-check
 returns-clause-check c =
     let object = c.args.register.now.object in
     let listed : c.deref-3.result.now ≡ entries object = c.deref-3.ensures.value ∙ c.in_ok-entries.ensures.entries in
-    let lawful : AreLawful (entries object) = c.entries_are_lawful.ensures fragment object c.args.register.now.last c.fragments_are_a_code.ensures c.soundness.ensures.sound in
+    let lawful : AreLawful (entries object) =
+    c.entries_are_lawful.ensures fragment object c.args.register.now.last c.fragments_are_a_code.ensures c.soundness.ensures.sound in
     c.check.ensures.1 (
       subst AreLawful (sym listed) lawful,
-      subst (λ es. IsSequence es c.deref-4.result.now) (sym listed) (subst (λ order. IsSequence (entries object) order) (sym c.deref-4.ensures.value) c.in_ok-order.ensures.sequence),
+      subst (λ es. IsSequence es c.deref-4.result.now) (sym listed)
+          (subst (λ order. IsSequence (entries object) order) (sym c.deref-4.ensures.value) c.in_ok-order.ensures.sequence),
     )

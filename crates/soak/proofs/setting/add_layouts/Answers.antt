@@ -1,6 +1,6 @@
 use Rattle.std.proofs.lemmas.Bool.{false≢true}
 use Rattle.soak.proofs.Settings.{four_lawful, five_lawful, three_lawful}
-use Rattle.soak.proofs.setting.make_setting.Goals as goal
+use Rattle.soak.proofs.setting.add_layouts.Goals as goal
 
 pub returns-in_err-new-clause-refused : goal.returns-in_err-new-clause-refused
 returns-in_err-new-clause-refused c = absurd (false≢true (c.in_err-new.ensures.lawful.1 four_lawful))
