@@ -14,7 +14,8 @@ use Rattle.printing.specs.Words.{in_words, text_or_dash}
 -- the tag, its label, and the length of its piece
 abbrev pub row_text : Tag → Row → List ℕ
 row_text tag row =
-    in_words (tag_text tag ∷ word_of_label row.label ∷ text_or_dash (λ a. decimal (length a.piece.bytes)) row.arrival ∷ [])
+    in_words
+    (tag_text tag ∷ word_of_label row.label ∷ text_or_dash (λ a. decimal (length a.piece.bytes)) row.arrival ∷ [])
 
 -- what is kept for a tag, after a semicolon and a space
 abbrev pub kept_text : Tag × Row → List ℕ
@@ -22,4 +23,5 @@ kept_text kept = codes "; " ++ row_text kept.0 kept.1
 
 -- the status of the pointer, and what is kept for each tag, in rising order
 abbrev pub bank_text : Bank → List ℕ
-bank_text b = in_words (codes "next" ∷ word_of_status (status_of b.pointer) ∷ []) ++ flat_map kept_text (map.entries b.rows)
+bank_text b = in_words (codes "next" ∷ word_of_status (status_of b.pointer) ∷ [])
+    ++ flat_map kept_text (map.entries b.rows)

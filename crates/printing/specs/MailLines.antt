@@ -27,4 +27,5 @@ message_line m = message_text m.0 m.1 ++ codes "\n"
 -- how many messages wait, and the line of each
 abbrev pub mail_text : List Message → List ℕ
 mail_text messages =
-    in_words (codes "mail" ∷ decimal (length messages) ∷ []) ++ codes "\n" ++ flat_map message_line (enumerate_from 0 messages)
+    in_words (codes "mail" ∷ decimal (length messages) ∷ []) ++ codes "\n"
+    ++ flat_map message_line (enumerate_from 0 messages)

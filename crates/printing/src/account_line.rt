@@ -2,7 +2,11 @@
 ghost use Rattle.std.specs.Prelude.{Some};
 ghost use Rattle.printing.specs.AccountLine.{account_text};
 
+use arrayvec::ArrayVec;
 use std::fmt;
+
+/// The most servers of a cluster, whose number is a byte.
+pub const MOST_SERVERS: usize = 255;
 
 /// How many bytes of fragments are stored, and how many wait in messages.
 #[derive(Debug, PartialEq, Eq, Drop)]
@@ -12,7 +16,7 @@ pub struct Account {
     /// What waits in the messages of all objects.
     pub mailed: u64,
     /// What each server stores, from server 0 on.
-    pub servers: Vec<u64>,
+    pub servers: ArrayVec<u64, MOST_SERVERS>,
 }
 
 /// The line of the accounts: `stored S mailed M`, and then ` SERVER:BYTES` for each server in rising order.

@@ -8,8 +8,8 @@ use bank::{Bank, Row};
 use std::fmt;
 use tag::Tag;
 
-/// The line of a bank: `next S`, and then `; NUMBER.CALL LABEL LEN` for each tag in rising order, where LEN is the number
-/// of bytes of the piece, or `-` for none.
+/// The line of a bank: `next S`, and then `; NUMBER.CALL LABEL LEN` for each tag in rising order, where LEN is the
+/// number of bytes of the piece, or `-` for none.
 #[derive(Clone, Copy)]
 pub struct BankLine<'a>(pub &'a Bank);
 

@@ -6,8 +6,8 @@ use crate::vocabulary::kind_word;
 use mail::{Body, Mail, Message};
 use std::fmt;
 
-/// The line `mail N` and a line for each message, in the order of their places: `PLACE request C J PHASE P I`, or `reply`
-/// in place of `request`.
+/// The line `mail N` and a line for each message, in the order of their places: `PLACE request C J PHASE P I`, or
+/// `reply` in place of `request`.
 #[derive(Clone, Copy)]
 pub struct MailLines<'a>(pub &'a Mail);
 

@@ -1,6 +1,7 @@
 //! The words for what is shown of calls, messages and banks.
 ghost use Rattle.std.specs.Prelude.{◌≡◌};
-ghost use Rattle.printing.specs.Vocabulary.{word_of_kind, word_of_label, word_of_operation, word_of_status, word_of_took, word_of_want};
+ghost use Rattle.printing.specs.Vocabulary.{word_of_kind, word_of_label, word_of_operation};
+ghost use Rattle.printing.specs.Vocabulary.{word_of_status, word_of_took, word_of_want};
 
 use bank::{Kind, Label, Status};
 use phase::Took;

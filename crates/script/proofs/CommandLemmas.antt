@@ -90,7 +90,8 @@ pub none-Supply : (rest : List Word) → ((name : Word) (n : ℕ) → ¬ (AreNam
 none-Supply rest none (of.Supply name call) s = none name.now call s.1
 none-Supply rest none _ s = apart (codes "supply") _ s.0 refl
 
-pub none-SupplyAs : (rest : List Word) → ((name : Word) (n : ℕ) (bytes : List ℕ) → ¬ (AreNameNumberAndBytes name n bytes rest)) → (c : Command)
+pub none-SupplyAs : (rest : List Word)
+    → ((name : Word) (n : ℕ) (bytes : List ℕ) → ¬ (AreNameNumberAndBytes name n bytes rest)) → (c : Command)
     → ¬ (Spells (codes "supply-as" ∷ rest) c)
 none-SupplyAs rest none (of.SupplyAs name call value) s = none name.now call value s.1
 none-SupplyAs rest none _ s = apart (codes "supply-as") _ s.0 refl

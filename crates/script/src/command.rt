@@ -9,7 +9,7 @@ use std::alloc::Global;
 
 /// A command of a script. A number is as the line has it, also where nothing has it, or `u64::MAX` where the line has a
 /// greater one. A name is a word of any length. Turns that the line leaves out are 100,000.
-#[derive(Debug, Drop)]
+#[derive(Drop)]
 pub enum Command<'a> {
     /// `servers S`: makes the cluster, of so many servers.
     Servers {

@@ -7,7 +7,7 @@ use crate::error::LineError;
 use std::alloc::{AllocError, Global};
 
 /// What a line says.
-#[derive(Debug, Drop)]
+#[derive(Drop)]
 pub enum Line<'a> {
     /// The line has no word, or its first word begins with `#`.
     Skipped,

@@ -4,4 +4,5 @@ use Rattle.script.proofs.call_commands.answer.Goals as goal
 
 pub returns-in_err-name : goal.returns-in_err-name
 returns-in_err-name c =
-    fails (codes "answer" ∷ map (λ w. w.now) c.args.words.now) _ _ c.from_residual.ensures.1 c.in_err-name.ensures.err.0 (none-Answer _ c.in_err-name.ensures.err.1)
+    fails (codes "answer" ∷ map (λ w. w.now) c.args.words.now) _ _
+    c.from_residual.ensures.1 c.in_err-name.ensures.err.0 (none-Answer _ c.in_err-name.ensures.err.1)

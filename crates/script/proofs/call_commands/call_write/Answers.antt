@@ -4,4 +4,5 @@ use Rattle.script.proofs.call_commands.call_write.Goals as goal
 
 pub returns-in_err-name : goal.returns-in_err-name
 returns-in_err-name c =
-    fails_or (codes "call" ∷ codes "write" ∷ map (λ w. w.now) c.args.words.now) _ _ _ c.from_residual.ensures.1 c.in_err-name.ensures.err (none-CallWrite _)
+    fails_or (codes "call" ∷ codes "write" ∷ map (λ w. w.now) c.args.words.now) _ _ _
+    c.from_residual.ensures.1 c.in_err-name.ensures.err (none-CallWrite _)

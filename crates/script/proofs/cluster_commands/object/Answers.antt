@@ -4,4 +4,5 @@ use Rattle.script.proofs.cluster_commands.object.Goals as goal
 
 pub returns-in_err-name : goal.returns-in_err-name
 returns-in_err-name c =
-    fails (codes "object" ∷ map (λ w. w.now) c.args.words.now) _ _ c.from_residual.ensures.1 c.in_err-name.ensures.err.0 (none-Object _ c.in_err-name.ensures.err.1)
+    fails (codes "object" ∷ map (λ w. w.now) c.args.words.now) _ _
+    c.from_residual.ensures.1 c.in_err-name.ensures.err.0 (none-Object _ c.in_err-name.ensures.err.1)

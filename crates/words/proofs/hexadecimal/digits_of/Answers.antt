@@ -7,4 +7,5 @@ use Rattle.words.proofs.hexadecimal.digits_of.Goals as goal
 pub unreachable-requires-in_default-from_utf8 : goal.unreachable-requires-in_default-from_utf8
 unreachable-requires-in_default-from_utf8 c =
     c.in_default-from_utf8.ensures.cases.0
-    (rw (c.in-Ok.ensures.written) (IsUtf8-from_ascii (encode_lower c.args.bytes.now) (IsAscii-encode_with lower_digits c.args.bytes.now IsAscii-lower_digits)))
+    (rw (c.in-Ok.ensures.written)
+    (IsUtf8-from_ascii (encode_lower c.args.bytes.now) (IsAscii-encode_with lower_digits c.args.bytes.now IsAscii-lower_digits)))

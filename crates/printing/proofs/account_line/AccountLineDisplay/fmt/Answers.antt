@@ -21,5 +21,5 @@ returns-clause-writes g c = λ plain _.
     let head : HasWritten g.W.Write.write_str_gives c.args.f.now totals c.write.new.self = search rules in
     has_written_of_eq _ _ _ _ _
     (flat_map-numbered_all totals server_text servers.result.now c.loop-server.server-counter (omega arith)
-    ∙ ap (λ (stored : List ℕ). totals ++ flat_map server_text (enumerate_from 0 stored)) servers.ensures.value)
+    ∙ ap (λ (stored : List ℕ). totals ++ flat_map server_text (enumerate_from 0 stored)) servers.ensures.0)
     (has_written_append _ _ _ _ _ _ head (c.loop-server.invariant head.plain))

@@ -12,7 +12,8 @@ use Rattle.printing.proofs.bank_line.BankLineDisplay.fmt.Goals as goal
 pub loop-i-preserved : goal.loop-i-preserved
 loop-i-preserved g c = λ plain.
     has_written_of_eq _ _ _ _ _
-    (sym (flat_map-take_at kept_text (map.entries c.args.self.now.0.now.rows) c.loop-i.i (c.kept.result.0, c.kept.result.1.now) c.kept.ensures))
+    (sym (flat_map-take_at kept_text (map.entries c.args.self.now.0.now.rows) c.loop-i.i
+    (c.kept.result.0, c.kept.result.1.now) c.kept.ensures))
     (has_written_append _ _ _ _ _ _ (c.loop-i.invariant plain) (search rules))
 
 pub returns-clause-writes : goal.returns-clause-writes

@@ -32,4 +32,5 @@ pub returns-clause-writes : goal.returns-clause-writes
 returns-clause-writes g c = λ plain _.
     let so_far = c.loop-chunk.invariant.3 plain in
     let none = nil_from_length _ c.in-None.ensures.steps.1.0 in
-    has_written_of_eq _ _ _ _ _ (rw (none, encode_lower-nil, append-nil) at so_far.2 ∙ hexadecimal_text-some c.args.self.now.0.now (search rules)) so_far.1
+    has_written_of_eq _ _ _ _ _
+    (rw (none, encode_lower-nil, append-nil) at so_far.2 ∙ hexadecimal_text-some c.args.self.now.0.now (search rules)) so_far.1
