@@ -21,7 +21,7 @@ unfolding all_there
 none_missing cluster name calls state there all (other, found, missing) =
     absurd (false≢true (sym missing ∙ (ap (λ o. all_there o calls) (sym found ∙ there) ∙ all)))
 
-pub none_missing-unknown : (cluster : Cluster) (name calls : List ℕ) (r : Refusal) → object_cause cluster name (λ object. None) ≡ Some r
-    → ¬ (HasNoCall cluster name calls)
+pub none_missing-unknown : (cluster : Cluster) (name calls : List ℕ) (r : Refusal) →
+    object_cause cluster name (λ object. None) ≡ Some r → ¬ (HasNoCall cluster name calls)
 none_missing-unknown cluster name calls r cause (other, found, missing) =
     absurd (let no : None ≡ Some r = sym (ap (λ o. if_object o (λ object. None)) found) ∙ cause in cc)

@@ -24,9 +24,10 @@ pub no_bad : {Bad : Type 0} → ⊥ → Bad
 no_bad bad = absurd bad
 
 -- the command is this one, and only shows something
-pub shown : (old new : Contents) (before after : Cluster) (command arm : Command) (r : Result Unit Stop) (is : command ≡ arm)
-    (Is : List ℕ → Type 0) (Bad : Type 0) → ((text : List ℕ) → Is text → IsPlayed before arm after text) → (Bad → IsBad before arm × (after ≡ before))
-    → Prints old new Is Bad r → Prints old new (IsPlayed before command after) (IsBad before command × (after ≡ before)) r
+pub shown : (old new : Contents) (before after : Cluster) (command arm : Command) (r : Result Unit Stop) (is : command
+    ≡ arm) (Is : List ℕ → Type 0) (Bad : Type 0) → ((text : List ℕ) → Is text → IsPlayed before arm after text) →
+    (Bad → IsBad before arm × (after ≡ before)) → Prints old new Is Bad r →
+    Prints old new (IsPlayed before command after) (IsBad before command × (after ≡ before)) r
 shown old new before after command arm r is Is Bad played bad printed =
     subst (λ (x : Command). Prints old new (IsPlayed before x after) (IsBad before x × (after ≡ before)) r) (sym is)
     (prints_more old new Is (IsPlayed before arm after) Bad (IsBad before arm × (after ≡ before)) r played bad printed)
@@ -104,8 +105,8 @@ no_other (of.Resume name call turns) may none = none.resume name call turns refl
 no_other command may none = may
 
 -- what it comes to is told
-tells : (before after : Cluster) (command : Command) (report : Report) (text : List ℕ) → MayChange command → Changes before command after report
-    → text ≡ line_of (report_text report) → IsPlayed before command after text
+tells : (before after : Cluster) (command : Command) (report : Report) (text : List ℕ) → MayChange command →
+    Changes before command after report → text ≡ line_of (report_text report) → IsPlayed before command after text
 tells before after (of.Servers count) report text may made is = absurd may
 tells before after (of.Show name call) report text may made is = absurd may
 tells before after (of.Mail name) report text may made is = absurd may
@@ -116,17 +117,20 @@ tells before after (of.Sequence name) report text may made is = absurd may
 tells before after (of.Check name calls) report text may made is = absurd may
 tells before after command report text may made is = (report, made, is)
 
-pub changed : (old new : Contents) (before after : Cluster) (command : Command) (report : Report) (r : Result Unit Stop) → MayChange command
-    → Changes before command after report → Prints old new (λ text. text ≡ line_of (report_text report)) ⊥ r
-    → Prints old new (IsPlayed before command after) (IsBad before command × (after ≡ before)) r
+pub changed : (old new : Contents) (before after : Cluster) (command : Command) (report : Report) (r : Result Unit Stop) →
+    MayChange command → Changes before command after report → Prints old new (λ text. text ≡ line_of (report_text report)) ⊥ r →
+    Prints old new (IsPlayed before command after) (IsBad before command × (after ≡ before)) r
 changed old new before after command report r may made printed =
-    prints_more old new (λ text. text ≡ line_of (report_text report)) (IsPlayed before command after) ⊥ (IsBad before command × (after ≡ before)) r
+    prints_more old new (λ text. text ≡ line_of (report_text report)) (IsPlayed before command after) ⊥
+    (IsBad before command × (after ≡ before)) r
     (λ text is. tells before after command report text may made is) no_bad printed
 
 -- the first command made the cluster
-pub begun : (old new : Contents) (at : Option Cluster) (after : Cluster) (command : Command) (count : ℕ) (r : Result Unit Stop) → at ≡ None → command ≡ of.Servers count
-    → after ≡ record { servers = all_up count; layouts = []; objects = []; counter = 0 } → Prints old new (λ text. text ≡ line_of (outcome_text outcome.Done)) ⊥ r
-    → Prints old new (Plays at command (Some after)) (IsBadAt at command × (Some after ≡ at)) r
+pub begun : (old new : Contents) (at : Option Cluster) (after : Cluster) (command : Command) (count : ℕ) (r : Result Unit Stop) →
+    at ≡ None → command ≡ of.Servers count →
+    after ≡ record { servers = all_up count; layouts = []; objects = []; counter = 0 } →
+    Prints old new (λ text. text ≡ line_of (outcome_text outcome.Done)) ⊥ r →
+    Prints old new (Plays at command (Some after)) (IsBadAt at command × (Some after ≡ at)) r
 begun old new at after command count r none is made printed =
     subst (λ (x : Option Cluster). Prints old new (Plays x command (Some after)) (IsBadAt x command × (Some after ≡ x)) r) (sym none)
     (subst (λ (x : Command). Prints old new (Plays None x (Some after)) (IsBadAt None x × (Some after ≡ None)) r) (sym is)

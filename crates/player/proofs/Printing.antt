@@ -18,7 +18,7 @@ prints_as old new Is Bad (Err stop.NoMemory) text is printed = (text, is)
 prints_as old new Is Bad (Err stop.OutputLost) text is printed = (text, is)
 
 -- what is read of an object, in another form
-pub read_as : {X Y : Type 0} (found : Option State) (read : Object → X) (form : X → Y) (x : X) → if_some found (λ object. Some (read object)) ≡ Some x
-    → if_some found (λ object. Some (form (read object))) ≡ Some (form x)
+pub read_as : {X Y : Type 0} (found : Option State) (read : Object → X) (form : X → Y) (x : X) →
+    if_some found (λ object. Some (read object)) ≡ Some x → if_some found (λ object. Some (form (read object))) ≡ Some (form x)
 read_as None read form x e = ap (option_map form) e
 read_as (Some state) read form x e = ap (option_map form) e

@@ -1,5 +1,6 @@
 -- What the run of a script comes to, line by line.
-use Rattle.std.proofs.Common.{◌≡◌, ◌+◌, ◌<◌, ◌≤◌, Bor, map, get_or, ℕ, zero, suc, List, [], ◌∷◌, ◌++◌, length, take, drop, Option, Some, None, Result, Ok, Err, refl, sym, ap, ◌∙◌, subst, inl, inr, arith}
+use Rattle.std.proofs.Common.{◌≡◌, ◌+◌, ◌<◌, ◌≤◌, Bor, map, get_or, ℕ, zero, suc, List, [], ◌∷◌, ◌++◌}
+use Rattle.std.proofs.Common.{length, take, drop, Option, Some, None, Result, Ok, Err, refl, sym, ap, ◌∙◌, subst, inl, inr, arith}
 use Rattle.std.specs.Prelude.{option_map, slice_get, MatchResult}
 use Rattle.std.specs.Result.{IsErrAnd}
 use Rattle.std.proofs.lemmas.Option.{slice_get-map, slice_get-get_or}
@@ -10,7 +11,8 @@ use Rattle.cluster.specs.Cluster.{Cluster}
 use Rattle.player.specs.declared.run.End.{End}
 use Rattle.player.specs.declared.run.End.TheVariants as end
 use Rattle.player.specs.Play.{Contents}
-use Rattle.player.specs.Script.{PlaysLines, IsPlayedTo, IsPlayedFrom, IsPlayedThrough, LosesLine, LosesOutput, EndsLine, EndsAt, EndsBy, IsScriptOf, IsUnread, PlaysScript}
+use Rattle.player.specs.Script.{PlaysLines, IsPlayedTo, IsPlayedFrom, IsPlayedThrough, LosesLine}
+use Rattle.player.specs.Script.{LosesOutput, EndsLine, EndsAt, EndsBy, IsScriptOf, IsUnread, PlaysScript}
 use Rattle.player.specs.Script.PlaysLines.{none, then_plays}
 
 -- The lines of a script
@@ -49,21 +51,23 @@ module _ (all : List (List ℕ)) (count : ℕ) (words : List ℕ) (at : slice_ge
   more : suc count ≡ count + 1
   more = omega arith
 
-  pub one_more : (state after : Option Cluster) (old middle new : Contents) → IsPlayedSoFar all count state old middle → IsPlayedFrom state words after middle new
-      → IsPlayedSoFar all (count + 1) after old new
+  pub one_more : (state after : Option Cluster) (old middle new : Contents) → IsPlayedSoFar all count state old middle →
+      IsPlayedFrom state words after middle new → IsPlayedSoFar all (count + 1) after old new
   one_more state after old middle new so_far from = record {
     text = so_far.text ++ from.0;
     played = subst (λ n. PlaysLines (take n all) after (so_far.text ++ from.0)) more
-        (subst (λ front. PlaysLines front after (so_far.text ++ from.0)) (sym (take_one all count words at)) (then_plays words so_far.played from.1));
+        (subst (λ front. PlaysLines front after (so_far.text ++ from.0)) (sym (take_one all count words at))
+        (then_plays words so_far.played from.1));
     printed = Appends-trans old middle new so_far.text from.0 so_far.printed from.2;
   }
 
-  to_here : (script : List ℕ) (state : Option Cluster) (text : List ℕ) → all ≡ lines script → PlaysLines (take count all) state text
-      → IsPlayedTo (lines script) (take count all) words state text
-  to_here script state text is so_far = record { rest = drop (suc count) all; parted = sym is ∙ parted_at all count words at; played = so_far }
+  to_here : (script : List ℕ) (state : Option Cluster) (text : List ℕ) → all ≡ lines script →
+      PlaysLines (take count all) state text → IsPlayedTo (lines script) (take count all) words state text
+  to_here script state text is so_far =
+      record { rest = drop (suc count) all; parted = sym is ∙ parted_at all count words at; played = so_far }
 
-  lost_line : (script : List ℕ) (state : Option Cluster) (text : List ℕ) → all ≡ lines script → PlaysLines (take count all) state text → LosesLine state words
-      → LosesOutput script
+  lost_line : (script : List ℕ) (state : Option Cluster) (text : List ℕ) → all ≡ lines script →
+      PlaysLines (take count all) state text → LosesLine state words → LosesOutput script
   lost_line script state text is so_far lost = record {
     front = take count all;
     words = words;
@@ -77,8 +81,8 @@ module _ (all : List (List ℕ)) (count : ℕ) (words : List ℕ) (at : slice_ge
     carried_out = lost.4;
   }
 
-  pub last_line : (script : List ℕ) (state : Option Cluster) (old middle new : Contents) (why : End) → all ≡ lines script → IsPlayedSoFar all count state old middle
-      → EndsLine (count + 1) state words middle new why → EndsAt script old new why
+  pub last_line : (script : List ℕ) (state : Option Cluster) (old middle new : Contents) (why : End) → all ≡ lines script →
+      IsPlayedSoFar all count state old middle → EndsLine (count + 1) state words middle new why → EndsAt script old new why
   last_line script state old middle new end.Unread is so_far ends = ends
   last_line script state old middle new end.NoMemory is so_far (inl ends) = inl (record {
     front = take count all;
@@ -102,18 +106,24 @@ module _ (all : List (List ℕ)) (count : ℕ) (words : List ℕ) (at : slice_ge
   }
   last_line script state old middle new end.OutputLost is so_far lost = lost_line script state so_far.text is so_far.played lost
 
-pub all_played : (all : List (List ℕ)) (count : ℕ) (script : List ℕ) (state : Option Cluster) (old new : Contents) → all ≡ lines script → length all ≤ count
-    → IsPlayedSoFar all count state old new → IsPlayedThrough script old new
-all_played all count script state old new is whole so_far =
-    (state, so_far.text, subst (λ front. PlaysLines front state so_far.text) (take_whole all count whole ∙ is) so_far.played, so_far.printed)
+pub all_played : (all : List (List ℕ)) (count : ℕ) (script : List ℕ) (state : Option Cluster) (old new : Contents) →
+    all ≡ lines script → length all ≤ count → IsPlayedSoFar all count state old new → IsPlayedThrough script old new
+all_played all count script state old new is whole so_far = (
+  state,
+  so_far.text,
+  subst (λ front. PlaysLines front state so_far.text) (take_whole all count whole ∙ is) so_far.played,
+  so_far.printed,
+)
 
 -- what stands in the list of lines at a place
 pub line_at : (all : List (Bor (List ℕ))) (i : ℕ) (d : Bor (List ℕ)) → i < length all
     → slice_get (map (λ (line : Bor (List ℕ)). line.now) all) i ≡ Some (get_or all i d).now
-line_at all i d within = slice_get-map (λ (line : Bor (List ℕ)). line.now) all i ∙ ap (option_map (λ (line : Bor (List ℕ)). line.now)) (slice_get-get_or all i d within)
+line_at all i d within = slice_get-map (λ (line : Bor (List ℕ)). line.now) all i
+    ∙ ap (option_map (λ (line : Bor (List ℕ)). line.now)) (slice_get-get_or all i d within)
 
 -- the line stopped the script
-pub stopped : (r : Result Unit End) (why : End) (Done : Type 0) (P : End → Type 0) → IsErrAnd r (λ end. end ≡ why) → P why → MatchResult r (λ _. Done) P
+pub stopped : (r : Result Unit End) (why : End) (Done : Type 0) (P : End → Type 0) → IsErrAnd r (λ end. end ≡ why) → P why →
+    MatchResult r (λ _. Done) P
 stopped (Ok x) why Done P is holds = absurd is
 stopped (Err y) why Done P is holds = subst P (sym is) holds
 
@@ -125,10 +135,13 @@ unread remaining old end.NoMemory is = inl (Keeps-refl old)
 unread remaining old (end.BadLine number) is = absurd is
 unread remaining old end.OutputLost is = absurd is
 
-pub plays_script : (remaining old new : Contents) (script : List ℕ) → IsScriptOf remaining script → IsPlayedThrough script old new → PlaysScript remaining old new
-plays_script remaining old new script read through = record { script = script; read = read; state = through.0; text = through.1; played = through.2; printed = through.3 }
+pub plays_script : (remaining old new : Contents) (script : List ℕ) → IsScriptOf remaining script → IsPlayedThrough script old new →
+    PlaysScript remaining old new
+plays_script remaining old new script read through =
+    record { script = script; read = read; state = through.0; text = through.1; played = through.2; printed = through.3 }
 
-pub ends_script : (remaining old new : Contents) (script : List ℕ) (why : End) → IsScriptOf remaining script → EndsAt script old new why → EndsBy remaining old new why
+pub ends_script : (remaining old new : Contents) (script : List ℕ) (why : End) → IsScriptOf remaining script →
+    EndsAt script old new why → EndsBy remaining old new why
 ends_script remaining old new script end.Unread read ends = absurd ends
 ends_script remaining old new script end.NoMemory read ends = inr (script, read, ends)
 ends_script remaining old new script (end.BadLine number) read ends = (script, read, ends)

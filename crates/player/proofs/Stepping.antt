@@ -1,5 +1,6 @@
 -- What a command that is one step comes to, from what the step's own call says.
-use Rattle.std.proofs.Common.{◌≡◌, ◌⊎◌, ℕ, List, subst, Option, Some, None, Result, Ok, Err, OnOk, OnErr, IfOk, sym, ap, ◌∙◌, inl, inr}
+use Rattle.std.proofs.Common.{◌≡◌, ◌⊎◌, ℕ, List, subst, Option, Some, None}
+use Rattle.std.proofs.Common.{Result, Ok, Err, OnOk, OnErr, IfOk, sym, ap, ◌∙◌, inl, inr}
 use Rattle.std.specs.Prelude.{option_map}
 use Rattle.tag.specs.declared.refusal.Refusal.{Refusal}
 use Rattle.tag.specs.Refusal.{IsByCause, IsExactlyByCause}
@@ -13,15 +14,16 @@ use Rattle.player.specs.Report.{report_of, done, refused}
 use Rattle.player.specs.Steps.{IsStep, IsGrowth, IsRefused}
 
 -- a step that gives something
-pub growth : {T : Type 0} (old new made : Cluster) (cause : Option Refusal) (found : Option T) (tell : T → Report) (r : Result T Refusal) (report : Report)
-    → OnOk r (new ≡ made) → IfOk r (λ x. found ≡ Some x) → IsByCause cause r → OnErr r (new ≡ old) → report ≡ report_of tell r
-    → IsGrowth old made cause (option_map tell found) new report
+pub growth : {T : Type 0} (old new made : Cluster) (cause : Option Refusal) (found : Option T) (tell : T →
+    Report) (r : Result T Refusal) (report : Report) → OnOk r (new ≡ made) → IfOk r (λ x. found ≡ Some x) → IsByCause cause r →
+    OnErr r (new ≡ old) → report ≡ report_of tell r → IsGrowth old made cause (option_map tell found) new report
 growth old new made cause found tell (Ok x) report step given by same is = inl (by, step, ap (option_map tell) given ∙ ap Some (sym is))
 growth old new made cause found tell (Err e) report step given by same is = inr (e, by, (same, is))
 
-pub sure : {T : Type 0} (old new made : Cluster) (cause : Option Refusal) (found : Option T) (tell : T → Report) (r : Result T Refusal) (report : Report)
-    → OnOk r (new ≡ made) → IfOk r (λ x. found ≡ Some x) → IsExactlyByCause cause r → OnErr r (new ≡ old) → report ≡ report_of tell r
-    → IsStep old made cause (option_map tell found) new report
+pub sure : {T : Type 0} (old new made : Cluster) (cause : Option Refusal) (found : Option T) (tell : T →
+    Report) (r : Result T Refusal) (report : Report) → OnOk r (new ≡ made) → IfOk r (λ x. found ≡ Some x) →
+    IsExactlyByCause cause r → OnErr r (new ≡ old) → report ≡ report_of tell r →
+    IsStep old made cause (option_map tell found) new report
 sure old new made cause found tell (Ok x) report step given by same is = inl (by, step, ap (option_map tell) given ∙ ap Some (sym is))
 sure old new made cause found tell (Err e) report step given by same is = inr (e, by, (same, is))
 

@@ -19,38 +19,45 @@ next_call cluster name = option_map called (if_named cluster name (λ object. So
 -- a read begins
 abbrev pub CallsRead : Cluster → (name : List ℕ) → Cluster → Report → Type 0
 CallsRead old name new report =
-    IsGrowth old (stepped old name Step.CallRead) (object_cause old name (λ object. read_cause (next old) object)) (next_call old name) new report
+    IsGrowth old (stepped old name Step.CallRead) (object_cause old name (λ object. read_cause (next old) object))
+    (next_call old name) new report
 
 -- a write of this value begins
 abbrev pub CallsWrite : Cluster → (name value : List ℕ) → Cluster → Report → Type 0
 CallsWrite old name value new report =
-    IsGrowth old (stepped old name (Step.CallWrite value)) (object_cause old name (λ object. write_cause value (next old) object))
+    IsGrowth old (stepped old name (Step.CallWrite value))
+    (object_cause old name (λ object. write_cause value (next old) object))
     (next_call old name) new report
 
 -- a move to the layout of this number begins
 abbrev pub CallsMove : Cluster → (name : List ℕ) → (layout : ℕ) → Cluster → Report → Type 0
 CallsMove old name layout new report =
-    IsGrowth old (moved old name (layout_number layout)) (object_cause old name (moving_cause old (layout_number layout))) (next_call old name) new report
+    IsGrowth old (moved old name (layout_number layout))
+    (object_cause old name (moving_cause old (layout_number layout))) (next_call old name) new report
 
 -- the call of this number begins the phase that is due
 abbrev pub Advances : Cluster → (name : List ℕ) → (call : ℕ) → Cluster → Report → Type 0
 Advances old name call new report =
-    IsGrowth old (stepped old name (Step.Advance (pred call))) (object_cause old name (λ object. advance_cause (next old) object call))
+    IsGrowth old (stepped old name (Step.Advance (pred call)))
+    (object_cause old name (λ object. advance_cause (next old) object call))
     (Some done) new report
 
 -- the current phase of the call of this number asks again
 abbrev pub Posts : Cluster → (name : List ℕ) → (call : ℕ) → Cluster → Report → Type 0
 Posts old name call new report =
-    IsGrowth old (stepped old name (Step.Post (pred call))) (object_cause old name (λ object. post_cause (next old) object call))
+    IsGrowth old (stepped old name (Step.Post (pred call)))
+    (object_cause old name (λ object. post_cause (next old) object call))
     (Some done) new report
 
 -- the receipt of the call of this number, were it answered now, as it is told
 abbrev pub next_receipt : Cluster → (name : List ℕ) → (call : ℕ) → Option Report
 next_receipt cluster name call =
-    option_map of.Answered (if_named cluster name (λ object. receipt_at object (place_of cluster.objects name) call (next cluster)))
+    option_map of.Answered
+    (if_named cluster name (λ object. receipt_at object (place_of cluster.objects name) call (next cluster)))
 
 -- the call of this number is answered
 abbrev pub Answers : Cluster → (name : List ℕ) → (call : ℕ) → Cluster → Report → Type 0
 Answers old name call new report =
-    IsGrowth old (stepped old name (Step.AnswerCall (pred call))) (object_cause old name (λ object. answer_cause (next old) object call))
+    IsGrowth old (stepped old name (Step.AnswerCall (pred call)))
+    (object_cause old name (λ object. answer_cause (next old) object call))
     (next_receipt old name call) new report

@@ -13,17 +13,20 @@ use Rattle.player.specs.Steps.{IsRefused, IsStep, IsGrowth}
 
 -- there are more members than a layout may have, or one is no server
 abbrev pub AreBadMembers : List ℕ → (servers : ℕ) → Type 0
-AreBadMembers members servers = (MOST_MEMBERS < length members) ⊎ (list_all (λ member. nat_lt member servers) members ≡ false)
+AreBadMembers members servers =
+    (MOST_MEMBERS < length members) ⊎ (list_all (λ member. nat_lt member servers) members ≡ false)
 
 -- the layout is not lawful, or a member is no server
 abbrev pub IsBadLayout : Layout → (servers : ℕ) → Type 0
 IsBadLayout layout servers = (¬ (IsLawful layout)) ⊎ (list_all (λ member. nat_lt member servers) layout.members ≡ false)
 
--- the numbers as they stand are a threshold and members of a lawful layout, which is added; or they are not, and are refused
+-- the numbers as they stand are a threshold and members of a
+-- lawful layout, which is added; or they are not, and are refused
 abbrev pub AddsLayout : Cluster → (k : ℕ) → (members : List ℕ) → Cluster → Report → Type 0
 AddsLayout old k members new report =
     let layout : Layout = record { k = k; members = members } in
-    (IsLawful layout × IsGrowth old (with_layout old layout) (layout_cause old layout) (Some (added_layout (length old.layouts))) new report)
+    (IsLawful layout × IsGrowth old (with_layout old layout) (layout_cause old layout)
+    (Some (added_layout (length old.layouts))) new report)
     ⊎ (IsBadLayout layout (length old.servers) × IsRefused old BadLayout new report)
 
 -- the number of a layout: one that 32 bits don't hold is taken for the greatest that they hold
@@ -32,8 +35,10 @@ layout_number number = min number (2 ^ 32 - 1)
 
 -- an object of this name is made, with the layout of this number
 abbrev pub MakesObject : Cluster → (name : List ℕ) → (layout : ℕ) → Cluster → Report → Type 0
-MakesObject old name layout new report = IsGrowth old (created old name (layout_number layout)) (create_cause old name (layout_number layout)) (Some done) new report
+MakesObject old name layout new report = IsGrowth old (created old name (layout_number layout))
+    (create_cause old name (layout_number layout)) (Some done) new report
 
 -- the server of this number goes up or down
 abbrev pub SetsServer : Cluster → (server : ℕ) → (up : Bool) → Cluster → Report → Type 0
-SetsServer old server up new report = IsStep old (with_server old server up) (server_cause old server) (Some done) new report
+SetsServer old server up new report =
+    IsStep old (with_server old server up) (server_cause old server) (Some done) new report

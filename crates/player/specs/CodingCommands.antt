@@ -37,24 +37,32 @@ coding_for value _ = record { k = 0; n = 0; value = value }
 -- why the call of this number is not supplied with these bytes: they are not coded, or are not its own
 abbrev pub supplying_as_cause : Cluster → (call : ℕ) → (value : List ℕ) → Object → Option Refusal
 supplying_as_cause cluster call value object =
-    first_of (coding_cause value (want_at object call)) (supply_cause (next cluster) object call (coding_for value (want_at object call)))
+    first_of (coding_cause value (want_at object call))
+    (supply_cause (next cluster) object call (coding_for value (want_at object call)))
 
--- the call of this number is supplied with these bytes, coded as it wants them; memory may be wanting where they can be coded
+-- the call of this number is supplied with these bytes, coded as
+-- it wants them; memory may be wanting where they can be coded
 abbrev pub SuppliesAs : Cluster → (name : List ℕ) → (call : ℕ) → (value : List ℕ) → Cluster → Report → Type 0
 SuppliesAs old name call value new report =
-    IsStep old (stepped old name (Step.Supply (pred call))) (object_cause old name (supplying_as_cause old call value)) (Some done) new report
-    ⊎ ((object_cause old name (λ object. coding_cause value (want_at object call)) ≡ None) × IsRefused old NoMemory new report)
+    IsStep old (stepped old name (Step.Supply (pred call))) (object_cause old name (supplying_as_cause old call value))
+    (Some done) new report
+    ⊎ ((object_cause old name (λ object. coding_cause value (want_at object call)) ≡ None)
+    × IsRefused old NoMemory new report)
 
--- the call of this number is supplied with the pieces of its own value, or is refused: memory to code the value may be wanting where there is one
+-- the call of this number is supplied with the pieces of its own value, or
+-- is refused: memory to code the value may be wanting where there is one
 abbrev pub Supplies : Cluster → (name : List ℕ) → (call : ℕ) → Cluster → Report → Type 0
 Supplies old name call new report =
-    IsStep old (stepped old name (Step.Supply (pred call))) (object_cause old name (λ object. supplying_cause (next old) object call))
+    IsStep old (stepped old name (Step.Supply (pred call)))
+    (object_cause old name (λ object. supplying_cause (next old) object call))
     (Some done) new report
     ⊎ ((object_cause old name (λ object. value_cause object call) ≡ None) × IsRefused old NoMemory new report)
 
 -- the call of this number settles the value that its own pieces give
 abbrev pub SettlesValue : Cluster → (name : List ℕ) → (call : ℕ) → Cluster → Report → Type 0
 SettlesValue old name call new report =
-    ((object_cause old name (λ object. settling_cause (next old) object call) ≡ None) × SettlesOwn old name call new × (report ≡ done))
-    ⊎ ((refusal : Refusal) × IsRefusalBy (object_cause old name (λ object. settling_cause (next old) object call)) refusal
+    ((object_cause old name (λ object. settling_cause (next old) object call) ≡ None)
+    × SettlesOwn old name call new × (report ≡ done))
+    ⊎ ((refusal : Refusal)
+    × IsRefusalBy (object_cause old name (λ object. settling_cause (next old) object call)) refusal
     × IsRefused old refusal new report)

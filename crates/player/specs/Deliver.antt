@@ -29,8 +29,9 @@ pub record IsFirst (cluster : Cluster) (name : List ℕ) (place : ℕ) : Type 0 
 -- from one cluster to another by so many steps, each of which handles the first message that can be handled
 pub data Delivers (name : List ℕ) (old : Cluster) : ℕ → Cluster → Type 0 where
   nothing : Delivers name old zero old
-  then_handles : {count : ℕ} {cluster : Cluster} (place : ℕ) (handled : Handled) → Delivers name old count cluster → IsFirst cluster name place
-      → if_named cluster name (handled_at place) ≡ Some handled → Delivers name old (suc count) (stepped cluster name (step_of place handled))
+  then_handles : {count : ℕ} {cluster : Cluster} (place : ℕ) (handled : Handled) → Delivers name old count cluster →
+      IsFirst cluster name place → if_named cluster name (handled_at place) ≡ Some handled →
+      Delivers name old (suc count) (stepped cluster name (step_of place handled))
 
 -- no message can be handled
 abbrev pub IsIdle : Cluster → (name : List ℕ) → Type 0
@@ -40,15 +41,18 @@ IsIdle cluster name = (place : ℕ) → ¬ (can_handle_at cluster name place ≡
 abbrev pub IsStopped : Cluster → (name : List ℕ) → Refusal → Type 0
 IsStopped cluster name refusal =
     (object_cause cluster name (λ object. None) ≡ Some refusal)
-    ⊎ ((place : ℕ) × IsFirst cluster name place × IsRefusalBy (object_cause cluster name (handling_cause cluster place)) refusal)
+    ⊎ ((place : ℕ) × IsFirst cluster name place
+    × IsRefusalBy (object_cause cluster name (handling_cause cluster place)) refusal)
 
 abbrev pub DeliversTo : Cluster → (name : List ℕ) → Cluster → Outcome → Type 0
 DeliversTo old name new (outcome.Handled count) =
     Delivers name old count new × (object_cause new name (λ object. None) ≡ None) × IsIdle new name
-DeliversTo old name new (outcome.Refused refusal) = (count : ℕ) × Delivers name old count new × IsStopped new name refusal
+DeliversTo old name new (outcome.Refused refusal) =
+    (count : ℕ) × Delivers name old count new × IsStopped new name refusal
 DeliversTo old name new _ = ⊥
 
--- the messages that can be handled are handled, always the first one, until there is none or one is refused; the steps before stay made
+-- the messages that can be handled are handled, always the first one,
+-- until there is none or one is refused; the steps before stay made
 abbrev pub DeliversAll : Cluster → (name : List ℕ) → Cluster → Report → Type 0
 DeliversAll old name new (of.Did outcome) = DeliversTo old name new outcome
 DeliversAll old name new _ = ⊥

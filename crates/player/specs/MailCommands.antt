@@ -13,7 +13,8 @@ use Rattle.player.specs.Steps.{IsStep, IsGrowth}
 -- the server of the request at a place serves it
 abbrev pub Serves : Cluster → (name : List ℕ) → (place : ℕ) → Cluster → Report → Type 0
 Serves old name place new report =
-    IsGrowth old (stepped old name (Step.Serve place)) (object_cause old name (serving_cause old place)) (Some done) new report
+    IsGrowth old (stepped old name (Step.Serve place)) (object_cause old name (serving_cause old place))
+    (Some done) new report
 
 -- what the call of the reply at a place makes of it, as it is told
 abbrev pub next_take : Cluster → (name : List ℕ) → (place : ℕ) → Option Report
@@ -23,17 +24,20 @@ next_take cluster name place =
 -- the call of the reply at a place takes it
 abbrev pub Takes : Cluster → (name : List ℕ) → (place : ℕ) → Cluster → Report → Type 0
 Takes old name place new report =
-    IsStep old (stepped old name (Step.Take place)) (object_cause old name (λ object. take_cause (next old) object place))
+    IsStep old (stepped old name (Step.Take place))
+    (object_cause old name (λ object. take_cause (next old) object place))
     (next_take old name place) new report
 
 -- the message at a place is lost
 abbrev pub Loses : Cluster → (name : List ℕ) → (place : ℕ) → Cluster → Report → Type 0
 Loses old name place new report =
-    IsStep old (stepped old name (Step.Lose place)) (object_cause old name (λ object. lose_cause (next old) object place))
+    IsStep old (stepped old name (Step.Lose place))
+    (object_cause old name (λ object. lose_cause (next old) object place))
     (Some done) new report
 
 -- a copy of the message at a place is posted
 abbrev pub Repeats : Cluster → (name : List ℕ) → (place : ℕ) → Cluster → Report → Type 0
 Repeats old name place new report =
-    IsGrowth old (stepped old name (Step.Repeat place)) (object_cause old name (λ object. repeat_cause (next old) object place))
+    IsGrowth old (stepped old name (Step.Repeat place))
+    (object_cause old name (λ object. repeat_cause (next old) object place))
     (Some done) new report

@@ -16,13 +16,15 @@ use Rattle.player.specs.CodingCommands.{Supplies, SuppliesAs, SettlesValue}
 use Rattle.player.specs.MailCommands.{Serves, Takes, Loses, Repeats}
 use Rattle.player.specs.Deliver.{DeliversAll}
 use Rattle.player.specs.WholeCalls.{Reads, Writes, Moves, Resumes}
-use Rattle.player.specs.Shown.{line_of, ShowsCall, ShowsMail, ShowsBank, HasNoBank, ShowsAccount, ShowsHistory, ShowsSequence, ShowsCheck, HasNoCall}
+use Rattle.player.specs.Shown.{line_of, ShowsCall, ShowsMail, ShowsBank, HasNoBank}
+use Rattle.player.specs.Shown.{ShowsAccount, ShowsHistory, ShowsSequence, ShowsCheck, HasNoCall}
 
 -- what a writer holds, where it is known
 abbrev pub Contents : Type 0
 Contents = Option (List ℕ)
 
--- the command was carried out, and its text printed; or it made its line bad, and nothing was; or it was carried out, and its text was lost
+-- the command was carried out, and its text printed; or it made its line
+-- bad, and nothing was; or it was carried out, and its text was lost
 abbrev pub Prints : (old new : Contents) → (Is : List ℕ → Type 0) → (Bad : Type 0) → Result Unit Stop → Type 0
 Prints old new Is Bad (Ok x) = (text : List ℕ) × Is text × Appends old new text
 Prints old new Is Bad (Err stop.Bad) = Bad × Keeps old new
@@ -93,7 +95,8 @@ IsBad cluster _ = ⊥
 -- the first command makes the cluster, with so many servers, all up
 abbrev pub IsBegun : Command → Cluster → (text : List ℕ) → Type 0
 IsBegun (of.Servers count) new text =
-    (new ≡ record { servers = all_up count; layouts = []; objects = []; counter = 0 }) × (text ≡ line_of (outcome_text outcome.Done))
+    (new ≡ record { servers = all_up count; layouts = []; objects = []; counter = 0 })
+    × (text ≡ line_of (outcome_text outcome.Done))
 IsBegun _ new text = ⊥
 
 -- a command, the first or a later one

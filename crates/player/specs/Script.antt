@@ -21,7 +21,8 @@ PlaysLine old words new text =
 
 -- a line is bad: it says nothing, or its command names what is not there or stands where it may not
 abbrev pub IsBadLine : Option Cluster → (line : List ℕ) → Type 0
-IsBadLine state words = IsErrorOfLine words line_error.Bad ⊎ ((command : Command) × IsLine words (line.Command command) × IsBadAt state command)
+IsBadLine state words = IsErrorOfLine words line_error.Bad
+    ⊎ ((command : Command) × IsLine words (line.Command command) × IsBadAt state command)
 
 -- the lines are played one after another from the beginning, which leads to this cluster and prints this text
 pub data PlaysLines : List (List ℕ) → Option Cluster → (text : List ℕ) → Type 0 where
@@ -30,7 +31,8 @@ pub data PlaysLines : List (List ℕ) → Option Cluster → (text : List ℕ) �
       → PlaysLines front old text → PlaysLine old line new more → PlaysLines (front ++ line ∷ []) new (text ++ more)
 
 -- the lines before this one are played, which leads to this cluster
-pub record IsPlayedTo (all front : List (List ℕ)) (line : List ℕ) (state : Option Cluster) (text : List ℕ) : Type 0 where
+pub record IsPlayedTo (all front : List (List ℕ)) (line : List ℕ) (state : Option Cluster)
+    (text : List ℕ) : Type 0 where
   pub rest : List (List ℕ)
   pub parted : all ≡ front ++ line ∷ rest
   pub played : PlaysLines front state text
@@ -75,7 +77,8 @@ pub record LacksMemory (script : List ℕ) (old new : Contents) : Type 0 where
 
 -- a line's command is carried out, and its text is lost
 abbrev pub LosesLine : Option Cluster → (line : List ℕ) → Type 0
-LosesLine state words = (command : Command) × (after : Option Cluster) × (more : List ℕ) × IsLine words (line.Command command) × Plays state command after more
+LosesLine state words = (command : Command) × (after : Option Cluster) × (more : List ℕ)
+    × IsLine words (line.Command command) × Plays state command after more
 
 -- a line is played from this cluster, which leads to that one, and its text printed
 abbrev pub IsPlayedFrom : Option Cluster → (line : List ℕ) → Option Cluster → (before after : Contents) → Type 0
@@ -84,13 +87,15 @@ IsPlayedFrom old words new before after = (text : List ℕ) × PlaysLine old wor
 -- why the line of this number is the last one
 abbrev pub EndsLine : (number : ℕ) → Option Cluster → (line : List ℕ) → (before after : Contents) → End → Type 0
 EndsLine number state words before after Unread = ⊥
-EndsLine number state words before after NoMemory = (IsErrorOfLine words line_error.NoMemory × Keeps before after) ⊎ LosesLine state words
+EndsLine number state words before after NoMemory =
+    (IsErrorOfLine words line_error.NoMemory × Keeps before after) ⊎ LosesLine state words
 EndsLine number state words before after (BadLine at) = (at ≡ number) × IsBadLine state words × Keeps before after
 EndsLine number state words before after OutputLost = LosesLine state words
 
 -- the lines of a script are played, and their text printed
 abbrev pub IsPlayedThrough : (script : List ℕ) → (old new : Contents) → Type 0
-IsPlayedThrough script old new = (state : Option Cluster) × (text : List ℕ) × PlaysLines (lines script) state text × Appends old new text
+IsPlayedThrough script old new =
+    (state : Option Cluster) × (text : List ℕ) × PlaysLines (lines script) state text × Appends old new text
 
 -- why the run of a script ends before the script's last line, with what was done
 abbrev pub EndsAt : (script : List ℕ) → (old new : Contents) → End → Type 0
@@ -105,13 +110,15 @@ IsUnread Unread = ⊤
 IsUnread NoMemory = ⊤
 IsUnread _ = ⊥
 
--- why the run of a script ends before the script's end, with what was done; where memory is wanting, nothing was printed, or it was
--- wanting for a line, or for the text of a command that was carried out
+-- why the run of a script ends before the script's end, with what was done; where memory is wanting,
+-- nothing was printed, or it was wanting for a line, or for the text of a command that was carried out
 abbrev pub EndsBy : (remaining old new : Contents) → End → Type 0
 EndsBy remaining old new Unread = Keeps old new
 EndsBy remaining old new NoMemory =
-    Keeps old new ⊎ ((script : List ℕ) × IsScriptOf remaining script × (LacksMemory script old new ⊎ LosesOutput script))
-EndsBy remaining old new (BadLine number) = (script : List ℕ) × IsScriptOf remaining script × StopsAt script old new number
+    Keeps old new
+    ⊎ ((script : List ℕ) × IsScriptOf remaining script × (LacksMemory script old new ⊎ LosesOutput script))
+EndsBy remaining old new (BadLine number) =
+    (script : List ℕ) × IsScriptOf remaining script × StopsAt script old new number
 EndsBy remaining old new OutputLost = (script : List ℕ) × IsScriptOf remaining script × LosesOutput script
 
 -- the whole script is played, and its text printed
@@ -133,7 +140,8 @@ status_of OutputLost = 1
 -- the exit status with what was done: 0 where the whole script is played, else that of why it is not
 abbrev pub Runs : (remaining old new : Contents) → (status : ℕ) → Type 0
 Runs remaining old new status =
-    ((status ≡ 0) × PlaysScript remaining old new) ⊎ ((end : End) × (status ≡ status_of end) × EndsBy remaining old new end)
+    ((status ≡ 0) × PlaysScript remaining old new)
+    ⊎ ((end : End) × (status ≡ status_of end) × EndsBy remaining old new end)
 
 -- the exit status where the script can't be read, for an error of this kind
 abbrev pub unread_status : ErrorKind → ℕ

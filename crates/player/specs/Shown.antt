@@ -1,8 +1,8 @@
 -- The commands that only show something.
-use Rattle.std.specs.Prelude.{◌≡◌, ◌⊎◌, ◌↔◌, ℕ, Bool, false, ◌++◌, List, [], ◌∷◌, map, length, Option, Some, None, option_map, is_some, IsTrue}
+use Rattle.std.specs.Prelude.{◌≡◌, ◌⊎◌, ◌↔◌, ℕ, Bool, false, ◌++◌, List, [], ◌∷◌, map}
+use Rattle.std.specs.Prelude.{length, Option, Some, None, option_map, is_some, IsTrue}
 use Rattle.std.specs.List.{list_all, range_with_len}
 use Rattle.tag.specs.declared.refusal.Refusal.{Refusal}
-use Rattle.tag.specs.declared.refusal.Refusal.TheVariants.{NoMemory}
 use Rattle.record.specs.Atomic.{IsSequence}
 use Rattle.record.specs.Journals.{entries}
 use Rattle.record.specs.Sequence.{IsTagSequence}
@@ -35,7 +35,8 @@ refusal_line refusal = line_of (outcome_text (outcome.Refused refusal))
 -- there is no cause of refusal, and this is shown; or the command is refused by its cause
 abbrev pub IsShown : (cause : Option Refusal) → (told : Option (List ℕ)) → (text : List ℕ) → Type 0
 IsShown cause told text =
-    ((cause ≡ None) × (told ≡ Some text)) ⊎ ((refusal : Refusal) × (cause ≡ Some refusal) × (text ≡ refusal_line refusal))
+    ((cause ≡ None) × (told ≡ Some text))
+    ⊎ ((refusal : Refusal) × (cause ≡ Some refusal) × (text ≡ refusal_line refusal))
 
 -- no cause but that there is no such object
 abbrev pub unknown_object : Cluster → (name : List ℕ) → Option Refusal
@@ -49,13 +50,15 @@ ShowsCall cluster name call text =
 
 -- the messages of an object
 abbrev pub ShowsMail : Cluster → (name : List ℕ) → (text : List ℕ) → Type 0
-ShowsMail cluster name text = IsShown (unknown_object cluster name) (if_named cluster name (λ object. Some (mail_text object.mail))) text
+ShowsMail cluster name text =
+    IsShown (unknown_object cluster name) (if_named cluster name (λ object. Some (mail_text object.mail))) text
 
 -- the bank of a member of a position
 abbrev pub ShowsBank : Cluster → (name : List ℕ) → (position member : ℕ) → (text : List ℕ) → Type 0
 ShowsBank cluster name position member text =
     IsShown (unknown_object cluster name)
-    (option_map (λ bank. line_of (bank_text bank)) (if_named cluster name (λ object. bank_there object position member))) text
+    (option_map (λ bank. line_of (bank_text bank))
+    (if_named cluster name (λ object. bank_there object position member))) text
 
 -- the object is there, and has no such bank
 abbrev pub HasNoBank : Cluster → (name : List ℕ) → (position member : ℕ) → Type 0
@@ -71,12 +74,13 @@ pub record IsAccount (cluster : Cluster) (account : Account) : Type 0 where
 -- the accounts of the cluster
 abbrev pub ShowsAccount : Cluster → (text : List ℕ) → Type 0
 ShowsAccount cluster text =
-    ((account : Account) × IsAccount cluster account × (text ≡ line_of (account_text account))) ⊎ (text ≡ refusal_line NoMemory)
+    (account : Account) × IsAccount cluster account × (text ≡ line_of (account_text account))
 
 -- the history of an object
 abbrev pub ShowsHistory : Cluster → (name : List ℕ) → (text : List ℕ) → Type 0
 ShowsHistory cluster name text =
-    ((unknown_object cluster name ≡ None) × (if_named cluster name (λ object. Some (history_text (entries object))) ≡ Some text))
+    ((unknown_object cluster name ≡ None)
+    × (if_named cluster name (λ object. Some (history_text (entries object))) ≡ Some text))
     ⊎ ((refusal : Refusal) × IsRefusalBy (unknown_object cluster name) refusal × (text ≡ refusal_line refusal))
 
 -- the sequence of the object's calls by their tags, which is one of its history
@@ -95,7 +99,8 @@ ShowsSequence cluster name text =
 -- a call of the list is not there
 abbrev pub HasNoCall : Cluster → (name calls : List ℕ) → Type 0
 HasNoCall cluster name calls =
-    (state : State) × (named cluster.objects name ≡ Some state) × (list_all (λ call. is_some (call_at state.object call)) calls ≡ false)
+    (state : State) × (named cluster.objects name ≡ Some state)
+    × (list_all (λ call. is_some (call_at state.object call)) calls ≡ false)
 
 -- the answer says whether the calls are a sequence of the object's history
 pub record IsChecked (cluster : Cluster) (name calls : List ℕ) (answer : Bool) : Type 0 where
@@ -106,5 +111,6 @@ pub record IsChecked (cluster : Cluster) (name calls : List ℕ) (answer : Bool)
 -- whether the calls, of which none is missing, are a sequence
 abbrev pub ShowsCheck : Cluster → (name calls : List ℕ) → (text : List ℕ) → Type 0
 ShowsCheck cluster name calls text = (¬ (HasNoCall cluster name calls))
-    × (((answer : Bool) × IsChecked cluster name calls answer × (text ≡ line_of (outcome_text (outcome.Checked answer))))
+    × (((answer : Bool) × IsChecked cluster name calls answer
+    × (text ≡ line_of (outcome_text (outcome.Checked answer))))
     ⊎ ((refusal : Refusal) × IsRefusalBy (unknown_object cluster name) refusal × (text ≡ refusal_line refusal)))

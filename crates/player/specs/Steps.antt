@@ -15,13 +15,15 @@ abbrev pub IsRefused : (old : Cluster) → Refusal → (new : Cluster) → Repor
 IsRefused old refusal new report = (new ≡ old) × (report ≡ refused refusal)
 
 -- the step has no cause of refusal, is made and tells this; or it is refused by its cause
-abbrev pub IsStep : (old made : Cluster) → (cause : Option Refusal) → (told : Option Report) → (new : Cluster) → Report → Type 0
+abbrev pub IsStep : (old made : Cluster) → (cause : Option Refusal) → (told : Option Report) →
+    (new : Cluster) → Report → Type 0
 IsStep old made cause told new report =
     ((cause ≡ None) × (new ≡ made) × (told ≡ Some report))
     ⊎ ((refusal : Refusal) × (cause ≡ Some refusal) × IsRefused old refusal new report)
 
 -- the same of a step that may find no memory
-abbrev pub IsGrowth : (old made : Cluster) → (cause : Option Refusal) → (told : Option Report) → (new : Cluster) → Report → Type 0
+abbrev pub IsGrowth : (old made : Cluster) → (cause : Option Refusal) → (told : Option Report) →
+    (new : Cluster) → Report → Type 0
 IsGrowth old made cause told new report =
     ((cause ≡ None) × (new ≡ made) × (told ≡ Some report))
     ⊎ ((refusal : Refusal) × IsRefusalBy cause refusal × IsRefused old refusal new report)

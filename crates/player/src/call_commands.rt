@@ -73,7 +73,8 @@ fn supply_value(
     value: Bytes,
 ) -> Result<(), Refusal>
     ensures step { OnOk result (cluster.new ≡ stepped cluster.old name.entry.now (Step.Supply (pred call))) }
-    ensures cause { IsByCauseOrMemory (object_cause cluster.old name.entry.now (λ object. coding_cause value (want_at object call)))
+    ensures cause { IsByCauseOrMemory
+        (object_cause cluster.old name.entry.now (λ object. coding_cause value (want_at object call)))
         (object_cause cluster.old name.entry.now (supplying_as_cause cluster.old call value)) result }
     ensures unchanged { OnErr result (cluster.new ≡ cluster.old) }
 {

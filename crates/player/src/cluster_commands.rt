@@ -2,7 +2,8 @@
 ghost use Rattle.std.specs.Prelude.{◌≡◌, IfOk, IfErr};
 ghost use Rattle.tag.specs.declared.refusal.Refusal.TheVariants.{BadLayout};
 ghost use Rattle.layout.specs.Layout.{IsLawful};
-ghost use Rattle.player.specs.ClusterCommands.{AddsLayout, MakesObject, SetsServer, IsBadLayout, AreBadMembers, layout_number};
+ghost use Rattle.player.specs.ClusterCommands.{AddsLayout, MakesObject, SetsServer};
+ghost use Rattle.player.specs.ClusterCommands.{IsBadLayout, AreBadMembers, layout_number};
 
 use crate::report::Report;
 use arrayvec::ArrayVec;

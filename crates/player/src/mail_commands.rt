@@ -1,15 +1,13 @@
 //! The commands on the messages of an object.
-ghost use Rattle.std.specs.Prelude.{◌≡◌, ◌<◌, ℕ, length, Some, None, IfOk, IfErr, OnOk, MatchOption, MatchResult};
-ghost use Rattle.cluster.specs.Cluster.{named};
+ghost use Rattle.std.specs.Prelude.{◌≡◌, ℕ, Some, None, IfOk, IfErr, OnOk, MatchOption, MatchResult};
 ghost use Rattle.cluster.specs.Causes.{object_cause};
 ghost use Rattle.player.specs.MailCommands.{Serves, Takes, Loses, Repeats};
-ghost use Rattle.player.specs.Deliver.{DeliversAll, Delivers, IsFirst, NoneBefore, IsIdle, IsStopped, can_handle_at};
+ghost use Rattle.player.specs.Deliver.{DeliversAll, Delivers, IsFirst, NoneBefore, IsIdle, IsStopped};
 
 use crate::report::Report;
 use cluster::Cluster;
-use driver::handle;
+use driver::{Among, choice_at, handle};
 use printing::Outcome;
-use register::Register;
 use tag::Refusal;
 
 /// Serves the request at a place.
@@ -52,9 +50,10 @@ pub(crate) fn deliver(cluster: &mut Cluster, name: &str) -> Report
 
 // What is done to a message leaves those before it as they are, so the search goes on from its place.
 fn handle_all(cluster: &mut Cluster, name: &str) -> Result<u64, Refusal>
-    ensures { MatchResult result
-        (λ count. Delivers name.entry.now cluster.old count cluster.new × (object_cause cluster.new name.entry.now (λ object. None) ≡ None) × IsIdle cluster.new name.entry.now)
-        (λ refusal. (count : ℕ) × Delivers name.entry.now cluster.old count cluster.new × IsStopped cluster.new name.entry.now refusal) }
+    ensures { MatchResult result (λ count. Delivers name.entry.now cluster.old count cluster.new
+        × (object_cause cluster.new name.entry.now (λ object. None) ≡ None) × IsIdle cluster.new name.entry.now)
+        (λ refusal. (count : ℕ) × Delivers name.entry.now cluster.old count cluster.new
+        × IsStopped cluster.new name.entry.now refusal) }
 {
     let mut handled = 0;
     let mut from = 0;
@@ -71,30 +70,13 @@ fn handle_all(cluster: &mut Cluster, name: &str) -> Result<u64, Refusal>
 // The place of the first message that can be handled, which is this one or behind it.
 fn first_handled(cluster: &Cluster, name: &str, from: usize) -> Result<Option<usize>, Refusal>
     requires { NoneBefore cluster.now name.now from }
-    ensures first { IfOk result (λ found. MatchOption found (IsIdle cluster.now name.now) (IsFirst cluster.now name.now)) }
+    ensures first { IfOk result
+        (λ found. MatchOption found (IsIdle cluster.now name.now) (IsFirst cluster.now name.now)) }
     ensures there { OnOk result (object_cause cluster.now name.now (λ object. None) ≡ None) }
     ensures refused { IfErr result (λ refusal. object_cause cluster.now name.now (λ object. None) ≡ Some refusal) }
 {
-    let register = match cluster.register(name) {
-        Ok(register) => register,
-        Err(refusal) => return Err(refusal),
-    };
-    for place in from..register.mail_view().len() {
-        if can_handle(cluster, register, name, place) {
-            return Ok(Some(place));
-        }
-    }
-    Ok(None)
-}
-
-// Whether the message at a place of the mail can be handled.
-fn can_handle(cluster: &Cluster, register: &Register, name: &str, place: usize) -> bool
-    requires object { named cluster.now.objects name.now ≡ Some register.now }
-    requires place { place < length register.now.object.mail }
-    ensures { can_handle_at cluster.now name.now place ≡ Some result }
-{
-    match cluster.can_handle(name, place) {
-        Ok(can_handle) => can_handle,
-        Err(_) => false,
+    match cluster.register(name) {
+        Ok(register) => Ok(choice_at(cluster, register, Among::Every, from, 0)),
+        Err(refusal) => Err(refusal),
     }
 }

@@ -67,7 +67,7 @@ fn carry_out<W: Write>(
             position,
             member,
         } => shown::bank(cluster, name, position, member, out),
-        Command::Account => shown::account(alloc, cluster, out),
+        Command::Account => shown::account(cluster, out),
         Command::History { name } => shown::history(cluster, name, out),
         Command::Sequence { name } => shown::sequence_of(alloc, cluster, name, out),
         Command::Check { name, calls } => shown::check_of(cluster, name, &calls, out),
@@ -122,7 +122,8 @@ pub(crate) fn refuse<W: Write>(out: &mut W, refusal: Refusal) -> Result<(), Stop
 
 /// Prints a line, with its end.
 pub(crate) fn print_line<W: Write, D: Display + Drop>(out: &mut W, line: D) -> Result<(), Stop>
-    ensures { (text : List ℕ) → D.output line ≡ Some text → Prints (W.contents out.old) (W.contents out.new) (λ t. t ≡ line_of text) ⊥ result }
+    ensures { (text : List ℕ) → D.output line ≡ Some text
+        → Prints (W.contents out.old) (W.contents out.new) (λ t. t ≡ line_of text) ⊥ result }
 {
     match out.writeln(line) {
         Ok(()) => flushed(out),
@@ -132,7 +133,8 @@ pub(crate) fn print_line<W: Write, D: Display + Drop>(out: &mut W, line: D) -> R
 
 /// Prints lines, which have their ends.
 pub(crate) fn print<W: Write, D: Display + Drop>(out: &mut W, lines: D) -> Result<(), Stop>
-    ensures { (text : List ℕ) → D.output lines ≡ Some text → Prints (W.contents out.old) (W.contents out.new) (λ t. t ≡ text) ⊥ result }
+    ensures { (text : List ℕ) → D.output lines ≡ Some text
+        → Prints (W.contents out.old) (W.contents out.new) (λ t. t ≡ text) ⊥ result }
 {
     match out.write_fmt(lines) {
         Ok(()) => flushed(out),

@@ -2,7 +2,8 @@
 ghost use Rattle.std.specs.Prelude.{◌≡◌, ℕ, List, map, MatchResult};
 ghost use Rattle.std.specs.Str.Lines.{lines as lines_of};
 ghost use Rattle.std.specs.IoError.{error_kind};
-ghost use Rattle.player.specs.Script.{Runs, PlaysScript, EndsBy, EndsAt, EndsLine, IsScriptOf, IsUnread, IsPlayedFrom, IsPlayedThrough, status_of, unread_status};
+ghost use Rattle.player.specs.Script.{Runs, PlaysScript, EndsBy, EndsAt, EndsLine, IsScriptOf, IsUnread};
+ghost use Rattle.player.specs.Script.{IsPlayedFrom, IsPlayedThrough, status_of, unread_status};
 
 use crate::player::{Stop, play};
 use cluster::Cluster;
@@ -113,8 +114,9 @@ fn read_script<R: Read>(alloc: Global, reader: &mut R) -> Result<Vec<u8>, End>
 }
 
 fn play_lines<O: Write>(alloc: Global, lines: &[&[u8]], out: &mut O) -> Result<(), End>
-    ensures { (script : List ℕ) → map (λ line. line.now) lines.now ≡ lines_of script → MatchResult result
-        (λ _. IsPlayedThrough script (O.contents out.old) (O.contents out.new)) (EndsAt script (O.contents out.old) (O.contents out.new)) }
+    ensures { (script : List ℕ) → map (λ line. line.now) lines.now ≡ lines_of script
+        → MatchResult result (λ _. IsPlayedThrough script (O.contents out.old) (O.contents out.new))
+        (EndsAt script (O.contents out.old) (O.contents out.new)) }
 {
     let mut cluster = None;
     for (index, line) in lines.iter().enumerate() {
@@ -131,7 +133,8 @@ fn play_line<O: Write>(
     line: &[u8],
     out: &mut O,
 ) -> Result<(), End>
-    ensures { MatchResult result (λ _. IsPlayedFrom cluster.old line.now cluster.new (O.contents out.old) (O.contents out.new))
+    ensures { MatchResult result
+        (λ _. IsPlayedFrom cluster.old line.now cluster.new (O.contents out.old) (O.contents out.new))
         (EndsLine number cluster.old line.now (O.contents out.old) (O.contents out.new)) }
 {
     let command = match parse_line(alloc, line) {

@@ -1,16 +1,17 @@
 //! The commands that only show something. They print what they read of the cluster at once.
-ghost use Rattle.std.specs.Prelude.{◌≡◌, Some, IfOk, IfErr, is_some};
+ghost use Rattle.std.specs.Prelude.{◌≡◌, Some, IfOk, is_some};
 ghost use Rattle.std.specs.List.{list_all};
-ghost use Rattle.tag.specs.declared.refusal.Refusal.TheVariants.{NoMemory};
 ghost use Rattle.tag.specs.Refusal.{IsExactlyByCause};
 ghost use Rattle.register.specs.Causes.{call_at, number_cause};
 ghost use Rattle.register.specs.View.{view_at};
 ghost use Rattle.cluster.specs.Cluster.{if_named};
 ghost use Rattle.cluster.specs.Causes.{object_cause};
 ghost use Rattle.player.specs.Play.{Prints};
-ghost use Rattle.player.specs.Shown.{ShowsCall, ShowsMail, ShowsBank, HasNoBank, IsAccount, ShowsAccount, ShowsHistory, ShowsSequence, ShowsCheck, HasNoCall};
+ghost use Rattle.player.specs.Shown.{ShowsCall, ShowsMail, ShowsBank, HasNoBank, IsAccount};
+ghost use Rattle.player.specs.Shown.{ShowsAccount, ShowsHistory, ShowsSequence, ShowsCheck, HasNoCall};
 
 use crate::player::{Stop, print, print_line, refuse};
+use arrayvec::ArrayVec;
 use cluster::Cluster;
 use history::{check, sequence};
 use printing::{
@@ -64,7 +65,8 @@ pub(crate) fn bank<W: Write>(
     member: u64,
     out: &mut W,
 ) -> Result<(), Stop>
-    ensures { Prints (W.contents out.old) (W.contents out.new) (ShowsBank cluster.now name.now position member) (HasNoBank cluster.now name.now position member) result }
+    ensures { Prints (W.contents out.old) (W.contents out.new) (ShowsBank cluster.now name.now position member)
+        (HasNoBank cluster.now name.now position member) result }
 {
     let register = match cluster.register(name) {
         Ok(register) => register,
@@ -84,28 +86,24 @@ pub(crate) fn bank<W: Write>(
 }
 
 /// The accounts.
-pub(crate) fn account<W: Write>(alloc: Global, cluster: &Cluster, out: &mut W) -> Result<(), Stop>
+pub(crate) fn account<W: Write>(cluster: &Cluster, out: &mut W) -> Result<(), Stop>
     ensures { Prints (W.contents out.old) (W.contents out.new) (ShowsAccount cluster.now) ⊥ result }
 {
-    match account_of(alloc, cluster) {
-        Ok(account) => print_line(out, AccountLine(&account)),
-        Err(refusal) => refuse(out, refusal),
-    }
+    print_line(out, AccountLine(&account_of(cluster)))
 }
 
-fn account_of(alloc: Global, cluster: &Cluster) -> Result<Account, Refusal>
-    ensures account { IfOk result (IsAccount cluster.now) }
-    ensures refused { IfErr result (λ r. r ≡ NoMemory) }
+fn account_of(cluster: &Cluster) -> Account
+    ensures { IsAccount cluster.now result }
 {
-    let mut servers = Vec::new(alloc);
+    let mut servers = ArrayVec::new();
     for server in 0..cluster.servers() {
-        servers.push(cluster.stored(server))?;
+        servers.push(cluster.stored(server));
     }
-    Ok(Account {
+    Account {
         stored: cluster.stored_all(),
         mailed: cluster.mailed(),
         servers,
-    })
+    }
 }
 
 /// The entries of an object.
@@ -144,7 +142,8 @@ pub(crate) fn check_of<W: Write>(
     calls: &[u64],
     out: &mut W,
 ) -> Result<(), Stop>
-    ensures { Prints (W.contents out.old) (W.contents out.new) (ShowsCheck cluster.now name.now calls.now) (HasNoCall cluster.now name.now calls.now) result }
+    ensures { Prints (W.contents out.old) (W.contents out.new) (ShowsCheck cluster.now name.now calls.now)
+        (HasNoCall cluster.now name.now calls.now) result }
 {
     let register = match cluster.register(name) {
         Ok(register) => register,

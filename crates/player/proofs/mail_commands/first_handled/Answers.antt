@@ -1,5 +1,7 @@
-use Rattle.std.proofs.Common.{Some, ap, ◌∙◌}
+use Rattle.player.proofs.Delivering.{found}
 use Rattle.player.proofs.mail_commands.first_handled.Goals as goal
 
-pub returns-then-can_handle-clause-first : goal.returns-then-can_handle-clause-first
-returns-then-can_handle-clause-first c = record { here = c.can_handle.ensures ∙ ap Some c.if-can_handle.true; none_before = c.loop-place.invariant }
+pub returns-in-Ok-clause-first : goal.returns-in-Ok-clause-first
+returns-in-Ok-clause-first c =
+    found c.args.cluster.now c.args.name.now c.in-Ok.register.now c.in-Ok.ensures.object c.args.from
+    c.choice_at.result c.requires c.choice_at.ensures

@@ -14,12 +14,14 @@ loop-place-preserved c =
     let name = c.args.name.now in
     let place = c.in-Some.place in
     let first : IsFirst cluster name place =
-    subst (λ (found : Option ℕ). MatchOption found (IsIdle cluster name) (IsFirst cluster name)) c.in-Some.is c.in_ok-place.ensures.first in
+    subst (λ (found : Option ℕ). MatchOption found (IsIdle cluster name) (IsFirst cluster name)) c.in-Some.is
+    c.in_ok-place.ensures.first in
     let made = c.in_ok-handle.ensures.step in
     let counted : c.handle.new.cluster.counter ≡ suc cluster.counter = ap (λ (x : Cluster). x.counter) made in
     let few = c.loop-place.invariant.few in
     record {
-      delivers = handles name c.args.cluster.now cluster c.handle.new.cluster c.loop-place.handled place c.in_ok-handle.field-0 c.loop-place.invariant.delivers first
+      delivers = handles name c.args.cluster.now cluster c.handle.new.cluster c.loop-place.handled place c.in_ok-handle.field-0
+          c.loop-place.invariant.delivers first
           c.in_ok-handle.ensures.handled made;
       none_before = still_none_in cluster c.handle.new.cluster name place c.in_ok-handle.field-0 made first.none_before;
       few = omega (arith, counted, few);

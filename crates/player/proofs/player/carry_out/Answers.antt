@@ -16,8 +16,10 @@ pub returns-in-Check : goal.returns-in-Check
 returns-in-Check g c =
     let named = c.in-Check.name.now in
     let asked = subst (λ (calls : List ℕ). Prints (g.W.Write.contents c.args.out.now) (g.W.Write.contents c.check_of.new.out)
-    (ShowsCheck c.args.cluster.now named calls) (HasNoCall c.args.cluster.now named calls) c.check_of.result) c.deref.ensures.value c.check_of.ensures in
-    shown _ _ c.args.cluster.now c.args.cluster.now c.args.command _ _ c.in-Check.is (ShowsCheck c.args.cluster.now named c.in-Check.calls.items) (HasNoCall c.args.cluster.now named c.in-Check.calls.items)
+    (ShowsCheck c.args.cluster.now named calls) (HasNoCall c.args.cluster.now named calls) c.check_of.result) c.deref.ensures.value
+    c.check_of.ensures in
+    shown _ _ c.args.cluster.now c.args.cluster.now c.args.command _ _ c.in-Check.is
+    (ShowsCheck c.args.cluster.now named c.in-Check.calls.items) (HasNoCall c.args.cluster.now named c.in-Check.calls.items)
     (λ text is. (refl, is)) (λ bad. (bad, refl)) asked
 
 pub change-requires : goal.change-requires

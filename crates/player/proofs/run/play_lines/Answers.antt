@@ -8,7 +8,8 @@ loop-index-init g c = nothing_played _ _
 pub loop-index-preserved : goal.loop-index-preserved
 loop-index-preserved g c =
     let within : c.loop-index.index < length c.args.lines.now = omega arith in
-    one_more _ c.loop-index.index _ (line_at c.args.lines.now c.loop-index.index _ within) c.loop-index.cluster c.play_line.new.cluster _ _ _
+    one_more _ c.loop-index.index _
+    (line_at c.args.lines.now c.loop-index.index _ within) c.loop-index.cluster c.play_line.new.cluster _ _ _
     c.loop-index.invariant c.in_ok-play_line.ensures
 
 pub returns-in_err-play_line : goal.returns-in_err-play_line

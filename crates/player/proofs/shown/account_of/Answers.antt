@@ -1,8 +1,14 @@
-use Rattle.std.proofs.Common.{arith}
+use Rattle.std.proofs.Common.{◌≡◌, ◌∙◌, ap, arith, length}
 use Rattle.std.proofs.lemmas.Grind.{common_steps}
-use Rattle.std.proofs.lemmas.List.FromFn.{map-range_with_len_more}
+use Rattle.std.proofs.lemmas.List.FromFn.{length-map-range_with_len, map-range_with_len_more}
 use Rattle.cluster.specs.Accounts.{stored}
 use Rattle.player.proofs.shown.account_of.Goals as goal
+
+pub push-requires : goal.push-requires
+push-requires c =
+    let long : length c.loop-server.servers.items ≡ c.loop-server.server =
+    ap length c.loop-server.invariant ∙ length-map-range_with_len (stored c.args.cluster.now) 0 c.loop-server.server in
+    omega arith
 
 pub loop-server-preserved : goal.loop-server-preserved
 loop-server-preserved c =

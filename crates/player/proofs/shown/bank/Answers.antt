@@ -29,7 +29,8 @@ returns-in-Some g c =
     (inl (
       c.in-Ok.ensures.cause,
       ap (option_map (λ (bank : Bank). line_of (bank_text bank)))
-          (read_there c.args.cluster.now c.args.name.now c.in-Ok.register.now (λ object. bank_there object c.args.position c.args.member) c.in-Ok.ensures.object
+          (read_there c.args.cluster.now c.args.name.now c.in-Ok.register.now
+          (λ object. bank_there object c.args.position c.args.member) c.in-Ok.ensures.object
           ∙ sym c.in-Some.ensures),
     ))
     (c.print_line.ensures _ refl)

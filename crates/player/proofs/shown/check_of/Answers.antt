@@ -11,8 +11,10 @@ use Rattle.player.proofs.Checking.{none_missing, none_missing-unknown}
 use Rattle.player.proofs.shown.check_of.Goals as goal
 
 pub returns-in-Err : goal.returns-in-Err
-returns-in-Err g c = prints_as _ _ _ _ _ _
-    (none_missing-unknown c.args.cluster.now c.args.name.now c.args.calls.now _ c.in-Err.ensures.cause, inr (_, inl c.in-Err.ensures.cause, refl))
+returns-in-Err g c = prints_as _ _ _ _ _ _ (
+  none_missing-unknown c.args.cluster.now c.args.name.now c.args.calls.now _ c.in-Err.ensures.cause,
+  inr (_, inl c.in-Err.ensures.cause, refl),
+)
     c.refuse.ensures
 
 pub returns-in-Ok-entries : goal.returns-in-Ok-entries
@@ -33,4 +35,5 @@ returns-in-Err-entries g c =
     let state = c.in-Ok.register.now in
     let all : list_all (λ call. is_some (call_at state.object call)) c.args.calls.now ≡ true = search rules in
     let none = none_missing c.args.cluster.now c.args.name.now c.args.calls.now state c.in-Ok.ensures.object all in
-    prints_as _ _ _ _ _ _ (none, inr (_, inr (c.in-Ok.ensures.cause, c.in-Err-entries.ensures.refused), refl)) c.refuse-in-Err-entries.ensures
+    prints_as _ _ _ _ _ _
+    (none, inr (_, inr (c.in-Ok.ensures.cause, c.in-Err-entries.ensures.refused), refl)) c.refuse-in-Err-entries.ensures

@@ -15,7 +15,8 @@ returns-in-Ok-sequence g c =
       by_tags = c.in-Ok-sequence.ensures.listed;
       sequence = c.in-Ok-sequence.ensures.sequence;
     } in
-    prints_as _ _ _ _ _ _ (inl (c.in-Ok-sequence.calls.items, listed, refl)) (c.print_line.ensures _ (ap (λ calls. Some (sequence_text calls)) c.deref.ensures.value))
+    prints_as _ _ _ _ _ _ (inl (c.in-Ok-sequence.calls.items, listed, refl))
+    (c.print_line.ensures _ (ap (λ calls. Some (sequence_text calls)) c.deref.ensures.value))
 
 pub returns-in-Err-sequence : goal.returns-in-Err-sequence
 returns-in-Err-sequence g c =
