@@ -1,0 +1,3 @@
+pub mod FragmentsLemmas
+pub mod ReadingLemmas
+pub mod RequestLemmas

@@ -1,0 +1,12 @@
+-- The faults and their statuses.
+use Rattle.std.specs.Prelude.{ℕ}
+use Rattle.coding_commands.specs.declared.fault.Fault.{Fault}
+use Rattle.coding_commands.specs.declared.fault.Fault.TheVariants.{NotText, Usage, BadArgument, Refused, OutputLost}
+
+-- the exit status of a fault
+abbrev pub status_of : Fault → ℕ
+status_of NotText = 2
+status_of Usage = 2
+status_of BadArgument = 2
+status_of (Refused refusal) = 1
+status_of OutputLost = 1

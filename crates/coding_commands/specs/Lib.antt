@@ -1,0 +1,6 @@
+pub mod Answer
+pub mod Fault
+pub mod Fragments
+pub mod Output
+pub mod Program
+pub mod Request

@@ -1,0 +1,40 @@
+//! The words of a command line that codes.
+ghost use Rattle.std.specs.Prelude.{◌∷◌, codes, map};
+ghost use Rattle.coding_commands.specs.Request.{IsReading};
+
+use crate::fault::Fault;
+use crate::request::{CodingRequest, decode_request, fragments_request};
+use std::alloc::Global;
+
+/// What the words after the program's name ask for.
+pub(crate) fn parse_request(alloc: Global, words: &[&str]) -> Result<CodingRequest, Fault>
+    ensures { IsReading (map (λ w. w.now) words.now) result }
+{
+    let Some((command, rest)) = words.split_first() else {
+        return Err(Fault::Usage);
+    };
+    match *command {
+        "fragments" => parse_fragments(alloc, rest),
+        "decode" => parse_decode(alloc, rest),
+        _ => Err(Fault::Usage),
+    }
+}
+
+fn parse_fragments(alloc: Global, words: &[&str]) -> Result<CodingRequest, Fault>
+    ensures { IsReading (codes "fragments" ∷ map (λ w. w.now) words.now) result }
+{
+    match words {
+        [k, n, digits] => fragments_request(alloc, k, n, digits),
+        _ => Err(Fault::Usage),
+    }
+}
+
+fn parse_decode(alloc: Global, words: &[&str]) -> Result<CodingRequest, Fault>
+    ensures { IsReading (codes "decode" ∷ map (λ w. w.now) words.now) result }
+{
+    match words {
+        [_] => Err(Fault::Usage),
+        [k, len, pieces @ ..] => decode_request(alloc, k, len, pieces),
+        _ => Err(Fault::Usage),
+    }
+}

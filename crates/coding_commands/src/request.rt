@@ -1,0 +1,113 @@
+//! What a command line asks of the coding, read from its words.
+ghost use Rattle.std.specs.Prelude.{◌≡◌, ◌⊎◌, [], ◌∷◌, ℕ, List, MatchResult, codes, map};
+ghost use Rattle.encoder.specs.declared.fragment.Piece.{Piece};
+ghost use Rattle.tag.specs.declared.refusal.Refusal.TheVariants.{NoMemory};
+ghost use Rattle.words.specs.Hexadecimal.{IsHexadecimal};
+ghost use Rattle.words.specs.Number.{IsNumber};
+ghost use Rattle.coding_commands.specs.Request.{ArePieces, IsPiece, IsReading};
+ghost use Rattle.coding_commands.specs.declared.fault.Fault.TheVariants.{BadArgument, Refused};
+
+use crate::fault::Fault;
+use bytes::Bytes;
+use encoder::Piece;
+use std::alloc::Global;
+use words::hexadecimal::parse_bytes;
+use words::number::parse_number;
+
+/// What a command line asks of the coding. The numbers are as they were written, also above their limits.
+#[derive(Drop)]
+pub enum CodingRequest {
+    /// `fragments K N HEX`: the fragments of `value` at the points from 0 to `n - 1`, cut into `k` blocks.
+    Fragments {
+        k: u64,
+        n: u64,
+        value: Bytes,
+    },
+    /// `decode K LEN POINT:HEX..`: the value of `len` bytes, cut into `k` blocks, that has these pieces. Each piece
+    /// names `len`, or the greatest `u32` where `len` is above it.
+    Decode {
+        k: u64,
+        len: u64,
+        pieces: Vec<Piece>,
+    },
+}
+
+/// The request `fragments K N HEX`. It fails with `BadArgument` where a word is not what its place takes.
+pub fn fragments_request(
+    alloc: Global,
+    k: &str,
+    n: &str,
+    digits: &str,
+) -> Result<CodingRequest, Fault>
+    ensures { IsReading (codes "fragments" ∷ k.now ∷ n.now ∷ digits.now ∷ []) result }
+{
+    let k = number(k)?;
+    let n = number(n)?;
+    let value = bytes(alloc, digits)?;
+    Ok(CodingRequest::Fragments { k, n, value })
+}
+
+/// The request `decode K LEN POINT:HEX..`, where `words` are those from the first `POINT:HEX` on. It fails with
+/// `BadArgument` where a word is not what its place takes.
+pub fn decode_request(
+    alloc: Global,
+    k: &str,
+    len: &str,
+    words: &[&str],
+) -> Result<CodingRequest, Fault>
+    ensures { IsReading (codes "decode" ∷ k.now ∷ len.now ∷ map (λ w. w.now) words.now) result }
+{
+    let k = number(k)?;
+    let len = number(len)?;
+    let pieces = parse_pieces(alloc, len, words)?;
+    Ok(CodingRequest::Decode { k, len, pieces })
+}
+
+fn parse_pieces(alloc: Global, len: u64, words: &[&str]) -> Result<Vec<Piece>, Fault>
+    ensures { MatchResult result (λ ps. ArePieces len (map (λ w. w.now) words.now) ps.items)
+        (λ e. (e ≡ Refused NoMemory) ⊎ ((e ≡ BadArgument)
+        × ((ps : List Piece) → ¬ (ArePieces len (map (λ w. w.now) words.now) ps)))) }
+{
+    let mut pieces = Vec::new(alloc);
+    for word in words {
+        pieces.push(parse_piece(alloc, len, word)?)?;
+    }
+    Ok(pieces)
+}
+
+fn parse_piece(alloc: Global, len: u64, word: &str) -> Result<Piece, Fault>
+    ensures { MatchResult result (IsPiece len word.now)
+        (λ e. (e ≡ Refused NoMemory) ⊎ ((e ≡ BadArgument) × ((p : Piece) → ¬ (IsPiece len word.now p)))) }
+{
+    let Some((point, digits)) = word.split_once(':') else {
+        return Err(Fault::BadArgument);
+    };
+    let point = number(point)?;
+    if point > 255 {
+        return Err(Fault::BadArgument);
+    }
+    let bytes = bytes(alloc, digits)?;
+    Ok(Piece {
+        point: point as u8,
+        len: len.min(u32::MAX as u64) as u32,
+        bytes,
+    })
+}
+
+fn number(word: &str) -> Result<u64, Fault>
+    ensures { MatchResult result (IsNumber word.now)
+        (λ e. (e ≡ BadArgument) × ((n : ℕ) → ¬ (IsNumber word.now n))) }
+{
+    parse_number(word).ok_or(Fault::BadArgument)
+}
+
+fn bytes(alloc: Global, word: &str) -> Result<Bytes, Fault>
+    ensures { MatchResult result (IsHexadecimal word.now)
+        (λ e. (e ≡ Refused NoMemory) ⊎ ((e ≡ BadArgument)
+        × ((bytes : List ℕ) → ¬ (IsHexadecimal word.now bytes)))) }
+{
+    match parse_bytes(alloc, word)? {
+        Some(bytes) => Ok(bytes),
+        None => Err(Fault::BadArgument),
+    }
+}
