@@ -2,7 +2,8 @@
 //! from the command line.
 #![tactic(auto)]
 
-use commands::{Fault, run_words};
+use coding_commands::Fault;
+use commands::run_words;
 use std::io::BufWriter;
 use std::process::ExitCode;
 use std::rt::Stdout;

@@ -1,6 +1,7 @@
 pub mod CommandLineLemmas
+pub mod FindingLemmas
 pub mod FormLemmas
-pub mod FragmentsLemmas
-pub mod ProgramLemmas
 pub mod ReadingLemmas
 pub mod RequestLemmas
+pub mod ShapeLemmas
+pub mod UnknownLemmas

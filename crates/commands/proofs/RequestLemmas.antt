@@ -1,78 +1,54 @@
--- Lists of pieces, word by word.
-use Rattle.std.proofs.Common.{◌≡◌, ℕ, zero, suc, ◌+◌, ◌<◌, List, [], ◌∷◌, ◌++◌, length, take, get_or, map, refl, ap}
-use Rattle.std.proofs.Common.{sym, ◌∙◌, arith, subst, Bor, inl, inr, codes, ◌⊎◌}
-use Rattle.std.proofs.lemmas.List.{take_more, map-append}
-use Rattle.std.specs.Prelude.{Result, Ok, Err, IsErrAnd, MatchResult}
-use Rattle.tag.specs.declared.refusal.Refusal.TheVariants.{NoMemory}
-use Rattle.words.specs.Hexadecimal.{IsHexadecimal}
+-- Requests and faults of the command line.
+use Rattle.std.proofs.Common.{◌≡◌, ◌∙◌, ℕ, List, [], ◌∷◌, get_or, refl, ap, sym, arith, subst, inl, inr, codes}
+use Rattle.std.specs.Prelude.{Result, Ok, Err}
 use Rattle.words.specs.Number.{IsNumber}
 use Rattle.soak.specs.declared.plan.Plan.{Plan}
-use Rattle.encoder.specs.declared.fragment.Piece.{Piece}
+use Rattle.coding_commands.specs.Request.{Word}
+use Rattle.coding_commands.specs.Request.{HasForm as HasCodingForm, IsFaultOf as IsCodingFault, Spells as SpellsCoding}
+use Rattle.coding_commands.specs.declared.fault.Fault.{Fault}
+use Rattle.coding_commands.specs.declared.fault.Fault.TheVariants.{NotText, Usage, BadArgument, Refused, OutputLost}
+use Rattle.coding_commands.specs.declared.request.CodingRequest.{CodingRequest}
+use Rattle.coding_commands.specs.declared.request.CodingRequest.TheVariants as coding
 use Rattle.commands.specs.declared.request.Request.{Request}
 use Rattle.commands.specs.declared.request.Request.TheVariants as of
-use Rattle.commands.specs.declared.fault.Fault.{Fault}
-use Rattle.commands.specs.declared.fault.Fault.TheVariants.{BadArgument, Refused}
-use Rattle.commands.specs.Request.{ArePieces, IsPiece, Word, HasForm, Spells, IsFaultOf}
+use Rattle.commands.specs.Request.{IsFaultOf, Spells}
 
--- one more word and its piece
-pub ArePieces-snoc : (len : ℕ) (ws : List Word) (ps : List Piece) (w : Word) (p : Piece) → ArePieces len ws ps → IsPiece len w p
-    → ArePieces len (ws ++ w ∷ []) (ps ++ p ∷ [])
-ArePieces-snoc len [] [] w p are is = (is, tt)
-ArePieces-snoc len [] (q ∷ ps) w p are is = absurd are
-ArePieces-snoc len (v ∷ ws) [] w p are is = absurd are
-ArePieces-snoc len (v ∷ ws) (q ∷ ps) w p are is = (are.0, ArePieces-snoc len ws ps w p are.1 is)
+-- words that spell a request of the coding have its form
+pub HasForm-spelled : (words : List Word) (r : CodingRequest) → SpellsCoding words r → HasCodingForm words
+HasForm-spelled words (coding.Fragments k n value) s = inl (s.0, s.1, s.2, s.3)
+HasForm-spelled words (coding.Decode k len pieces) s = inr (s.0, s.1, s.2, s.3)
 
--- each of the words has its piece
-pub ArePieces-at : (len : ℕ) (ws : List (Bor Word)) (ps : List Piece) (i : ℕ) (d : Bor Word) → ArePieces len (map (λ w. w.now) ws) ps → i < length ws
-    → (p : Piece) × IsPiece len (get_or ws i d).now p
-ArePieces-at len [] ps i d are below = absurd (omega arith)
-ArePieces-at len (w ∷ ws) [] i d are below = absurd are
-ArePieces-at len (w ∷ ws) (p ∷ ps) zero d are below = (p, are.0)
-ArePieces-at len (w ∷ ws) (p ∷ ps) (suc i) d are below = ArePieces-at len ws ps i d are.1 (omega arith)
+-- words of that form are no script to run, and no soak
+not_run : (words : List Word) (file : Word) → HasCodingForm words → words ≡ codes "run" ∷ file ∷ [] → ⊥
+not_run words file (inl (a, b, c, e)) is =
+    let clash : ◌≡◌ {A = ℕ} 114 102 = ap (λ (ws : List Word). get_or (get_or ws 0 []) 0 0) (sym is ∙ e) in absurd (omega arith)
+not_run words file (inr (a, b, rest, e)) is =
+    let clash : ◌≡◌ {A = ℕ} 114 100 = ap (λ (ws : List Word). get_or (get_or ws 0 []) 0 0) (sym is ∙ e) in absurd (omega arith)
 
--- one more word that is a piece
-pub ArePieces-more : (len : ℕ) (ws : List (Bor Word)) (i : ℕ) (d : Bor Word) (ps : List Piece) (p : Piece) → i < length ws
-    → ArePieces len (map (λ w. w.now) (take i ws)) ps → IsPiece len (get_or ws i d).now p
-    → ArePieces len (map (λ w. w.now) (take (i + 1) ws)) (ps ++ p ∷ [])
-ArePieces-more len ws i d ps p below are is =
-    let P : List Word → Type 0 = λ xs. ArePieces len xs (ps ++ p ∷ []) in
-    subst P (sym (ap (map (λ w. w.now)) (take_more ws i d below) ∙ map-append (λ w. w.now) (take i ws) (get_or ws i d ∷ [])))
-    (ArePieces-snoc len (map (λ w. w.now) (take i ws)) ps (get_or ws i d).now p are is)
+not_soak : (words : List Word) (a b c d : Word) → HasCodingForm words → words ≡ codes "soak" ∷ a ∷ b ∷ c ∷ d ∷ [] → ⊥
+not_soak words a b c d (inl (p, q, r, e)) is =
+    let clash : ◌≡◌ {A = ℕ} 115 102 = ap (λ (ws : List Word). get_or (get_or ws 0 []) 0 0) (sym is ∙ e) in absurd (omega arith)
+not_soak words a b c d (inr (p, q, rest, e)) is =
+    let clash : ◌≡◌ {A = ℕ} 115 100 = ap (λ (ws : List Word). get_or (get_or ws 0 []) 0 0) (sym is ∙ e) in absurd (omega arith)
 
--- ---- faults
-
--- what holds of the error that is passed on
-pub err_of : {T : Type 0} (r : Result T Fault) (e : Fault) (P : T → Type 0) (Q : Fault → Type 0) → IsErrAnd r (λ y. y ≡ e) → Q e → MatchResult r P Q
-err_of (Ok x) e P Q is holds = absurd is
-err_of (Err y) e P Q is holds = subst Q (sym is) holds
-
--- a fault of memory, or of words that have the form and spell nothing
-pub fault_of : (words : List Word) (e : Fault) (A : Type 0) → (e ≡ Refused NoMemory) ⊎ ((e ≡ BadArgument) × A) → HasForm words
-    → (A → (r : Request) → ¬ (Spells words r)) → IsFaultOf words e
-fault_of words e A (inl memory) form none = subst (IsFaultOf words) (sym memory) refl
-fault_of words e A (inr bad) form none = subst (IsFaultOf words) (sym bad.0) (form, none bad.1)
-
--- words of `fragments` whose last word writes no bytes
-pub no_bytes : (a b c : Word) → ((bytes : List ℕ) → ¬ (IsHexadecimal c bytes)) → (r : Request) → ¬ (Spells (codes "fragments" ∷ a ∷ b ∷ c ∷ []) r)
-no_bytes a b c none (of.Fragments k n value) s =
-    let same : s.2 ≡ c = sym (ap (λ (ws : List Word). get_or ws 3 []) s.3) in
-    let P : Word → Type 0 = λ w. IsHexadecimal w value in
-    none value (subst P same s.6)
-no_bytes a b c none (of.Decode k len pieces) s =
-    let clash : ◌≡◌ {A = ℕ} 102 100 = ap (λ (ws : List Word). get_or (get_or ws 0 []) 0 0) s.3 in absurd (omega arith)
-no_bytes a b c none (of.Run file) s =
-    let clash : ◌≡◌ {A = ℕ} 102 114 = ap (λ (ws : List Word). get_or (get_or ws 0 []) 0 0) s in absurd (omega arith)
-no_bytes a b c none (of.Soak plan) s =
-    let clash : ◌≡◌ {A = ℕ} 102 115 = ap (λ (ws : List Word). get_or (get_or ws 0 []) 0 0) s.4 in absurd (omega arith)
+-- a fault of words of that form
+pub IsFaultOf-coding : (words : List Word) (e : Fault) → HasCodingForm words → IsCodingFault words e → IsFaultOf words e
+IsFaultOf-coding words Usage form fault = absurd (fault form)
+IsFaultOf-coding words BadArgument form fault = (inl form, none)
+  where
+    none : (r : Request) → ¬ (Spells words r)
+    none (of.Coding request) s = fault.1 request s
+    none (of.Run file) s = not_run words _ form s
+    none (of.Soak plan) s = not_soak words s.0 s.1 s.2 s.3 form s.4
+IsFaultOf-coding words (Refused refusal) form fault = fault
+IsFaultOf-coding words NotText form fault = absurd fault
+IsFaultOf-coding words OutputLost form fault = absurd fault
 
 -- words of `soak` that write no numbers
 pub no_numbers : (a b c d : Word)
     → ((plan : Plan) → IsNumber a plan.clients → IsNumber b plan.calls → IsNumber c plan.moves → IsNumber d plan.choices → ⊥)
     → (r : Request) → ¬ (Spells (codes "soak" ∷ a ∷ b ∷ c ∷ d ∷ []) r)
-no_numbers a b c d none (of.Fragments k n value) s =
-    let clash : ◌≡◌ {A = ℕ} 115 102 = ap (λ (ws : List Word). get_or (get_or ws 0 []) 0 0) s.3 in absurd (omega arith)
-no_numbers a b c d none (of.Decode k len pieces) s =
-    let clash : ◌≡◌ {A = ℕ} 115 100 = ap (λ (ws : List Word). get_or (get_or ws 0 []) 0 0) s.3 in absurd (omega arith)
+no_numbers a b c d none (of.Coding request) s = not_soak _ a b c d (HasForm-spelled _ request s) refl
 no_numbers a b c d none (of.Run file) s =
     let clash : ◌≡◌ {A = ℕ} 115 114 = ap (λ (ws : List Word). get_or (get_or ws 0 []) 0 0) s in absurd (omega arith)
 no_numbers a b c d none (of.Soak plan) s =
@@ -86,4 +62,4 @@ pub bad_number : (a b c d : Word) (e : Fault) → e ≡ BadArgument
     → ((plan : Plan) → IsNumber a plan.clients → IsNumber b plan.calls → IsNumber c plan.moves → IsNumber d plan.choices → ⊥)
     → IsFaultOf (codes "soak" ∷ a ∷ b ∷ c ∷ d ∷ []) e
 bad_number a b c d e bad none =
-    subst (IsFaultOf (codes "soak" ∷ a ∷ b ∷ c ∷ d ∷ [])) (sym bad) (inr (inr (inr (a, b, c, d, refl))), no_numbers a b c d none)
+    subst (IsFaultOf (codes "soak" ∷ a ∷ b ∷ c ∷ d ∷ [])) (sym bad) (inr (inr (a, b, c, d, refl)), no_numbers a b c d none)

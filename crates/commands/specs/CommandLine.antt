@@ -36,7 +36,8 @@ run_form = with_rule (new_app (codes "run")) (positional (codes "FILE"))
 -- `soak CLIENTS CALLS MOVES CHOICES`
 abbrev pub soak_form : App
 soak_form = with_rule (with_rule (with_rule (with_rule (new_app (codes "soak"))
-    (positional (codes "CLIENTS"))) (positional (codes "CALLS"))) (positional (codes "MOVES"))) (positional (codes "CHOICES"))
+    (positional (codes "CLIENTS"))) (positional (codes "CALLS"))) (positional (codes "MOVES")))
+    (positional (codes "CHOICES"))
 
 -- with no flag and no command that asks for help
 abbrev pub without_help : App → App

@@ -1,7 +1,3 @@
-pub mod Answer
 pub mod CommandLine
-pub mod Fault
-pub mod Fragments
-pub mod Output
 pub mod Program
 pub mod Request

@@ -1,57 +1,27 @@
 -- What the words of a command line ask for.
-use Rattle.std.specs.Prelude.{◌≡◌, ◌<◌, ◌⊎◌, ◌==◌, ◌^◌, ◌-◌, min, ℕ, Bool, List, [], ◌∷◌, length, ⊤, codes, Result}
-use Rattle.std.specs.Prelude.{MatchResult, string_bytes}
-use Rattle.std.specs.List.{position_or_len, before_first, after_first}
-use Rattle.encoder.specs.declared.fragment.Piece.{Piece}
+use Rattle.std.specs.Prelude.{◌≡◌, ◌⊎◌, List, [], ◌∷◌, codes, Result, MatchResult, string_bytes}
 use Rattle.tag.specs.declared.refusal.Refusal.TheVariants.{NoMemory}
 use Rattle.words.specs.Number.{IsNumber}
-use Rattle.words.specs.Hexadecimal.{IsHexadecimal}
 use Rattle.soak.specs.Plan.{IsWithin}
+use Rattle.coding_commands.specs.Request.{Word}
+use Rattle.coding_commands.specs.Request.{HasForm as HasCodingForm, Spells as SpellsCoding}
+use Rattle.coding_commands.specs.declared.fault.Fault.{Fault}
+use Rattle.coding_commands.specs.declared.fault.Fault.TheVariants.{NotText, Usage, BadArgument, Refused, OutputLost}
 use Rattle.commands.specs.declared.request.Request.{Request}
 use Rattle.commands.specs.declared.request.Request.TheVariants as of
-use Rattle.commands.specs.declared.fault.Fault.{Fault}
-use Rattle.commands.specs.declared.fault.Fault.TheVariants.{NotText, Usage, BadArgument, Refused, OutputLost}
 
--- a word, by its bytes
-abbrev pub Word : Type 0
-Word = List ℕ
-
--- the byte is a colon
-abbrev pub is_colon : ℕ → Bool
-is_colon byte = byte == 58
-
--- the word is `POINT:HEX`, parted by its first colon, and the piece has this point, these bytes and the value's length, or
--- the greatest number of 32 bits where the length is above it
-pub record IsPiece (value_len : ℕ) (word : Word) (piece : Piece) : Type 0 where
-  pub parted : position_or_len is_colon word < length word
-  pub point : IsNumber (before_first is_colon word) piece.point
-  pub below : piece.point < 2 ^ 8
-  pub len : piece.len ≡ min value_len (2 ^ 32 - 1)
-  pub bytes : IsHexadecimal (after_first is_colon word) piece.bytes
-
--- each word is the piece at its place
-abbrev pub ArePieces : ℕ → List Word → List Piece → Type 0
-ArePieces len [] [] = ⊤
-ArePieces len [] (p ∷ ps) = ⊥
-ArePieces len (w ∷ ws) [] = ⊥
-ArePieces len (w ∷ ws) (p ∷ ps) = IsPiece len w p × ArePieces len ws ps
-
--- the words after the program's name spell the request: `fragments K N HEX`, `decode K LEN POINT:HEX..`, or `run FILE`, where
--- any word is a FILE, or `soak CLIENTS CALLS MOVES CHOICES`
+-- the words after the program's name spell the request: one of the coding, or `run FILE`, where any word is a FILE, or
+-- `soak CLIENTS CALLS MOVES CHOICES`
 abbrev pub Spells : List Word → Request → Type 0
-Spells words (of.Fragments k n value) = (a : Word) × (b : Word) × (c : Word)
-    × (words ≡ codes "fragments" ∷ a ∷ b ∷ c ∷ []) × IsNumber a k × IsNumber b n × IsHexadecimal c value
-Spells words (of.Decode k len pieces) = (a : Word) × (b : Word) × (rest : List Word)
-    × (words ≡ codes "decode" ∷ a ∷ b ∷ rest) × IsNumber a k × IsNumber b len × ArePieces len rest pieces.items
+Spells words (of.Coding request) = SpellsCoding words request
 Spells words (of.Run file) = words ≡ codes "run" ∷ string_bytes file ∷ []
 Spells words (of.Soak plan) = (a : Word) × (b : Word) × (c : Word) × (d : Word)
-    × (words ≡ codes "soak" ∷ a ∷ b ∷ c ∷ d ∷ []) × IsNumber a plan.clients × IsNumber b plan.calls × IsNumber c plan.moves
-    × IsNumber d plan.choices × IsWithin plan.clients plan.calls plan.moves
+    × (words ≡ codes "soak" ∷ a ∷ b ∷ c ∷ d ∷ []) × IsNumber a plan.clients × IsNumber b plan.calls
+    × IsNumber c plan.moves × IsNumber d plan.choices × IsWithin plan.clients plan.calls plan.moves
 
 -- the words have the form of a command line, whatever stands in the places of the numbers and bytes
 abbrev pub HasForm : List Word → Type 0
-HasForm words = ((a : Word) × (b : Word) × (c : Word) × (words ≡ codes "fragments" ∷ a ∷ b ∷ c ∷ []))
-    ⊎ ((a : Word) × (b : Word) × (rest : List Word) × (words ≡ codes "decode" ∷ a ∷ b ∷ rest))
+HasForm words = HasCodingForm words
     ⊎ ((file : Word) × (words ≡ codes "run" ∷ file ∷ []))
     ⊎ ((a : Word) × (b : Word) × (c : Word) × (d : Word) × (words ≡ codes "soak" ∷ a ∷ b ∷ c ∷ d ∷ []))
 

@@ -6,13 +6,14 @@ ghost use Rattle.clap.specs.Words.{subcommand_of, subcommand_rows_of};
 ghost use Rattle.tag.specs.declared.refusal.Refusal.TheVariants.{NoMemory};
 ghost use Rattle.commands.specs.CommandLine.{IsForm, cas_form, decode_form, fragments_form, marked_words, positional};
 ghost use Rattle.commands.specs.CommandLine.{run_form, several, soak_form};
-ghost use Rattle.commands.specs.Request.{IsReading, Word};
-ghost use Rattle.commands.specs.declared.fault.Fault.TheVariants.{Refused, Usage};
+ghost use Rattle.commands.specs.Request.{IsReading};
+ghost use Rattle.coding_commands.specs.Request.{Word};
+ghost use Rattle.coding_commands.specs.declared.fault.Fault.TheVariants.{Refused, Usage};
 
-use crate::fault::Fault;
 use crate::request::{Request, decode_request, fragments_request, run_request, soak_request};
 use clap::error::ErrorKind;
 use clap::{Arg, ArgAction, ArgMatches, Command, Error};
+use coding_commands::Fault;
 use std::alloc::{AllocError, Global};
 use tag::Refusal;
 

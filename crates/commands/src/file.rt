@@ -10,8 +10,8 @@ use std::io::{Read, Write};
 use std::rt::Files;
 use std::{fs, io};
 
-/// Plays the script that the file of this name holds, and answers the exit status. A name that is no whole path is one in
-/// the folder that the program runs in.
+/// Plays the script that the file of this name holds, and answers the exit status. A name that is no whole path is one
+/// in the folder that the program runs in.
 pub(crate) fn run_file<R: Files + AllocGlobal, O: Write, E: Write>(
     rt: &R,
     name: &str,
@@ -23,8 +23,8 @@ pub(crate) fn run_file<R: Files + AllocGlobal, O: Write, E: Write>(
     run_opened(rt.alloc(), name, fs::open(rt, name), out, err)
 }
 
-/// Plays the script that a file of this name gives once it is opened, and answers the exit status. Where it could not be
-/// opened, a text on `err` says so.
+/// Plays the script that a file of this name gives once it is opened, and answers the exit status. Where it could not
+/// be opened, a text on `err` says so.
 pub fn run_opened<F: Read + Drop, O: Write, E: Write>(
     alloc: Global,
     name: &str,

@@ -1,35 +1,22 @@
 //! The program over any writer.
-ghost use Rattle.std.specs.Prelude.{◌≡◌, ◌⊎◌, ◌++◌, [], ◌∷◌, List, IfErr, IfOk, MatchResult, OnOk, map, string_bytes};
-ghost use Rattle.std.specs.Io.KnownBytes.{Appends, Keeps};
-ghost use Rattle.tag.specs.declared.refusal.Refusal.{Refusal};
-ghost use Rattle.tag.specs.declared.refusal.Refusal.TheVariants.{NoMemory};
-ghost use Rattle.commands.specs.Answer.{IsAnswer, IsRefusedFor};
-ghost use Rattle.commands.specs.Output.{output_text};
-ghost use Rattle.commands.specs.Program.{EndsBy, IsPrinted};
-ghost use Rattle.commands.specs.Request.{Spells, Word};
-ghost use Rattle.commands.specs.declared.request.Request.TheVariants as request;
-ghost use Rattle.commands.specs.declared.fault.Fault.TheVariants.{OutputLost};
+ghost use Rattle.std.specs.Prelude.{List, map, string_bytes};
+ghost use Rattle.coding_commands.specs.Request.{Word};
+ghost use Rattle.commands.specs.Program.{EndsBy};
+ghost use Rattle.commands.specs.Request.{Spells};
 
 use crate::arguments::parse_request;
-use crate::fault::Fault;
 use crate::file::run_file;
-use crate::fragments::fragments_of;
-use crate::output::Output;
 use crate::request::Request;
 use crate::soaking::run_soak;
-use crate::value::value_of;
-use bytes::Bytes;
-use encoder::Piece;
-use std::alloc::Global;
+use coding_commands::answer_request;
 use std::io::Write;
 use std::rt::Files;
 use std::sync::Wait;
 use std::thread::Threads;
-use tag::Refusal;
 
 /// Carries out the words after the program's name, and answers the exit status: 0 where the line of the answer is
-/// written, or the script of the file played to its end, 1 for a refusal or lost output, 2 for words that spell no request
-/// or a script that cannot be read or is bad. A text on `err` says why.
+/// written, or the script of the file played to its end, 1 for a refusal or lost output, 2 for words that spell no
+/// request or a script that cannot be read or is bad. A text on `err` says why.
 pub fn run_words<R: Files + AllocGlobal + Threads + Wait + Sync, O: Write, E: Write>(
     rt: &R,
     words: &[String],
@@ -55,56 +42,8 @@ fn carry_out<R: Files + AllocGlobal + Threads + Wait + Sync, O: Write, E: Write>
         → EndsBy words (O.contents out.old) (O.contents out.new) result }
 {
     match request {
-        Request::Fragments { k, n, value } => {
-            print_answer(answer_fragments(rt.alloc(), k, n, value), out, err)
-        }
-        Request::Decode { k, len, pieces } => {
-            print_answer(answer_decode(rt.alloc(), k, len, pieces), out, err)
-        }
+        Request::Coding { request } => answer_request(rt.alloc(), request, out, err),
         Request::Run { file } => run_file(rt, file.as_str(), out, err),
         Request::Soak { plan } => run_soak(rt, plan, out, err),
-    }
-}
-
-fn answer_fragments(alloc: Global, k: u64, n: u64, value: Bytes) -> Result<Output, Refusal>
-    ensures answered { IfOk result (IsAnswer (request.Fragments k n value)) }
-    ensures refused { IfErr result (λ r. (r ≡ NoMemory) ⊎ IsRefusedFor (request.Fragments k n value) r) }
-    ensures by_cause { (r : Refusal) → IsRefusedFor (request.Fragments k n value) r → result ≡ Err r }
-{
-    let coded = fragments_of(alloc, k, n, value)?;
-    Ok(Output::Fragments(coded))
-}
-
-fn answer_decode(alloc: Global, k: u64, len: u64, pieces: Vec<Piece>) -> Result<Output, Refusal>
-    ensures answered { IfOk result (IsAnswer (request.Decode k len pieces)) }
-    ensures refused { IfErr result (λ r. (r ≡ NoMemory) ⊎ IsRefusedFor (request.Decode k len pieces) r) }
-    ensures by_cause { (r : Refusal) → IsRefusedFor (request.Decode k len pieces) r → result ≡ Err r }
-{
-    let decoded = value_of(alloc, k, len, pieces)?;
-    Ok(Output::Value(decoded))
-}
-
-/// Prints the line of an answer, or says why there is none, and answers the exit status.
-fn print_answer<O: Write, E: Write>(answer: Result<Output, Refusal>, out: &mut O, err: &mut E) -> u8
-    ensures { MatchResult answer (λ output. IsPrinted output (O.contents out.old) (O.contents out.new) result)
-        (λ _. (result ≡ 1) × Keeps (O.contents out.old) (O.contents out.new)) }
-{
-    match answer {
-        Ok(output) => match print_line(out, &output) {
-            Ok(()) => 0,
-            Err(fault) => fault.report(err),
-        },
-        Err(refusal) => Fault::Refused(refusal).report(err),
-    }
-}
-
-fn print_line<W: Write>(out: &mut W, output: &Output) -> Result<(), Fault>
-    ensures printed { OnOk result
-        (Appends (W.contents out.old) (W.contents out.new) (output_text output.now ++ 10 ∷ [])) }
-    ensures lost { IfErr result (λ e. e ≡ OutputLost) }
-{
-    match out.writeln(output) {
-        Ok(()) => out.flush().map_err(|_| Fault::OutputLost),
-        Err(_) => Err(Fault::OutputLost),
     }
 }

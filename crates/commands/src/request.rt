@@ -1,44 +1,25 @@
 //! What a command line asks for, read from its words.
-ghost use Rattle.std.specs.Prelude.{◌≡◌, ◌⊎◌, [], ◌∷◌, ℕ, List, MatchResult, codes, map};
-ghost use Rattle.encoder.specs.declared.fragment.Piece.{Piece};
-ghost use Rattle.tag.specs.declared.refusal.Refusal.TheVariants.{NoMemory};
-ghost use Rattle.words.specs.Hexadecimal.{IsHexadecimal};
+ghost use Rattle.std.specs.Prelude.{◌≡◌, ◌∷◌, [], ℕ, List, MatchResult, codes, map};
 ghost use Rattle.words.specs.Number.{IsNumber};
-ghost use Rattle.commands.specs.Request.{ArePieces, IsPiece, IsReading};
-ghost use Rattle.commands.specs.declared.fault.Fault.TheVariants.{BadArgument, Refused};
+ghost use Rattle.coding_commands.specs.Request.{Word};
+ghost use Rattle.coding_commands.specs.Request.{HasForm as HasCodingForm, IsReading as IsCodingReading};
+ghost use Rattle.coding_commands.specs.declared.fault.Fault.TheVariants.{BadArgument};
+ghost use Rattle.commands.specs.Request.{IsReading};
 
-use crate::fault::Fault;
-use bytes::Bytes;
-use encoder::Piece;
+use coding_commands::{CodingRequest, Fault};
 use soak::Plan;
 use std::alloc::Global;
-use words::hexadecimal::parse_bytes;
 use words::number::parse_number;
 
-/// What a command line asks for. The numbers are as they were written, also above their limits.
-#[derive(Debug, Drop)]
+/// What a command line asks for.
+#[derive(Drop)]
 pub(crate) enum Request {
-    /// `fragments K N HEX`: the fragments of `value` at the points from 0 to `n - 1`, cut into `k` blocks.
-    Fragments {
-        k: u64,
-        n: u64,
-        value: Bytes,
-    },
-    /// `decode K LEN POINT:HEX..`: the value of `len` bytes, cut into `k` blocks, that has these pieces. Each piece
-    /// names `len`, or the greatest `u32` where `len` is above it.
-    Decode {
-        k: u64,
-        len: u64,
-        pieces: Vec<Piece>,
-    },
+    /// `fragments K N HEX` or `decode K LEN POINT:HEX..`.
+    Coding { request: CodingRequest },
     /// `run FILE`: the script that the file of this name holds.
-    Run {
-        file: String,
-    },
+    Run { file: String },
     /// `soak CLIENTS CALLS MOVES CHOICES`: what a store comes to once so many clients have worked through it.
-    Soak {
-        plan: Plan,
-    },
+    Soak { plan: Plan },
 }
 
 /// The request `fragments K N HEX`.
@@ -50,10 +31,7 @@ pub(crate) fn fragments_request(
 ) -> Result<Request, Fault>
     ensures { IsReading (codes "fragments" ∷ k.now ∷ n.now ∷ digits.now ∷ []) result }
 {
-    let k = number(k)?;
-    let n = number(n)?;
-    let value = bytes(alloc, digits)?;
-    Ok(Request::Fragments { k, n, value })
+    coding(coding_commands::fragments_request(alloc, k, n, digits))
 }
 
 /// The request `decode K LEN POINT:HEX..`, where `words` are those from the first `POINT:HEX` on.
@@ -65,10 +43,7 @@ pub(crate) fn decode_request(
 ) -> Result<Request, Fault>
     ensures { IsReading (codes "decode" ∷ k.now ∷ len.now ∷ map (λ w. w.now) words.now) result }
 {
-    let k = number(k)?;
-    let len = number(len)?;
-    let pieces = parse_pieces(alloc, len, words)?;
-    Ok(Request::Decode { k, len, pieces })
+    coding(coding_commands::decode_request(alloc, k, len, words))
 }
 
 /// The request `run FILE`.
@@ -98,35 +73,14 @@ pub(crate) fn soak_request(
     Ok(Request::Soak { plan })
 }
 
-fn parse_pieces(alloc: Global, len: u64, words: &[&str]) -> Result<Vec<Piece>, Fault>
-    ensures { MatchResult result (λ ps. ArePieces len (map (λ w. w.now) words.now) ps.items)
-        (λ e. (e ≡ Refused NoMemory) ⊎ ((e ≡ BadArgument)
-        × ((ps : List Piece) → ¬ (ArePieces len (map (λ w. w.now) words.now) ps)))) }
+/// A request of the coding as one of the program.
+fn coding(read: Result<CodingRequest, Fault>) -> Result<Request, Fault>
+    ensures { (words : List Word) → HasCodingForm words → IsCodingReading words read → IsReading words result }
 {
-    let mut pieces = Vec::new(alloc);
-    for word in words {
-        pieces.push(parse_piece(alloc, len, word)?)?;
+    match read {
+        Ok(request) => Ok(Request::Coding { request }),
+        Err(fault) => Err(fault),
     }
-    Ok(pieces)
-}
-
-fn parse_piece(alloc: Global, len: u64, word: &str) -> Result<Piece, Fault>
-    ensures { MatchResult result (IsPiece len word.now)
-        (λ e. (e ≡ Refused NoMemory) ⊎ ((e ≡ BadArgument) × ((p : Piece) → ¬ (IsPiece len word.now p)))) }
-{
-    let Some((point, digits)) = word.split_once(':') else {
-        return Err(Fault::BadArgument);
-    };
-    let point = number(point)?;
-    if point > 255 {
-        return Err(Fault::BadArgument);
-    }
-    let bytes = bytes(alloc, digits)?;
-    Ok(Piece {
-        point: point as u8,
-        len: len.min(u32::MAX as u64) as u32,
-        bytes,
-    })
 }
 
 fn number(word: &str) -> Result<u64, Fault>
@@ -134,15 +88,4 @@ fn number(word: &str) -> Result<u64, Fault>
         (λ e. (e ≡ BadArgument) × ((n : ℕ) → ¬ (IsNumber word.now n))) }
 {
     parse_number(word).ok_or(Fault::BadArgument)
-}
-
-fn bytes(alloc: Global, word: &str) -> Result<Bytes, Fault>
-    ensures { MatchResult result (IsHexadecimal word.now)
-        (λ e. (e ≡ Refused NoMemory) ⊎ ((e ≡ BadArgument)
-        × ((bytes : List ℕ) → ¬ (IsHexadecimal word.now bytes)))) }
-{
-    match parse_bytes(alloc, word)? {
-        Some(bytes) => Ok(bytes),
-        None => Err(Fault::BadArgument),
-    }
 }

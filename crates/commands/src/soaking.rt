@@ -3,16 +3,16 @@ ghost use Rattle.std.specs.Prelude.{◌≡◌, ◌++◌, ◌∷◌, [], IfErr, O
 ghost use Rattle.std.specs.Io.KnownBytes.{Appends};
 ghost use Rattle.soak.specs.Summary.{summary_text};
 ghost use Rattle.commands.specs.Program.{Soaks};
-ghost use Rattle.commands.specs.declared.fault.Fault.TheVariants.{OutputLost};
+ghost use Rattle.coding_commands.specs.declared.fault.Fault.TheVariants.{OutputLost};
 
-use crate::fault::Fault;
+use coding_commands::Fault;
 use soak::{Plan, Summary, run_plan};
 use std::io::Write;
 use std::sync::Wait;
 use std::thread::Threads;
 
-/// Lets clients work through a store as the plan says, prints what it comes to, and answers the exit status. Where a call
-/// is refused or a thread cannot be started, a text on `err` says so.
+/// Lets clients work through a store as the plan says, prints what it comes to, and answers the exit status. Where a
+/// call is refused or a thread cannot be started, a text on `err` says so.
 pub(crate) fn run_soak<R: AllocGlobal + Threads + Wait + Sync, O: Write, E: Write>(
     rt: &R,
     plan: Plan,

@@ -3,9 +3,10 @@ use Rattle.std.proofs.lemmas.List.{length-map}
 use Rattle.clap.specs.Lexer.{usize_max}
 use Rattle.clap.specs.Words.{found_of, subcommand_rows_of}
 use Rattle.commands.specs.CommandLine.{marked_words}
-use Rattle.commands.proofs.ReadingLemmas.{Finds, Finds-command, Finds-read, IsFaultOf-unread, IsReading-decode}
+use Rattle.commands.proofs.FindingLemmas.{Finds}
+use Rattle.commands.proofs.ReadingLemmas.{Finds-command, Finds-read, IsFaultOf-unread, IsReading-decode}
 use Rattle.commands.proofs.ReadingLemmas.{IsReading-fragments, IsReading-run, IsReading-soak, rows-None}
-use Rattle.commands.proofs.RequestLemmas.{err_of}
+use Rattle.coding_commands.proofs.RequestLemmas.{err_of}
 use Rattle.commands.proofs.arguments.parse_request.Goals as goal
 
 pub returns-in_err-matches : goal.returns-in_err-matches

@@ -1,7 +1,0 @@
-use Rattle.std.specs.Fmt.{HasWritten, IsPlainFormatter}
-use Rattle.commands.specs.Fragments.{fragments_text}
-use Rattle.commands.proofs.fragments.FragmentsLineDisplay.fmt.Given as goal
-
-abbrev pub invariant-loop-i : goal.invariant-loop-i
-invariant-loop-i g l = IsPlainFormatter l.initial.f
-    → HasWritten g.W.Write.write_str_gives l.initial.f (fragments_text (record l.self.0.now { n = l.i })) l.f

@@ -1,6 +1,0 @@
-use Rattle.std.proofs.Common.{map, take}
-use Rattle.commands.specs.Request.{ArePieces}
-use Rattle.commands.proofs.request.parse_pieces.Given as goal
-
-abbrev pub invariant-loop-word : goal.invariant-loop-word
-invariant-loop-word l = ArePieces l.len (map (λ w. w.now) (take l.word-index l.words)) l.pieces.items
