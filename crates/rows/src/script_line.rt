@@ -1,8 +1,8 @@
 //! A line of a script, as a table writes it.
 use anyhow::{Context, Result, bail};
 
-/// Adds a line, with its line end, to a script. `\r`, `\t` and `\xff` write these bytes, and `\c` at the end of the line
-/// leaves its line end out.
+/// Adds a line, with its line end, to a script. `\r`, `\t` and `\xff` write these bytes, and `\c` at the end of the
+/// line leaves its line end out.
 pub(crate) fn add_line(script: &mut Vec<u8>, text: &str) -> Result<()> {
     let (text, end) = match text.strip_suffix("\\c") {
         Some(text) => (text, ""),

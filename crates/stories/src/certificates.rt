@@ -1,9 +1,9 @@
 ghost use Rattle.std.specs.Prelude.{◌≡◌};
 
 use bytes::Bytes;
-use history::{TaggedCall, atomic, check, order_by_tags, sequence};
+use history::{atomic, check, order_by_tags, sequence};
 use layout::Layout;
-use record::{Entry, Operation};
+use record::{Entry, Operation, TaggedCall};
 use register::Register;
 use std::alloc::{AllocError, Global};
 use std::process::Abort;

@@ -1,5 +1,5 @@
-//! Objects and clusters played by hand, histories made by hand, and scripts whose readers and writers fail: tests alone. They
-//! stand in a crate of their own, so that the crates which they play are proved once and not twice.
+//! Objects and clusters played by hand, histories made by hand, and scripts whose readers and writers fail: tests
+//! alone. They stand in a crate of their own, so that the crates which they play are proved once and not twice.
 #![tactic(auto)]
 
 #[cfg(test)]
@@ -12,3 +12,5 @@ mod one_object;
 mod scripts;
 #[cfg(test)]
 mod whole_calls;
+#[cfg(test)]
+mod wide_layouts;
