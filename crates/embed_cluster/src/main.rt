@@ -1,0 +1,84 @@
+//! An example: a program that embeds a `Cluster`. It writes a value and reads it back, and it delivers every message
+//! itself.
+#![tactic(auto)]
+
+ghost use Rattle.cluster.specs.Atomic.{AreAtomic, AreFragments};
+
+use bytes::Bytes;
+use cluster::Cluster;
+use decoder::decode;
+use driver::handle;
+use encoder::encode;
+use layout::Layout;
+use record::Want;
+use register::Receipt;
+use std::alloc::Global;
+use std::process::ExitCode;
+use tag::Refusal;
+use words::hexadecimal::Hexadecimal;
+
+/// The name of the object.
+const NAME: &str = "greeting";
+
+/// More turns than a write or a read takes here.
+const MOST_TURNS: u64 = 1000;
+
+fn main(rt: HostRuntime) -> ExitCode {
+    let printed = match write_and_read(rt.alloc()) {
+        Ok(value) => println!(rt; "{}", Hexadecimal(value.as_slice())),
+        Err(refusal) => println!(rt; "refused {refusal}"),
+    };
+    match printed {
+        Ok(()) => ExitCode::SUCCESS,
+        Err(_) => ExitCode::FAILURE,
+    }
+}
+
+/// Writes `hello` to an object of four servers, of which any two give the value back, and reads it.
+fn write_and_read(alloc: Global) -> Result<Bytes, Refusal> {
+    let mut cluster = Cluster::new(alloc, 4);
+    let layout = cluster.add_layout(Layout::new(2, &[0, 1, 2, 3])?)?;
+    cluster.create(alloc, NAME, layout)?;
+    let write = cluster.call_write(NAME, Bytes::from_static(b"hello"))?;
+    bring_to_answer(alloc, &mut cluster, write)?;
+    let read = cluster.call_read(NAME)?;
+    let receipt = bring_to_answer(alloc, &mut cluster, read)?;
+    receipt.value.ok_or(Refusal::NotNow)
+}
+
+/// Goes on with a call until it is answered: the loop over `want`. Whatever it does, the objects stay atomic, and what
+/// lies in banks and messages stays fragments of what was written.
+fn bring_to_answer(alloc: Global, cluster: &mut Cluster, call: u64) -> Result<Receipt, Refusal>
+    ensures atomic { AreAtomic cluster.new }
+    ensures fragments { AreFragments cluster.new }
+{
+    let answer = make_turns(alloc, cluster, call);
+    cluster.atomic();
+    answer
+}
+
+fn make_turns(alloc: Global, cluster: &mut Cluster, call: u64) -> Result<Receipt, Refusal> {
+    for _ in 0..MOST_TURNS {
+        match cluster.want(NAME, call)? {
+            Want::Replies => handle_first(cluster)?,
+            Want::Advance => cluster.advance(NAME, call)?,
+            Want::Supply { k: _, n: _ } => {
+                let (value, k, n) = cluster.value_to_code(NAME, call)?;
+                cluster.supply(NAME, call, encode(alloc, k, n, value)?)?;
+            }
+            Want::Settle { k, len } => {
+                let decoded = decode(alloc, k, len, cluster.pieces(NAME, call)?)?;
+                cluster.settle(NAME, call, decoded)?;
+            }
+            Want::Answer => return cluster.answer(NAME, call),
+            Want::Done => return Err(Refusal::NotNow),
+        }
+    }
+    Err(Refusal::GaveUp)
+}
+
+/// Delivers the message that has waited longest: a request is served, and a reply taken.
+fn handle_first(cluster: &mut Cluster) -> Result<(), Refusal> {
+    handle(cluster, NAME, 0)?;
+    Ok(())
+}
