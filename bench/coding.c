@@ -15,8 +15,8 @@ uint8_t coding_exports_decode(uint8_t k, uint32_t len, const uint8_t *points, si
 
 enum { MOST = 255, LONGEST = 1 << 20, RUNS = 5 };
 
-static const int CODES[][2] = {{2, 4}, {3, 5}, {4, 6}, {10, 14}, {32, 32}};
-static const size_t LENGTHS[] = {4 << 10, 300 << 10, 1 << 20};
+static const int CODES[][2] = {{2, 4}, {3, 5}, {4, 6}, {8, 12}, {10, 14}, {32, 32}, {100, 255}};
+static const size_t LENGTHS[] = {64, 4 << 10, 300 << 10, 1 << 20};
 static const double RUN_SECONDS = 0.2;
 
 /* One case. The fragments stand one after another, each of fragment_len bytes, and the points are those of the last k. */
@@ -213,7 +213,8 @@ static void print_rates(const struct timing *w) {
 
 static void print_row(const struct task *t, const char *call, const struct timing *works) {
   const struct timing *own = &works[0], *isal = &works[1], *kept = &works[2], *copied = &works[3];
-  printf("| %s | %d of %d | %zu KiB |", call, t->k, t->n, t->len >> 10);
+  int is_small = t->len < 1 << 10;
+  printf("| %s | %d of %d | %zu %s |", call, t->k, t->n, is_small ? t->len : t->len >> 10, is_small ? "B" : "KiB");
   print_rates(own);
   print_rates(isal);
   printf(" %.3f | %.3f |", own->rates[RUNS - 1] / isal->rates[RUNS - 1], own->rates[RUNS / 2] / isal->rates[RUNS / 2]);
@@ -238,7 +239,7 @@ static struct task task_of(const int *code, size_t len, const uint8_t *value, co
 
 int main(void) {
   size_t codes = sizeof CODES / sizeof CODES[0], lengths = sizeof LENGTHS / sizeof LENGTHS[0];
-  size_t most_bytes = 2 * LONGEST + MOST * 64; /* n fragments, where n is at most 2k */
+  size_t most_bytes = 3 * LONGEST + MOST * 64; /* n fragments, where n is at most 3k */
   uint8_t *value = memory(LONGEST), *fragments = memory(most_bytes);
   padding = memory(most_bytes), room = memory(most_bytes);
   uint64_t state = 88172645463325252u; /* xorshift */
