@@ -15,6 +15,7 @@ pub mod Fetching
 pub mod Growing
 pub mod Keeping
 pub mod Knowing
+pub mod Labels
 pub mod Later
 pub mod Mailing
 pub mod Mays

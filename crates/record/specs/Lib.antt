@@ -13,3 +13,4 @@ pub mod May
 pub mod Sound
 pub mod Grammar
 pub mod Examples
+pub mod Origins

@@ -13,6 +13,7 @@ pub use atomicity::{
 };
 pub use call::{CallKind, Entry, Operation, TaggedCall};
 pub use code::fragments_are_a_code;
+pub use origins::{labels_come_with_their_requests, sent_tags_are_journaled};
 pub use shape::{
     answered_calls_are_whole, courses_are_beginnings, due_positions_are_there,
     finished_calls_are_whole, readings_come_before_tags,
@@ -28,6 +29,7 @@ mod accounts;
 mod atomicity;
 mod call;
 mod code;
+mod origins;
 mod shape;
 mod soundness;
 mod stage;
