@@ -1,3 +1,4 @@
+pub mod Beyond
 pub mod Cut
 pub mod Determined
 pub mod Interpolated

@@ -3,11 +3,13 @@
 
 pub use code::{empty_values_have_empty_fragments, fragments_determine_values};
 pub use decoded::{Decoded, decode};
+pub use past::bad_pieces_give_a_byte_past_the_length;
 
 mod blocks;
 mod code;
 mod decoded;
 mod lawful;
 mod padding;
+mod past;
 #[cfg(test)]
 mod tests;

@@ -1,0 +1,13 @@
+//! Bad pieces, by the bytes that they would give past the value's end.
+ghost use Rattle.std.specs.Prelude.{◌↔◌, ℕ, List};
+ghost use Rattle.encoder.specs.declared.fragment.Piece.{Piece};
+ghost use Rattle.decoder.specs.Padding.{AreBlocks, HasBytePast};
+ghost use Rattle.decoder.specs.Pieces.{AreLawful, AreOfBytes, HaveNoValue};
+
+/// Lawful pieces have one list of k whole blocks, and no value has them exactly where a byte of these blocks past the
+/// length is not 0. So that is where `decode` refuses lawful pieces with BadPieces.
+pub fn bad_pieces_give_a_byte_past_the_length()
+    ensures { (k len : ℕ) (pieces : List Piece) → AreLawful k len pieces → AreOfBytes pieces
+        → (blocks : List ℕ) × AreBlocks k len pieces blocks
+        × (HaveNoValue k len pieces ↔ HasBytePast len blocks) }
+{}
