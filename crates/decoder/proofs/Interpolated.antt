@@ -7,7 +7,8 @@ use Rattle.std.proofs.lemmas.Grind.{same_number_lists}
 use Rattle.gf256.specs.Field.{field_product, field_sum}
 use Rattle.gf256.specs.Polynomial.{AreBytes, AreDistinct, Interpolates, evaluate}
 use Rattle.gf256.proofs.Sums.{field_sum_same}
-use Rattle.gf256.proofs.Interpolation.{basis_row, interpolation, get_or-interpolation, Interpolates-interpolation, Interpolates-unique}
+use Rattle.gf256.proofs.Basis.{basis_row}
+use Rattle.gf256.proofs.Interpolation.{interpolation, get_or-interpolation, Interpolates-interpolation, Interpolates-unique}
 use Rattle.encoder.specs.Fragment.{fragment_len, fragment}
 use Rattle.encoder.proofs.Columns.{column, length-column, get_or-column, AreBytes-column}
 use Rattle.encoder.proofs.Columns.{fragment_byte-column, length-fragment, get_or-fragment}

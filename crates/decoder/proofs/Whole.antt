@@ -14,7 +14,7 @@ use Rattle.gf256.specs.Polynomial.{AreBytes, IsBasisRow}
 use Rattle.gf256.specs.Field.{field_product, field_sum}
 use Rattle.gf256.proofs.FieldLaws.{product_comm}
 use Rattle.gf256.proofs.Sums.{field_sum-suc}
-use Rattle.gf256.proofs.Interpolation.{basis_row, IsBasisRow-unique, IsBasisRow-basis_row}
+use Rattle.gf256.proofs.Basis.{basis_row, IsBasisRow-unique, IsBasisRow-basis_row}
 use Rattle.encoder.specs.Fragment.{fragment_len, fragment}
 use Rattle.encoder.specs.declared.fragment.Piece.{Piece}
 use Rattle.decoder.specs.Pieces.{points_of, AreLawful, AreOfBytes, IsInterpolated}

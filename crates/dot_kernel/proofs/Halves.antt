@@ -9,7 +9,7 @@ use Rattle.lane_kernel.proofs.Lanes.{scaled-scaled}
 use Rattle.gf256.proofs.Additive.{all_below, all_below-at}
 use Rattle.gf256.proofs.FieldLaws.{product-sum_right, product-one_right, product_lt}
 use Rattle.gf256.proofs.Remainder.{IsRemainder-field_product}
-use Rattle.gf256.proofs.Interpolation.{get_or-scaled}
+use Rattle.gf256.proofs.Combination.{get_or-scaled}
 use Rattle.dot_kernel.specs.declared.tables.TheConstants.{HALVES}
 
 halves_sum : all_below 256 (λ x. eqb (bit_xor (x % 16) (x / 16 * 16)) x) ≡ true

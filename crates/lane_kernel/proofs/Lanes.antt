@@ -8,7 +8,7 @@ use Rattle.gf256.specs.Field.{field_product}
 use Rattle.gf256.specs.Polynomial.{AreBytes, scaled}
 use Rattle.gf256.proofs.FieldLaws.{product-zero_left, product-one_left, product-sum_left, product_assoc}
 use Rattle.gf256.proofs.Roots.{IsByte}
-use Rattle.gf256.proofs.Interpolation.{get_or-scaled}
+use Rattle.gf256.proofs.Combination.{get_or-scaled}
 use lib.Lanes.{zip2, chunk, Each1}
 use mir.Val.{Fits}
 

@@ -10,7 +10,8 @@ use Rattle.std.proofs.lemmas.List.{length-map, get_or_append_left, get_or_past}
 use Rattle.gf256.proofs.FieldLaws.{product-zero_left, product-zero_right, product_comm}
 use Rattle.gf256.specs.Field.{field_product}
 use Rattle.gf256.specs.Polynomial.{AreBytes, evaluate, scaled}
-use Rattle.gf256.proofs.Interpolation.{times_root, length-times_root, get_or-sum_of, get_or-scaled}
+use Rattle.gf256.proofs.Basis.{times_root, length-times_root}
+use Rattle.gf256.proofs.Combination.{get_or-sum_of, get_or-scaled}
 use Rattle.poly.specs.Basis.{IsProduct}
 
 get_or-times_root : (root : ℕ) (cs : List ℕ) (m : ℕ)

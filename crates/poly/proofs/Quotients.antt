@@ -10,7 +10,7 @@ use Rattle.gf256.specs.Field.{field_product}
 use Rattle.gf256.specs.Polynomial.{AreBytes, IsBasisRow, evaluate, scaled}
 use Rattle.gf256.proofs.Additive.{eq-xor_zero}
 use Rattle.gf256.proofs.FieldLaws.{product-zero_right, zero_from_product}
-use Rattle.gf256.proofs.Interpolation.{AreBytes-scaled}
+use Rattle.gf256.proofs.Combination.{AreBytes-scaled}
 use Rattle.gf256.proofs.Roots.{IsByte, evaluate_lt, evaluate-scaled, suffix_values, length-suffix_values, factors, zero_from_roots}
 use Rattle.poly.specs.Basis.{AreRows}
 

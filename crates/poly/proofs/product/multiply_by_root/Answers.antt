@@ -1,6 +1,6 @@
 use Rattle.std.proofs.Common.{ap, sym, subst, ◌∙◌, ◌+◌, get_or}
 use Rattle.gf256.specs.Polynomial.{AreBytes, evaluate}
-use Rattle.gf256.proofs.Interpolation.{AreBytes-times_root, evaluate-times_root}
+use Rattle.gf256.proofs.Basis.{AreBytes-times_root, evaluate-times_root}
 use Rattle.poly.proofs.Products.{refill-times_root, highest-times_root, AreBytes-from_padded}
 use Rattle.poly.proofs.product.multiply_by_root.Goals as goal
 

@@ -4,7 +4,7 @@ use Rattle.std.specs.Int.Bits.{xor_zero_l}
 use Rattle.gf256.specs.Field.{field_product}
 use Rattle.gf256.specs.Polynomial.{scaled}
 use Rattle.gf256.proofs.FieldLaws.{product-one_right}
-use Rattle.gf256.proofs.Interpolation.{get_or-scaled}
+use Rattle.gf256.proofs.Combination.{get_or-scaled}
 use Rattle.dot_kernel.specs.declared.tables.TheConstants.{HALVES}
 use Rattle.dot_kernel.proofs.LaneSums.{get_or-zeros}
 use Rattle.dot_kernel.proofs.tables.Tables.new.Goals as goal
