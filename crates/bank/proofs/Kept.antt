@@ -14,7 +14,7 @@ use Rattle.bank.specs.declared.status.Pointer.TheVariants.{Unset}
 use Rattle.bank.specs.Bank.{Bank, opened_bank, pre_written, finalized, knows, row_after_pre_write, row_after_finalize, piece_of_row}
 use Rattle.bank.specs.Bytes.{bank_bytes, added_bytes}
 use Rattle.bank.specs.Serve.{greatest_final}
-use Rattle.bank.specs.Kept.{bank_of, IsKept}
+use Rattle.bank.specs.Kept.{bank_of, IsKeptBank}
 use Rattle.bank.proofs.Entries.{Rows, is_final, Rise, entries-rise, get-rise, insert-rise}
 use Rattle.bank.proofs.Account.{served_bytes, opened_bytes}
 use Rattle.bank.proofs.Query.{greatest-finalized, greatest-pre_written, opening-finalized, opening-pre_written, greatest-opened}
@@ -44,7 +44,7 @@ counted_more n new total added is more = omega (arith, is, more)
 pub not_known : (es : Rows) (p : Pointer) (tag : Tag) → Rise es → found es tag ≡ None → (b : Bank) → bank_of es p ≡ b → knows b tag ≡ false
 not_known es p tag rise none b view = ap (λ b. knows b tag) (sym view) ∙ ap is_some (get-rise es rise tag ∙ none)
 
-module _ (es fs : Rows) (p : Pointer) (g : Tag) (n : ℕ) (kept : IsKept es p g n) (risen : Rise fs) (tag : Tag) (now : ℕ) where
+module _ (es fs : Rows) (p : Pointer) (g : Tag) (n : ℕ) (kept : IsKeptBank es p g n) (risen : Rise fs) (tag : Tag) (now : ℕ) where
   -- after a request to pre-write a tag
   module _ (piece : Piece) (updates : (q : Tag) → found fs q ≡ cond (is_at (tag_cmp tag) q)
       (Some (row_after_pre_write (found es tag) piece now)) (found es q)) where
@@ -52,7 +52,7 @@ module _ (es fs : Rows) (p : Pointer) (g : Tag) (n : ℕ) (kept : IsKept es p g 
     bank_pre_written = bank_of-changed es fs p tag (λ o. row_after_pre_write o piece now) kept.sorted risen updates
 
     pub kept_pre_written : (added new : ℕ) → added ≡ cond (is_some (piece_of_row (found es tag))) 0 (length piece.bytes)
-        → new ≡ min (n + added) (2 ^ 64 - 1) → IsKept fs p g new
+        → new ≡ min (n + added) (2 ^ 64 - 1) → IsKeptBank fs p g new
     kept_pre_written added new adds more =
         let is = bank_pre_written in
         let brought : added ≡ added_bytes (bank_of es p) (request.PreWrite tag piece) = adds
@@ -73,7 +73,7 @@ module _ (es fs : Rows) (p : Pointer) (g : Tag) (n : ℕ) (kept : IsKept es p g 
     pub bank_finalized : bank_of fs p ≡ finalized (bank_of es p) tag now
     bank_finalized = bank_of-changed es fs p tag (λ o. row_after_finalize o now) kept.sorted risen updates
 
-    pub kept_finalized : (new : Tag) → new ≡ later_tag g tag → IsKept fs p new n
+    pub kept_finalized : (new : Tag) → new ≡ later_tag g tag → IsKeptBank fs p new n
     kept_finalized new later =
         let is = bank_finalized in
         let same : bank_bytes (bank_of fs p) ≡ bank_bytes (bank_of es p) + 0 = ap bank_bytes is
@@ -107,7 +107,7 @@ module _ (es fs : Rows) (point now : ℕ) (bytes : List ℕ) (none : es ≡ []) 
       ∙ ap (λ m. map.insert m opening_tag (first_row point now bytes)) first
       ∙ ap (λ bs. map.insert map.empty opening_tag (first_row point now bs)) empty)
 
-  pub kept_opened : IsKept fs Unset opening_tag 0
+  pub kept_opened : IsKeptBank fs Unset opening_tag 0
   kept_opened = record {
     sorted = risen;
     opening = ap (λ b. is_final b opening_tag) bank_opened ∙ opening-opened point now;

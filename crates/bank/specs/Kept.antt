@@ -18,7 +18,7 @@ bank_of entries pointer = record { rows = map.from_sorted entries; pointer = poi
 
 -- the entries rise, the opening tag is finalized, `last` is the greatest finalized tag, and `total` the number of bytes
 -- of all pieces, as far as a word counts
-pub record IsKept (entries : List (Tag × Row)) (pointer : Pointer) (last : Tag) (total : ℕ) : Type 0 where
+pub record IsKeptBank (entries : List (Tag × Row)) (pointer : Pointer) (last : Tag) (total : ℕ) : Type 0 where
   pub sorted : IsStrictlySortedBy tag_cmp (keys_of entries)
   pub opening : IsSome (finalized_at (bank_of entries pointer) opening_tag)
   pub greatest : last ≡ greatest_final (bank_of entries pointer)

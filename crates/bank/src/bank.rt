@@ -31,7 +31,7 @@ pub struct Bank {
 impl Model for Bank {
     ghost use Rattle.std.specs.Coded.{codes};
     ghost use Rattle.bank.specs.Bank.{Bank as Table, bank_code};
-    ghost use Rattle.bank.specs.Kept.{bank_of, IsKept};
+    ghost use Rattle.bank.specs.Kept.{bank_of, IsKeptBank};
 
     ghost Value = { Table };
 
@@ -39,7 +39,7 @@ impl Model for Bank {
 
     ghost view = { λ b. bank_of b.rows.entries b.pointer };
 
-    ghost invariant = { λ b. IsKept b.rows.entries b.pointer b.greatest b.bytes };
+    ghost invariant = { λ b. IsKeptBank b.rows.entries b.pointer b.greatest b.bytes };
 }
 
 impl Bank {

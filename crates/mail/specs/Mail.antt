@@ -17,7 +17,7 @@ abbrev pub is_within : List Message → Bool
 is_within messages = nat_le (length messages) MOST_MESSAGES && nat_le (mail_bytes messages) MOST_BYTES
 
 -- the messages may wait together, and their pieces have so many bytes
-pub record IsKept (messages : List Message) (bytes : ℕ) : Type 0 where
+pub record IsKeptMail (messages : List Message) (bytes : ℕ) : Type 0 where
   pub within : is_within messages ≡ true
   pub sum : bytes ≡ mail_bytes messages
 

@@ -23,13 +23,13 @@ pub struct Mail {
 impl Model for Mail {
     ghost use Rattle.std.specs.Prelude.{List};
     ghost use Rattle.mail.specs.declared.message.Message.{Message};
-    ghost use Rattle.mail.specs.Mail.{IsKept};
+    ghost use Rattle.mail.specs.Mail.{IsKeptMail};
 
     ghost Value = { List Message };
 
     ghost view = { λ m. m.messages.items };
 
-    ghost invariant = { λ m. IsKept m.messages.items m.bytes };
+    ghost invariant = { λ m. IsKeptMail m.messages.items m.bytes };
 }
 
 impl Mail {

@@ -17,7 +17,8 @@ use Rattle.record.specs.Courses.{due}
 use Rattle.record.specs.Fragments.{Code}
 use Rattle.record.specs.Legal.{stage_of}
 use Rattle.record.specs.Records.{Call, Object, layout_at, bank_at}
-use Rattle.record.specs.Steps.{Step, missing_requests, request_to, sent_pieces}
+use Rattle.record.specs.Steps.{Step}
+use Rattle.record.specs.Sending.{missing_requests, request_to, sent_pieces}
 use Rattle.record.specs.Wants.{current_phase}
 
 -- the bytes of one position's banks, where the members are this server

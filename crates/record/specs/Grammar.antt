@@ -132,13 +132,13 @@ IsRest (Write value) tag place last phases = IsPut tag last phases
 IsRest Move tag place last phases = ⊥
 
 -- the phases of a whole read or write
-pub record IsWhole (kind : CallKind) (number : ℕ) (phases : List Phase) (tag : Tag) : Type 0 where
+pub record ArePhasesOfCall (kind : CallKind) (number : ℕ) (phases : List Phase) (tag : Tag) : Type 0 where
   pub finds : FindsTag kind number phases tag
   pub rest : IsRest kind tag (place_shown tag finds.finalized finds.finalized finds.queries) finds.last finds.rest
 
 -- the phases of a whole move from a position: the next one is spread as pending, the greatest
 -- tag is found, fetched and put into the next position, and that one is spread as final
-pub record IsWholeMove (position : ℕ) (phases : List Phase) (tag : Tag) : Type 0 where
+pub record ArePhasesOfMove (position : ℕ) (phases : List Phase) (tag : Tag) : Type 0 where
   pub spread : Phase
   pub query : Phase
   pub fetch : Phase
@@ -156,9 +156,9 @@ pub record IsWholeMove (position : ℕ) (phases : List Phase) (tag : Tag) : Type
 
 -- the phases of a whole call, a move from this position
 abbrev pub IsSentence : CallKind → (number from : ℕ) → List Phase → Tag → Type 0
-IsSentence Read number from phases tag = IsWhole Read number phases tag
-IsSentence (Write value) number from phases tag = IsWhole (Write value) number phases tag
-IsSentence Move number from phases tag = IsWholeMove from phases tag
+IsSentence Read number from phases tag = ArePhasesOfCall Read number phases tag
+IsSentence (Write value) number from phases tag = ArePhasesOfCall (Write value) number phases tag
+IsSentence Move number from phases tag = ArePhasesOfMove from phases tag
 
 -- each phase is complete, and was before the next one began
 abbrev pub AreInTurn : List Phase → Type 0

@@ -7,6 +7,7 @@ pub mod Journals
 pub mod Sequence
 pub mod Fragments
 pub mod Wants
+pub mod Sending
 pub mod Steps
 pub mod Accounts
 pub mod May

@@ -12,7 +12,8 @@ ghost use Rattle.record.specs.Legal.{stage_of};
 ghost use Rattle.record.specs.May.{AwaitsPieces, MayRun, MayStep, WantsPieces};
 ghost use Rattle.record.specs.Records.{bank_at, Call, layout_at, Object};
 ghost use Rattle.record.specs.Sound.{IsSound};
-ghost use Rattle.record.specs.Steps.{opened_object, run, sent_value, Step, stepped};
+ghost use Rattle.record.specs.Steps.{opened_object, run, Step, stepped};
+ghost use Rattle.record.specs.Sending.{sent_value};
 ghost use Rattle.record.specs.Wants.{want_of};
 ghost use Rattle.record.specs.declared.stage.Want.TheVariants as wants;
 

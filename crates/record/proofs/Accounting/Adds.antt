@@ -9,7 +9,8 @@ use Rattle.record.specs.Courses.{due}
 use Rattle.record.specs.Legal.{stage_of}
 use Rattle.record.specs.Fragments.{Code}
 use Rattle.record.specs.Accounts.{member_sum, some_bytes, due_bytes, again_bytes, supply_bytes, mailed_by}
-use Rattle.record.specs.Steps.{sent_pieces, request_to, Step}
+use Rattle.record.specs.Sending.{sent_pieces, request_to}
+use Rattle.record.specs.Steps.{Step}
 use Rattle.record.specs.Wants.{current_phase, want_of}
 use Rattle.record.specs.declared.stage.Want.TheVariants as want
 use Rattle.record.proofs.Accounting.Mail.{none_sum, no_piece}

@@ -14,7 +14,7 @@ use Rattle.mail.specs.declared.message.Message.{Message}
 use Rattle.mail.specs.Message.{request_bytes, message_bytes}
 use Rattle.mail.specs.Mail.{mail_bytes}
 use Rattle.record.specs.Accounts.{member_sum}
-use Rattle.record.specs.Steps.{request_to, requests, waits, missing}
+use Rattle.record.specs.Sending.{request_to, requests, waits, missing}
 use Rattle.mail.specs.declared.message.Body.TheVariants as body
 
 -- Mail

@@ -20,9 +20,11 @@ use Rattle.record.specs.declared.call.CallKind.TheVariants.{Move}
 use Rattle.record.specs.Records.{Call, Object, layout_at, bank_at}
 use Rattle.record.specs.Fragments.{Code}
 use Rattle.record.specs.Accounts.{position_bytes, stored, mailed, member_sum}
-use Rattle.record.specs.Steps.{sent_pieces, new_call, request_to, requests, with_phase, opened_banks, opened_object}
+use Rattle.record.specs.Sending.{sent_pieces, request_to, requests}
+use Rattle.record.specs.Steps.{new_call, with_phase, opened_banks, opened_object}
 use Rattle.record.specs.Steps.{called_object, moving_object, settled_object, answered_object, handled_object}
-use Rattle.record.specs.Steps.{taken_object, lost_object, repeated_object, missing_requests, asked_again}
+use Rattle.record.specs.Steps.{taken_object, lost_object, repeated_object, asked_again}
+use Rattle.record.specs.Sending.{missing_requests}
 use Rattle.mail.specs.declared.message.Body.TheVariants as body
 use Rattle.record.proofs.Accounting.Mail.{mail-append, mail-one, mail-set, mail-remove, requests_bytes, none_sum, no_piece, missing-le}
 use Rattle.record.proofs.Accounting.Stored.{position-opened}

@@ -17,7 +17,8 @@ use Rattle.record.specs.Legal.{stage_of}
 use Rattle.record.specs.Fragments.{Code}
 use Rattle.record.specs.Accounts.{mailed, some_bytes, reply_bytes, due_bytes, again_bytes}
 use Rattle.record.specs.Accounts.{supply_bytes, mailed_by, asked_bytes, told_bytes, unmailed_by}
-use Rattle.record.specs.Steps.{sent_pieces, called_object, moving_object, begun_object, advanced_object, settled_object}
+use Rattle.record.specs.Sending.{sent_pieces}
+use Rattle.record.specs.Steps.{called_object, moving_object, begun_object, advanced_object, settled_object}
 use Rattle.record.specs.Steps.{answered_object, served_by, taken_object, taken_by, lost_object, repeated_object}
 use Rattle.record.specs.Steps.{asked_again, supplied_by, supplied_object, Step, on_call, on_message, stepped}
 use Rattle.record.specs.Wants.{current_phase}

@@ -16,8 +16,8 @@ use Rattle.record.specs.declared.stage.Stage.TheVariants.{MoveFetch, MovePreWrit
 use Rattle.record.specs.Courses.{tagged, stage_after, greatest_tag}
 use Rattle.record.specs.Legal.{source_of, stage_of}
 use Rattle.record.specs.Journals.{stage_tag}
-use Rattle.record.specs.Grammar.{Asks, AreQueries, greatest_shown, TakesTag, place_shown, IsRest, IsWhole}
-use Rattle.record.specs.Grammar.{IsWholeMove, AreInTurn, IsFinished, FinishedAreWhole, AnsweredAreWhole}
+use Rattle.record.specs.Grammar.{Asks, AreQueries, greatest_shown, TakesTag, place_shown, IsRest, ArePhasesOfCall}
+use Rattle.record.specs.Grammar.{ArePhasesOfMove, AreInTurn, IsFinished, FinishedAreWhole, AnsweredAreWhole}
 use Rattle.record.proofs.Phases.Again.{queries_path}
 use Rattle.record.proofs.Phases.Paths.{IsPath, path-append, asks_of, due_of, reading_path}
 use Rattle.record.proofs.Phases.Queries.{place_after, query_split, takes_of}
@@ -30,7 +30,7 @@ place_same : (queries : List Phase) (finalized : ℕ) →
 place_same queries finalized = place_after-place_shown queries opening_tag finalized finalized finalized (λ e. refl)
 
 pub whole_of_path : (kind : CallKind) (number : ℕ) (phases : List Phase) (end : Stage) (tag : Tag) → kind ≢ Move → IsLast end →
-    stage_tag end ≡ Some tag → IsPath kind number (ReadNext 0 0) phases end → IsWhole kind number phases tag
+    stage_tag end ≡ Some tag → IsPath kind number (ReadNext 0 0) phases end → ArePhasesOfCall kind number phases tag
 whole_of_path kind number phases end tag reads ends has path =
     let read = read_split kind number phases 0 0 end (ap is_some has) path in
     let asked = query_split kind number read.later read.to read.last opening_tag read.to end (ap is_some has) read.path in
@@ -72,7 +72,7 @@ after_queries kind number (query ∷ later) rest last finalized tag h asked take
           (queries_path kind number query later finalized last opening_tag finalized asked) way.1,
     )
 
-pub path_of_whole : (kind : CallKind) (number : ℕ) (phases : List Phase) (tag : Tag) → IsWhole kind number phases tag →
+pub path_of_whole : (kind : CallKind) (number : ℕ) (phases : List Phase) (tag : Tag) → ArePhasesOfCall kind number phases tag →
     (at : ℕ) × IsPath kind number (ReadNext 0 0) phases (Ended at tag)
 path_of_whole kind number phases tag whole =
     let finds = whole.finds in
@@ -89,7 +89,7 @@ path_of_whole kind number phases tag whole =
 
 pub move_of_path : (number position : ℕ) (phases : List Phase) (end : Stage) (tag : Tag) → IsLast end → stage_tag end ≡ Some tag →
     IsPath Move number (MoveSpread position) phases end →
-    IsWholeMove position phases tag
+    ArePhasesOfMove position phases tag
 move_of_path number position [] end tag ends has path = absurd (not_end (MoveSpread position) end (Spread Pending, position) refl ends path)
 move_of_path number position (a ∷ []) end tag ends has path = absurd (not_end (MoveQuery position) end (Query, position) refl ends path.1)
 move_of_path number position (a ∷ b ∷ []) end tag ends has path =
@@ -122,7 +122,7 @@ move_of_path number position (a ∷ b ∷ c ∷ d ∷ e ∷ f ∷ []) end tag en
 move_of_path number position (a ∷ b ∷ c ∷ d ∷ e ∷ f ∷ g ∷ later) end tag ends has path =
     absurd (not_last (Moved position (greatest_tag b.replies)) (g.kind, g.position) path.1.1.1.1.1.1.0 refl)
 
-pub path_of_move : (number position : ℕ) (phases : List Phase) (tag : Tag) → IsWholeMove position phases tag →
+pub path_of_move : (number position : ℕ) (phases : List Phase) (tag : Tag) → ArePhasesOfMove position phases tag →
     IsPath Move number (MoveSpread position) phases (Moved position tag)
 path_of_move number position phases tag whole =
     subst (λ xs. IsPath Move number (MoveSpread position) xs (Moved position tag)) (sym whole.split) (
@@ -156,12 +156,12 @@ finished_of kind number stage end phases tag turn path last has =
     }
 
 read_finished : (kind : CallKind) (number : ℕ) (phases : List Phase) (tag : Tag) → kind ≢ Move →
-    IsFinished kind number (ReadNext 0 0) phases tag → AreInTurn phases × IsWhole kind number phases tag
+    IsFinished kind number (ReadNext 0 0) phases tag → AreInTurn phases × ArePhasesOfCall kind number phases tag
 read_finished kind number phases tag reads done =
     let way = path_of_course kind number phases (ReadNext 0 0) done.course done.none_due in
     (way.0, whole_of_path kind number phases (stage_after kind number (ReadNext 0 0) phases) tag reads done.none_due done.tagged way.1)
 
-read_whole : (kind : CallKind) (number : ℕ) (phases : List Phase) (tag : Tag) → AreInTurn phases × IsWhole kind number phases tag →
+read_whole : (kind : CallKind) (number : ℕ) (phases : List Phase) (tag : Tag) → AreInTurn phases × ArePhasesOfCall kind number phases tag →
     IsFinished kind number (ReadNext 0 0) phases tag
 read_whole kind number phases tag (turn, whole) =
     let way = path_of_whole kind number phases tag whole in

@@ -13,7 +13,8 @@ use Rattle.record.specs.Legal.{is_move, moves_in, first_stage, HasBegun, IsCause
 use Rattle.record.specs.Journals.{stage_tag}
 use Rattle.record.specs.Fragments.{Code, IfCoded, kind_tag, request_tag, request_piece}
 use Rattle.record.specs.Sound.{IsPhasePast, IsSound}
-use Rattle.record.specs.Steps.{request_to, new_phase, new_call}
+use Rattle.record.specs.Sending.{request_to}
+use Rattle.record.specs.Steps.{new_phase, new_call}
 use Rattle.bank.specs.Bank.{empty_piece}
 use Rattle.record.proofs.Lists.{all_weaker, all_pairs, all_get}
 use Rattle.record.proofs.Sound.Mailing.{request_tag-request_to}

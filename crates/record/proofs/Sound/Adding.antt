@@ -15,7 +15,8 @@ use Rattle.record.specs.Legal.{moves_in, first_stage, source_of, IsOpenedAt, IsO
 use Rattle.record.specs.Journals.{stage_tag, tag_of}
 use Rattle.record.specs.Fragments.{Code, IsValue, kind_tag}
 use Rattle.record.specs.Sound.{IsSound}
-use Rattle.record.specs.Steps.{new_phase, requests}
+use Rattle.record.specs.Steps.{new_phase}
+use Rattle.record.specs.Sending.{requests}
 use Rattle.bank.specs.Bank.{empty_piece}
 use Rattle.bank.specs.Facts.{SameBefore}
 use Rattle.layout.specs.Layout.{Layout}

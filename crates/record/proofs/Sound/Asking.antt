@@ -12,7 +12,8 @@ use Rattle.record.specs.Courses.{due, passed, stage_after, IsCourse}
 use Rattle.record.specs.Legal.{first_stage, source_of, stage_of}
 use Rattle.record.specs.Fragments.{Code, Determines}
 use Rattle.record.specs.Sound.{IsSound}
-use Rattle.record.specs.Steps.{requests, asked_again, missing, sent_pieces}
+use Rattle.record.specs.Sending.{requests, missing, sent_pieces}
+use Rattle.record.specs.Steps.{asked_again}
 use Rattle.record.specs.Wants.{current_phase}
 use Rattle.record.proofs.Atomic.Values.Sent.{Sends, request_coded}
 use Rattle.record.proofs.Sound.Mailing.{mailed_sound, request_message, kind_of-request_to, all_requests, all_append, all_missing}

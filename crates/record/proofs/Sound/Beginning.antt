@@ -16,7 +16,8 @@ use Rattle.record.specs.Legal.{first_stage, source_of, stage_of, AreOpened}
 use Rattle.record.specs.Journals.{stage_tag}
 use Rattle.record.specs.Fragments.{Code, Determines, IsFetch, IsSettled, request_tag, request_piece}
 use Rattle.record.specs.Sound.{IsPhasePast, IsCallPast, IsSound}
-use Rattle.record.specs.Steps.{request_to, new_phase, requests, with_phase}
+use Rattle.record.specs.Sending.{request_to, requests}
+use Rattle.record.specs.Steps.{new_phase, with_phase}
 use Rattle.record.proofs.Atomic.Values.Numbered.{coded_tag_past}
 use Rattle.record.proofs.Atomic.Values.Sent.{Sends, request_coded}
 use Rattle.record.proofs.Lists.{all_push, get_push, set_here}

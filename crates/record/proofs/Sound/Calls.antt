@@ -9,7 +9,8 @@ use Rattle.record.specs.Records.{Call, Object, layout_at, bank_at}
 use Rattle.record.specs.Knowledge.{IsTruePhase}
 use Rattle.record.specs.Courses.{due, stage_after, IsCourse, EndsBefore}
 use Rattle.record.specs.Legal.{first_stage, source_of, stage_of, IsLegalCall, IsLegal}
-use Rattle.record.specs.Steps.{new_phase, requests, with_phase, answered_object}
+use Rattle.record.specs.Steps.{new_phase, with_phase, answered_object}
+use Rattle.record.specs.Sending.{requests}
 use Rattle.record.proofs.Lists.{all_weaker, all_push, get_push, get_set, none_twice}
 use Rattle.record.proofs.Sound.Changing.{moves_set, Others, phase_same, begun_call, Changed, was, changed_has, caused_more}
 use Rattle.record.proofs.Sound.Growing.{course_push, numbered_push, begins_push}

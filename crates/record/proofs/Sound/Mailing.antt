@@ -12,7 +12,8 @@ use Rattle.record.specs.Knowledge.{IsTruePhase}
 use Rattle.record.specs.Legal.{IsLegal}
 use Rattle.record.specs.Fragments.{Code, kind_tag, request_tag}
 use Rattle.record.specs.Sound.{IsSound}
-use Rattle.record.specs.Steps.{request_to, requests, lost_object, repeated_object, missing}
+use Rattle.record.specs.Sending.{request_to, requests, missing}
+use Rattle.record.specs.Steps.{lost_object, repeated_object}
 use Rattle.mail.specs.declared.message.Body.TheVariants as body
 use Rattle.record.proofs.Lists.{all_weaker, all_get, all_push}
 use Rattle.record.proofs.Sound.Changing.{Others, phase_same, same_call, caused_more}

@@ -15,7 +15,7 @@ use Rattle.record.specs.declared.stage.Stage.{Stage}
 use Rattle.record.specs.Legal.{first_stage, source_of, stage_of}
 use Rattle.record.specs.Fragments.{Code, IsFetch}
 use Rattle.record.specs.Sound.{IsSound}
-use Rattle.record.specs.Steps.{sent_value}
+use Rattle.record.specs.Sending.{sent_value}
 use Rattle.record.specs.declared.stage.Want.{Want}
 use Rattle.record.specs.Wants.{current_phase, is_fetch, value_len, want_for, want_after, want_of}
 use Rattle.record.specs.May.{IsPreWrite, WantsPieces, AwaitsPieces}

@@ -13,7 +13,8 @@ use Rattle.record.specs.Sound.{IsSound}
 use Rattle.record.specs.Wants.{current_phase}
 use Rattle.record.specs.May.{MayStep, WantsPieces, AwaitsPieces}
 use Rattle.record.specs.Steps.{Step, stepped, on_call, on_message, served_by, taken_by, begun_object, advanced_object, settled_object}
-use Rattle.record.specs.Steps.{answered_object, repeated_object, asked_again, supplied_by, supplied_object, sent_value, sent_pieces}
+use Rattle.record.specs.Steps.{answered_object, repeated_object, asked_again, supplied_by, supplied_object}
+use Rattle.record.specs.Sending.{sent_value, sent_pieces}
 use Rattle.record.proofs.Atomic.Values.Sent.{sends_plain, sends_some}
 use Rattle.record.proofs.Sound.Asking.{asked_sound}
 use Rattle.record.proofs.Sound.Beginning.{begun_sound}

@@ -24,7 +24,7 @@ use Rattle.record.proofs.Atomic.Sequences.Answered.{answered_facts}
 use Rattle.record.proofs.Atomic.Sequences.Items.{Does, IsItem, same_call}
 use Rattle.record.proofs.Atomic.Sequences.Listed.{all_of_has, some_weaker, Made, make_item, made, made_numbers, made_all, made_items}
 use Rattle.record.proofs.Atomic.Sequences.Tagged.{found, tagged_of, moves_not}
-use Rattle.record.proofs.Atomic.Sequences.Whole.{IsWhole, sequence_of_items}
+use Rattle.record.proofs.Atomic.Sequences.Whole.{IsWholeSequence, sequence_of_items}
 use Rattle.record.proofs.Atomic.Values.Coded.{reads_journaled}
 
 -- an item reads or writes as the call does
@@ -175,7 +175,7 @@ pub sequence_of_tags : (object : Object) → IsLegal object → ReadsJournaled o
 sequence_of_tags object legal journaled order tags =
     let all = all_of_has (Made object) order (λ n h. make_item object journaled n ((tags.exactly n).0 h)) in
     let xs = made object order all in
-    let whole : IsWhole object xs = record {
+    let whole : IsWholeSequence object xs = record {
       items = made_items object order all;
       ordered = made_ordered object order all tags.ordered;
       answered = λ index call step at e stands.

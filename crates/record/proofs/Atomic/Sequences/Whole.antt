@@ -22,7 +22,7 @@ use Rattle.record.proofs.Atomic.Sequences.Items.{Does, IsItem, kept_item, two_nu
 use Rattle.record.proofs.Lists.{all_weaker}
 
 -- items in order, that have each answered read or write, and the write of each read that returns a written value
-pub record IsWhole (object : Object) (xs : List Item) : Type 0 where
+pub record IsWholeSequence (object : Object) (xs : List Item) : Type 0 where
   pub items : AllByRecursion (IsItem object) xs
   pub ordered : IsOrdered xs
   pub answered : (index : ℕ) (call : Call) (step : ℕ) → slice_get object.calls index ≡ Some call → call.answered ≡ Some step →
@@ -30,7 +30,7 @@ pub record IsWhole (object : Object) (xs : List Item) : Type 0 where
   pub written : (r : Item) → IsItem object r → r.reads ≡ 1 → IsWritten object r.tag r.value → Some_of (Wrote r) xs
 
 -- each read has its write among them, or the empty value
-read_rests : (object : Object) → ReadsJournaled object → (xs : List Item) → IsWhole object xs → (x : Item) → IsItem object x →
+read_rests : (object : Object) → ReadsJournaled object → (xs : List Item) → IsWholeSequence object xs → (x : Item) → IsItem object x →
     Rests opening_tag [] xs x
 read_rests object journaled xs whole x ix reads = go ix.what
   where
@@ -45,7 +45,7 @@ read_rests object journaled xs whole x ix reads = go ix.what
         let j = journaled ix.index ix.call r.2 ix.at r.1 r.3 in
         found j.0 j.1 (same_Some j.0 x.value (sym j.2 ∙ r.4)) (same_Some j.1 x.tag (sym j.3 ∙ ix.tagged)) j.4
 
-complete : (object : Object) (xs : List Item) → IsWhole object xs → (number : ℕ) →
+complete : (object : Object) (xs : List Item) → IsWholeSequence object xs → (number : ℕ) →
     (entry_at (entries object) number).operation ≢ operation.Move → IsSome (entry_at (entries object) number).answered →
     has (numbers xs) number ≡ true
 complete object xs whole zero stands answered = absurd (stands refl)
@@ -60,7 +60,7 @@ complete object xs whole (suc index) stands answered = go (slice_get object.call
         (whole.answered index call step.0 e step.1 (stays call.kind (subst (λ (y : Entry). y.operation ≢ operation.Move) here stands)))
 
 -- such items are a sequence of the entries
-pub sequence_of_items : (object : Object) → IsLegal object → ReadsJournaled object → (xs : List Item) → IsWhole object xs →
+pub sequence_of_items : (object : Object) → IsLegal object → ReadsJournaled object → (xs : List Item) → IsWholeSequence object xs →
     IsSequence (entries object) (numbers xs)
 sequence_of_items object legal journaled xs whole =
     let are = whole.items in
@@ -89,7 +89,7 @@ sequence_of_items object legal journaled xs whole =
     }
 
 -- all answered reads, and all writes that have a tag
-sequence_whole : (object : Object) → IsLegal object → ReadsJournaled object → IsWhole object (sequence object)
+sequence_whole : (object : Object) → IsLegal object → ReadsJournaled object → IsWholeSequence object (sequence object)
 sequence_whole object legal journaled =
     record {
       items = sequence_items object;

@@ -20,7 +20,7 @@ use Rattle.record.specs.Legal.{first_stage, source_of, stage_of}
 use Rattle.record.specs.Journals.{stage_tag, tag_of, IsJournaled}
 use Rattle.record.specs.Fragments.{Code, Determines, IsFragment, IsCoded, IfCoded, kind_tag, request_tag, request_piece}
 use Rattle.record.specs.Sound.{IsSound}
-use Rattle.record.specs.Steps.{sent_value, value_or_empty, fragment_piece, request_to, sent_pieces}
+use Rattle.record.specs.Sending.{sent_value, value_or_empty, fragment_piece, request_to, sent_pieces}
 use Rattle.record.proofs.Atomic.Values.Coded.{settled_journaled, fetched_tag}
 use Rattle.record.proofs.Atomic.Values.Known.{Known, call_known}
 
