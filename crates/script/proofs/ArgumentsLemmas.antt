@@ -3,11 +3,11 @@ use Rattle.std.proofs.Common.{◌≡◌, ℕ, zero, suc, ◌+◌, ◌<◌, List,
 use Rattle.std.proofs.Common.{◌∙◌, arith, subst, Bor}
 use Rattle.std.proofs.lemmas.List.{take_more, map-append, length-map}
 use Rattle.std.specs.Prelude.{Result, Ok, Err, IfErr, IsErrAnd}
-use Rattle.words.specs.Number.{IsSaturated}
+use Rattle.words.specs.Number.{IsNumber}
 use Rattle.script.specs.Arguments.{AreNumbers, Word}
 
 -- one more word and its number
-AreNumbers-snoc : (ns : List ℕ) (ws : List Word) (n : ℕ) (w : Word) → AreNumbers ns ws → IsSaturated w n
+AreNumbers-snoc : (ns : List ℕ) (ws : List Word) (n : ℕ) (w : Word) → AreNumbers ns ws → IsNumber w n
     → AreNumbers (ns ++ n ∷ []) (ws ++ w ∷ [])
 AreNumbers-snoc [] [] n w are is = (is, tt)
 AreNumbers-snoc [] (v ∷ ws) n w are is = absurd are
@@ -16,7 +16,7 @@ AreNumbers-snoc (m ∷ ns) (v ∷ ws) n w are is = (are.0, AreNumbers-snoc ns ws
 
 -- each of the words has its number
 AreNumbers-at : (ns : List ℕ) (ws : List Word) (i : ℕ) → AreNumbers ns ws → i < length ws
-    → (n : ℕ) × IsSaturated (get_or ws i []) n
+    → (n : ℕ) × IsNumber (get_or ws i []) n
 AreNumbers-at ns [] i are below = absurd (omega arith)
 AreNumbers-at [] (w ∷ ws) i are below = absurd are
 AreNumbers-at (n ∷ ns) (w ∷ ws) zero are below = (n, are.0)
@@ -31,14 +31,14 @@ word-at (w ∷ ws) (suc i) d empty = word-at ws i d empty
 
 -- one word that is no number
 pub AreNumbers-none : (ws : List (Bor Word)) (i : ℕ) (d : Bor Word) → d.now ≡ [] → i < length ws
-    → ((n : ℕ) → ¬ (IsSaturated (get_or ws i d).now n)) → (ns : List ℕ) → ¬ (AreNumbers ns (map (λ w. w.now) ws))
+    → ((n : ℕ) → ¬ (IsNumber (get_or ws i d).now n)) → (ns : List ℕ) → ¬ (AreNumbers ns (map (λ w. w.now) ws))
 AreNumbers-none ws i d empty below none ns are =
     let found = AreNumbers-at ns (map (λ w. w.now) ws) i are (simp length-map below) in
-    none found.0 (let P : Word → Type 0 = λ w. IsSaturated w found.0 in subst P (word-at ws i d empty) found.1)
+    none found.0 (let P : Word → Type 0 = λ w. IsNumber w found.0 in subst P (word-at ws i d empty) found.1)
 
 -- one more word that is a number
 pub AreNumbers-more : (ws : List (Bor Word)) (i : ℕ) (d : Bor Word) (ns : List ℕ) (n : ℕ) → d.now ≡ [] → i < length ws
-    → AreNumbers ns (map (λ w. w.now) (take i ws)) → IsSaturated (get_or ws i d).now n
+    → AreNumbers ns (map (λ w. w.now) (take i ws)) → IsNumber (get_or ws i d).now n
     → AreNumbers (ns ++ n ∷ []) (map (λ w. w.now) (take (i + 1) ws))
 AreNumbers-more ws i d ns n empty below are is =
     let P : List Word → Type 0 = λ xs. AreNumbers (ns ++ n ∷ []) xs in

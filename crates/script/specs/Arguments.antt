@@ -1,6 +1,6 @@
 -- The words of a command after those that name it.
 use Rattle.std.specs.Prelude.{◌≡◌, ◌<◌, ◌^◌, ℕ, List, [], ◌∷◌, ⊤}
-use Rattle.words.specs.Number.{IsSaturated}
+use Rattle.words.specs.Number.{IsNumber}
 use Rattle.words.specs.Hexadecimal.{IsHexadecimal}
 
 -- a word, by its bytes
@@ -12,12 +12,12 @@ abbrev pub AreNumbers : List ℕ → List Word → Type 0
 AreNumbers [] [] = ⊤
 AreNumbers [] (w ∷ ws) = ⊥
 AreNumbers (n ∷ ns) [] = ⊥
-AreNumbers (n ∷ ns) (w ∷ ws) = IsSaturated w n × AreNumbers ns ws
+AreNumbers (n ∷ ns) (w ∷ ws) = IsNumber w n × AreNumbers ns ws
 
 -- the turns of a whole call: a number, or 100,000 where there is no word
 abbrev pub AreTurns : List Word → ℕ → Type 0
 AreTurns [] turns = turns ≡ 100000
-AreTurns (w ∷ []) turns = IsSaturated w turns
+AreTurns (w ∷ []) turns = IsNumber w turns
 AreTurns (w ∷ x ∷ ws) turns = ⊥
 
 -- no word
@@ -26,16 +26,16 @@ AreNone words = words ≡ []
 
 -- a number
 abbrev pub AreNumber : ℕ → List Word → Type 0
-AreNumber n words = (w : Word) × (words ≡ w ∷ []) × IsSaturated w n
+AreNumber n words = (w : Word) × (words ≡ w ∷ []) × IsNumber w n
 
 -- a number of servers, which is at most 255
 abbrev pub AreServers : ℕ → List Word → Type 0
-AreServers count words = (w : Word) × (words ≡ w ∷ []) × IsSaturated w count × (count < 2 ^ 8)
+AreServers count words = (w : Word) × (words ≡ w ∷ []) × IsNumber w count × (count < 2 ^ 8)
 
 -- a number, and then one or more numbers
 abbrev pub AreNumberAndMembers : ℕ → List ℕ → List Word → Type 0
 AreNumberAndMembers n ns words = (w : Word) × (v : Word) × (rest : List Word)
-    × (words ≡ w ∷ v ∷ rest) × IsSaturated w n × AreNumbers ns (v ∷ rest)
+    × (words ≡ w ∷ v ∷ rest) × IsNumber w n × AreNumbers ns (v ∷ rest)
 
 -- a name
 abbrev pub AreName : Word → List Word → Type 0
@@ -43,12 +43,12 @@ AreName name words = words ≡ name ∷ []
 
 -- a name and a number
 abbrev pub AreNameAndNumber : Word → ℕ → List Word → Type 0
-AreNameAndNumber name n words = (w : Word) × (words ≡ name ∷ w ∷ []) × IsSaturated w n
+AreNameAndNumber name n words = (w : Word) × (words ≡ name ∷ w ∷ []) × IsNumber w n
 
 -- a name and two numbers
 abbrev pub AreNameAndTwoNumbers : Word → ℕ → ℕ → List Word → Type 0
 AreNameAndTwoNumbers name n m words = (w : Word) × (v : Word)
-    × (words ≡ name ∷ w ∷ v ∷ []) × IsSaturated w n × IsSaturated v m
+    × (words ≡ name ∷ w ∷ v ∷ []) × IsNumber w n × IsNumber v m
 
 -- a name, and then numbers or none
 abbrev pub AreNameAndNumbers : Word → List ℕ → List Word → Type 0
@@ -61,7 +61,7 @@ AreNameAndBytes name bytes words = (w : Word) × (words ≡ name ∷ w ∷ []) �
 -- a name, a number and bytes
 abbrev pub AreNameNumberAndBytes : Word → ℕ → List ℕ → List Word → Type 0
 AreNameNumberAndBytes name n bytes words = (w : Word) × (v : Word)
-    × (words ≡ name ∷ w ∷ v ∷ []) × IsSaturated w n × IsHexadecimal v bytes
+    × (words ≡ name ∷ w ∷ v ∷ []) × IsNumber w n × IsHexadecimal v bytes
 
 -- a name, and then turns
 abbrev pub AreNameAndTurns : Word → ℕ → List Word → Type 0
@@ -75,4 +75,4 @@ AreNameBytesAndTurns name bytes turns words = (w : Word) × (rest : List Word)
 -- a name and a number, and then turns
 abbrev pub AreNameNumberAndTurns : Word → ℕ → ℕ → List Word → Type 0
 AreNameNumberAndTurns name n turns words = (w : Word) × (rest : List Word)
-    × (words ≡ name ∷ w ∷ rest) × IsSaturated w n × AreTurns rest turns
+    × (words ≡ name ∷ w ∷ rest) × IsNumber w n × AreTurns rest turns

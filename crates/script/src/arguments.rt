@@ -2,7 +2,7 @@
 //! `Bad` where they have another form, and with `NoMemory` where their numbers or bytes find no memory.
 ghost use Rattle.std.specs.Prelude.{◌≡◌, ◌⊎◌, ℕ, List, IfErr, IfOk, map};
 ghost use Rattle.words.specs.Hexadecimal.{IsHexadecimal};
-ghost use Rattle.words.specs.Number.{IsSaturated};
+ghost use Rattle.words.specs.Number.{IsNumber};
 ghost use Rattle.script.specs.Arguments.{AreName, AreNameAndBytes, AreNameAndNumber, AreNameAndNumbers};
 ghost use Rattle.script.specs.Arguments.{AreNameAndTurns, AreNameAndTwoNumbers, AreNameBytesAndTurns};
 ghost use Rattle.script.specs.Arguments.{AreNameNumberAndBytes, AreNameNumberAndTurns, AreNone, AreNumber};
@@ -13,7 +13,7 @@ use crate::error::LineError;
 use bytes::Bytes;
 use std::alloc::Global;
 use words::hexadecimal::parse_bytes;
-use words::number::parse_saturating;
+use words::number::parse_number;
 
 /// The turns of a whole call where a line names none.
 const TURNS: u64 = 100_000;
@@ -184,10 +184,10 @@ pub(crate) fn name_number_and_turns<'a>(words: &[&'a str]) -> Result<(&'a str, u
 }
 
 fn number(word: &str) -> Result<u64, LineError>
-    ensures ok { IfOk result (IsSaturated word.now) }
-    ensures err { IfErr result (λ e. (e ≡ Bad) × ((n : ℕ) → ¬ (IsSaturated word.now n))) }
+    ensures ok { IfOk result (IsNumber word.now) }
+    ensures err { IfErr result (λ e. (e ≡ Bad) × ((n : ℕ) → ¬ (IsNumber word.now n))) }
 {
-    parse_saturating(word).ok_or(LineError::Bad)
+    parse_number(word).ok_or(LineError::Bad)
 }
 
 fn numbers(alloc: Global, words: &[&str]) -> Result<Vec<u64>, LineError>

@@ -7,8 +7,8 @@ use crate::{call_commands, cluster_commands, mail_commands, object_commands};
 use bytes::Bytes;
 use std::alloc::Global;
 
-/// A command of a script. A number is as the line has it, also where nothing has it, or `u64::MAX` where the line has a
-/// greater one. A name is a word of any length. Turns that the line leaves out are 100,000.
+/// A command of a script. A number is as the line has it, also where nothing has it. A name is a word of any length.
+/// Turns that the line leaves out are 100,000.
 #[derive(Drop)]
 pub enum Command<'a> {
     /// `servers S`: makes the cluster, of so many servers.

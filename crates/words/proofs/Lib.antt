@@ -1,2 +1,1 @@
 pub mod HexadecimalLemmas
-pub mod NumberLemmas

@@ -1,0 +1,12 @@
+use Rattle.std.proofs.Common.{ℕ, List, refl, subst}
+use Rattle.words.specs.Number.{IsNumber}
+use Rattle.script.proofs.ArgumentsLemmas.{err_of, third_word}
+use Rattle.script.proofs.arguments.name_and_two_numbers.Goals as goal
+
+pub returns-in_err-number-in-len3-2-clause-err : goal.returns-in_err-number-in-len3-2-clause-err
+returns-in_err-number-in-len3-2-clause-err c =
+    err_of _ _ _ c.from_residual-in_err-number-in-len3-2.ensures.1 (
+      c.in_err-number-in-len3-2.ensures.err.0,
+      λ name n m h. let P : List ℕ → Type 0 = λ w. IsNumber w m in
+          c.in_err-number-in-len3-2.ensures.err.1 m (subst P (third_word c.args.words.now _ refl name h.0 h.1 _ h.2) h.4),
+    )
