@@ -1,12 +1,11 @@
 -- When a store is opened.
 use Rattle.std.specs.Prelude.{ℕ, ◌==◌, nat_le, Option, None}
-use Rattle.tag.specs.declared.limits.TheConstants.{MOST_WORKERS}
+use Rattle.tag.specs.declared.limits.TheConstants.{MOST_SEATS, MOST_WORKERS}
 use Rattle.tag.specs.declared.refusal.Refusal.{Refusal}
 use Rattle.tag.specs.declared.refusal.Refusal.TheVariants.{NotNow, Full}
 use Rattle.register.specs.Causes.{unless}
 use Rattle.cluster.specs.Accounts.{calls}
 use Rattle.cluster.specs.Cluster.{Cluster}
-use Rattle.client.specs.declared.store.TheConstants.{MOST_SEATS}
 
 -- why a store is not opened: the cluster has a call, or there are too many seats or workers
 abbrev pub open_store_cause : Cluster → (seats workers : ℕ) → Option Refusal

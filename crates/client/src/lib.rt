@@ -6,6 +6,7 @@ pub use sections;
 pub use sections::{
     Admin, Begin, Booked, CallRecord, Closed, Hand, NotClosed, Order, Seat, StoreName,
 };
-pub use store::{MOST_SEATS, Opened, Store};
+pub use store::{Opened, Store};
+pub use tag::MOST_SEATS;
 
 mod store;

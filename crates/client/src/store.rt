@@ -15,15 +15,12 @@ use sections::{
 use std::alloc::Global;
 use std::sync::ledger::Blank;
 use std::sync::{Mutex, Wait};
-use tag::{MOST_WORKERS, Refusal};
+use tag::{MOST_SEATS, MOST_WORKERS, Refusal};
 
 mod caller;
 mod calls;
 mod finish;
 mod moves;
-
-/// The most seats of one store.
-pub const MOST_SEATS: u32 = 1024;
 
 /// A cluster under one lock, for the seats of one name, with so many coding workers.
 #[derive(Drop)]

@@ -4,9 +4,7 @@ ghost use Rattle.printing.specs.AccountLine.{account_text};
 
 use arrayvec::ArrayVec;
 use std::fmt;
-
-/// The most servers of a cluster, whose number is a byte.
-pub const MOST_SERVERS: usize = 255;
+use tag::MOST_SERVERS;
 
 /// How many bytes of fragments are stored, and how many wait in messages.
 #[derive(Debug, PartialEq, Eq, Drop)]

@@ -4,7 +4,7 @@
 //! lines, each with its line feed.
 #![tactic(auto)]
 
-pub use account_line::{Account, AccountLine, MOST_SERVERS};
+pub use account_line::{Account, AccountLine};
 pub use answer_line::AnswerLine;
 pub use bank_line::BankLine;
 pub use call_line::CallLine;

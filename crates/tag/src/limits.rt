@@ -11,6 +11,8 @@ ghost use Rattle.tag.specs.declared.limits.TheConstants.{
   MOST_OBJECTS,
   MOST_PHASES,
   MOST_POSITIONS,
+  MOST_SEATS,
+  MOST_SERVERS,
   MOST_STEPS,
   MOST_WORKERS,
 };
@@ -36,6 +38,9 @@ pub const MOST_POSITIONS: usize = 4096;
 /// The most calls of one object.
 pub const MOST_CALLS: usize = 4_294_967_295;
 
+/// The most servers of a cluster, whose number is a byte.
+pub const MOST_SERVERS: usize = 255;
+
 /// The most layouts of a cluster.
 pub const MOST_LAYOUTS: usize = 1024;
 
@@ -47,6 +52,9 @@ pub const LONGEST_NAME: usize = 255;
 
 /// The most steps of a cluster.
 pub const MOST_STEPS: u64 = 1 << 62;
+
+/// The most seats of one store.
+pub const MOST_SEATS: u32 = 1024;
 
 /// The most workers that code one value.
 pub const MOST_WORKERS: usize = 64;
@@ -60,9 +68,11 @@ pub fn limits_are_these()
     ensures phases { MOST_PHASES ≡ 1048576 }
     ensures positions { MOST_POSITIONS ≡ 4096 }
     ensures calls { MOST_CALLS ≡ 2 ^ 32 - 1 }
+    ensures servers { MOST_SERVERS ≡ 255 }
     ensures layouts { MOST_LAYOUTS ≡ 1024 }
     ensures objects { MOST_OBJECTS ≡ 65536 }
     ensures name { LONGEST_NAME ≡ 255 }
     ensures steps { MOST_STEPS ≡ 2 ^ 62 }
+    ensures seats { MOST_SEATS ≡ 1024 }
     ensures workers { MOST_WORKERS ≡ 64 }
 {}
