@@ -23,7 +23,7 @@ pub enum Fault {
     /// The request was refused.
     #[error("refused {0}")]
     Refused(Refusal),
-    /// A write of output failed.
+    /// A write of output failed, and not for want of memory.
     #[error("cannot write the output")]
     OutputLost,
 }
@@ -33,7 +33,7 @@ impl Fault {
     ghost use Rattle.std.specs.IoError.{error_kind};
     ghost use Rattle.tag.specs.declared.refusal.Refusal.TheVariants.{NoMemory};
     ghost use Rattle.coding_commands.specs.Fault.{status_of};
-    ghost use Rattle.coding_commands.specs.declared.fault.Fault.TheVariants.{NotText, Refused};
+    ghost use Rattle.coding_commands.specs.declared.fault.Fault.TheVariants.{NotText, OutputLost, Refused};
 
     /// Why the program's arguments cannot be had: they are not text, or find no memory.
     pub fn from_arguments(error: io::Error) -> Fault
@@ -43,6 +43,17 @@ impl Fault {
         match error.kind() {
             ErrorKind::OutOfMemory => Fault::Refused(Refusal::NoMemory),
             _ => Fault::NotText,
+        }
+    }
+
+    /// Why a line of output is lost: its write found no memory, or failed otherwise.
+    pub fn from_output(error: io::Error) -> Fault
+        ensures memory { error_kind error ≡ ErrorKind.OutOfMemory → result ≡ Refused NoMemory }
+        ensures other { error_kind error ≢ ErrorKind.OutOfMemory → result ≡ OutputLost }
+    {
+        match error.kind() {
+            ErrorKind::OutOfMemory => Fault::from(Refusal::NoMemory),
+            _ => Fault::OutputLost,
         }
     }
 

@@ -7,7 +7,7 @@ ghost use Rattle.coding_commands.specs.Answer.{IsAnswer, IsRefusedFor};
 ghost use Rattle.coding_commands.specs.Output.{output_text};
 ghost use Rattle.coding_commands.specs.Program.{Answers, EndsBy, IsPrinted};
 ghost use Rattle.coding_commands.specs.declared.request.CodingRequest.TheVariants as request;
-ghost use Rattle.coding_commands.specs.declared.fault.Fault.TheVariants.{OutputLost};
+ghost use Rattle.coding_commands.specs.declared.fault.Fault.TheVariants.{OutputLost, Refused};
 
 use crate::arguments::parse_request;
 use crate::fault::Fault;
@@ -87,10 +87,10 @@ fn print_answer<O: Write, E: Write>(answer: Result<Output, Refusal>, out: &mut O
 fn print_line<W: Write>(out: &mut W, output: &Output) -> Result<(), Fault>
     ensures printed { OnOk result
         (Appends (W.contents out.old) (W.contents out.new) (output_text output.now ++ 10 ∷ [])) }
-    ensures lost { IfErr result (λ e. e ≡ OutputLost) }
+    ensures lost { IfErr result (λ e. (e ≡ Refused NoMemory) ⊎ (e ≡ OutputLost)) }
 {
     match out.writeln(output) {
-        Ok(()) => out.flush().map_err(|_| Fault::OutputLost),
-        Err(_) => Err(Fault::OutputLost),
+        Ok(()) => out.flush().map_err(Fault::from_output),
+        Err(error) => Err(Fault::from_output(error)),
     }
 }

@@ -1,9 +1,10 @@
 //! A soak of the store.
-ghost use Rattle.std.specs.Prelude.{◌≡◌, ◌++◌, ◌∷◌, [], IfErr, OnOk};
+ghost use Rattle.std.specs.Prelude.{◌≡◌, ◌⊎◌, ◌++◌, ◌∷◌, [], IfErr, OnOk};
+ghost use Rattle.tag.specs.declared.refusal.Refusal.TheVariants.{NoMemory};
 ghost use Rattle.std.specs.Io.KnownBytes.{Appends};
 ghost use Rattle.soak.specs.Summary.{summary_text};
 ghost use Rattle.commands.specs.Program.{Soaks};
-ghost use Rattle.coding_commands.specs.declared.fault.Fault.TheVariants.{OutputLost};
+ghost use Rattle.coding_commands.specs.declared.fault.Fault.TheVariants.{OutputLost, Refused};
 
 use coding_commands::Fault;
 use soak::{Plan, Summary, run_plan};
@@ -33,10 +34,10 @@ pub(crate) fn run_soak<R: AllocGlobal + Threads + Wait + Sync, O: Write, E: Writ
 fn print_summary<W: Write>(out: &mut W, summary: &Summary) -> Result<(), Fault>
     ensures printed { OnOk result
         (Appends (W.contents out.old) (W.contents out.new) (summary_text summary.now ++ 10 ∷ [])) }
-    ensures lost { IfErr result (λ e. e ≡ OutputLost) }
+    ensures lost { IfErr result (λ e. (e ≡ Refused NoMemory) ⊎ (e ≡ OutputLost)) }
 {
     match out.writeln(summary) {
-        Ok(()) => out.flush().map_err(|_| Fault::OutputLost),
-        Err(_) => Err(Fault::OutputLost),
+        Ok(()) => out.flush().map_err(Fault::from_output),
+        Err(error) => Err(Fault::from_output(error)),
     }
 }
