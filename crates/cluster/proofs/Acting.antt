@@ -14,7 +14,7 @@ use Rattle.register.specs.declared.act.Act.{Act}
 use Rattle.register.specs.declared.act.Act.TheVariants as act
 use Rattle.cluster.specs.Acts.{IsReady, begun_by}
 use Rattle.cluster.specs.Cluster.{Cluster}
-use Rattle.cluster.specs.Kept.{IsKept}
+use Rattle.cluster.specs.Kept.{IsKeptCluster}
 use Rattle.cluster.proofs.Allowed.{act_few}
 use Rattle.cluster.proofs.Parts.{read_called, write_called, move_moved, advance_quiet, supply_quiet, post_quiet, settle_quiet, answer_quiet}
 use Rattle.cluster.proofs.Parts.{take_quiet, lose_quiet, repeat_quiet}
@@ -49,16 +49,16 @@ pub no_more : (servers : ℕ) (object : Object) (a : Act) → IsReady servers a 
 no_more servers object (act.Serve place) ready server = absurd ready
 no_more servers object _ ready server = refl
 
-no_call : {cluster : Cluster} {bytes count : ℕ} → IsKept cluster bytes count → IsKept cluster bytes (count + 0)
-no_call {cluster} {bytes} {count} kept = subst (λ n. IsKept cluster bytes n) (omega arith) kept
+no_call : {cluster : Cluster} {bytes count : ℕ} → IsKeptCluster cluster bytes count → IsKeptCluster cluster bytes (count + 0)
+no_call {cluster} {bytes} {count} kept = subst (λ n. IsKeptCluster cluster bytes n) (omega arith) kept
 
 -- what the cluster keeps
 module _ {servers : List Bool} {layouts : List Layout} {counter : ℕ} {entries : List Entry} {name : List ℕ}
     {place : ℕ} {old : State} where
-  kept_at : {bytes count : ℕ} {new : State} → IsKept (cluster_of servers layouts entries counter) bytes count →
+  kept_at : {bytes count : ℕ} {new : State} → IsKeptCluster (cluster_of servers layouts entries counter) bytes count →
       IsAt entries name place old → (a : Act) → IsReady (length servers) a →
       new ≡ made (step_of a) (counter + 1) old → counter + 1 ≤ MOST_STEPS →
-      IsKept (cluster_of servers layouts (set_value_at entries place new) (counter + 1)) bytes (count + begun_by a)
+      IsKeptCluster (cluster_of servers layouts (set_value_at entries place new) (counter + 1)) bytes (count + begun_by a)
   kept_at kept at act.CallRead ready is few = call_at kept at Step.CallRead is few read_called
   kept_at kept at (act.CallWrite v) ready is few = call_at kept at (Step.CallWrite v) is few (write_called v)
   kept_at kept at (act.CallMove l) ready is few = move_at kept at l is few (move_moved l) ready
@@ -73,10 +73,10 @@ module _ {servers : List Bool} {layouts : List Layout} {counter : ℕ} {entries 
   kept_at kept at (act.Lose p) ready is few = no_call (quiet_at kept at (Step.Lose p) is few (lose_quiet p))
   kept_at kept at (act.Repeat p) ready is few = no_call (quiet_at kept at (Step.Repeat p) is few (repeat_quiet p))
 
-  pub act_at : {bytes count begun : ℕ} {new : State} → IsKept (cluster_of servers layouts entries counter) bytes count →
+  pub act_at : {bytes count begun : ℕ} {new : State} → IsKeptCluster (cluster_of servers layouts entries counter) bytes count →
       IsAt entries name place old → (a : Act) → IsReady (length servers) a →
       new ≡ made (step_of a) (counter + 1) old → act_cause a (counter + 1) old.object ≡ None → begun ≡ begun_by a →
-      IsKept (cluster_of servers layouts (set_value_at entries place new) (counter + 1)) bytes (count + begun)
+      IsKeptCluster (cluster_of servers layouts (set_value_at entries place new) (counter + 1)) bytes (count + begun)
   act_at {bytes} {count} {begun} {new} kept at a ready is none all =
-      subst (λ n. IsKept (cluster_of servers layouts (set_value_at entries place new) (counter + 1)) bytes (count + n)) (sym all)
+      subst (λ n. IsKeptCluster (cluster_of servers layouts (set_value_at entries place new) (counter + 1)) bytes (count + n)) (sym all)
       (kept_at kept at a ready is (act_few (counter + 1) old.object a none))

@@ -19,7 +19,7 @@ use Rattle.std.proofs.lemmas.List.Sums.{sum_by-cons}
 use Rattle.cluster.specs.Accounts.{object_sum}
 use Rattle.cluster.specs.Causes.{has_servers}
 use Rattle.cluster.specs.Cluster.{Named, Cluster, named}
-use Rattle.cluster.specs.Kept.{HasMembersBelow, AreNamedApart, IsPlaced, IsKept}
+use Rattle.cluster.specs.Kept.{HasMembersBelow, AreNamedApart, IsPlaced, IsKeptCluster}
 use Rattle.cluster.specs.Steps.{with_layout, with_object}
 use Rattle.cluster.proofs.Parts.{opened_length}
 use Rattle.cluster.proofs.Places.{Entry, object_of, objects_of}
@@ -44,10 +44,10 @@ placed_later servers counter objects placed =
     all_weaker (IsPlaced servers counter) (IsPlaced servers (suc counter)) objects
     (λ o p. let past = p.past in record { layouts = p.layouts; banked = p.banked; past = omega (arith, past) }) placed
 
-module _ (cluster : Cluster) (bytes count : ℕ) (layout : Layout) (kept : IsKept cluster bytes count)
+module _ (cluster : Cluster) (bytes count : ℕ) (layout : Layout) (kept : IsKeptCluster cluster bytes count)
     (below : has_servers cluster layout ≡ true)
     (few : suc cluster.counter ≤ MOST_STEPS) where
-  pub layout_kept : IsKept (with_layout cluster layout) bytes count
+  pub layout_kept : IsKeptCluster (with_layout cluster layout) bytes count
   layout_kept = record {
     layouts = all_pushed (HasMembersBelow (length cluster.servers)) cluster.layouts layout kept.layouts
         (below_all (length cluster.servers) layout.members below);
@@ -97,13 +97,13 @@ apart_pushed (o ∷ objects) object none apart =
 opened_nothing : (members : List ℕ) (now : ℕ) → all_bytes (opened_banks members 0 now ∷ []) ≡ 0
 opened_nothing members now = sum_by-cons banks_bytes (opened_banks members 0 now) [] ∙ ap (λ n. n + 0) (opened_banks_bytes members 0 now)
 
-module _ (cluster : Cluster) (bytes count : ℕ) (name : List ℕ) (layout : Layout) (kept : IsKept cluster bytes count)
+module _ (cluster : Cluster) (bytes count : ℕ) (name : List ℕ) (layout : Layout) (kept : IsKeptCluster cluster bytes count)
     (below : HasMembersBelow (length cluster.servers) layout) (fresh : named cluster.objects name ≡ None)
     (few : suc cluster.counter ≤ MOST_STEPS) (few_objects : length cluster.objects < MOST_OBJECTS) where
   abbrev object : Named
   object = record { name = name; state = record { object = opened_object layout (suc cluster.counter); last = suc cluster.counter } }
 
-  pub object_kept : IsKept (with_object cluster name layout) bytes count
+  pub object_kept : IsKeptCluster (with_object cluster name layout) bytes count
   object_kept = record {
     layouts = kept.layouts;
     objects = all_pushed (IsPlaced (length cluster.servers) (suc cluster.counter)) cluster.objects object

@@ -16,7 +16,7 @@ use Rattle.register.proofs.Lists.{same_some}
 use Rattle.register.proofs.Served.{served_few}
 use Rattle.cluster.specs.Accounts.{object_sum}
 use Rattle.cluster.specs.Cluster.{Named, Cluster, named}
-use Rattle.cluster.specs.Kept.{IsKept}
+use Rattle.cluster.specs.Kept.{IsKeptCluster}
 use Rattle.cluster.proofs.Places.{Entry, objects_of, IsAt, named_at}
 use Rattle.cluster.proofs.Serving.{HasRoom}
 use Rattle.cluster.proofs.Stepping.{cluster_of}
@@ -58,7 +58,7 @@ part_named g name old (o ∷ os) here = pick (bytes_eq name o.name) (λ h. part_
     pick false later here = let rest = later here in omega (arith, rest)
 
 pub part_at : {servers : List Bool} {layouts : List Layout} {counter : ℕ} {entries : List Entry} {name : List
-    ℕ} {place : ℕ} {old : State} {bytes count : ℕ} → IsKept (cluster_of servers layouts entries counter) bytes count →
+    ℕ} {place : ℕ} {old : State} {bytes count : ℕ} → IsKeptCluster (cluster_of servers layouts entries counter) bytes count →
     IsAt entries name place old → all_bytes old.object.banks ≤ bytes
 part_at {entries = entries} {name = name} {old = old} kept at =
     let part = part_named (λ s. all_bytes s.object.banks) name old (objects_of entries) (named_at at) in

@@ -9,7 +9,7 @@ use Rattle.register.specs.Position.{all_bytes}
 use Rattle.register.specs.State.{State, made}
 use Rattle.register.proofs.Lists.{all_pushed, all_weaker}
 use Rattle.cluster.specs.Cluster.{Named, Cluster, named, changed}
-use Rattle.cluster.specs.Kept.{HasMembersBelow, AreBanked, IsPlaced, IsKept}
+use Rattle.cluster.specs.Kept.{HasMembersBelow, AreBanked, IsPlaced, IsKeptCluster}
 use Rattle.cluster.specs.Steps.{stepped}
 use Rattle.cluster.proofs.Parts.{IsQuiet, IsCalled, IsMoved, IsServed}
 use Rattle.cluster.proofs.Sums.{sum_changed, all_changed, all_named, apart_changed}
@@ -26,12 +26,12 @@ length_changed (o ∷ os) name change = pick (bytes_eq name o.name) (length_chan
 
 -- the object's last step is no later than the cluster's, and its layouts are of the cluster's servers
 pub placed : {cluster : Cluster} {bytes count : ℕ} (name : List ℕ) (old : State) →
-    IsKept cluster bytes count → named cluster.objects name ≡ Some old →
+    IsKeptCluster cluster bytes count → named cluster.objects name ≡ Some old →
     (n : List ℕ) × IsPlaced (length cluster.servers) cluster.counter (record { name = n; state = old })
 placed {cluster} name old kept here =
     all_named name (λ s. s) old (IsPlaced (length cluster.servers) cluster.counter) cluster.objects here kept.objects
 
-module _ (cluster : Cluster) (bytes count : ℕ) (name : List ℕ) (step : Step) (old : State) (kept : IsKept cluster bytes count)
+module _ (cluster : Cluster) (bytes count : ℕ) (name : List ℕ) (step : Step) (old : State) (kept : IsKeptCluster cluster bytes count)
     (here : named cluster.objects name ≡ Some old) (few : suc cluster.counter ≤ MOST_STEPS) where
   abbrev new : State
   new = made step (suc cluster.counter) old
@@ -45,7 +45,7 @@ module _ (cluster : Cluster) (bytes count : ℕ) (name : List ℕ) (step : Step)
       (AreBanked old.object.layouts old.object.banks → AreBanked new.object.layouts new.object.banks) →
       more_bytes + all_bytes old.object.banks ≡ bytes + all_bytes new.object.banks → more_bytes ≤ MOST_BYTES →
       more_count + length old.object.calls ≡ count + length new.object.calls → more_count ≤ suc count →
-      IsKept later more_bytes more_count
+      IsKeptCluster later more_bytes more_count
   step_kept more_bytes more_count layouts banked same_bytes within same_count few_calls = record {
     layouts = kept.layouts;
     objects = all_changed name (made step (suc cluster.counter)) old
@@ -68,7 +68,7 @@ module _ (cluster : Cluster) (bytes count : ℕ) (name : List ℕ) (step : Step)
     past = let before = kept.past in omega (arith, before, few_calls);
   }
 
-  pub quiet_kept : IsQuiet old.object new.object → IsKept later bytes count
+  pub quiet_kept : IsQuiet old.object new.object → IsKeptCluster later bytes count
   quiet_kept quiet =
       let same = ap all_bytes quiet.banks in
       let length_same = quiet.calls in
@@ -77,7 +77,7 @@ module _ (cluster : Cluster) (bytes count : ℕ) (name : List ℕ) (step : Step)
       (subst (λ ls. AreBanked ls old.object.banks) (sym quiet.layouts) all))
       (ap (λ n. bytes + n) (sym same)) kept.within (ap (λ n. count + n) (sym length_same)) (omega arith)
 
-  pub call_kept : IsCalled old.object new.object → IsKept later bytes (count + 1)
+  pub call_kept : IsCalled old.object new.object → IsKeptCluster later bytes (count + 1)
   call_kept called =
       let same = ap all_bytes called.banks in
       let length_more = called.calls in
@@ -87,7 +87,7 @@ module _ (cluster : Cluster) (bytes count : ℕ) (name : List ℕ) (step : Step)
       (ap (λ n. bytes + n) (sym same)) kept.within (omega (arith, length_more)) (omega arith)
 
   pub move_kept : (layout : Layout) → HasMembersBelow (length cluster.servers) layout → IsMoved old.object layout new.object →
-      IsKept later bytes (count + 1)
+      IsKeptCluster later bytes (count + 1)
   move_kept layout below moved =
       let same = moved.banks in
       let length_more = moved.calls in
@@ -96,7 +96,7 @@ module _ (cluster : Cluster) (bytes count : ℕ) (name : List ℕ) (step : Step)
       (ap (λ n. bytes + n) (sym same)) kept.within (omega (arith, length_more)) (omega arith)
 
   pub serve_kept : (more_bytes : ℕ) → more_bytes + all_bytes old.object.banks ≡ bytes + all_bytes new.object.banks →
-      more_bytes ≤ MOST_BYTES → IsServed old.object new.object → IsKept later more_bytes count
+      more_bytes ≤ MOST_BYTES → IsServed old.object new.object → IsKeptCluster later more_bytes count
   serve_kept more_bytes same within served =
       let length_same = served.calls in
       step_kept more_bytes count

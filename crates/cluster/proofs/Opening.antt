@@ -18,7 +18,7 @@ use Rattle.register.proofs.Lists.{all_found, length_map}
 use Rattle.register.proofs.Rooms.{is_le, not_le, is_lt, not_lt, step_within, step_past}
 use Rattle.cluster.specs.Causes.{if_layout, layout_cause, create_cause}
 use Rattle.cluster.specs.Cluster.{Named, Cluster, named}
-use Rattle.cluster.specs.Kept.{HasMembersBelow, IsKept}
+use Rattle.cluster.specs.Kept.{HasMembersBelow, IsKeptCluster}
 use Rattle.cluster.specs.Steps.{with_object, created}
 use Rattle.cluster.specs.Summed.{IsCounted}
 use Rattle.cluster.proofs.Adding.{layout_kept, object_kept, inserted_last}
@@ -70,8 +70,9 @@ pub added_counted : {servers : List Bool} {layouts later : List Layout} {objects
     IsCounted (record { servers = servers; layouts = later; objects = objects; counter = counter + 1 }) bytes count waiting loads
 added_counted {servers} {layouts} {later} {objects} {counter} {bytes} {count} layout is below few counted = record {
   kept = subst (λ (ls : List Layout).
-      IsKept (record { servers = servers; layouts = ls; objects = objects; counter = counter + 1 }) bytes count) (sym is)
-      (subst (λ n. IsKept (record { servers = servers; layouts = layouts ++ layout ∷ []; objects = objects; counter = n }) bytes count)
+      IsKeptCluster (record { servers = servers; layouts = ls; objects = objects; counter = counter + 1 }) bytes count) (sym is)
+      (subst
+      (λ n. IsKeptCluster (record { servers = servers; layouts = layouts ++ layout ∷ []; objects = objects; counter = n }) bytes count)
       (sym (add-one counter))
       (layout_kept (record { servers = servers; layouts = layouts; objects = objects; counter = counter }) bytes count layout counted.kept
       below (omega (arith, few))));

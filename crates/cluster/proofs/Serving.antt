@@ -19,7 +19,7 @@ use Rattle.register.proofs.Rooms.{is_le, le_of, step_within}
 use Rattle.cluster.specs.Accounts.{banks_all}
 use Rattle.cluster.specs.Causes.{next, served_cause, serving_cause, can_handle, place_cause, handled_at}
 use Rattle.cluster.specs.Cluster.{Cluster, is_reached}
-use Rattle.cluster.specs.Kept.{IsKept}
+use Rattle.cluster.specs.Kept.{IsKeptCluster}
 use Rattle.cluster.specs.Serving.{IsOf}
 use Rattle.cluster.proofs.Allowed.{past_step}
 
@@ -80,10 +80,10 @@ own_none {cluster} {place} {object} room now few part =
     ∙ ap (λ b. unless b Full None) (is_le (all_bytes object.banks + request_bytes room.asked) MOST_BYTES within)
 
 -- a cluster is of what it keeps
-pub own_of : {cluster : Cluster} {bytes count : ℕ} → IsKept cluster bytes count → IsOf cluster cluster.servers cluster.counter bytes
+pub own_of : {cluster : Cluster} {bytes count : ℕ} → IsKeptCluster cluster bytes count → IsOf cluster cluster.servers cluster.counter bytes
 own_of kept = record { servers = refl; counter = refl; bytes = sym kept.stored }
 
-pub is_of : {cluster now : Cluster} {bytes count : ℕ} → IsKept cluster bytes count → cluster ≡ now →
+pub is_of : {cluster now : Cluster} {bytes count : ℕ} → IsKeptCluster cluster bytes count → cluster ≡ now →
     IsOf now cluster.servers cluster.counter bytes
 is_of kept same = record {
   servers = ap (λ (k : Cluster). k.servers) (sym same);

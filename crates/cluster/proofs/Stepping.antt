@@ -15,7 +15,7 @@ use Rattle.register.specs.Position.{all_bytes}
 use Rattle.register.specs.State.{State, made}
 use Rattle.cluster.specs.Causes.{next, if_object, object_cause}
 use Rattle.cluster.specs.Cluster.{Cluster, if_some, if_named}
-use Rattle.cluster.specs.Kept.{HasMembersBelow, IsKept}
+use Rattle.cluster.specs.Kept.{HasMembersBelow, IsKeptCluster}
 use Rattle.cluster.specs.Steps.{stepped}
 use Rattle.cluster.proofs.Keeping.{placed, quiet_kept, call_kept, move_kept, serve_kept}
 use Rattle.cluster.proofs.Parts.{IsQuiet, IsCalled, IsMoved, IsServed}
@@ -65,45 +65,45 @@ module _ {servers : List Bool} {layouts : List Layout} {counter : ℕ} {entries 
       ∙ ap (λ es. cluster_of servers layouts es counter) (same_at at)
 
   -- the object's last step is before the next one
-  pub last_before : {bytes count : ℕ} → IsKept (cluster_of servers layouts entries counter) bytes count →
+  pub last_before : {bytes count : ℕ} → IsKeptCluster (cluster_of servers layouts entries counter) bytes count →
       IsAt entries name place old → old.last < counter + 1
   last_before kept at = let p = placed name old kept (named_at at) in let past = p.1.past in omega (arith, past)
 
   -- what the cluster keeps
-  pub quiet_at : {bytes count : ℕ} {new : State} → IsKept (cluster_of servers layouts entries counter) bytes count →
+  pub quiet_at : {bytes count : ℕ} {new : State} → IsKeptCluster (cluster_of servers layouts entries counter) bytes count →
       IsAt entries name place old → (step : Step) → new ≡ made step (counter + 1) old → counter + 1 ≤ MOST_STEPS →
       ((object : Object) (now : ℕ) → IsQuiet object (of.stepped fragment step now object)) →
-      IsKept (cluster_of servers layouts (set_value_at entries place new) (counter + 1)) bytes count
+      IsKeptCluster (cluster_of servers layouts (set_value_at entries place new) (counter + 1)) bytes count
   quiet_at {bytes} {count} kept at step is few quiet =
-      subst (λ k. IsKept k bytes count) (sym (step_at at step is))
+      subst (λ k. IsKeptCluster k bytes count) (sym (step_at at step is))
       (quiet_kept _ bytes count name step old kept (named_at at) (few_is counter few) (quiet old.object (suc counter)))
 
-  pub call_at : {bytes count : ℕ} {new : State} → IsKept (cluster_of servers layouts entries counter) bytes count →
+  pub call_at : {bytes count : ℕ} {new : State} → IsKeptCluster (cluster_of servers layouts entries counter) bytes count →
       IsAt entries name place old → (step : Step) → new ≡ made step (counter + 1) old → counter + 1 ≤ MOST_STEPS →
       ((object : Object) (now : ℕ) → IsCalled object (of.stepped fragment step now object)) →
-      IsKept (cluster_of servers layouts (set_value_at entries place new) (counter + 1)) bytes (count + 1)
+      IsKeptCluster (cluster_of servers layouts (set_value_at entries place new) (counter + 1)) bytes (count + 1)
   call_at {bytes} {count} kept at step is few called =
-      subst (λ k. IsKept k bytes (count + 1)) (sym (step_at at step is))
+      subst (λ k. IsKeptCluster k bytes (count + 1)) (sym (step_at at step is))
       (call_kept _ bytes count name step old kept (named_at at) (few_is counter few) (called old.object (suc counter)))
 
   pub move_at : {bytes count : ℕ} {new : State} →
-      IsKept (cluster_of servers layouts entries counter) bytes count → IsAt entries name place old →
+      IsKeptCluster (cluster_of servers layouts entries counter) bytes count → IsAt entries name place old →
       (layout : Layout) → new ≡ made (Step.CallMove layout) (counter + 1) old → counter + 1 ≤ MOST_STEPS →
       ((object : Object) (now : ℕ) → IsMoved object layout (of.stepped fragment (Step.CallMove layout) now object)) →
       HasMembersBelow (length servers) layout →
-      IsKept (cluster_of servers layouts (set_value_at entries place new) (counter + 1)) bytes (count + 1)
+      IsKeptCluster (cluster_of servers layouts (set_value_at entries place new) (counter + 1)) bytes (count + 1)
   move_at {bytes} {count} kept at layout is few moved below =
-      subst (λ k. IsKept k bytes (count + 1)) (sym (step_at at (Step.CallMove layout) is))
+      subst (λ k. IsKeptCluster k bytes (count + 1)) (sym (step_at at (Step.CallMove layout) is))
       (move_kept _ bytes count name (Step.CallMove layout) old kept (named_at at) (few_is counter few) layout below
       (moved old.object (suc counter)))
 
-  pub serve_at : {bytes count : ℕ} {new : State} → IsKept (cluster_of servers layouts entries counter) bytes count →
+  pub serve_at : {bytes count : ℕ} {new : State} → IsKeptCluster (cluster_of servers layouts entries counter) bytes count →
       IsAt entries name place old → (step : Step) → new ≡ made step (counter + 1) old → counter + 1 ≤ MOST_STEPS →
       ((object : Object) (now : ℕ) → IsServed object (of.stepped fragment step now object)) → (later : ℕ) →
       later + all_bytes old.object.banks ≡ bytes + all_bytes new.object.banks → later ≤ MOST_BYTES →
-      IsKept (cluster_of servers layouts (set_value_at entries place new) (counter + 1)) later count
+      IsKeptCluster (cluster_of servers layouts (set_value_at entries place new) (counter + 1)) later count
   serve_at {bytes} {count} kept at step is few served later same within =
-      subst (λ k. IsKept k later count) (sym (step_at at step is))
+      subst (λ k. IsKeptCluster k later count) (sym (step_at at step is))
       (serve_kept _ bytes count name step old kept (named_at at) (few_is counter few) later
       (same ∙ ap (λ (s : State). bytes + all_bytes s.object.banks) is
       ∙ ap (λ n. bytes + all_bytes (of.stepped fragment step n old.object).banks) (add-one counter))

@@ -14,7 +14,7 @@ use Rattle.record.specs.Sound.{IsSound}
 use Rattle.register.proofs.Short.{mail_short}
 use Rattle.cluster.specs.Accounts.{object_sum}
 use Rattle.cluster.specs.Cluster.{Cluster}
-use Rattle.cluster.specs.Kept.{IsKept}
+use Rattle.cluster.specs.Kept.{IsKeptCluster}
 use Rattle.cluster.proofs.Totals.{objects_total}
 
 -- one server's part of what all servers store
@@ -32,7 +32,7 @@ member_part f member count high =
     let here : f (0 + member) ≡ f member = ap f (omega arith) in
     omega (arith, part, here)
 
-pub stored_part : {cluster : Cluster} {bytes count : ℕ} → IsKept cluster bytes count → (server : ℕ) →
+pub stored_part : {cluster : Cluster} {bytes count : ℕ} → IsKeptCluster cluster bytes count → (server : ℕ) →
     server < length cluster.servers → object_sum (λ o. of.stored o.state.object server) cluster.objects ≤ bytes
 stored_part {cluster} kept server there =
     let part = member_part (λ s. object_sum (λ o. of.stored o.state.object s) cluster.objects) server (length cluster.servers) there in

@@ -32,7 +32,7 @@ AreNamedApart (object ∷ objects) =
 
 -- the layouts and objects are of the cluster's servers and
 -- within the limits, and the running counts are what they count
-pub record IsKept (cluster : Cluster) (bytes count : ℕ) : Type 0 where
+pub record IsKeptCluster (cluster : Cluster) (bytes count : ℕ) : Type 0 where
   pub layouts : AllByRecursion (HasMembersBelow (length cluster.servers)) cluster.layouts
   pub objects : AllByRecursion (IsPlaced (length cluster.servers) cluster.counter) cluster.objects
   pub apart : AreNamedApart cluster.objects

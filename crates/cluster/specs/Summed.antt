@@ -6,7 +6,7 @@ use Rattle.tag.specs.declared.limits.TheConstants.{LONGEST_VALUE, MOST_MESSAGES}
 use Rattle.record.specs.Accounts as of
 use Rattle.cluster.specs.Accounts as all
 use Rattle.cluster.specs.Cluster.{Cluster}
-use Rattle.cluster.specs.Kept.{IsKept}
+use Rattle.cluster.specs.Kept.{IsKeptCluster}
 
 -- nothing, for so many servers
 abbrev pub all_none : (count : ℕ) → List ℕ
@@ -24,5 +24,5 @@ pub record AreSummed (cluster : Cluster) (waiting : ℕ) (loads : List ℕ) : Ty
 
 -- what every step keeps, with the running sums
 pub record IsCounted (cluster : Cluster) (bytes count waiting : ℕ) (loads : List ℕ) : Type 0 where
-  pub kept : IsKept cluster bytes count
+  pub kept : IsKeptCluster cluster bytes count
   pub summed : AreSummed cluster waiting loads

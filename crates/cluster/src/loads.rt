@@ -3,9 +3,9 @@ ghost use Rattle.std.specs.Prelude.{◌≡◌, ◌+◌, ◌≤◌, ◌<◌, leng
 ghost use Rattle.tag.specs.declared.limits.TheConstants.{MOST_BYTES};
 ghost use Rattle.cluster.specs.Summed.{all_none};
 
-use crate::servers::MOST_SERVERS;
 use arrayvec::ArrayVec;
 use std::marker::Model;
+use tag::MOST_SERVERS;
 
 /// How many bytes each server stores.
 #[derive(Debug, Drop)]

@@ -4,9 +4,7 @@ ghost use Rattle.cluster.specs.Cluster.{all_up};
 
 use arrayvec::ArrayVec;
 use std::marker::Model;
-
-// As many as there are numbers for them.
-pub(crate) const MOST_SERVERS: usize = 255;
+use tag::MOST_SERVERS;
 
 /// Whether each server is up.
 #[derive(Debug, Drop)]

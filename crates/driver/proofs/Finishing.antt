@@ -16,7 +16,7 @@ use Rattle.cluster.specs.Cluster.{Cluster, named}
 use Rattle.cluster.specs.Causes.{if_object, object_cause}
 use Rattle.driver.specs.Driver.{wanted, asks_again, Drives, IsOpen, IsTurn, IsAnswer, IsRefused, IsFinished, IsStopped, IsUnfinished}
 use Rattle.driver.proofs.Named.{is_there, cause_there}
-use Rattle.driver.proofs.Pieces.{wants_at}
+use Rattle.driver.proofs.Wanted.{wants_at}
 
 -- an open call is there
 open_there : (cluster : Cluster) (name : List ℕ) (call : ℕ) (r : Refusal) → IsOpen cluster name call

@@ -7,7 +7,6 @@ use Rattle.record.specs.Records.{Object}
 use Rattle.register.specs.State.{State}
 use Rattle.cluster.specs.Cluster.{Named, Cluster, named, changed, if_some, if_named}
 use Rattle.cluster.specs.Causes.{if_object, object_cause}
-use Rattle.driver.specs.Coding.{IsByCauseOrMemory}
 
 module _ (cluster : Cluster) (name : List ℕ) where
   pub read_there : {X : Type 0} (state : State) (read : Object → Option X) → named cluster.objects name ≡ Some state
@@ -67,12 +66,6 @@ pub by_cause : {T : Type 0} (a b : Option Refusal) (r : Result T Refusal) → a 
 by_cause a b (Ok x) e h = sym e ∙ h
 by_cause a b (Err r) e (inl some) = inl (sym e ∙ some)
 by_cause a b (Err r) e (inr none) = inr (sym e ∙ none.0, none.1)
-
-pub by_cause_or : {T : Type 0} (no_value a b : Option Refusal) (r : Result T Refusal) → no_value ≡ None → a ≡ b → IsByCause a r
-    → IsByCauseOrMemory no_value b r
-by_cause_or no_value a b (Ok x) none e h = sym e ∙ h
-by_cause_or no_value a b (Err r) none e (inl some) = inl (sym e ∙ some)
-by_cause_or no_value a b (Err r) none e (inr memory) = inr (none, memory.1)
 
 pub exactly : {T : Type 0} (a : Option Refusal) (r : Result T Refusal) → IsExactlyByCause a r → IsByCause a r
 exactly a (Ok x) h = h

@@ -25,7 +25,7 @@ use Rattle.cluster.specs.Cluster.{Cluster, named}
 use Rattle.driver.specs.Choices.{handling}
 use Rattle.driver.specs.Driver.{wanted, IsOpen, IsNext, IsTurn}
 use Rattle.driver.proofs.Named.{named_changed, read_there}
-use Rattle.driver.proofs.Pieces.{wants_at, place_of_call}
+use Rattle.driver.proofs.Wanted.{wants_at, place_of_call}
 
 -- the call is there, and answered no more than before
 record IsKeptCall (object : Object) (index : ℕ) (call : Call) : Type 0 where

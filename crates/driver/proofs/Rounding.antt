@@ -1,7 +1,7 @@
 -- What is handed out of a cluster to be coded or decoded.
-use Rattle.std.proofs.Common.{◌≡◌, ℕ, suc, ◌≤◌, ◌⊎◌, inl, inr, List, Option, Some, None, Result, Ok, Err, IsErrAnd, sym, ap, subst, ◌∙◌}
+use Rattle.std.proofs.Common.{◌≡◌, ℕ, suc, ◌≤◌, inl, inr, List, Option, Some, None, Result, Ok, Err, sym, subst, ◌∙◌}
 use Rattle.tag.specs.declared.refusal.Refusal.{Refusal}
-use Rattle.tag.specs.declared.refusal.Refusal.TheVariants.{NoMemory}
+use Rattle.tag.specs.Refusal.{IsByCause}
 use Rattle.tag.specs.declared.limits.TheConstants.{MOST_STEPS}
 use Rattle.encoder.specs.Fragment.{fragment}
 use Rattle.encoder.specs.declared.fragment.Piece.{Piece}
@@ -10,17 +10,18 @@ use Rattle.decoder.specs.Pieces.{ArePiecesOf, IsInterpolated}
 use Rattle.decoder.proofs.Cut.{IsInterpolated-pieces_of}
 use Rattle.record.specs.Sound.{IsSound}
 use Rattle.record.specs.declared.stage.Want.TheVariants as want
-use Rattle.register.specs.Causes.{supply_cause, settle_cause, value_cause}
+use Rattle.register.specs.Causes.{supply_cause, supplying_cause, settle_cause, value_cause}
 use Rattle.register.specs.State.{State}
 use Rattle.register.specs.View.{want_at, coding_at, pieces_at}
 use Rattle.cluster.specs.Cluster.{Cluster, named, if_named}
 use Rattle.cluster.specs.Causes.{next, if_object, object_cause}
-use Rattle.driver.specs.Coding.{supplying_cause, settling_cause, IsByCauseOrMemory}
+use Rattle.driver.specs.Coding.{settling_cause}
 use Rattle.driver.specs.Driver.{wanted}
 use Rattle.driver.specs.Rounds.{IsToEncode, IsToDecode}
 use Rattle.driver.proofs.Named.{read_there, cause_there, same_cause, one_state}
-use Rattle.driver.proofs.Pieces.{pieces_are}
-use Rattle.driver.proofs.Sending.{codable, supply_is, settle_is, settling_none, value_refused}
+use Rattle.driver.proofs.Fetched.{pieces_are}
+use Rattle.driver.proofs.Supplying.{codable, supply_is, value_refused}
+use Rattle.driver.proofs.Settling.{settle_is, settling_none}
 
 some_same : {X : Type 0} (x y : X) → Some x ≡ Some y → x ≡ y
 some_same x y e = cc
@@ -28,11 +29,13 @@ some_same x y e = cc
 module _ (cluster : Cluster) (name : List ℕ) (call : ℕ) where
   pub to_encode : (state : State) (k n : ℕ) (value : List ℕ) → named cluster.objects name ≡ Some state
       → IsSound fragment state.object state.last
+      → object_cause cluster name (λ object. supplying_cause (next cluster) object call) ≡ None
       → if_named cluster name (λ object. coding_at object call) ≡ Some (value, k, n) → IsToEncode cluster name call k n value
-  to_encode state k n value there sound sent = record {
+  to_encode state k n value there sound room sent = record {
     sent = sent;
     lawful = codable state.object state.last call k n value sound
         (sym (read_there cluster name state (λ object. coding_at object call) there) ∙ sent);
+    room = room;
   }
 
   pub to_decode : (state : State) (k len : ℕ) (pieces : List Piece) → named cluster.objects name ≡ Some state
@@ -86,15 +89,14 @@ module _ (cluster : Cluster) (name : List ℕ) (call : ℕ) where
         subst (λ (s : State). IsInterpolated k len (pieces_at s.object call) given.0) (one_state cluster name old state there at) value,
       )
 
-  -- a call without a value to send is not supplied
-  pub no_value : {T : Type 0} (r : Result T Refusal) (e : Refusal) → IsErrAnd r (λ y. y ≡ e)
-      → (object_cause cluster name (λ object. value_cause object call) ≡ Some e)
-      ⊎ ((object_cause cluster name (λ object. value_cause object call) ≡ None) × (e ≡ NoMemory))
-      → IsByCauseOrMemory (object_cause cluster name (λ object. value_cause object call))
-      (object_cause cluster name (λ object. supplying_cause (next cluster) object call)) r
-  no_value (Ok x) e is by = absurd is
-  no_value (Err y) e is (inr none) = inr (none.0, is ∙ none.1)
-  no_value (Err y) e is (inl some) = inl (supplied (named cluster.objects name) some ∙ ap Some (sym is))
+  -- a value that is refused, though no limit refuses its supply, is refused for want of memory
+  pub value_by : {T : Type 0} (r : Result T Refusal)
+      → object_cause cluster name (λ object. supplying_cause (next cluster) object call) ≡ None
+      → IsByCause (object_cause cluster name (λ object. value_cause object call)) r
+      → IsByCause (object_cause cluster name (λ object. supplying_cause (next cluster) object call)) r
+  value_by (Ok x) room by = room
+  value_by (Err e) room (inr memory) = inr (room, memory.1)
+  value_by (Err e) room (inl some) = inl (supplied (named cluster.objects name) some)
     where
       supplied : (o : Option State) → if_object o (λ object. value_cause object call) ≡ Some e
           → if_object o (λ object. supplying_cause (next cluster) object call) ≡ Some e

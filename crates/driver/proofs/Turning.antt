@@ -1,5 +1,6 @@
 -- What a round and the step behind it make together: a turn, or a refused one.
-use Rattle.std.proofs.Common.{◌≡◌, ◌≢◌, ℕ, pred, ◌⊎◌, Bool, List, Option, Some, None, refl, sym, ap, subst, ◌∙◌, Vec, Global}
+use Rattle.std.proofs.Common.{◌≡◌, ◌≢◌, ℕ, pred, ◌⊎◌, Bool, List, Some, None, refl, sym, ap, subst, ◌∙◌, Vec, Global}
+use Rattle.tag.specs.Cause.{IsRefusalBy}
 use Rattle.tag.specs.declared.refusal.Refusal.{Refusal}
 use Rattle.tag.specs.declared.refusal.Refusal.TheVariants.{NoMemory}
 use Rattle.decoder.specs.Pieces.{IsInterpolated}
@@ -8,13 +9,14 @@ use Rattle.encoder.specs.declared.fragment.Piece.{Piece}
 use Rattle.record.specs.Steps.{Step}
 use Rattle.record.specs.declared.stage.Want.{Want}
 use Rattle.record.specs.declared.stage.Want.TheVariants as want
+use Rattle.register.specs.Causes.{supplying_cause}
 use Rattle.register.specs.View.{want_at, pieces_at}
 use Rattle.cluster.specs.Cluster.{Cluster}
 use Rattle.cluster.specs.Causes.{next, object_cause}
 use Rattle.cluster.specs.Steps.{stepped}
 use Rattle.driver.specs.declared.round.Round.{Round}
 use Rattle.driver.specs.declared.round.Round.TheVariants as round
-use Rattle.driver.specs.Coding.{supplying_cause, settling_cause}
+use Rattle.driver.specs.Coding.{settling_cause}
 use Rattle.driver.specs.Driver.{wanted, turn_cause, IsOpen, IsNext, IsDue, IsTurn, IsRefused}
 use Rattle.driver.specs.Rounds.{SettlesOwn, IsRound}
 use Rattle.driver.proofs.Named.{read_there, is_there}
@@ -73,15 +75,13 @@ module _ {C : Type 0} (chooses : C → ℕ → ℕ → C → Type 0) (name : Lis
         (step ∙ ap (λ m. stepped m name (Step.Supply (pred call))) r.0)
 
     pub encode_refused : (value : List ℕ) (k n : ℕ) (refusal : Refusal) → o ≡ round.Encode value k n
-        → (object_cause middle name (λ object. supplying_cause (next middle) object call) ≡ Some refusal)
-        ⊎ ((◌≡◌ {A = Option Refusal} None None) × (refusal ≡ NoMemory))
+        → IsRefusalBy (object_cause middle name (λ object. supplying_cause (next middle) object call)) refusal
         → IsRefused chooses name call old again before after refusal
     encode_refused value k n refusal is by =
         let r = subst (λ o. IsRound chooses name call again old before middle after o) is made_by in
         subst (λ a. IsRefused chooses name call old again before a refusal) (sym r.1)
         (supply_refused chooses name call old again before k n value refusal r.2 r.3.sent
-        (subst (λ (m : Cluster). (object_cause m name (λ object. supplying_cause (next m) object call) ≡ Some refusal)
-        ⊎ ((◌≡◌ {A = Option Refusal} None None) × (refusal ≡ NoMemory))) r.0 by))
+        (subst (λ (m : Cluster). IsRefusalBy (object_cause m name (λ object. supplying_cause (next m) object call)) refusal) r.0 by))
 
     pub decode_turn : (pieces : Vec Piece Global) (k len : ℕ) (new : Cluster) → o ≡ round.Decode pieces k len
         → object_cause middle name (λ object. settling_cause (next middle) object call) ≡ None → SettlesOwn middle name call new

@@ -1,7 +1,7 @@
--- Values that are coded for a call, or decoded: why its supply and its settling are refused.
-use Rattle.std.specs.Prelude.{◌≡◌, ℕ, ◌⊎◌, pred, is_some, List, length, Option, Some, None, Result, MatchResult}
+-- Values that are decoded for a call: why its settling is refused, and what it settles.
+use Rattle.std.specs.Prelude.{◌≡◌, ℕ, pred, List, length, Option, None}
 use Rattle.tag.specs.declared.refusal.Refusal.{Refusal}
-use Rattle.tag.specs.declared.refusal.Refusal.TheVariants.{NoMemory, NotNow}
+use Rattle.tag.specs.declared.refusal.Refusal.TheVariants.{NotNow}
 use Rattle.encoder.specs.declared.fragment.Piece.{Piece}
 use Rattle.decoder.specs.Pieces.{ArePiecesOf, IsInterpolated}
 use Rattle.record.specs.Records.{Object}
@@ -9,27 +9,14 @@ use Rattle.record.specs.Steps.{Step}
 use Rattle.record.specs.Wants.{want_of}
 use Rattle.record.specs.declared.stage.Want.{Want}
 use Rattle.record.specs.declared.stage.Want.TheVariants as want
-use Rattle.register.specs.Causes.{call_at, if_call, if_step, unless, is_settle, supply_room_cause}
-use Rattle.register.specs.Coding.{pieces_due}
+use Rattle.register.specs.Causes.{call_at, if_call, if_step, unless, is_settle}
 use Rattle.register.specs.View.{pieces_at}
-
--- why a call is not supplied with its own value: it sends none, or a limit is met
-abbrev pub supplying_cause : (now : ℕ) → Object → (number : ℕ) → Option Refusal
-supplying_cause now object number =
-    if_call (call_at object number) (λ call. unless (is_some (pieces_due object (pred number) call)) NotNow
-    (supply_room_cause now object (pred number) call))
 
 -- why a call does not settle the value of its own pieces: it wants none, or the limit of steps is met
 abbrev pub settling_cause : (now : ℕ) → Object → (number : ℕ) → Option Refusal
 settling_cause now object number =
     if_call (call_at object number)
     (λ call. unless (is_settle (want_of object (pred number) call)) NotNow (if_step now None))
-
--- Ok where there is no cause of refusal, else that refusal; but the memory to code the value may be wanting first,
--- where there is a value to code
-abbrev pub IsByCauseOrMemory : {T : Type 0} → (no_value cause : Option Refusal) → Result T Refusal → Type 0
-IsByCauseOrMemory no_value cause answer =
-    MatchResult answer (λ _. cause ≡ None) (λ r. (cause ≡ Some r) ⊎ ((no_value ≡ None) × (r ≡ NoMemory)))
 
 -- any decoding of these pieces gives a value of this length
 abbrev pub GiveBack : (k len : ℕ) → List Piece → Type 0

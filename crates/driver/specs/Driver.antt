@@ -9,7 +9,8 @@ use Rattle.record.specs.Steps.{Step}
 use Rattle.record.specs.Wants.{current_phase}
 use Rattle.record.specs.declared.stage.Want.{Want}
 use Rattle.record.specs.declared.stage.Want.TheVariants as want
-use Rattle.register.specs.Causes.{call_at, number_cause, advance_cause, post_cause, answer_cause, is_plain}
+use Rattle.register.specs.Causes.{call_at, number_cause, advance_cause, supplying_cause, post_cause, answer_cause}
+use Rattle.register.specs.Causes.{is_plain}
 use Rattle.register.specs.State.{State}
 use Rattle.register.specs.View.{want_at, receipt_at}
 use Rattle.register.specs.declared.receipt.Receipt.{Receipt}
@@ -17,7 +18,7 @@ use Rattle.cluster.specs.Cluster.{Cluster, named, if_named, place_of}
 use Rattle.cluster.specs.Causes.{next, object_cause}
 use Rattle.cluster.specs.Steps.{stepped}
 use Rattle.driver.specs.Choices.{Picks, choices, handling, handling_cause}
-use Rattle.driver.specs.Coding.{supplying_cause, settling_cause, Settles}
+use Rattle.driver.specs.Coding.{settling_cause, Settles}
 
 -- what a call wants; none where there is no such call
 abbrev pub wanted : Cluster → (name : List ℕ) → (call : ℕ) → Option Want
@@ -48,11 +49,6 @@ due_cause cluster number _ object = None
 
 abbrev pub turn_cause : Cluster → (name : List ℕ) → (call : ℕ) → Step → Option Refusal
 turn_cause cluster name call step = object_cause cluster name (due_cause cluster call step)
-
--- no limit is met; but the memory to code a value that is to be sent may be wanting before a limit is looked at
-abbrev pub IsForMemory : Step → (cause : Option Refusal) → Type 0
-IsForMemory (Step.Supply index) cause = Unit {0}
-IsForMemory _ cause = cause ≡ None
 
 -- whether a turn after so many asks again: the first of a resume does
 abbrev pub asks_again : (resumed : Bool) → (count : ℕ) → Bool
@@ -116,7 +112,7 @@ module _ {C : Type 0} (chooses : C → ℕ → ℕ → C → Type 0) (name : Lis
   IsRefused cluster again before after Full =
       (step : Step) × IsDue cluster again before after step × (turn_cause cluster name call step ≡ Some Full)
   IsRefused cluster again before after NoMemory =
-      (step : Step) × IsDue cluster again before after step × IsForMemory step (turn_cause cluster name call step)
+      (step : Step) × IsDue cluster again before after step × (turn_cause cluster name call step ≡ None)
   IsRefused cluster again before after _ = ⊥
 
   -- so many turns, one after another, lead from one cluster to another

@@ -5,6 +5,7 @@ use Rattle.encoder.specs.declared.fragment.Piece.{Piece}
 use Rattle.decoder.specs.Pieces.{IsInterpolated}
 use Rattle.record.specs.Steps.{Step}
 use Rattle.record.specs.declared.stage.Want.TheVariants as want
+use Rattle.register.specs.Causes.{supplying_cause}
 use Rattle.register.specs.View.{coding_at, pieces_at}
 use Rattle.cluster.specs.Cluster.{Cluster, if_named}
 use Rattle.cluster.specs.Causes.{next, object_cause}
@@ -14,10 +15,11 @@ use Rattle.driver.specs.declared.round.Round.TheVariants as round
 use Rattle.driver.specs.Coding.{settling_cause, GiveBack}
 use Rattle.driver.specs.Driver.{wanted, IsDue, IsTurn, IsAnswer}
 
--- the value is the one that the call is to send, with its k and n, and it can be coded
+-- the value is the one that the call is to send, with its k and n, it can be coded, and the call's step has room
 pub record IsToEncode (cluster : Cluster) (name : List ℕ) (call k n : ℕ) (value : List ℕ) : Type 0 where
   pub sent : if_named cluster name (λ object. coding_at object call) ≡ Some (value, k, n)
   pub lawful : IsLawful k n value
+  pub room : object_cause cluster name (λ object. supplying_cause (next cluster) object call) ≡ None
 
 -- the pieces are those of which the call is to settle the value, they give one, and its step has room
 pub record IsToDecode (cluster : Cluster) (name : List ℕ) (call k len : ℕ) (pieces : List Piece) : Type 0 where

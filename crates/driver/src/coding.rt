@@ -1,16 +1,16 @@
 //! Values that are coded for a call, or decoded, and the steps that they are for.
-ghost use Rattle.std.specs.Prelude.{◌≡◌, ℕ, List, pred, Some, None, IfOk, OnOk, OnErr};
+ghost use Rattle.std.specs.Prelude.{◌≡◌, ℕ, List, pred, Some, IfOk, OnOk, OnErr};
 ghost use Rattle.tag.specs.Refusal.{IsByCause};
 ghost use Rattle.record.specs.Steps.{Step};
 ghost use Rattle.record.specs.declared.stage.Want.TheVariants as want;
-ghost use Rattle.register.specs.Causes.{value_cause};
+ghost use Rattle.register.specs.Causes.{supplying_cause};
 ghost use Rattle.register.specs.State.{State};
 ghost use Rattle.register.specs.View.{pieces_at};
 ghost use Rattle.decoder.specs.Pieces.{IsInterpolated};
 ghost use Rattle.cluster.specs.Cluster.{named};
 ghost use Rattle.cluster.specs.Causes.{next, object_cause};
 ghost use Rattle.cluster.specs.Steps.{stepped};
-ghost use Rattle.driver.specs.Coding.{supplying_cause, settling_cause, IsByCauseOrMemory};
+ghost use Rattle.driver.specs.Coding.{settling_cause};
 ghost use Rattle.driver.specs.Driver.{wanted};
 ghost use Rattle.driver.specs.Rounds.{IsToEncode, IsToDecode, SettlesOwn};
 
@@ -25,13 +25,11 @@ use tag::{MOST_STEPS, Refusal};
 /// The value that the call of this number is to send is coded, and the call is supplied with it.
 ///
 /// `NoObject` or `NoCall` where there is none, `NotNow` where it sends no value, and `Full` where a limit of the steps,
-/// of its phases or of the messages is met. `NoMemory` comes before `Full` where the memory to code the value is
-/// refused.
+/// of its phases or of the messages is met.
 pub fn supply(alloc: Global, cluster: &mut Cluster, name: &str, call: u64) -> Result<(), Refusal>
     ensures step { OnOk result (cluster.new ≡ stepped cluster.old name.entry.now (Step.Supply (pred call))) }
-    ensures cause { IsByCauseOrMemory (object_cause cluster.old name.entry.now (λ object. value_cause object call))
+    ensures cause { IsByCause
         (object_cause cluster.old name.entry.now (λ object. supplying_cause (next cluster.old) object call)) result }
-
     ensures unchanged { OnErr result (cluster.new ≡ cluster.old) }
 {
     let (value, k, n) = value_to_encode(cluster, name, call)?;
@@ -57,16 +55,18 @@ pub fn settle(alloc: Global, cluster: &mut Cluster, name: &str, call: u64) -> Re
     }
 }
 
-/// The value that a call is to send, with its k and n.
+/// The value that a call is to send, with its k and n, once it is known that no limit refuses the supply.
 pub(crate) fn value_to_encode(
     cluster: &Cluster,
     name: &str,
     call: u64,
 ) -> Result<(Bytes, u8, u8), Refusal>
     ensures value { IfOk result (λ r. IsToEncode cluster.now name.now call r.1 r.2 r.0) }
-    ensures cause { IsByCause (object_cause cluster.now name.now (λ object. value_cause object call)) result }
+    ensures cause { IsByCause
+        (object_cause cluster.now name.now (λ object. supplying_cause (next cluster.now) object call)) result }
 {
     cluster.register(name)?.soundness();
+    cluster.may_supply(name, call)?;
     cluster.value_to_code(name, call)
 }
 
@@ -104,7 +104,7 @@ pub(crate) fn supply_value(
 ) -> Result<(), Refusal>
     requires { IsToEncode cluster.old name.now call k n value }
     ensures step { OnOk result (cluster.new ≡ stepped cluster.old name.entry.now (Step.Supply (pred call))) }
-    ensures cause { IsByCauseOrMemory None
+    ensures cause { IsByCause
         (object_cause cluster.old name.entry.now (λ object. supplying_cause (next cluster.old) object call)) result }
     ensures unchanged { OnErr result (cluster.new ≡ cluster.old) }
 {

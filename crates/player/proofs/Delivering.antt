@@ -20,7 +20,7 @@ use Rattle.driver.specs.declared.messages.Handled.TheVariants as handled
 use Rattle.driver.specs.declared.choices.Among.TheVariants as among
 use Rattle.driver.specs.Choices.{step_of, places, choices_from, handled_at as handling_at}
 use Rattle.driver.proofs.Named.{read_there, is_there, named_changed}
-use Rattle.player.specs.Deliver.{can_handle_at, Delivers, IsFirst, NoneBefore, IsIdle}
+use Rattle.player.specs.Deliver.{can_handle_at, Delivers, IsFirst, NoneBefore, HasNoneToHandle}
 use Rattle.player.specs.Deliver.Delivers.{then_handles}
 
 -- a change at a place, and what stands before it
@@ -122,7 +122,7 @@ still_none cluster name place h none earlier less =
 
 -- where none of all the messages can be handled, none can
 pub idle : (cluster : Cluster) (name : List ℕ) (state : State) (count : ℕ) → named cluster.objects name ≡ Some state →
-    length state.object.mail ≤ count → NoneBefore cluster name count → IsIdle cluster name
+    length state.object.mail ≤ count → NoneBefore cluster name count → HasNoneToHandle cluster name
 idle cluster name state count there few none place able = go (slice_get_cases state.object.mail place).1
   where
     go : ((x : Message) × (place < length state.object.mail)
@@ -167,7 +167,7 @@ module _ (cluster : Cluster) (name : List ℕ) (state : State) (there : named cl
   able m = can_handle cluster state.object m m.body
 
   abbrev IsFound : Option ℕ → Type 0
-  IsFound answer = MatchOption answer (IsIdle cluster name) (IsFirst cluster name)
+  IsFound answer = MatchOption answer (HasNoneToHandle cluster name) (IsFirst cluster name)
 
   able_at : (place : ℕ) (m : Message) (b : Bool) → slice_get state.object.mail place ≡ Some m → able m ≡ b
       → can_handle_at cluster name place ≡ Some b

@@ -11,23 +11,23 @@ use Rattle.driver.specs.declared.whole_call.NotAnswered.TheVariants as unanswere
 use Rattle.driver.specs.WholeCalls as of
 use Rattle.player.specs.declared.report.Report.{Report}
 use Rattle.player.specs.Report.{whole}
-use Rattle.player.specs.WholeCalls.{IsWhole, chooses_first}
+use Rattle.player.specs.WholeCalls.{IsWholeRun, chooses_first}
 
 pub told : (name : List ℕ) (turns : ℕ) (old : Cluster) (before : First) (new : Cluster) (after : First) (cause : Option
     Refusal) (begun : Cluster) (answer : Result Receipt NotAnswered) (report : Report) →
     of.IsWholeCall chooses_first name turns old before new after cause begun answer → report ≡ whole answer →
-    IsWhole old begun cause name turns new report
+    IsWholeRun old begun cause name turns new report
 told name turns old before new after cause begun (Ok receipt) report is tells =
-    subst (IsWhole old begun cause name turns new) (sym tells) (inl (is.0, is.1, is.2, (before, after, is.3)))
+    subst (IsWholeRun old begun cause name turns new) (sym tells) (inl (is.0, is.1, is.2, (before, after, is.3)))
 told name turns old before new after cause begun (Err (unanswered.Open call refusal)) report is tells =
-    subst (IsWhole old begun cause name turns new) (sym tells) (inl (call, is.0, is.1, (refl, (before, after, is.2))))
+    subst (IsWholeRun old begun cause name turns new) (sym tells) (inl (call, is.0, is.1, (refl, (before, after, is.2))))
 told name turns old before new after cause begun (Err (unanswered.NotCalled refusal)) report is tells = inr (refusal, is.0, (is.1, tells))
 
 -- the number of a layout as it was handed over
 pub told_move : (name : List ℕ) (turns : ℕ) (old : Cluster) (before : First) (new : Cluster) (after : First)
     (id number : ℕ) (answer : Result Receipt NotAnswered) (report : Report) → id ≡ number →
     of.IsWholeMove chooses_first name turns old before new after id answer → report ≡ whole answer →
-    IsWhole old (moved old name number) (object_cause old name (moving_cause old number)) name turns new report
+    IsWholeRun old (moved old name number) (object_cause old name (moving_cause old number)) name turns new report
 told_move name turns old before new after id number answer report same is tells =
-    subst (λ n. IsWhole old (moved old name n) (object_cause old name (moving_cause old n)) name turns new report) same
+    subst (λ n. IsWholeRun old (moved old name n) (object_cause old name (moving_cause old n)) name turns new report) same
     (told name turns old before new after (object_cause old name (moving_cause old id)) (moved old name id) answer report is tells)

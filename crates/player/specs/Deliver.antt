@@ -34,8 +34,8 @@ pub data Delivers (name : List ℕ) (old : Cluster) : ℕ → Cluster → Type 0
       Delivers name old (suc count) (stepped cluster name (step_of place handled))
 
 -- no message can be handled
-abbrev pub IsIdle : Cluster → (name : List ℕ) → Type 0
-IsIdle cluster name = (place : ℕ) → ¬ (can_handle_at cluster name place ≡ Some true)
+abbrev pub HasNoneToHandle : Cluster → (name : List ℕ) → Type 0
+HasNoneToHandle cluster name = (place : ℕ) → ¬ (can_handle_at cluster name place ≡ Some true)
 
 -- there is no such object, or the first message that can be handled is refused
 abbrev pub IsStopped : Cluster → (name : List ℕ) → Refusal → Type 0
@@ -46,7 +46,7 @@ IsStopped cluster name refusal =
 
 abbrev pub DeliversTo : Cluster → (name : List ℕ) → Cluster → Outcome → Type 0
 DeliversTo old name new (outcome.Handled count) =
-    Delivers name old count new × (object_cause new name (λ object. None) ≡ None) × IsIdle new name
+    Delivers name old count new × (object_cause new name (λ object. None) ≡ None) × HasNoneToHandle new name
 DeliversTo old name new (outcome.Refused refusal) =
     (count : ℕ) × Delivers name old count new × IsStopped new name refusal
 DeliversTo old name new _ = ⊥

@@ -20,48 +20,48 @@ abbrev pub chooses_first : First → (below answer : ℕ) → First → Type 0
 chooses_first before below answer after = answer ≡ 0
 
 -- the driver is refused, and names the call
-abbrev pub Leaves : (name : List ℕ) → (call : ℕ) → (resumed : Bool) → (turns : ℕ) →
+abbrev pub LeavesOpen : (name : List ℕ) → (call : ℕ) → (resumed : Bool) → (turns : ℕ) →
     (begun new : Cluster) → Outcome → Type 0
-Leaves name call resumed turns begun new (outcome.CallRefused number refusal) =
+LeavesOpen name call resumed turns begun new (outcome.CallRefused number refusal) =
     (number ≡ call) × ((before : First) × (after : First)
     × IsUnfinished chooses_first name call resumed turns begun before new after refusal)
-Leaves name call resumed turns begun new _ = ⊥
+LeavesOpen name call resumed turns begun new _ = ⊥
 
 -- the driver goes on with a call: it brings the call to its answer, or is refused
 abbrev pub GoesOn : (name : List ℕ) → (call : ℕ) → (resumed : Bool) → (turns : ℕ) →
     (begun new : Cluster) → Report → Type 0
 GoesOn name call resumed turns begun new (of.Answered receipt) =
     (before : First) × (after : First) × IsFinished chooses_first name call resumed turns begun before new after receipt
-GoesOn name call resumed turns begun new (of.Did outcome) = Leaves name call resumed turns begun new outcome
+GoesOn name call resumed turns begun new (of.Did outcome) = LeavesOpen name call resumed turns begun new outcome
 
 -- the number of the next call of the object of this name
 abbrev pub next_number : Cluster → (name : List ℕ) → Option ℕ
 next_number cluster name = if_named cluster name (λ object. Some (suc (length object.calls)))
 
 -- the call step is made, which leads to this cluster, and the driver goes on; or the call step is refused
-abbrev pub IsWhole : (old begun : Cluster) → Option Refusal → (name : List ℕ) → (turns : ℕ) →
+abbrev pub IsWholeRun : (old begun : Cluster) → Option Refusal → (name : List ℕ) → (turns : ℕ) →
     (new : Cluster) → Report → Type 0
-IsWhole old begun cause name turns new report =
+IsWholeRun old begun cause name turns new report =
     ((call : ℕ) × (cause ≡ None) × (next_number old name ≡ Some call) × GoesOn name call false turns begun new report)
     ⊎ ((refusal : Refusal) × IsRefusalBy cause refusal × IsRefused old refusal new report)
 
 -- a whole read
 abbrev pub Reads : Cluster → (name : List ℕ) → (turns : ℕ) → Cluster → Report → Type 0
 Reads old name turns new report =
-    IsWhole old (stepped old name Step.CallRead)
+    IsWholeRun old (stepped old name Step.CallRead)
     (object_cause old name (λ object. read_cause (next old) object)) name turns new report
 
 -- a whole write of this value
 abbrev pub Writes : Cluster → (name value : List ℕ) → (turns : ℕ) → Cluster → Report → Type 0
 Writes old name value turns new report =
-    IsWhole old (stepped old name (Step.CallWrite value))
+    IsWholeRun old (stepped old name (Step.CallWrite value))
     (object_cause old name (λ object. write_cause value (next old) object))
     name turns new report
 
 -- a whole move to the layout of this number
 abbrev pub Moves : Cluster → (name : List ℕ) → (layout turns : ℕ) → Cluster → Report → Type 0
 Moves old name layout turns new report =
-    IsWhole old (moved old name (layout_number layout))
+    IsWholeRun old (moved old name (layout_number layout))
     (object_cause old name (moving_cause old (layout_number layout))) name turns new report
 
 -- the driver goes on with a call that is there, and asks again first

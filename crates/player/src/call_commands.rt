@@ -4,9 +4,9 @@ ghost use Rattle.record.specs.Steps.{Step};
 ghost use Rattle.register.specs.View.{want_at};
 ghost use Rattle.cluster.specs.Causes.{object_cause};
 ghost use Rattle.cluster.specs.Steps.{stepped};
-ghost use Rattle.driver.specs.Coding.{IsByCauseOrMemory};
 ghost use Rattle.player.specs.CallCommands.{CallsRead, CallsWrite, CallsMove, Advances, Posts, Answers};
-ghost use Rattle.player.specs.CodingCommands.{Supplies, SuppliesAs, SettlesValue, coding_cause, supplying_as_cause};
+ghost use Rattle.player.specs.CodingCommands.{Supplies, SuppliesAs, SettlesValue, IsByCauseOrMemory};
+ghost use Rattle.player.specs.CodingCommands.{coding_cause, supplying_as_cause};
 
 use crate::cluster_commands::layout_id;
 use crate::report::Report;

@@ -2,7 +2,7 @@
 ghost use Rattle.std.specs.Prelude.{◌≡◌, ℕ, Some, None, IfOk, IfErr, OnOk, MatchOption, MatchResult};
 ghost use Rattle.cluster.specs.Causes.{object_cause};
 ghost use Rattle.player.specs.MailCommands.{Serves, Takes, Loses, Repeats};
-ghost use Rattle.player.specs.Deliver.{DeliversAll, Delivers, IsFirst, NoneBefore, IsIdle, IsStopped};
+ghost use Rattle.player.specs.Deliver.{DeliversAll, Delivers, IsFirst, NoneBefore, HasNoneToHandle, IsStopped};
 
 use crate::report::Report;
 use cluster::Cluster;
@@ -51,7 +51,8 @@ pub(crate) fn deliver(cluster: &mut Cluster, name: &str) -> Report
 // What is done to a message leaves those before it as they are, so the search goes on from its place.
 fn handle_all(cluster: &mut Cluster, name: &str) -> Result<u64, Refusal>
     ensures { MatchResult result (λ count. Delivers name.entry.now cluster.old count cluster.new
-        × (object_cause cluster.new name.entry.now (λ object. None) ≡ None) × IsIdle cluster.new name.entry.now)
+        × (object_cause cluster.new name.entry.now (λ object. None) ≡ None)
+        × HasNoneToHandle cluster.new name.entry.now)
         (λ refusal. (count : ℕ) × Delivers name.entry.now cluster.old count cluster.new
         × IsStopped cluster.new name.entry.now refusal) }
 {
@@ -71,7 +72,7 @@ fn handle_all(cluster: &mut Cluster, name: &str) -> Result<u64, Refusal>
 fn first_handled(cluster: &Cluster, name: &str, from: usize) -> Result<Option<usize>, Refusal>
     requires { NoneBefore cluster.now name.now from }
     ensures first { IfOk result
-        (λ found. MatchOption found (IsIdle cluster.now name.now) (IsFirst cluster.now name.now)) }
+        (λ found. MatchOption found (HasNoneToHandle cluster.now name.now) (IsFirst cluster.now name.now)) }
     ensures there { OnOk result (object_cause cluster.now name.now (λ object. None) ≡ None) }
     ensures refused { IfErr result (λ refusal. object_cause cluster.now name.now (λ object. None) ≡ Some refusal) }
 {

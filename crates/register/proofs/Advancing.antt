@@ -15,7 +15,8 @@ use Rattle.record.specs.declared.stage.Want.TheVariants as want
 use Rattle.record.specs.Records.{Object, layout_at}
 use Rattle.record.specs.Courses.{due}
 use Rattle.record.specs.Legal.{stage_of}
-use Rattle.record.specs.Steps.{Step, stepped, on_call, advanced_object, begun_object, sent_pieces}
+use Rattle.record.specs.Steps.{Step, stepped, on_call, advanced_object, begun_object}
+use Rattle.record.specs.Sending.{sent_pieces}
 use Rattle.record.proofs.Sound.Wanting.{Plain, advance_ready}
 use Rattle.transfer.specs.Limits.{IsBelowLimit}
 use Rattle.register.specs.Causes.{unless, is_advance, advance_cause, new_phase_cause}

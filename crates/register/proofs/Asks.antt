@@ -10,7 +10,8 @@ use Rattle.mail.specs.declared.message.Body.TheVariants as body
 use Rattle.phase.specs.declared.phase.Taken.{Taken}
 use Rattle.phase.specs.Phase.{has_taken, members_of}
 use Rattle.register.proofs.Lists.{same_some}
-use Rattle.record.specs.Steps.{opened_banks, request_to, requests, waits, missing}
+use Rattle.record.specs.Steps.{opened_banks}
+use Rattle.record.specs.Sending.{request_to, requests, waits, missing}
 
 -- f 0, f 1, .. as many as `count`
 abbrev pub first_of : {X : Type 0} → (ℕ → List X) → (count : ℕ) → List X

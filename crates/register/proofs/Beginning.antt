@@ -11,7 +11,8 @@ use Rattle.mail.specs.declared.message.Message.{Message}
 use Rattle.mail.specs.Mail.{mail_cause}
 use Rattle.record.specs.May.{MayStep}
 use Rattle.record.specs.Sound.{IsSound}
-use Rattle.record.specs.Steps.{Step, stepped, requests}
+use Rattle.record.specs.Steps.{Step, stepped}
+use Rattle.record.specs.Sending.{requests}
 use Rattle.register.specs.Causes.{new_phase_cause, unless}
 use Rattle.register.specs.Coding.{piece_from}
 use Rattle.register.specs.Kept.{IsKept, HasRoomIfFew}

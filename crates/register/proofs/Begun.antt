@@ -13,7 +13,8 @@ use Rattle.record.specs.declared.call.CallKind.{CallKind}
 use Rattle.record.specs.declared.stage.Stage.{Stage}
 use Rattle.record.specs.Legal.{first_stage}
 use Rattle.record.specs.Records.{layout_at}
-use Rattle.record.specs.Steps.{Step, new_call, requests, called_object}
+use Rattle.record.specs.Steps.{Step, new_call, called_object}
+use Rattle.record.specs.Sending.{requests}
 use Rattle.register.specs.Causes.{unless, read_cause}
 use Rattle.register.specs.Kept.{HasRoomIfFew, IsKept}
 use Rattle.register.specs.Position.{Position}

@@ -21,7 +21,8 @@ use Rattle.record.specs.Records.{Call, Object, no_layout, layout_at}
 use Rattle.record.specs.Courses.{passed, stage_after}
 use Rattle.record.specs.Legal.{first_stage, source_of}
 use Rattle.record.specs.Sound.{IsSound}
-use Rattle.record.specs.Steps.{with_phase, request_to, requests, new_phase}
+use Rattle.record.specs.Steps.{with_phase, new_phase}
+use Rattle.record.specs.Sending.{request_to, requests}
 use Rattle.register.specs.Position.{Position, layouts_of, banks_of}
 use Rattle.register.specs.Tracked.{Tracked, calls_of, with_begun}
 use Rattle.register.specs.State.{Contents, object_of, state_of}

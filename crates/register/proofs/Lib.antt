@@ -12,6 +12,7 @@ pub mod Mails
 pub mod Moved
 pub mod Moving
 pub mod Opened
+pub mod Permitting
 pub mod Posting
 pub mod Reading
 pub mod Recorded

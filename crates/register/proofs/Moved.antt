@@ -12,7 +12,8 @@ use Rattle.mail.specs.Mail.{mail_cause}
 use Rattle.record.specs.declared.call.CallKind.TheVariants.{Move}
 use Rattle.record.specs.declared.stage.Stage.{Stage}
 use Rattle.record.specs.Legal.{first_stage}
-use Rattle.record.specs.Steps.{new_call, requests, moving_object}
+use Rattle.record.specs.Steps.{new_call, moving_object}
+use Rattle.record.specs.Sending.{requests}
 use Rattle.register.specs.Causes.{unless, move_cause}
 use Rattle.register.specs.Kept.{HasRoomIfFew, IsKept}
 use Rattle.register.specs.Position.{Position}

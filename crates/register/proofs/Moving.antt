@@ -21,7 +21,8 @@ use Rattle.record.specs.Legal.{is_move, moves_in, first_stage, source_of, stage_
 use Rattle.record.specs.May.{NoOpenMove}
 use Rattle.record.specs.Records.{Call, Object, no_layout}
 use Rattle.record.specs.Sound.{IsSound}
-use Rattle.record.specs.Steps.{Step, new_call, requests, opened_banks, moving_object}
+use Rattle.record.specs.Steps.{Step, new_call, opened_banks, moving_object}
+use Rattle.record.specs.Sending.{requests}
 use Rattle.register.specs.Kept.{is_open_move, has_open_move, IsKept}
 use Rattle.register.specs.Position.{Position, layouts_of, banks_of, banks_bytes, all_bytes}
 use Rattle.register.specs.State.{Contents, state_of}

@@ -14,7 +14,8 @@ use Rattle.record.specs.declared.stage.Want.{Want}
 use Rattle.record.specs.declared.stage.Want.TheVariants as want
 use Rattle.record.specs.Records.{Object, layout_at}
 use Rattle.record.specs.Steps as steps
-use Rattle.record.specs.Steps.{Step, stepped, on_call, sent_pieces, requests, missing}
+use Rattle.record.specs.Steps.{Step, stepped, on_call}
+use Rattle.record.specs.Sending.{sent_pieces, requests, missing}
 use Rattle.record.specs.Wants.{current_phase}
 use Rattle.register.specs.Causes.{unless, if_step, is_replies, is_plain, may_post, post_cause}
 use Rattle.register.specs.Coding.{is_pre_write, piece_from, HavePieces}

@@ -17,7 +17,8 @@ use Rattle.record.specs.Fragments.{AreBytes, IsValue}
 use Rattle.record.specs.Legal.{is_move, moves_in, first_stage, source_of, stage_of}
 use Rattle.record.specs.Records.{Call, Object, layout_at}
 use Rattle.record.specs.Sound.{IsSound}
-use Rattle.record.specs.Steps.{Step, new_call, requests, called_object}
+use Rattle.record.specs.Steps.{Step, new_call, called_object}
+use Rattle.record.specs.Sending.{requests}
 use Rattle.register.specs.Kept.{is_open_move, has_open_move, IsKept}
 use Rattle.register.specs.Position.{Position, layouts_of, banks_of}
 use Rattle.register.specs.State.{Contents, state_of}

@@ -12,7 +12,8 @@ use Rattle.record.specs.Knowledge.{IsTruePhase}
 use Rattle.record.specs.May.{MayStep}
 use Rattle.record.specs.Records.{layout_at}
 use Rattle.record.specs.Sound.{IsSound}
-use Rattle.record.specs.Steps.{Step, stepped, missing}
+use Rattle.record.specs.Steps.{Step, stepped}
+use Rattle.record.specs.Sending.{missing}
 use Rattle.record.specs.Wants.{current_phase}
 use Rattle.record.proofs.Lists.{all_get}
 use Rattle.record.proofs.Sound.Taken.{numbered_at}

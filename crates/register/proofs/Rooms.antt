@@ -11,7 +11,7 @@ use Rattle.encoder.specs.declared.fragment.Piece.{Piece}
 use Rattle.bank.specs.declared.kind.Kind.{Kind}
 use Rattle.mail.specs.declared.message.Message.{Message}
 use Rattle.mail.specs.Mail.{mail_bytes, mail_cause}
-use Rattle.record.specs.Steps.{requests}
+use Rattle.record.specs.Sending.{requests}
 use Rattle.register.specs.Causes.{unless, if_step}
 use Rattle.register.specs.Kept.{HasRoomIfFew}
 

@@ -14,7 +14,7 @@ use Rattle.record.specs.Records.{Object, layout_at, no_layout}
 use Rattle.record.specs.Courses.{due}
 use Rattle.record.specs.Legal.{stage_of}
 use Rattle.record.specs.May.{IsPreWrite, WantsPieces, AwaitsPieces}
-use Rattle.record.specs.Steps.{sent_value, value_or_empty}
+use Rattle.record.specs.Sending.{sent_value, value_or_empty}
 use Rattle.record.specs.Wants.{current_phase, want_of}
 use Rattle.record.specs.declared.stage.Stage.{Stage}
 use Rattle.record.specs.declared.stage.Want.{Want}

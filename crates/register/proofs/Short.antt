@@ -30,7 +30,7 @@ use Rattle.record.specs.Fragments.{IsCoded, IfCoded, body_tag, body_piece, answe
 use Rattle.record.specs.Journals.{IsJournaled}
 use Rattle.record.specs.Sound.{IsSound, IsPosted}
 use Rattle.layout.specs.Quorum.{has}
-use Rattle.record.specs.Steps.{request_to, requests, missing, waits}
+use Rattle.record.specs.Sending.{request_to, requests, missing, waits}
 use Rattle.register.specs.Coding.{HavePieces, piece_from}
 use Rattle.register.specs.Kept.{HasRoomIfFew}
 use Rattle.register.proofs.Lists.{all_found, found, found_or}

@@ -12,8 +12,10 @@ use Rattle.record.specs.Courses.{due}
 use Rattle.record.specs.Legal.{stage_of}
 use Rattle.record.specs.May.{WantsPieces, AwaitsPieces}
 use Rattle.record.specs.Records.{Object, layout_at}
-use Rattle.record.specs.Steps.{Step, stepped, sent_pieces}
-use Rattle.record.specs.Steps.{begun_object, requests, missing}
+use Rattle.record.specs.Steps.{Step, stepped}
+use Rattle.record.specs.Sending.{sent_pieces}
+use Rattle.record.specs.Steps.{begun_object}
+use Rattle.record.specs.Sending.{requests, missing}
 use Rattle.record.specs.Wants.{current_phase}
 use Rattle.record.specs.declared.stage.Stage.{Stage}
 use Rattle.record.specs.declared.stage.Want.TheVariants as want
@@ -46,24 +48,28 @@ module _ {c : Contents} {number index : ℕ} {t : Tracked} {coded : Coding} {pos
   abbrev found : IsFound c number index t
   found = s.to.found
 
-  -- it has replies of a quorum, and the phase that is due begins
+  -- it has replies of a quorum, and wants its pieces
+  pub wants_pieces : is_replied (current_phase t.call.phases) ≡ true → WantsPieces object (pred number) t.call
+  wants_pieces replied = go (takes s.to)
+    where
+      go : WantsPieces object (pred number) t.call ⊎ AwaitsPieces object (pred number) t.call → WantsPieces object (pred number) t.call
+      go (inl wants) = wants
+      go (inr awaits) =
+          let open_end = (waiting_of object (pred number) t.call awaits.1.wants.1).unended awaits.0 awaits.1.current in
+          let clash : true ≡ false = sym replied ∙ ap is_replied awaits.1.current ∙ ap is_some open_end in
+          absurd (cc)
+
+  -- the phase that is due begins
   module _ (replied : is_replied (current_phase t.call.phases) ≡ true) {kind : Kind} {target : ℕ}
       (due_is : due t.stage ≡ Some (kind, target)) where
-    wants_pieces : WantsPieces object (pred number) t.call
-    wants_pieces = go (takes s.to)
-      where
-        go : WantsPieces object (pred number) t.call ⊎ AwaitsPieces object (pred number) t.call → WantsPieces object (pred number) t.call
-        go (inl wants) = wants
-        go (inr awaits) =
-            let open_end = (waiting_of object (pred number) t.call awaits.1.wants.1).unended awaits.0 awaits.1.current in
-            let clash : true ≡ false = sym replied ∙ ap is_replied awaits.1.current ∙ ap is_some open_end in
-            absurd (cc)
+    abbrev wanted : WantsPieces object (pred number) t.call
+    wanted = wants_pieces replied
 
     target_is : target ≡ position
     target_is = some_number target position
-        (ap (λ next. pieces_position (want.Supply wants_pieces.0 wants_pieces.1) next (current_phase t.call.phases))
+        (ap (λ next. pieces_position (want.Supply wanted.0 wanted.1) next (current_phase t.call.phases))
         (sym due_is ∙ ap due (staged found))
-        ∙ ap (λ w. pieces_position w (due (stage_of object (pred number) t.call)) (current_phase t.call.phases)) (sym wants_pieces.2.1)
+        ∙ ap (λ w. pieces_position w (due (stage_of object (pred number) t.call)) (current_phase t.call.phases)) (sym wanted.2.1)
         ∙ s.to.due)
 
     begun_is : (now : ℕ) → made (Step.Supply (pred number)) now (state_of c)
@@ -78,7 +84,7 @@ module _ {c : Contents} {number index : ℕ} {t : Tracked} {coded : Coding} {pos
         ∙ ap (λ (piece : ℕ → Piece). (state_of (with_due c index t kind target layout now piece)).object)
         (ap (λ p. sent_pieces fragment object t.call p) target_is ∙ pieces_are s))
 
-    begins : IsBeginning c number index t (Step.Supply (pred number)) (λ now. supply_cause now object number coded)
+    pub begins : IsBeginning c number index t (Step.Supply (pred number)) (λ now. supply_cause now object number coded)
         (Some coded) kind target layout
     begins = record {
       found = found;
@@ -134,7 +140,7 @@ module _ {c : Contents} {number index : ℕ} {t : Tracked} {coded : Coding} {pos
         ∙ ap (λ (piece : ℕ → Piece). requests number p.number p.kind p.position layout.members 0 piece)
         (ap (λ n. sent_pieces fragment object t.call n) current.same ∙ pieces_are s)))
 
-    asks : IsAsking c number index t (Step.Supply (pred number)) (λ now. supply_cause now object number coded) (Some coded)
+    pub asks : IsAsking c number index t (Step.Supply (pred number)) (λ now. supply_cause now object number coded) (Some coded)
     asks = record {
       found = found;
       may = record { call = t.call; takes = takes s.to };

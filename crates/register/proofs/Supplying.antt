@@ -12,8 +12,9 @@ use Rattle.encoder.specs.Fragment.{fragment, piece_of}
 use Rattle.layout.specs.Layout.{Layout}
 use Rattle.phase.specs.Phase.{Phase}
 use Rattle.record.specs.Records.{Object, layout_at}
-use Rattle.record.specs.Steps.{Step, stepped, on_call, sent_value, value_or_empty, fragment_piece, sent_pieces, advanced_object}
-use Rattle.record.specs.Steps.{begun_object, supplied_by, supplied_object, requests, missing}
+use Rattle.record.specs.Steps.{Step, stepped, on_call, advanced_object}
+use Rattle.record.specs.Sending.{sent_value, value_or_empty, fragment_piece, sent_pieces}
+use Rattle.record.specs.Steps.{begun_object, supplied_by, supplied_object}
 use Rattle.record.specs.Steps as steps
 use Rattle.record.specs.Wants.{current_phase}
 use Rattle.register.specs.Causes.{supply_cause, supplied_cause, supply_room_cause, is_replied, if_step, unless}
@@ -74,7 +75,7 @@ module _ {c : Contents} {number index position : ℕ} {t : Tracked}
   wrong_is wrong = tested_is ∙ ap (λ b. unless b WrongCode room) wrong
 
 -- past the limit of steps both ways are full
-past_both : (now : ℕ) (b : Bool) (x y : Option Refusal) → MOST_STEPS < now → cond b (if_step now x) (if_step now y) ≡ Some Full
+pub past_both : (now : ℕ) (b : Bool) (x y : Option Refusal) → MOST_STEPS < now → cond b (if_step now x) (if_step now y) ≡ Some Full
 past_both now true x y past = step_past now x past
 past_both now false x y past = step_past now y past
 

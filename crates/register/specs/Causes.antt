@@ -20,7 +20,8 @@ use Rattle.record.specs.declared.stage.Want.{Want}
 use Rattle.record.specs.declared.stage.Want.TheVariants as want
 use Rattle.record.specs.Records.{Call, Object, layout_at}
 use Rattle.record.specs.Wants.{current_phase, want_of}
-use Rattle.record.specs.Steps.{Step, stepped, sent_value, value_or_empty}
+use Rattle.record.specs.Steps.{Step, stepped}
+use Rattle.record.specs.Sending.{sent_value, value_or_empty}
 use Rattle.register.specs.Position.{all_bytes}
 use Rattle.register.specs.Kept.{has_open_move}
 use Rattle.register.specs.Coding.{is_pre_write, pieces_due, is_coded_for, is_decoded_from}
@@ -162,6 +163,12 @@ abbrev pub supply_cause : (now : ℕ) → Object → (number : ℕ) → Coding �
 supply_cause now object number coded =
     if_call (call_at object number) (λ call. supplied_cause now object (pred number) call coded
     (pieces_due object (pred number) call))
+
+-- why a call is not supplied with its own value, coded for its own layout: it sends none, or a limit is met
+abbrev pub supplying_cause : (now : ℕ) → Object → (number : ℕ) → Option Refusal
+supplying_cause now object number =
+    if_call (call_at object number) (λ call. unless (is_some (pieces_due object (pred number) call)) NotNow
+    (supply_room_cause now object (pred number) call))
 
 -- there are pieces to send
 abbrev pub value_cause : Object → (number : ℕ) → Option Refusal

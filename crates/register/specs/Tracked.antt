@@ -14,7 +14,8 @@ use Rattle.record.specs.declared.stage.Want.{Want}
 use Rattle.record.specs.declared.stage.Want.TheVariants as want
 use Rattle.record.specs.Records.{Call, Object}
 use Rattle.record.specs.Courses.{due, passed}
-use Rattle.record.specs.Steps.{taking_call, new_phase, missing, requests}
+use Rattle.record.specs.Steps.{taking_call, new_phase}
+use Rattle.record.specs.Sending.{missing, requests}
 use Rattle.record.specs.Wants.{current_phase, want_after}
 
 -- a call of the record, with the stage that its phases lead to

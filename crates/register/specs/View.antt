@@ -11,7 +11,7 @@ use Rattle.record.specs.declared.stage.Want.{Want}
 use Rattle.record.specs.Records.{Call, Object, layout_at}
 use Rattle.record.specs.Journals.{tag_of, operation_of, entry_value}
 use Rattle.record.specs.Wants.{current_phase, want_of}
-use Rattle.record.specs.Steps.{sent_value, value_or_empty}
+use Rattle.record.specs.Sending.{sent_value, value_or_empty}
 use Rattle.register.specs.declared.receipt.Receipt.{Receipt}
 use Rattle.register.specs.declared.receipt.CallView.{CallView}
 use Rattle.register.specs.Tracked.{took_call}

@@ -1,12 +1,15 @@
 //! One call of an object.
 
-ghost use Rattle.std.specs.Prelude.{◌≡◌, ℕ, ◌++◌, suc, nat_lt, List, length, IsSome, option_copied, Some, OnOk, OnErr};
-ghost use Rattle.tag.specs.declared.limits.TheConstants.{MOST_PHASES};
+ghost use Rattle.std.specs.Prelude.{◌≡◌, ◌&&◌, ℕ, ◌+◌, ◌++◌, suc, nat_lt, nat_le, List, length, IsSome, option_copied};
+ghost use Rattle.std.specs.Prelude.{Some, OnOk, OnErr};
+ghost use Rattle.tag.specs.declared.limits.TheConstants.{MOST_PHASES, MOST_MESSAGES};
 ghost use Rattle.tag.specs.declared.refusal.Refusal.TheVariants.{Full};
 ghost use Rattle.tag.specs.Refusal.{IsByCause};
+ghost use Rattle.encoder.specs.declared.fragment.Piece.{Piece};
 ghost use Rattle.mail.specs.Mail.{mail_cause};
 ghost use Rattle.phase.specs.Phase.{Phase as Asking, after_take};
-ghost use Rattle.record.specs.Steps.{new_call, requests};
+ghost use Rattle.record.specs.Steps.{new_call};
+ghost use Rattle.record.specs.Sending.{requests};
 ghost use Rattle.record.specs.Wants.{current_phase};
 ghost use Rattle.register.specs.Causes.{unless};
 ghost use Rattle.register.specs.Kept.{HasRoomIfFew};
@@ -120,6 +123,33 @@ impl Call {
         mail.post_all(messages)?;
         self.phases.push_reserved(phase);
         Ok(())
+    }
+
+    /// Whether a phase with so many members may begin, by the limits of the phases and of the messages.
+    pub(crate) fn can_begin(&self, members: u8, mail: &Mail) -> bool
+        ensures { result ≡ (nat_lt (length self.now.call.phases) MOST_PHASES
+            && nat_le (length mail.now + members) MOST_MESSAGES) }
+    {
+        self.phases.len() < MOST_PHASES && has_room(mail, usize::from(members))
+    }
+
+    /// Whether the current phase of the call, whose number this is, may ask again, by the limit of the messages.
+    pub(crate) fn can_ask_again(&self, number: u64, mail: &Mail) -> bool
+        requires begun { IsSome (current_phase self.now.call.phases) }
+        ensures { (p : Asking) (servers : List ℕ) (piece : ℕ → Piece) → current_phase self.now.call.phases ≡ Some p
+            → length servers ≡ p.members
+            → result ≡ nat_le (length (mail.now ++ asked_again number p servers mail.now piece)) MOST_MESSAGES }
+    {
+        let Some(phase) = self.phases.last() else {
+            unreachable!();
+        };
+        let ask = Ask {
+            call: number,
+            number: phase.number(),
+            kind: phase.kind(),
+            position: phase.position(),
+        };
+        has_room(mail, missing_count(ask, phase, mail))
     }
 
     /// The current phase of the call, whose number this is, asks again: a request goes to each member without a

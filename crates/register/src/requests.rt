@@ -6,7 +6,7 @@ ghost use Rattle.tag.specs.declared.refusal.Refusal.TheVariants.{NoMemory};
 ghost use Rattle.encoder.specs.declared.fragment.Piece.{Piece};
 ghost use Rattle.mail.specs.declared.message.Body.TheVariants as body;
 ghost use Rattle.phase.specs.Phase.{has_taken, members_of};
-ghost use Rattle.record.specs.Steps.{request_to, requests, missing, waits};
+ghost use Rattle.record.specs.Sending.{request_to, requests, missing, waits};
 ghost use Rattle.register.specs.Coding.{piece_from, HavePieces, HavePieceOf};
 
 use bank::{Kind, Request};

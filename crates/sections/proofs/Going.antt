@@ -14,7 +14,8 @@ use Rattle.record.specs.declared.stage.Want.{Want}
 use Rattle.record.specs.declared.stage.Want.TheVariants as want
 use Rattle.record.specs.Journals.{entry_value}
 use Rattle.record.specs.Records.{Call, Object}
-use Rattle.record.specs.Steps.{Step, sent_value}
+use Rattle.record.specs.Steps.{Step}
+use Rattle.record.specs.Sending.{sent_value}
 use Rattle.record.specs.Wants.{current_phase, want_of}
 use Rattle.register.specs.Causes.{call_at, if_call, is_answer, is_plain, unless, if_step, answer_cause}
 use Rattle.register.specs.State.{State}
@@ -36,7 +37,7 @@ use Rattle.sections.specs.declared.rounds.Hand.{Hand}
 use Rattle.sections.specs.declared.rounds.Hand.TheVariants as hand
 use Rattle.sections.proofs.Booking.{begins, calls_kept}
 use Rattle.driver.proofs.Named.{read_there, cause_there, is_there}
-use Rattle.driver.proofs.Pieces.{wants_at}
+use Rattle.driver.proofs.Wanted.{wants_at}
 use Rattle.driver.proofs.Refusing.{answer_refused}
 
 -- How many reads and writes there are

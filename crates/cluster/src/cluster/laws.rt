@@ -3,7 +3,7 @@
 ghost use Rattle.std.specs.Prelude.{◌≡◌};
 ghost use Rattle.cluster.specs.Accounts.{banks_all, calls, stored_all};
 ghost use Rattle.cluster.specs.Atomic.{AreAtomic, AreFragments, AreSound, AreWithinLimits};
-ghost use Rattle.cluster.specs.Kept.{IsKept};
+ghost use Rattle.cluster.specs.Kept.{IsKeptCluster};
 
 use crate::cluster::Cluster;
 use history::atomic;
@@ -30,7 +30,7 @@ impl Cluster {
     pub fn soundness(&self)
         ensures sound { AreSound self.now }
         ensures limits { AreWithinLimits self.now }
-        ensures kept { IsKept self.now (banks_all self.now.objects) (calls self.now.objects) }
+        ensures kept { IsKeptCluster self.now (banks_all self.now.objects) (calls self.now.objects) }
     {
         for register in self.objects.values() {
             register.soundness();

@@ -5,11 +5,11 @@ ghost use Rattle.tag.specs.Refusal.{IsByCause, IsExactlyByCause};
 ghost use Rattle.tag.specs.declared.limits.TheConstants.{LONGEST_VALUE};
 ghost use Rattle.tag.specs.declared.refusal.Refusal.TheVariants.{TooLong};
 ghost use Rattle.record.specs.Journals.{entry_of};
-ghost use Rattle.register.specs.Causes.{unless, call_at, number_cause, read_cause};
+ghost use Rattle.register.specs.Causes.{unless, call_at, number_cause, read_cause, supplying_cause};
 ghost use Rattle.cluster.specs.Cluster.{place_of};
 ghost use Rattle.cluster.specs.Places.{if_placed, placed_cause};
 ghost use Rattle.cluster.specs.Causes.{moving_cause, next, object_cause};
-ghost use Rattle.cluster.specs.Kept.{IsKept};
+ghost use Rattle.cluster.specs.Kept.{IsKeptCluster};
 
 use crate::cluster::{Cluster, LayoutId};
 use record::Entry;
@@ -18,7 +18,7 @@ use tag::{LONGEST_VALUE, Refusal};
 impl Cluster {
     /// What every step keeps: the limits, and that no name is given twice. It does nothing, and takes no memory.
     pub fn keeping(&self)
-        ensures { (bytes : ℕ) × ((count : ℕ) × IsKept self.now bytes count) }
+        ensures { (bytes : ℕ) × ((count : ℕ) × IsKeptCluster self.now bytes count) }
     {
         // What a cluster keeps is known where a field is read.
         let _ = &self.layouts;
@@ -82,5 +82,19 @@ impl Cluster {
             return Err(Refusal::BadLayout);
         }
         register.may_move(self.counter + 1)
+    }
+
+    /// Whether a call may be supplied with its own value, before that is coded. It is no step, and takes no memory.
+    ///
+    /// `NoObject`, `NoCall` and `NotNow` as for `value_to_code`, and `Full` where a limit of the steps, of the call's
+    /// phases or of the messages is met.
+    pub fn may_supply(&self, name: &str, call: u64) -> Result<(), Refusal>
+        ensures cause { IsExactlyByCause
+            (object_cause self.now name.now (λ object. supplying_cause (next self.now) object call)) result }
+    {
+        match self.objects.get(name) {
+            Some(register) => register.may_supply(call, self.counter + 1),
+            None => Err(Refusal::NoObject),
+        }
     }
 }

@@ -3,7 +3,7 @@
 ghost use Rattle.std.specs.Prelude.{◌≡◌, ℕ, Option, is_some, option_copied, IfOk, IfErr};
 ghost use Rattle.tag.specs.declared.refusal.Refusal.TheVariants.{NoMemory};
 ghost use Rattle.record.specs.Journals.{operation_of, entry_of, entry_value};
-ghost use Rattle.record.specs.Steps.{sent_value};
+ghost use Rattle.record.specs.Sending.{sent_value};
 ghost use Rattle.record.specs.Wants.{current_phase};
 
 use crate::call::Call;

@@ -1,7 +1,9 @@
 //! The values that calls code, and those that they settle.
 
-ghost use Rattle.std.specs.Prelude.{◌≡◌, ◌≤◌, ◌<◌, pred, [], length, option_copied, OnOk, OnErr, IfOk, Some};
+ghost use Rattle.std.specs.Prelude.{◌≡◌, ◌⊎◌, ◌≤◌, ◌<◌, pred, [], length, option_copied, OnOk, OnErr, IfOk, Some, None};
 ghost use Rattle.tag.specs.Refusal.{IsByCause, IsExactlyByCause};
+ghost use Rattle.tag.specs.declared.refusal.Refusal.TheVariants.{Full, WrongCode};
+ghost use Rattle.encoder.specs.Coded.{Coding};
 ghost use Rattle.record.specs.Steps.{Step};
 ghost use Rattle.record.specs.Courses.{due};
 ghost use Rattle.record.specs.Wants.{current_phase};
@@ -9,7 +11,8 @@ ghost use Rattle.register.specs.State.{made, object_of};
 ghost use Rattle.tag.specs.declared.limits.TheConstants.{MOST_POSITIONS};
 ghost use Rattle.register.specs.Tracked.{IsBelow, tracked_want};
 ghost use Rattle.register.specs.Coding.{pieces_position, sending_position};
-ghost use Rattle.register.specs.Causes.{value_cause, supply_cause, pieces_cause, settle_cause, is_replied};
+ghost use Rattle.register.specs.Causes.{unless, value_cause, supply_cause, supplying_cause, pieces_cause, settle_cause};
+ghost use Rattle.register.specs.Causes.{is_replied};
 ghost use Rattle.register.specs.View.{coding_at, pieces_at};
 
 use crate::call::Call;
@@ -45,6 +48,35 @@ impl Register {
         };
         let layout = self.positions[position as usize].layout();
         Ok((value.clone()?, layout.k(), layout.n()))
+    }
+
+    /// Whether a call may be supplied at step `now` with its own value, before that is coded. It takes no memory.
+    ///
+    /// `NoCall` and `NotNow` as for `value_to_code`, and `Full` where a limit of the steps, of the call's phases or of
+    /// the messages is met: for any coded value that is not the wrong one, `supply` is refused for the same.
+    pub fn may_supply(&self, call: u64, now: Stamp) -> Result<(), Refusal>
+        requires after { self.now.last < now }
+        ensures cause { IsExactlyByCause (supplying_cause now self.now.object call) result }
+        ensures coded { (coded : Coding) → (supply_cause now self.now.object call coded ≡ Some WrongCode)
+            ⊎ (supply_cause now self.now.object call coded ≡ supplying_cause now self.now.object call) }
+    {
+        let index = match index_of(&self.calls, call) {
+            Ok(index) => index,
+            Err(refusal) => return Err(refusal),
+        };
+        let tracked = &self.calls[index];
+        let Some(position) = pieces_position(&self.positions, tracked) else {
+            return Err(Refusal::NotNow);
+        };
+        if now > MOST_STEPS {
+            return Err(Refusal::Full);
+        }
+        let members = self.positions[position as usize].layout().n();
+        if is_replied(tracked.current()) {
+            full_unless(tracked.can_begin(members, &self.mail))
+        } else {
+            full_unless(tracked.can_ask_again(call, &self.mail))
+        }
     }
 
     /// The coded value of the call of this number: its pieces begin the phase that is due, or, where that phase has
@@ -195,4 +227,11 @@ fn is_replied(phase: Option<&Phase>) -> bool
         Some(phase) => phase.complete(),
         None => false,
     }
+}
+
+// `Full` unless it is so.
+fn full_unless(holds: bool) -> Result<(), Refusal>
+    ensures { IsExactlyByCause (unless holds Full None) result }
+{
+    if holds { Ok(()) } else { Err(Refusal::Full) }
 }

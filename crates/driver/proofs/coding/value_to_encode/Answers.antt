@@ -1,10 +1,15 @@
 use Rattle.std.proofs.lemmas.Result.{IfOk-weaker}
-use Rattle.driver.proofs.Rounding.{to_encode}
+use Rattle.driver.proofs.Rounding.{to_encode, value_by}
 use Rattle.driver.proofs.coding.value_to_encode.Goals as goal
 
 pub returns-clause-value : goal.returns-clause-value
 returns-clause-value c =
     IfOk-weaker c.value_to_code.result _ _
     (λ r e. to_encode c.args.cluster.now c.args.name.now c.args.call c.in_ok-register.field-0.now r.1 r.2 r.0
-    c.in_ok-register.ensures.object c.soundness.ensures.sound e)
+    c.in_ok-register.ensures.object c.soundness.ensures.sound c.in_ok-may_supply.ensures.cause e)
     c.value_to_code.ensures.value
+
+pub returns-clause-cause : goal.returns-clause-cause
+returns-clause-cause c =
+    value_by c.args.cluster.now c.args.name.now c.args.call c.value_to_code.result c.in_ok-may_supply.ensures.cause
+    c.value_to_code.ensures.cause

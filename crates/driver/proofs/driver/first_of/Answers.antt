@@ -1,6 +1,6 @@
 use Rattle.std.proofs.Common.{sym, subst, add-one}
 use Rattle.driver.specs.Others.{AreOthers}
-use Rattle.driver.proofs.Others.{others_next}
+use Rattle.driver.proofs.Mails.{others_next}
 use Rattle.driver.proofs.driver.first_of.Goals as goal
 
 pub loop-place-preserved : goal.loop-place-preserved

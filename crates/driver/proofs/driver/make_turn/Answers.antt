@@ -1,4 +1,4 @@
-use Rattle.driver.proofs.Refusing.{err_of}
+use Rattle.driver.proofs.Limits.{err_of}
 use Rattle.driver.proofs.Turning.{stepped_turn, encode_turn, encode_refused, decode_turn, decode_refused}
 use Rattle.driver.proofs.driver.make_turn.Goals as goal
 

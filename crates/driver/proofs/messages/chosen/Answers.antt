@@ -1,6 +1,6 @@
 use Rattle.std.proofs.Common.{ℕ, List, [], ◌≡◌, MatchOption, subst}
 use Rattle.driver.specs.Choices.{Picks}
-use Rattle.driver.proofs.Others.{choices_behind}
+use Rattle.driver.proofs.Mails.{choices_behind}
 use Rattle.driver.proofs.messages.chosen.Goals as goal
 
 pub returns : goal.returns

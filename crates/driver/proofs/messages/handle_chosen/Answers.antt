@@ -1,4 +1,5 @@
-use Rattle.driver.proofs.Refusing.{err_of, chosen_refused}
+use Rattle.driver.proofs.Limits.{err_of}
+use Rattle.driver.proofs.Choosing.{chosen_refused}
 use Rattle.driver.proofs.messages.handle_chosen.Goals as goal
 
 pub returns-in_err-handle-clause-refused : goal.returns-in_err-handle-clause-refused

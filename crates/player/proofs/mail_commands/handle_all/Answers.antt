@@ -1,6 +1,6 @@
 use Rattle.std.proofs.Common.{◌≡◌, ℕ, suc, Option, MatchOption, subst, ap, arith}
 use Rattle.cluster.specs.Cluster.{Cluster}
-use Rattle.player.specs.Deliver.{IsFirst, IsIdle}
+use Rattle.player.specs.Deliver.{IsFirst, HasNoneToHandle}
 use Rattle.player.specs.Deliver.Delivers.{nothing}
 use Rattle.player.proofs.Delivering.{handles, still_none_in}
 use Rattle.player.proofs.mail_commands.handle_all.Goals as goal
@@ -14,7 +14,7 @@ loop-place-preserved c =
     let name = c.args.name.now in
     let place = c.in-Some.place in
     let first : IsFirst cluster name place =
-    subst (λ (found : Option ℕ). MatchOption found (IsIdle cluster name) (IsFirst cluster name)) c.in-Some.is
+    subst (λ (found : Option ℕ). MatchOption found (HasNoneToHandle cluster name) (IsFirst cluster name)) c.in-Some.is
     c.in_ok-place.ensures.first in
     let made = c.in_ok-handle.ensures.step in
     let counted : c.handle.new.cluster.counter ≡ suc cluster.counter = ap (λ (x : Cluster). x.counter) made in

@@ -2,7 +2,7 @@ use Rattle.std.proofs.Common.{◌≡◌, ℕ, ◌||◌, true, false, Vec, Global
 use Rattle.std.specs.Option.{option_copied}
 use Rattle.encoder.specs.declared.fragment.Piece.{Piece}
 use Rattle.mail.specs.declared.message.Message.{Message}
-use Rattle.record.specs.Steps.{waits}
+use Rattle.record.specs.Sending.{waits}
 use Rattle.register.specs.Coding.{piece_from}
 use Rattle.register.proofs.Asks.{first_of, is_there, missing_for, missing_first, missing_next, has_replied}
 use Rattle.register.proofs.requests.missing.Goals as goal

@@ -1,5 +1,5 @@
 use Rattle.std.proofs.Common.{◌+◌, ◌||◌, drop, sym, ap, ◌∙◌}
-use Rattle.record.specs.Steps.{waits}
+use Rattle.record.specs.Sending.{waits}
 use Rattle.register.proofs.Asks.{waits_here}
 use Rattle.register.proofs.requests.waits.Goals as goal
 

@@ -1,5 +1,5 @@
 use Rattle.std.proofs.Common.{◌≡◌, drop}
-use Rattle.record.specs.Steps.{waits}
+use Rattle.record.specs.Sending.{waits}
 use Rattle.register.proofs.requests.waits.Given as goal
 
 -- no message before this place is of the phase and the member

@@ -2,7 +2,7 @@ use Rattle.std.proofs.Common.{◌%◌, length, inl, inr, refl, sym, ap, ◌∙�
 use Rattle.record.specs.Steps.{Step}
 use Rattle.cluster.specs.Steps.{stepped}
 use Rattle.sections.proofs.Going.{kept_step}
-use Rattle.driver.proofs.Refusing.{err_of}
+use Rattle.driver.proofs.Limits.{err_of}
 use Rattle.sections.proofs.Stirring.{disturbed, even, odd, lose_is, repeat_is, moved_by}
 use Rattle.sections.proofs.messages.disturb.Goals as goal
 

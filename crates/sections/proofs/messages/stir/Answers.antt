@@ -1,7 +1,7 @@
 use Rattle.std.proofs.Common.{inr, ap, ◌∙◌}
 use Rattle.cluster.specs.Steps.{stepped}
 use Rattle.sections.proofs.Going.{kept_step, quiet_handling}
-use Rattle.driver.proofs.Refusing.{err_of}
+use Rattle.driver.proofs.Limits.{err_of}
 use Rattle.sections.proofs.Stirring.{stirred, handled_step}
 use Rattle.sections.proofs.messages.stir.Goals as goal
 

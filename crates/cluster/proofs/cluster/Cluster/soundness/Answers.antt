@@ -7,7 +7,7 @@ use Rattle.register.specs.Kept.{IsWithinLimits}
 use Rattle.cluster.specs.Accounts.{banks_all, calls}
 use Rattle.cluster.specs.Atomic.{AreSound, AreWithinLimits}
 use Rattle.cluster.specs.Cluster.{Cluster}
-use Rattle.cluster.specs.Kept.{IsKept}
+use Rattle.cluster.specs.Kept.{IsKeptCluster}
 use Rattle.cluster.proofs.Laws.{IsObjectSound, all_done, all_weaker}
 use Rattle.cluster.proofs.Places.{objects_of}
 use Rattle.cluster.proofs.Stepping.{cluster_of}
@@ -36,5 +36,6 @@ pub returns-clause-kept : goal.returns-clause-kept
 returns-clause-kept c =
     let kept = c.self.invariant.kept in
     let now = cluster_of c.self.inside.servers c.self.inside.layouts.items c.self.inside.objects.entries c.self.inside.counter in
-    subst (λ (k : Cluster). IsKept k (banks_all k.objects) (calls k.objects)) c.self.view_is
-    (subst (λ n. IsKept now (banks_all now.objects) n) kept.called (subst (λ n. IsKept now n c.self.inside.called) kept.stored kept))
+    subst (λ (k : Cluster). IsKeptCluster k (banks_all k.objects) (calls k.objects)) c.self.view_is
+    (subst (λ n. IsKeptCluster now (banks_all now.objects) n) kept.called
+    (subst (λ n. IsKeptCluster now n c.self.inside.called) kept.stored kept))

@@ -6,7 +6,7 @@ use Rattle.tag.specs.declared.refusal.Refusal.{Refusal}
 use Rattle.tag.specs.declared.refusal.Refusal.TheVariants.{Full}
 use Rattle.encoder.specs.declared.fragment.Piece.{Piece}
 use Rattle.mail.specs.Mail.{mail_cause}
-use Rattle.record.specs.Steps.{requests}
+use Rattle.record.specs.Sending.{requests}
 use Rattle.register.specs.Causes.{unless}
 use Rattle.register.specs.Coding.{piece_from}
 use Rattle.register.specs.Tracked.{Tracked}

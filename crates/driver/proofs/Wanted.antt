@@ -1,0 +1,28 @@
+-- What a call wants, by its number.
+use Rattle.std.proofs.Common.{◌≡◌, ℕ, zero, suc, pred}
+use Rattle.std.proofs.Common.{Option, Some, None, option_map, slice_get, refl}
+use Rattle.record.specs.Records.{Call, Object}
+use Rattle.record.specs.Wants.{want_of}
+use Rattle.record.specs.declared.stage.Want.{Want}
+use Rattle.register.specs.Causes.{call_at}
+use Rattle.register.specs.View.{want_at}
+
+-- a call that wants to settle a value, by its number
+pub place_of_call : (object : Object) (number : ℕ) (call : Call) → call_at object number ≡ Some call
+    → slice_get object.calls (pred number) ≡ Some call
+place_of_call object zero call e = absurd (cc)
+place_of_call object (suc index) call e = e
+
+-- what a call wants, by its number
+pub record WantsAt (object : Object) (number : ℕ) (wanted : Want) : Type 0 where
+  pub call : Call
+  pub at : call_at object number ≡ Some call
+  pub wants : want_of object (pred number) call ≡ wanted
+
+pub wants_at : (object : Object) (number : ℕ) (wanted : Want) → want_at object number ≡ Some wanted → WantsAt object number wanted
+wants_at object number wanted e = go (call_at object number) refl e
+  where
+    go : (o : Option Call) → call_at object number ≡ o → option_map (λ (call : Call). want_of object (pred number) call) o ≡ Some wanted
+        → WantsAt object number wanted
+    go None is e = absurd (cc)
+    go (Some call) is e = record { call = call; at = is; wants = cc }

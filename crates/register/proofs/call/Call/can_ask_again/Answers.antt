@@ -1,0 +1,30 @@
+use Rattle.std.proofs.Common.{◌≡◌, ◌-◌, ◌++◌, List, length, slice_get, Some, nat_le, sym, ap, subst, ◌∙◌}
+use Rattle.std.specs.Option.{option_copied}
+use Rattle.tag.specs.declared.limits.TheConstants.{MOST_MESSAGES}
+use Rattle.phase.specs.Phase.{Phase}
+use Rattle.record.specs.Wants.{current_phase}
+use Rattle.register.specs.Tracked.{Tracked, asked_again}
+use Rattle.register.proofs.Lists.{same_some}
+use Rattle.register.proofs.Takes.{current_last}
+use Rattle.register.proofs.Asks.{same_requests}
+use Rattle.register.proofs.Rooms.{more_few}
+use Rattle.register.proofs.call.Call.can_ask_again.Goals as goal
+
+pub returns : goal.returns
+returns c p servers piece at count =
+    let t = c.args.self.now in
+    let mail = c.args.mail.now in
+    let phase = c.in-Some.phase.now in
+    let here : current_phase t.call.phases ≡ Some phase =
+    ap (λ (t : Tracked). current_phase t.call.phases) (sym c.self.view_is) ∙ sym (current_last c.self.inside.phases.items)
+    ∙ ap (λ (ps : List Phase). slice_get ps (length ps - 1)) (sym c.deref.ensures.value) ∙ sym c.last.ensures.value
+    ∙ ap option_copied c.in-Some.is in
+    let same : phase ≡ p = same_some phase p (sym here ∙ at) in
+    let members : length servers ≡ phase.members = count ∙ ap (λ (p : Phase). p.members) (sym same) in
+    let asks = same_requests mail phase.replies c.args.number c.number.result phase.number c.kind.result phase.kind c.position.result
+    phase.position servers piece c.number.ensures c.kind.ensures c.position.ensures in
+    let again = asked_again c.args.number phase servers mail piece in
+    let counted = c.missing_count.ensures servers piece members ∙ ap length asks in
+    let few = more_few mail again c.missing_count.result c.has_room.result counted c.has_room.ensures in
+    subst (λ (p : Phase). c.has_room.result ≡ nat_le (length (mail ++ asked_again c.args.number p servers mail piece)) MOST_MESSAGES) same
+    (sym few)
