@@ -47,3 +47,6 @@ LINES = {
     ("decode", "2", "5", "3:dcd46c", "2:b0bb6c"): f"{HELLO}\n",
     ("soak", "1", "4", "0", "7"): "calls 4\nreceipts 4\nmoves 0\ncheck true\naccounts true\n",
 }
+
+# The pieces that `pool_story` has its value coded into, of which any two give it back.
+POOL_JOBS = 4

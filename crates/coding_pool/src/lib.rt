@@ -6,6 +6,8 @@ pub use pool::encode_all;
 
 mod crew;
 mod gate;
+#[cfg(test)]
+mod gate_tests;
 mod jobs;
 mod pool;
 #[cfg(test)]
