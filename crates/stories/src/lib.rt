@@ -5,6 +5,8 @@
 #[cfg(test)]
 mod certificates;
 #[cfg(test)]
+mod edges;
+#[cfg(test)]
 mod many_objects;
 #[cfg(test)]
 mod one_object;

@@ -20,13 +20,13 @@ fn refuses_in_order(rt: HostRuntime) -> Result<(), Fail> {
         (Act::Advance(0), Some(Refusal::NoCall)),
         (Act::Post(1), Some(Refusal::NoCall)),
         (Act::Supply(1, HELLO), Some(Refusal::NoCall)),
-        (Act::Settle(1, HELLO), Some(Refusal::NoCall)),
+        (Act::Settle(1, HELLO, 0), Some(Refusal::NoCall)),
         (Act::Answer(1), Some(Refusal::NoCall)),
         (Act::Write(HELLO), None),
         (Act::Take(0), Some(Refusal::NotNow)),
         (Act::Advance(1), Some(Refusal::NotNow)),
         (Act::Supply(1, b"hellO"), Some(Refusal::NotNow)),
-        (Act::Settle(1, b"hellO"), Some(Refusal::NotNow)),
+        (Act::Settle(1, b"hellO", 0), Some(Refusal::NotNow)),
         (Act::Answer(1), Some(Refusal::NotNow)),
         (Act::Move(3, &[0, 1, 2, 3, 4]), None),
         (Act::Move(1, &[0]), Some(Refusal::MovePending)),
@@ -53,6 +53,9 @@ fn refuses_pieces_of_another_value(rt: HostRuntime) -> Result<(), Fail> {
         (Act::Advance(1), Some(Refusal::NotNow)),
         (Act::Post(1), Some(Refusal::NotNow)),
         (Act::Supply(1, b"hellO"), Some(Refusal::WrongCode)),
+        (Act::SupplyFor(1, 1, 4, HELLO), Some(Refusal::WrongCode)),
+        (Act::SupplyFor(1, 2, 5, HELLO), Some(Refusal::WrongCode)),
+        (Act::SupplyFor(1, 3, 5, HELLO), Some(Refusal::WrongCode)),
         (Act::Supply(1, HELLO), None),
         (Act::Post(1), Some(Refusal::NotNow)),
     ];
@@ -107,9 +110,12 @@ fn settles_what_was_fetched(rt: HostRuntime) -> Result<(), Fail> {
     deliver(&rt, &mut object)?;
     let acts = [
         (Act::Advance(2), Some(Refusal::NotNow)),
-        (Act::Settle(2, b"hellO"), Some(Refusal::WrongCode)),
-        (Act::Settle(2, HELLO), None),
-        (Act::Settle(2, HELLO), Some(Refusal::NotNow)),
+        (Act::Settle(2, b"hellO", 0), Some(Refusal::WrongCode)),
+        // The reply of member 3 came when the quorum was there.
+        (Act::Settle(2, HELLO, 2), Some(Refusal::WrongCode)),
+        // Pieces made elsewhere that equal those that were fetched.
+        (Act::Settle(2, HELLO, 1), None),
+        (Act::Settle(2, HELLO, 1), Some(Refusal::NotNow)),
     ];
     play(&rt, alloc, &mut object, &acts)?;
     assert!(rt; object.value_view(2).map(|value| value.as_slice()) == Some(HELLO));

@@ -3,3 +3,4 @@ mod command_lines;
 mod failing;
 mod failing_reader;
 mod failing_writer;
+mod flushed;

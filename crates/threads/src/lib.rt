@@ -11,6 +11,8 @@ mod coding;
 #[cfg(test)]
 mod disturbed;
 #[cfg(test)]
+mod limits;
+#[cfg(test)]
 mod memory;
 #[cfg(test)]
 mod resumed;

@@ -23,8 +23,10 @@ pub(crate) enum Act {
     Post(u64),
     // The pieces of this text for two of four members.
     Supply(u64, &'static [u8]),
-    // What two pieces of this text give.
-    Settle(u64, &'static [u8]),
+    // The pieces of this text for a layout of this k and n.
+    SupplyFor(u64, u8, u8, &'static [u8]),
+    // What two pieces of this text give, those of the members from this one on.
+    Settle(u64, &'static [u8], u8),
     Answer(u64),
     Serve(usize),
     Take(usize),
@@ -45,11 +47,11 @@ pub(crate) fn next(rt: &impl Abort, object: &Register) -> Stamp
     object.last() + 1
 }
 
-fn decoded(alloc: Global, text: &'static [u8]) -> Result<Decoded, Refusal> {
+fn decoded(alloc: Global, text: &'static [u8], first: u8) -> Result<Decoded, Refusal> {
     let coded = encode(alloc, 2, 4, Bytes::from_static(text))?;
     let mut pieces = Vec::new(alloc);
-    for member in 0..2 {
-        if member < coded.n() {
+    for member in first..coded.n() {
+        if pieces.len() < 2 {
             pieces.push(coded.piece_at(member).clone()?)?;
         }
     }
@@ -77,10 +79,14 @@ fn carry_out(
         Act::Advance(call) => object.advance(call, now)?,
         Act::Post(call) => object.post(call, now)?,
         Act::Supply(call, text) => {
-            let coded = encode(alloc, 2, 4, Bytes::from_static(text))?;
-            object.supply(call, coded, now)?;
+            object.supply(call, encode(alloc, 2, 4, Bytes::from_static(text))?, now)?;
         }
-        Act::Settle(call, text) => object.settle(call, decoded(alloc, text)?, now)?,
+        Act::SupplyFor(call, k, n, text) => {
+            object.supply(call, encode(alloc, k, n, Bytes::from_static(text))?, now)?;
+        }
+        Act::Settle(call, text, first) => {
+            object.settle(call, decoded(alloc, text, first)?, now)?;
+        }
         Act::Answer(call) => {
             object.answer(call, 7, now)?;
         }

@@ -65,8 +65,10 @@ fn end_behind<R: AllocGlobal + Files + Threads + Wait + Sync + Abort>(
     rt: &R,
     words: &[String],
     calls: u64,
+    error: ErrorKind,
+    said: &[u8],
 ) -> End {
-    let mut out = FailingWriter::new(rt.alloc(), calls, ErrorKind::BrokenPipe);
+    let mut out = FailingWriter::new(rt.alloc(), calls, error);
     let (status, err) = run(rt, words, &mut out);
     let is_whole = out.written.as_slice() == LINE;
     if status == 0 {
@@ -74,7 +76,7 @@ fn end_behind<R: AllocGlobal + Files + Threads + Wait + Sync + Abort>(
         return End::Written;
     }
     assert!(rt; status == 1 && LINE.starts_with(out.written.as_slice()));
-    assert!(rt; err.as_slice() == b"cannot write the output\n".as_slice());
+    assert!(rt; err.as_slice() == said);
     if is_whole {
         End::LostBehind
     } else {
@@ -83,13 +85,16 @@ fn end_behind<R: AllocGlobal + Files + Threads + Wait + Sync + Abort>(
 }
 
 /// A writer that takes more and more calls loses a part of the line, then its flush alone, and then nothing.
-#[test]
-fn each_write_fails(rt: HostRuntime) -> Result<(), Fail> {
+fn assert_lost<R: AllocGlobal + Files + Threads + Wait + Sync + Abort>(
+    rt: &R,
+    error: ErrorKind,
+    said: &[u8],
+) -> Result<(), Fail> {
     let words = empty_value(rt.alloc())?;
     let mut inside = 0u64;
     let mut behind = 0u64;
     for calls in 0..99u64 {
-        match end_behind(&rt, words.as_slice(), calls) {
+        match end_behind(rt, words.as_slice(), calls, error, said) {
             End::LostInside => inside = calls,
             End::LostBehind => behind = calls,
             End::Written => {}
@@ -97,4 +102,15 @@ fn each_write_fails(rt: HostRuntime) -> Result<(), Fail> {
     }
     assert!(rt; 0 < inside && inside.saturating_add(1) == behind && behind < 98);
     Ok(())
+}
+
+#[test]
+fn each_write_fails(rt: HostRuntime) -> Result<(), Fail> {
+    assert_lost(&rt, ErrorKind::BrokenPipe, b"cannot write the output\n")
+}
+
+/// A line that finds no memory is lost so, and the program says that memory is wanting.
+#[test]
+fn each_write_finds_no_memory(rt: HostRuntime) -> Result<(), Fail> {
+    assert_lost(&rt, ErrorKind::OutOfMemory, b"refused 1 NoMemory\n")
 }

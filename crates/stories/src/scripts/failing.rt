@@ -21,9 +21,10 @@ fn play(alloc: Global, reader: &mut impl Read, out: &mut impl Write) -> (u8, Vec
     (status, err)
 }
 
-/// Whether the script is played to its end where the writer takes so many calls.
-fn is_written<R: AllocGlobal + Abort>(rt: &R, calls: u64) -> bool {
-    let mut out = FailingWriter::new(rt.alloc(), calls, ErrorKind::BrokenPipe);
+/// Whether the script is played to its end where the writer takes so many calls and then fails so. Where it is not,
+/// this is said.
+fn is_written<R: AllocGlobal + Abort>(rt: &R, calls: u64, error: ErrorKind, said: &[u8]) -> bool {
+    let mut out = FailingWriter::new(rt.alloc(), calls, error);
     let (status, err) = play(rt.alloc(), &mut &*SCRIPT, &mut out);
     let written = out.written.as_slice();
     if status == 0 {
@@ -32,20 +33,31 @@ fn is_written<R: AllocGlobal + Abort>(rt: &R, calls: u64) -> bool {
     }
     assert!(rt; status == 1);
     assert!(rt; LINES.starts_with(written));
-    assert!(rt; err.as_slice() == b"cannot write the output\n".as_slice());
+    assert!(rt; err.as_slice() == said);
     false
+}
+
+/// Lets each call of the writer fail in turn.
+fn assert_lost<R: AllocGlobal + Abort>(rt: &R, error: ErrorKind, said: &[u8]) {
+    let mut lost = 0;
+    for calls in 0..199u64 {
+        if !is_written(rt, calls, error, said) {
+            lost = calls;
+        }
+    }
+    assert!(rt; 20 < lost && lost < 198);
 }
 
 /// A lost write stops the script behind the command whose line it was.
 #[test]
 fn each_write_fails(rt: HostRuntime) {
-    let mut lost = 0;
-    for calls in 0..199u64 {
-        if !is_written(&rt, calls) {
-            lost = calls;
-        }
-    }
-    assert!(rt; 20 < lost && lost < 198);
+    assert_lost(&rt, ErrorKind::BrokenPipe, b"cannot write the output\n");
+}
+
+/// So does one that finds no memory.
+#[test]
+fn each_write_finds_no_memory(rt: HostRuntime) {
+    assert_lost(&rt, ErrorKind::OutOfMemory, NO_MEMORY);
 }
 
 /// Plays the script where the reader gives so many bytes.

@@ -1,0 +1,43 @@
+//! The most seats and the most workers of a store, from both sides.
+
+ghost use Rattle.std.specs.Prelude.{◌≡◌, ◌+◌};
+
+use crate::acts::open_store;
+use client::StoreName;
+use std::alloc::Global;
+use std::marker::Brand;
+use std::sync::ledger::Blank;
+use std::test::Fail;
+use tag::Refusal;
+
+/// How many seats a store gives that is opened with so many seats and workers.
+fn seats_of<L: StoreName>(
+    alloc: Global,
+    blank: Blank,
+    seats: u32,
+    workers: usize,
+) -> Result<usize, Refusal>
+    requires name { blank.name ≡ L.name }
+    requires parts { (blank.parts ≡ L.parts) × (blank.parts ≡ L.seats + 1) × (seats ≡ L.seats) }
+{
+    let (_store, seats) = open_store::<L>(alloc, blank, seats, workers)?;
+    Ok(seats.len())
+}
+
+#[test]
+fn the_most_seats_and_one_more(rt: HostRuntime) -> Result<(), Fail> {
+    let most = seats_of::<Brand>(rt.alloc(), Blank::new(1025), 1024, 0);
+    assert!(rt; most == Ok(1024));
+    let more = seats_of::<Brand>(rt.alloc(), Blank::new(1026), 1025, 0);
+    assert!(rt; more == Err(Refusal::Full));
+    Ok(())
+}
+
+#[test]
+fn the_most_workers_and_one_more(rt: HostRuntime) -> Result<(), Fail> {
+    let most = seats_of::<Brand>(rt.alloc(), Blank::new(2), 1, 64);
+    assert!(rt; most == Ok(1));
+    let more = seats_of::<Brand>(rt.alloc(), Blank::new(2), 1, 65);
+    assert!(rt; more == Err(Refusal::Full));
+    Ok(())
+}
