@@ -1,0 +1,87 @@
+//! An example: a program that embeds a `Store`, a cluster under one lock for client threads. Through a seat it writes a
+//! value, has the object moved to another layout, reads the value back, and closes the store.
+#![tactic(auto)]
+
+ghost use Rattle.std.specs.Prelude.{◌≡◌, ◌+◌};
+
+use bytes::Bytes;
+use client::{First, Store, StoreName};
+use cluster::Cluster;
+use layout::Layout;
+use std::alloc::Global;
+use std::marker::Brand;
+use std::process::ExitCode;
+use std::sync::Wait;
+use std::sync::ledger::Blank;
+use std::thread::Threads;
+use tag::Refusal;
+use words::hexadecimal::Hexadecimal;
+
+/// The name of the object.
+const NAME: &str = "greeting";
+
+/// More turns than a call takes here.
+const MOST_TURNS: u64 = 1000;
+
+/// The seats of the store. Its blank has one part for each, and one for the store.
+const SEATS: u32 = 1;
+
+/// No workers: the thread of a seat codes by itself.
+const WORKERS: usize = 0;
+
+/// What was read back, and how many receipts the closed store has accounted for.
+#[derive(Drop)]
+struct Outcome {
+    value: Bytes,
+    receipts: u64,
+}
+
+fn main(rt: HostRuntime) -> ExitCode {
+    let printed = match write_move_and_read::<Brand, _>(&rt, rt.alloc(), Blank::new(2)) {
+        Ok(outcome) => {
+            let value = Hexadecimal(outcome.value.as_slice());
+            println!(rt; "{value} receipts {}", outcome.receipts)
+        }
+        Err(refusal) => println!(rt; "refused {refusal}"),
+    };
+    match printed {
+        Ok(()) => ExitCode::SUCCESS,
+        Err(_) => ExitCode::FAILURE,
+    }
+}
+
+/// Writes `hello` to an object of four servers, of which any two give the value back, moves it to three of them, of
+/// which each has it whole, and reads it. Several seats would be lent to several threads.
+fn write_move_and_read<L: StoreName, R: Threads + Wait + Sync>(
+    rt: &R,
+    alloc: Global,
+    blank: Blank,
+) -> Result<Outcome, Refusal>
+    requires name { blank.name ≡ L.name }
+    requires parts { (blank.parts ≡ L.parts) × (blank.parts ≡ L.seats + 1) × (1 ≡ L.seats) }
+{
+    let cluster = four_servers(alloc)?;
+    let (store, mut seats, mut admin) = Store::<L>::open(alloc, blank, cluster, SEATS, WORKERS)?;
+    let mut seat = seats.pop().ok_or(Refusal::Stranger)?;
+    let hello = Bytes::from_static(b"hello");
+    store.write(rt, &mut seat, NAME, hello, &mut First, MOST_TURNS)?;
+    let layout = store.add_layout(rt, &mut admin, Layout::new(1, &[1, 2, 3])?)?;
+    store.move_object(rt, &mut admin, NAME, layout, &mut First, MOST_TURNS)?;
+    let receipt = store.read(rt, &mut seat, NAME, &mut First, MOST_TURNS)?;
+    seats.push(seat)?;
+    match store.close(seats) {
+        Ok(closed) => Ok(Outcome {
+            value: receipt.value.ok_or(Refusal::NotNow)?,
+            receipts: closed.receipts,
+        }),
+        Err(kept) => Err(kept.refusal),
+    }
+}
+
+/// Four servers and the object.
+fn four_servers(alloc: Global) -> Result<Cluster, Refusal> {
+    let mut cluster = Cluster::new(alloc, 4);
+    let layout = cluster.add_layout(Layout::new(2, &[0, 1, 2, 3])?)?;
+    cluster.create(alloc, NAME, layout)?;
+    Ok(cluster)
+}
