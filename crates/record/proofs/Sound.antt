@@ -2,6 +2,7 @@
 pub mod Added
 pub mod Adding
 pub mod Asking
+pub mod BankLabels
 pub mod Banks
 pub mod Beginning
 pub mod Calling

@@ -9,7 +9,6 @@ use Rattle.layout.specs.Quorum.{has}
 use Rattle.encoder.specs.declared.fragment.Piece.{Piece}
 use Rattle.bank.specs.declared.kind.Kind.{Kind}
 use Rattle.bank.specs.declared.kind.Kind.TheVariants.{Next, Spread, Query, PreWrite, Finalize, Fetch}
-use Rattle.bank.specs.declared.request.Request.{Request}
 use Rattle.mail.specs.declared.message.Message.{Message}
 use Rattle.mail.specs.Message.{request_bytes, message_bytes}
 use Rattle.mail.specs.Mail.{mail_bytes}

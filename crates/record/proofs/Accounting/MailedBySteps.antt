@@ -4,7 +4,6 @@ use Rattle.std.proofs.Common.{◌∷◌, Option, Some, None, is_some, refl, ap, 
 use Rattle.std.specs.List.{remove}
 use Rattle.bank.specs.Answer.{answer_bytes}
 use Rattle.bank.specs.declared.kind.Kind.{Kind}
-use Rattle.bank.specs.declared.request.Request.{Request}
 use Rattle.mail.specs.declared.message.Message.{Message}
 use Rattle.mail.specs.declared.message.Body.{Body}
 use Rattle.mail.specs.Message.{body_bytes, message_bytes}

@@ -1,6 +1,5 @@
 -- What each step adds to what a server stores.
 use Rattle.std.proofs.Common.{◌≡◌, ℕ, ◌+◌, ◌<◌, length, Option, Some, None, refl, arith, slice_get}
-use Rattle.bank.specs.declared.request.Request.{Request}
 use Rattle.mail.specs.declared.message.Message.{Message}
 use Rattle.mail.specs.declared.message.Body.{Body}
 use Rattle.record.specs.Records.{Call, Object}

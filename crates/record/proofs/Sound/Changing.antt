@@ -6,10 +6,9 @@ use Rattle.std.proofs.lemmas.Option.{same_Some}
 use Rattle.tag.specs.declared.tag.Tag.{Tag}
 use Rattle.tag.specs.Tag.{opening_tag}
 use Rattle.layout.specs.Layout.{Layout}
-use Rattle.bank.specs.declared.status.Pointer.TheVariants.{Pending, Final}
 use Rattle.bank.specs.declared.kind.Kind.{Kind}
 use Rattle.bank.specs.declared.kind.Kind.TheVariants.{Spread, PreWrite, Finalize, Fetch}
-use Rattle.bank.specs.Bank.{Bank, finalized}
+use Rattle.bank.specs.Bank.{Bank}
 use Rattle.mail.specs.declared.message.Message.{Message}
 use Rattle.phase.specs.declared.phase.Taken.{Taken}
 use Rattle.phase.specs.Phase.{Phase}

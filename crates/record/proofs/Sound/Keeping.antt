@@ -6,13 +6,11 @@ use Rattle.std.specs.List.{AllByRecursion, IsDistinct}
 use Rattle.layout.specs.Quorum.{has}
 use Rattle.layout.specs.Layout.{quorum_of}
 use Rattle.layout.proofs.Distinct.{distinct_push}
-use Rattle.bank.specs.declared.status.Pointer.{Pointer}
 use Rattle.bank.specs.declared.kind.Kind.{Kind}
 use Rattle.bank.specs.declared.kind.Kind.TheVariants.{Next, Spread, Query, PreWrite, Finalize, Fetch}
 use Rattle.bank.specs.declared.request.Request.{Request}
 use Rattle.bank.specs.declared.reply.Answer.{Answer}
-use Rattle.encoder.specs.declared.fragment.Piece.{Piece}
-use Rattle.bank.specs.Bank.{Bank, finalized}
+use Rattle.bank.specs.Bank.{Bank}
 use Rattle.bank.specs.Serve.{served_bank}
 use Rattle.bank.specs.Knowledge.{IsTrueAnswer}
 use Rattle.bank.specs.Facts.{SameBefore}

@@ -8,9 +8,9 @@ use Rattle.bank.specs.declared.status.Status.{Status}
 use Rattle.bank.specs.declared.status.Pointer.{Pointer}
 use Rattle.bank.specs.declared.status.Pointer.TheVariants.{Unset, Pending, Final}
 use Rattle.bank.specs.declared.kind.Kind.{Kind}
-use Rattle.bank.specs.declared.kind.Kind.TheVariants.{Next, Spread, Query, PreWrite, Finalize, Fetch}
+use Rattle.bank.specs.declared.kind.Kind.TheVariants.{Spread, PreWrite, Finalize, Fetch}
 use Rattle.bank.specs.declared.request.Request.{Request}
-use Rattle.bank.specs.Bank.{Bank, finalized}
+use Rattle.bank.specs.Bank.{Bank}
 use Rattle.bank.specs.Pointer.{raised}
 use Rattle.bank.specs.Serve.{served_bank, kind_of}
 use Rattle.bank.specs.Knowledge.{finalized_at, arrived_at, pending_since, final_since}

@@ -7,7 +7,6 @@ use Rattle.tag.specs.declared.tag.Tag.{Tag}
 use Rattle.tag.specs.Tag.{opening_tag, IsBelow}
 use Rattle.layout.specs.Quorum.{has}
 use Rattle.record.specs.Records.{Call, Object}
-use Rattle.record.specs.declared.call.CallKind.TheVariants.{Move}
 use Rattle.record.specs.Legal.{is_move, IsLegal}
 use Rattle.record.specs.declared.call.Entry.{Entry}
 use Rattle.record.specs.Atomic.{entry_at, IsAnsweredBefore, MayStand, IsSequence, IsAtomic, IsRegister, KeepsOrder}
@@ -15,7 +14,7 @@ use Rattle.record.specs.Journals.{tag_of, IsWritten, IsJournaled, ReadsJournaled
 use Rattle.record.specs.declared.call.Operation.TheVariants as operation
 use Rattle.record.proofs.Atomic.Orders.Items.{Item, IsOrdered, Some_of, IsKept, Wrote, Apart, Rests, register}
 use Rattle.record.proofs.Atomic.Orders.Sorted.{pairs_of, numbers, numbers_all, distinct_numbers, has_number, keeps_order}
-use Rattle.record.proofs.Atomic.Sequences.Chosen.{items, sequence, sequence_items, sequence_ordered, sequence_has}
+use Rattle.record.proofs.Atomic.Sequences.Chosen.{sequence, sequence_items, sequence_ordered, sequence_has}
 use Rattle.record.proofs.Atomic.Sequences.Entries.{entry_here, same_entries, may_stand, in_order, some_step}
 use Rattle.record.proofs.Atomic.Sequences.Entries.{choose_write, item_exists, entry_of_call, stays}
 use Rattle.record.proofs.Atomic.Sequences.Items.{Does, IsItem, kept_item, two_numbers, write_tag, writes_apart}

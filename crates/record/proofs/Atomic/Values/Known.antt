@@ -7,7 +7,6 @@ use Rattle.std.specs.List.{AllByRecursion}
 use Rattle.tag.specs.declared.tag.Tag.{Tag}
 use Rattle.tag.specs.Tag.{opening_tag, later_tag, tag_lt}
 use Rattle.bank.specs.declared.status.Status.{Status}
-use Rattle.encoder.specs.declared.fragment.Piece.{Piece}
 use Rattle.bank.specs.declared.kind.Kind.{Kind}
 use Rattle.bank.specs.declared.reply.Answer.{Answer}
 use Rattle.phase.specs.declared.phase.Taken.{Taken}
