@@ -150,6 +150,13 @@ impl Phase {
         self.ask.position
     }
 
+    /// The step at which it began, and the one at which it had a quorum's replies.
+    pub fn steps(&self) -> (Stamp, Option<Stamp>)
+        ensures { (result.0 ≡ self.now.start) × (result.1 ≡ self.now.end) }
+    {
+        (self.start, self.end)
+    }
+
     /// How many members the position has.
     pub fn members(&self) -> u8
         ensures { result ≡ self.now.members }

@@ -97,6 +97,14 @@ value_of (Some call) = sent_value call.kind call.settled
 abbrev pub value_at : Object → (number : ℕ) → Option (List ℕ)
 value_at object number = value_of (call_at object number)
 
+abbrev pub phases_of : Option Call → List Phase
+phases_of None = []
+phases_of (Some call) = call.phases
+
+-- the phases of the call of this number, the first one first
+abbrev pub phases_at : Object → (number : ℕ) → List Phase
+phases_at object number = phases_of (call_at object number)
+
 abbrev pub bank_there : Object → (position member : ℕ) → Option Bank
 bank_there object position member = slice_get (get_or object.banks position []) member
 

@@ -45,6 +45,13 @@ impl Call {
         self.settled.is_some()
     }
 
+    /// The phases, the first one first.
+    pub(crate) fn phases(&self) -> &[Phase]
+        ensures { result.now ≡ self.now.call.phases }
+    {
+        self.phases.as_slice()
+    }
+
     /// The value that the call writes, or has settled so far.
     pub(crate) fn value(&self) -> Option<&Bytes>
         ensures { option_copied result ≡ sent_value self.now.call.kind self.now.call.settled }

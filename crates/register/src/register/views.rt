@@ -12,7 +12,7 @@ ghost use Rattle.record.specs.Sound.{IsSound};
 ghost use Rattle.register.specs.Kept.{IsWithinLimits, has_open_move};
 ghost use Rattle.register.specs.Causes.{call_at, number_cause};
 ghost use Rattle.register.specs.Position.{all_bytes};
-ghost use Rattle.register.specs.View.{view_at, value_at, tag_at, bank_there};
+ghost use Rattle.register.specs.View.{view_at, value_at, phases_at, tag_at, bank_there};
 
 use crate::receipt::CallView;
 use crate::register::Register;
@@ -20,6 +20,7 @@ use crate::register::phases::{index_of, want_of};
 use bank::Bank;
 use bytes::Bytes;
 use mail::Mail;
+use phase::Phase;
 use record::Entry;
 use tag::{Refusal, Tag};
 use transfer::stage_tag;
@@ -116,6 +117,16 @@ impl Register {
             tag: stage_tag(tracked.stage()),
             want: want_of(&self.positions, tracked),
         })
+    }
+
+    /// The phases of the call of this number, the first one first. There is none where there is no such call.
+    pub fn phases_view(&self, call: u64) -> &[Phase]
+        ensures { result.now ≡ phases_at self.now.object call }
+    {
+        match index_of(&self.calls, call) {
+            Ok(index) => self.calls[index].phases(),
+            Err(_) => &[],
+        }
     }
 
     /// The messages that wait.
