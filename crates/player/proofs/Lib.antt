@@ -1,4 +1,5 @@
 mod Stepping
+mod SuppliedAs
 mod Whole
 mod Printing
 mod Checking

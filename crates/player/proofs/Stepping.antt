@@ -10,7 +10,6 @@ use Rattle.cluster.specs.Steps.{moved, created}
 use Rattle.cluster.specs.Causes.{object_cause, moving_cause, create_cause}
 use Rattle.player.specs.declared.report.Report.{Report}
 use Rattle.player.specs.Report.{report_of, done, refused}
-use Rattle.player.specs.CodingCommands.{IsByCauseOrMemory}
 use Rattle.player.specs.Steps.{IsStep, IsGrowth, IsRefused}
 
 -- a step that gives something
@@ -52,11 +51,3 @@ pub created_with : (old new : Cluster) (name : List ℕ) (id number : ℕ) (told
     → IsGrowth old (created old name number) (create_cause old name number) told new report
 created_with old new name id number told report same =
     subst (λ n. IsGrowth old (created old name n) (create_cause old name n) told new report) same
-
--- a step that codes bytes first, for which memory may be wanting
-pub coded : (old new made : Cluster) (no_coding cause : Option Refusal) (r : Result Unit Refusal) (report : Report)
-    → OnOk r (new ≡ made) → IsByCauseOrMemory no_coding cause r → OnErr r (new ≡ old) → report ≡ report_of (λ _. done) r
-    → IsStep old made cause (Some done) new report ⊎ ((no_coding ≡ None) × IsRefused old NoMemory new report)
-coded old new made no_coding cause (Ok x) report step by same is = inl (inl (by, step, ap Some (sym is)))
-coded old new made no_coding cause (Err e) report step (inl by) same is = inl (inr (e, by, (same, is)))
-coded old new made no_coding cause (Err e) report step (inr (none, memory)) same is = inr (none, (same, is ∙ ap refused memory))

@@ -1,7 +1,7 @@
 -- The commands that supply a call with coded bytes, or settle a decoded value.
-use Rattle.std.specs.Prelude.{◌≡◌, ◌⊎◌, ℕ, pred, List, length, Option, Some, None, Result, MatchResult}
+use Rattle.std.specs.Prelude.{◌≡◌, ◌⊎◌, ℕ, pred, List, length, Option, Some, None}
 use Rattle.tag.specs.declared.refusal.Refusal.{Refusal}
-use Rattle.tag.specs.declared.refusal.Refusal.TheVariants.{NoMemory, NoCall, NotNow}
+use Rattle.tag.specs.declared.refusal.Refusal.TheVariants.{NoCall, NotNow}
 use Rattle.encoder.specs.Coded.{Coding, encode_cause}
 use Rattle.record.specs.declared.stage.Want.{Want}
 use Rattle.record.specs.declared.stage.Want.TheVariants as want
@@ -16,7 +16,7 @@ use Rattle.driver.specs.Coding.{settling_cause}
 use Rattle.driver.specs.Rounds.{SettlesOwn}
 use Rattle.player.specs.declared.report.Report.{Report}
 use Rattle.player.specs.Report.{done}
-use Rattle.player.specs.Steps.{IsRefusalBy, IsRefused, IsStep, IsGrowth}
+use Rattle.player.specs.Steps.{IsRefusalBy, IsRefused, IsGrowth}
 
 -- this cause, or else that one
 abbrev pub first_of : Option Refusal → Option Refusal → Option Refusal
@@ -34,26 +34,18 @@ abbrev pub coding_for : (value : List ℕ) → Option Want → Coding
 coding_for value (Some (want.Supply k n)) = record { k = k; n = n; value = value }
 coding_for value _ = record { k = 0; n = 0; value = value }
 
--- Ok where there is no cause of refusal, else that refusal; but the memory to code the bytes may be wanting first,
--- where they can be coded
-abbrev pub IsByCauseOrMemory : {T : Type 0} → (no_coding cause : Option Refusal) → Result T Refusal → Type 0
-IsByCauseOrMemory no_coding cause answer =
-    MatchResult answer (λ _. cause ≡ None) (λ r. (cause ≡ Some r) ⊎ ((no_coding ≡ None) × (r ≡ NoMemory)))
-
 -- why the call of this number is not supplied with these bytes: they are not coded, or are not its own
 abbrev pub supplying_as_cause : Cluster → (call : ℕ) → (value : List ℕ) → Object → Option Refusal
 supplying_as_cause cluster call value object =
     first_of (coding_cause value (want_at object call))
     (supply_cause (next cluster) object call (coding_for value (want_at object call)))
 
--- the call of this number is supplied with these bytes, coded as
--- it wants them; memory may be wanting where they can be coded
+-- the call of this number is supplied with these bytes, coded as it wants them
 abbrev pub SuppliesAs : Cluster → (name : List ℕ) → (call : ℕ) → (value : List ℕ) → Cluster → Report → Type 0
 SuppliesAs old name call value new report =
-    IsStep old (stepped old name (Step.Supply (pred call))) (object_cause old name (supplying_as_cause old call value))
+    IsGrowth old (stepped old name (Step.Supply (pred call)))
+    (object_cause old name (supplying_as_cause old call value))
     (Some done) new report
-    ⊎ ((object_cause old name (λ object. coding_cause value (want_at object call)) ≡ None)
-    × IsRefused old NoMemory new report)
 
 -- the call of this number is supplied with the pieces of its own value
 abbrev pub Supplies : Cluster → (name : List ℕ) → (call : ℕ) → Cluster → Report → Type 0

@@ -1,21 +1,21 @@
 //! The commands that make one step of a call.
-ghost use Rattle.std.specs.Prelude.{◌≡◌, pred, OnOk, OnErr};
+ghost use Rattle.std.specs.Prelude.{◌≡◌, ◌↔◌, pred, option_copied, Some, IfErr, OnOk, OnErr, IsTrue};
+ghost use Rattle.tag.specs.Refusal.{IsByCause};
 ghost use Rattle.record.specs.Steps.{Step};
-ghost use Rattle.register.specs.View.{want_at};
-ghost use Rattle.cluster.specs.Causes.{object_cause};
+ghost use Rattle.record.specs.Sending.{value_or_empty};
+ghost use Rattle.register.specs.Causes.{supplying_cause};
+ghost use Rattle.cluster.specs.Causes.{next, object_cause};
 ghost use Rattle.cluster.specs.Steps.{stepped};
 ghost use Rattle.player.specs.CallCommands.{CallsRead, CallsWrite, CallsMove, Advances, Posts, Answers};
-ghost use Rattle.player.specs.CodingCommands.{Supplies, SuppliesAs, SettlesValue, IsByCauseOrMemory};
-ghost use Rattle.player.specs.CodingCommands.{coding_cause, supplying_as_cause};
+ghost use Rattle.player.specs.CodingCommands.{Supplies, SuppliesAs, SettlesValue, supplying_as_cause};
 
 use crate::cluster_commands::layout_id;
 use crate::report::Report;
 use bytes::Bytes;
 use cluster::Cluster;
-use encoder::encode;
 use record::Want;
 use std::alloc::Global;
-use tag::Refusal;
+use tag::{LONGEST_VALUE, Refusal};
 
 /// The call step of a read.
 pub(crate) fn call_read(cluster: &mut Cluster, name: &str) -> Report
@@ -73,16 +73,43 @@ fn supply_value(
     value: Bytes,
 ) -> Result<(), Refusal>
     ensures step { OnOk result (cluster.new ≡ stepped cluster.old name.entry.now (Step.Supply (pred call))) }
-    ensures cause { IsByCauseOrMemory
-        (object_cause cluster.old name.entry.now (λ object. coding_cause value (want_at object call)))
+    ensures cause { IsByCause
         (object_cause cluster.old name.entry.now (supplying_as_cause cluster.old call value)) result }
     ensures unchanged { OnErr result (cluster.new ≡ cluster.old) }
 {
-    let Want::Supply { k, n } = cluster.want(name, call)? else {
+    expect_own(cluster, name, call, &value)?;
+    driver::supply(alloc, cluster, name, call)
+}
+
+// Whether a call that wants to be supplied sends these bytes. It takes no memory.
+fn expect_own(cluster: &Cluster, name: &str, call: u64, value: &Bytes) -> Result<(), Refusal>
+    ensures own { OnOk result (object_cause cluster.now name.now (supplying_as_cause cluster.now call value.now)
+        ≡ object_cause cluster.now name.now (λ object. supplying_cause (next cluster.now) object call)) }
+    ensures other { IfErr result
+        (λ r. object_cause cluster.now name.now (supplying_as_cause cluster.now call value.now) ≡ Some r) }
+{
+    let Want::Supply { .. } = cluster.want(name, call)? else {
         return Err(Refusal::NotNow);
     };
-    let coded = encode(alloc, k, n, value)?;
-    cluster.supply(name, call, coded)
+    let register = cluster.register(name)?;
+    register.soundness();
+    if value.len() > LONGEST_VALUE {
+        return Err(Refusal::TooLong);
+    }
+    if !is_value(register.value_view(call), value) {
+        return Err(Refusal::WrongCode);
+    }
+    Ok(())
+}
+
+// Whether these bytes are the value, which is empty where there is none.
+fn is_value(value: Option<&Bytes>, bytes: &Bytes) -> bool
+    ensures { IsTrue result ↔ (bytes.now ≡ value_or_empty (option_copied value.entry)) }
+{
+    match value {
+        Some(value) => value.as_slice() == bytes.as_slice(),
+        None => bytes.as_slice().is_empty(),
+    }
 }
 
 /// The value of the pieces that the call has.

@@ -10,7 +10,7 @@ use crate::whole_calls::{move_to, read, resume, write};
 use crate::{call_commands, cluster_commands, mail_commands, shown};
 use cluster::Cluster;
 use printing::Outcome;
-use script::command::Command;
+use script::Command;
 use std::alloc::Global;
 use std::fmt::Display;
 use std::io;

@@ -7,9 +7,7 @@ ghost use Rattle.player.specs.Script.{IsPlayedFrom, IsPlayedThrough, status_of, 
 
 use crate::player::{Stop, play};
 use cluster::Cluster;
-use script::error::LineError;
-use script::line::{Line, parse_line};
-use script::lines::split_lines;
+use script::{Line, LineError, parse_line, split_lines};
 use std::alloc::Global;
 use std::io::{ErrorKind, Read, Write};
 use std::{fmt, io};

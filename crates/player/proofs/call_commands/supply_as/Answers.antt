@@ -1,6 +1,6 @@
-use Rattle.player.proofs.Stepping.{coded}
+use Rattle.player.proofs.Stepping.{growth_done}
 use Rattle.player.proofs.call_commands.supply_as.Goals as goal
 
 pub returns : goal.returns
-returns c = coded _ _ _ _ _ c.supply_value.result _ c.supply_value.ensures.step c.supply_value.ensures.cause
+returns c = growth_done _ _ _ _ c.supply_value.result _ c.supply_value.ensures.step c.supply_value.ensures.cause
     c.supply_value.ensures.unchanged c.of_step.ensures
