@@ -9,7 +9,7 @@ use encoder::{Coded, encode};
 use std::alloc::Global;
 use std::fmt;
 use tag::Refusal;
-use words::hexadecimal::Hexadecimal;
+use words::Hexadecimal;
 
 /// The fragments of `value` at the points from 0 to `n - 1`, cut into `k` blocks. A `k` or `n` above its limit is
 /// refused as a bad layout, however large it is.

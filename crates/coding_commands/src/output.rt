@@ -6,7 +6,7 @@ use crate::fragments::FragmentsLine;
 use decoder::Decoded;
 use encoder::Coded;
 use std::fmt;
-use words::hexadecimal::Hexadecimal;
+use words::Hexadecimal;
 
 /// The output of a command. It prints as its line, without the line feed.
 #[derive(Drop)]

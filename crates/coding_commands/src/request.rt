@@ -11,8 +11,7 @@ use crate::fault::Fault;
 use bytes::Bytes;
 use encoder::Piece;
 use std::alloc::Global;
-use words::hexadecimal::parse_bytes;
-use words::number::parse_number;
+use words::{parse_bytes, parse_number};
 
 /// What a command line asks of the coding. The numbers are as they were written, also above their limits.
 #[derive(Drop)]

@@ -9,7 +9,7 @@ ghost use Rattle.commands.specs.Request.{IsReading};
 use coding_commands::{CodingRequest, Fault};
 use soak::Plan;
 use std::alloc::Global;
-use words::number::parse_number;
+use words::parse_number;
 
 /// What a command line asks for.
 #[derive(Drop)]

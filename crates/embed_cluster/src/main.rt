@@ -15,7 +15,7 @@ use register::Receipt;
 use std::alloc::Global;
 use std::process::ExitCode;
 use tag::Refusal;
-use words::hexadecimal::Hexadecimal;
+use words::Hexadecimal;
 
 /// The name of the object.
 const NAME: &str = "greeting";

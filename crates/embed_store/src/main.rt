@@ -15,7 +15,7 @@ use std::sync::Wait;
 use std::sync::ledger::Blank;
 use std::thread::Threads;
 use tag::Refusal;
-use words::hexadecimal::Hexadecimal;
+use words::Hexadecimal;
 
 /// The name of the object.
 const NAME: &str = "greeting";

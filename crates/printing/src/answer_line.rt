@@ -5,7 +5,7 @@ ghost use Rattle.printing.specs.AnswerLine.{answer_text};
 use record::Operation;
 use register::Receipt;
 use std::fmt;
-use words::hexadecimal::Hexadecimal;
+use words::Hexadecimal;
 
 /// The line of an answered call: `call C value HEX` of a read, and else `call C answered`.
 #[derive(Clone, Copy)]

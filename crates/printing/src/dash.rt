@@ -8,7 +8,7 @@ ghost use Rattle.printing.specs.Words.{text_or_dash};
 use bytes::Bytes;
 use std::fmt;
 use tag::Tag;
-use words::hexadecimal::Hexadecimal;
+use words::Hexadecimal;
 
 /// A number, if there is one.
 #[derive(Clone, Copy)]

@@ -12,8 +12,7 @@ ghost use Rattle.script.specs.declared.error.LineError.TheVariants.{Bad, NoMemor
 use crate::error::LineError;
 use bytes::Bytes;
 use std::alloc::Global;
-use words::hexadecimal::parse_bytes;
-use words::number::parse_number;
+use words::{parse_bytes, parse_number};
 
 /// The turns of a whole call where a line names none.
 const TURNS: u64 = 100_000;

@@ -1,12 +1,17 @@
 //! The language of scripts: lines, their words, and the commands that they spell.
 #![tactic(auto)]
 
+pub use command::{Command, parse_command};
+pub use error::LineError;
+pub use line::{Line, parse_line};
+pub use lines::split_lines;
+
 mod arguments;
 mod call_commands;
 mod cluster_commands;
-pub mod command;
-pub mod error;
-pub mod line;
-pub mod lines;
+mod command;
+mod error;
+mod line;
+mod lines;
 mod mail_commands;
 mod object_commands;

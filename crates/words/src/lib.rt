@@ -1,7 +1,10 @@
 //! The words of command lines and scripts: numbers and bytes.
 #![tactic(auto)]
 
-pub mod hexadecimal;
-pub mod number;
+pub use hexadecimal::{Hexadecimal, parse_bytes};
+pub use number::parse_number;
+
+mod hexadecimal;
+mod number;
 #[cfg(test)]
 mod tests;
