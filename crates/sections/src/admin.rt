@@ -1,11 +1,14 @@
 //! The one administrator of a store.
 
-ghost use Rattle.std.specs.Prelude.{◌↔◌, IsTrue, IsSome};
+ghost use Rattle.std.specs.Prelude.{◌≡◌, ◌↔◌, IsTrue, IsSome, IfErr};
+ghost use Rattle.tag.specs.declared.refusal.Refusal.TheVariants.{NoMemory};
 
 use crate::booked::StoreName;
+use crate::seat::hold;
 use cluster::LayoutId;
 use layout::Layout;
 use std::marker::{Model, PhantomData};
+use tag::Refusal;
 
 /// The right to add layouts, to create and move objects and to turn servers on and off.
 #[derive(Drop)]
@@ -40,5 +43,16 @@ impl<L: StoreName> Admin<L> {
         ensures { IsTrue result ↔ IsSome self.now }
     {
         self.pending.is_some()
+    }
+
+    /// Takes down the name of the object that is to be moved, where no move is pending. `NoMemory` is the only refusal.
+    pub fn make_room(&mut self, name: &str) -> Result<(), Refusal>
+        ensures same { self.new ≡ self.old }
+        ensures refused { IfErr result (λ r. r ≡ NoMemory) }
+    {
+        if self.is_pending() {
+            return Ok(());
+        }
+        hold(&mut self.name, name)
     }
 }

@@ -1,6 +1,6 @@
 //! How calls of seats begin.
 
-ghost use Rattle.std.specs.Prelude.{◌≡◌, ◌+◌, suc, IfOk, OnOk, OnErr};
+ghost use Rattle.std.specs.Prelude.{◌≡◌, ◌↔◌, ◌<◌, ◌+◌, suc, vec_len, vec_capacity, IfOk, IsTrue, OnOk, OnErr};
 ghost use Rattle.tag.specs.Refusal.{IsByCause};
 ghost use Rattle.cluster.specs.Causes.{next, object_cause};
 ghost use Rattle.cluster.specs.Cluster.{named};
@@ -10,7 +10,7 @@ ghost use Rattle.sections.specs.Seats.{begin_cause, begun, call_count, call_step
 
 use crate::booked::{Booked, StoreName};
 use crate::call_record::{Begin, CallRecord};
-use crate::seat::{Seat, hold};
+use crate::seat::Seat;
 use cluster::Cluster;
 use tag::Refusal;
 
@@ -18,7 +18,8 @@ use tag::Refusal;
 ///
 /// `Stranger` where the seat has seen a later step than there was, `NoObject` where there is none of this name,
 /// `NotNow` where the seat has a call without an answer, `TooLong` where the value is too long, and `Full` where a
-/// limit of the steps, of the calls or of the messages is met.
+/// limit of the steps, of the calls or of the messages is met. Else `NoMemory`, also where `Seat::make_room` has not
+/// made room for a call of this name: that is not asked for under a lock.
 pub fn begin_in<L: StoreName>(
     booked: &mut Booked<L>,
     seat: &mut Seat<L>,
@@ -40,8 +41,9 @@ pub fn begin_in<L: StoreName>(
         return Err(Refusal::NotNow);
     }
     booked.cluster.may_call(name, what.len())?;
-    hold(&mut seat.name, name)?;
-    seat.records.reserve(1)?;
+    if seat.name.as_str() != name || !has_room(&seat.records) {
+        return Err(Refusal::NoMemory);
+    }
     let operation = what.operation();
     let written = what.written()?;
     let call = begin_call(&mut booked.cluster, name, what)?;
@@ -56,6 +58,13 @@ pub fn begin_in<L: StoreName>(
         receipt: None,
     });
     Ok(())
+}
+
+// Whether there is room for one more record.
+fn has_room(records: &Vec<CallRecord>) -> bool
+    ensures { IsTrue result ↔ (vec_len records.now < vec_capacity records.now) }
+{
+    records.len() < records.capacity()
 }
 
 // The call step. It answers the call's number.

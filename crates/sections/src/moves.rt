@@ -13,7 +13,6 @@ ghost use Rattle.sections.specs.Sections.{move_cause_of};
 use crate::admin::Admin;
 use crate::booked::{Booked, StoreName};
 use crate::rounds::{Hand, past_calls, round_with, want_to_go};
-use crate::seat::hold;
 use cluster::{Cluster, LayoutId};
 use driver::{Chooser, Round};
 use tag::Refusal;
@@ -21,7 +20,8 @@ use tag::Refusal;
 /// A move begins: one step.
 ///
 /// `NoObject` where there is none of this name, `MovePending` where the object or the administrator has a move without
-/// an answer, `BadLayout` where there is no such layout, and `Full` where a limit is met.
+/// an answer, `BadLayout` where there is no such layout, and `Full` where a limit is met. Else `NoMemory`, also where
+/// `Admin::make_room` has not taken down this name.
 pub fn begin_move_in<L: StoreName>(
     booked: &mut Booked<L>,
     admin: &mut Admin<L>,
@@ -40,7 +40,9 @@ pub fn begin_move_in<L: StoreName>(
         return Err(Refusal::MovePending);
     }
     booked.cluster.may_move(name, layout)?;
-    hold(&mut admin.name, name)?;
+    if admin.name.as_str() != name {
+        return Err(Refusal::NoMemory);
+    }
     let call = call_move(&mut booked.cluster, name, layout)?;
     admin.pending = Some(call);
     Ok(())

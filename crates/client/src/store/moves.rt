@@ -88,6 +88,7 @@ impl<L: StoreName> Store<L> {
         ensures err { IfErr result (λ r. ((admin.new ≡ admin.old) × MovesNot admin.old name.now layout r)
             ⊎ BeginsMove admin.old name.now layout admin.new) }
     {
+        let _ = admin.make_room(name);
         begin_move_in(&mut *self.booked.lock(rt), admin, name, layout)?;
         self.finish(rt, &NoGate, admin, false, chooser, turns)
     }
