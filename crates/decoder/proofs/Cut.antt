@@ -1,7 +1,7 @@
 -- The value of len bytes in the whole blocks: there is one where the bytes past len are zero.
 use Rattle.std.proofs.Common.{◌≡◌, ℕ, ◌+◌, ◌-◌, ◌*◌, ◌<◌, ◌≤◌, List, length, get_or, take, drop, All, refl}
 use Rattle.std.proofs.Common.{sym, ap, subst, ◌∙◌, arith, ⊎_elim, get_or-take, get_or-drop, length-take}
-use Rattle.std.proofs.Common.{length-drop, take_all, Bool, true, false, IsTrue, ◌↔◌, true≢false}
+use Rattle.std.proofs.Common.{length-drop}
 use Rattle.std.proofs.lemmas.Bool.{cases_lt}
 use Rattle.std.proofs.lemmas.List.{get_or_past}
 use Rattle.std.proofs.lemmas.List.Elements.{All-take}
@@ -10,9 +10,9 @@ use Rattle.tag.specs.declared.limits.TheConstants.{LONGEST_VALUE}
 use Rattle.encoder.specs.Fragment.{fragment_len}
 use Rattle.encoder.specs.declared.fragment.Piece.{Piece}
 use Rattle.encoder.proofs.Columns.{fragment_same, length-fragment}
-use Rattle.decoder.specs.Pieces.{AreLawful, AreOfBytes, ArePiecesOf, HaveNoValue, IsInterpolated}
+use Rattle.decoder.specs.Pieces.{AreLawful, AreOfBytes, ArePiecesOf, IsInterpolated}
 use Rattle.decoder.proofs.Whole.{blocks_of, byte_in_blocks, length-blocks_of, fragment_len-whole}
-use Rattle.decoder.proofs.Whole.{len_le_whole, blocks_of-only, IsInterpolated-blocks_of}
+use Rattle.decoder.proofs.Whole.{len_le_whole, IsInterpolated-blocks_of}
 
 -- lawful pieces
 module _ (k len : ℕ) (pieces : List Piece) (lawful : AreLawful k len pieces) (bytes : AreOfBytes pieces) where
@@ -26,6 +26,10 @@ module _ (k len : ℕ) (pieces : List Piece) (lawful : AreLawful k len pieces) (
       let low : n < len = omega (arith, known.value_len) in
       byte_in_blocks k len pieces lawful bytes len value known refl n (omega arith)
       ∙ sym (get_or-take len (blocks_of k len pieces) n 0 low))
+
+  -- so it is the only one
+  pub value-only : (v w : List ℕ) → IsInterpolated k len pieces v → IsInterpolated k len pieces w → v ≡ w
+  value-only v w first second = value-blocks_of v first ∙ sym (value-blocks_of w second)
 
   -- and have only zeros past it
   pub padding-blocks_of : (value : List ℕ) → IsInterpolated k len pieces value → All (λ b. b ≡ 0) (drop len (blocks_of k len pieces))
@@ -66,26 +70,6 @@ module _ (k len : ℕ) (pieces : List Piece) (lawful : AreLawful k len pieces) (
             (cases_lt n len))
             ∙ known.fragments i d hi;
       }
-
-  -- the bytes past len, as they are read off the blocks
-  pub padding_read : (slice items : List ℕ) (zero : Bool) → slice ≡ items → IsInterpolated k (k * fragment_len k len) pieces items
-      → (IsTrue zero ↔ All (λ b. b ≡ 0) (take (length slice - len) (drop len slice)))
-      → IsTrue zero ↔ All (λ b. b ≡ 0) (drop len (blocks_of k len pieces))
-  padding_read slice items zero same known read =
-      let rest : take (length slice - len) (drop len slice) ≡ drop len slice =
-      take_all (length slice - len) (drop len slice) (omega (arith, length-drop len slice)) in
-      subst (λ bs. IsTrue zero ↔ All (λ b. b ≡ 0) bs)
-      (rest ∙ ap (drop len) (same ∙ blocks_of-only k len pieces lawful bytes items known)) read
-
-  -- where one of them is not zero, no value has these fragments
-  pub no_value : (zero : Bool) → (IsTrue zero ↔ All (λ b. b ≡ 0) (drop len (blocks_of k len pieces))) → zero ≡ false →
-      HaveNoValue k len pieces
-  no_value zero read other v known = true≢false (sym (read.1 (padding-blocks_of v known)) ∙ other)
-
-  -- where all are zero, there is such a value
-  pub some_value : (zero : Bool) → (IsTrue zero ↔ All (λ b. b ≡ 0) (drop len (blocks_of k len pieces))) → zero ≡ true →
-      ¬ HaveNoValue k len pieces
-  some_value zero read same none = none (take len (blocks_of k len pieces)) (IsInterpolated-cut (read.0 same))
 
 -- ---- k pieces of a value at distinct points
 

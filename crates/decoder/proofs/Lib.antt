@@ -2,4 +2,7 @@ pub mod Beyond
 pub mod Cut
 pub mod Determined
 pub mod Interpolated
+pub mod Parts
+pub mod Summed
+pub mod Table
 pub mod Whole

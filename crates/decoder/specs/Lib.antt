@@ -1,3 +1,5 @@
 pub mod Decoded
 pub mod Pieces
 pub mod Padding
+pub mod Parts
+pub mod Rows

@@ -1,10 +1,9 @@
-ghost use Rattle.std.specs.Prelude.{◌≡◌, ◌≢◌, ◌↔◌, ◌⊎◌, ℕ, List, length, IfOk, OnOk, IfErr, MatchResult};
+ghost use Rattle.std.specs.Prelude.{◌≡◌, ◌↔◌, ◌⊎◌, ℕ, List, length, IfOk, OnOk, IfErr, MatchResult};
 ghost use Rattle.decoder.specs.Decoded.{IsDecoded};
 ghost use Rattle.decoder.specs.Pieces.{AreLawful, AreOfBytes, ArePiecesOf, HaveNoValue, IsInterpolated};
 
-use crate::blocks::interpolated;
-use crate::lawful::are_lawful;
-use crate::padding::{is_padding_zero, is_zero};
+use crate::lawful::{are_lawful, fragments, points};
+use crate::rooms::make_value;
 use bytes::Bytes;
 use encoder::Piece;
 use std::alloc::Global;
@@ -86,8 +85,7 @@ pub fn decode(alloc: Global, k: u8, len: u32, pieces: Vec<Piece>) -> Result<Deco
     Ok(Decoded { k, pieces, value })
 }
 
-/// The value of `len` bytes whose fragments the lawful pieces are. Where memory is refused, the bytes past `len` are
-/// looked at without it, so that bad pieces are always told.
+/// The value of `len` bytes whose fragments the lawful pieces are.
 fn value_of(alloc: Global, k: u8, len: u32, pieces: &[Piece]) -> Result<Bytes, Refusal>
     requires lawful { AreLawful k len pieces.now }
     requires bytes { AreOfBytes pieces.now }
@@ -96,16 +94,25 @@ fn value_of(alloc: Global, k: u8, len: u32, pieces: &[Piece]) -> Result<Bytes, R
     ensures refused { IfErr result (λ e. ((e ≡ Refusal.BadPieces) × HaveNoValue k len pieces.now)
         ⊎ ((e ≡ Refusal.NoMemory) × (¬ HaveNoValue k len pieces.now))) }
 {
-    let Ok(mut blocks) = interpolated(alloc, k, len, pieces) else {
-        return Err(if is_padding_zero(k, len, pieces) {
-            Refusal::NoMemory
-        } else {
-            Refusal::BadPieces
-        });
-    };
-    if !is_zero(&blocks[len as usize..]) {
-        return Err(Refusal::BadPieces);
-    }
-    blocks.truncate(len as usize);
-    Ok(Bytes::from_vec(blocks)?)
+    let value = value_bytes(alloc, k, len, pieces)?;
+    Ok(Bytes::from_vec(value)?)
+}
+
+/// The bytes of the value of `len` bytes whose fragments the lawful pieces are.
+fn value_bytes(alloc: Global, k: u8, len: u32, pieces: &[Piece]) -> Result<Vec<u8>, Refusal>
+    requires lawful { AreLawful k len pieces.now }
+    requires bytes { AreOfBytes pieces.now }
+    ensures interpolated { IfOk result (λ value. IsInterpolated k len pieces.now value.items) }
+    ensures refused { IfErr result (λ e. ((e ≡ Refusal.BadPieces) × HaveNoValue k len pieces.now)
+        ⊎ ((e ≡ Refusal.NoMemory) × (¬ HaveNoValue k len pieces.now))) }
+{
+    let points = points(pieces);
+    let fragments = fragments(pieces);
+    make_value(
+        alloc,
+        k,
+        len as usize,
+        points.as_slice(),
+        &fragments[..k as usize],
+    )
 }

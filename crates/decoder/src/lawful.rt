@@ -1,6 +1,9 @@
-ghost use Rattle.std.specs.Prelude.{◌≡◌, ◌<◌, ◌≤◌, ◌↔◌, length, IsTrue, All};
+ghost use Rattle.std.specs.Prelude.{◌≡◌, ℕ, ◌<◌, ◌≤◌, ◌↔◌, [], length, slice_index_or, IsTrue, All};
 ghost use Rattle.std.specs.Bool.{OnTrue};
 ghost use Rattle.gf256.specs.Polynomial.{AreBytes, AreDistinct};
+ghost use Rattle.dot_kernel.specs.Dot.{bytes_of};
+ghost use Rattle.encoder.specs.declared.fragment.Piece.{Piece as PieceOf};
+ghost use Rattle.decoder.specs.Parts.{AreLawfulParts, pieces_at};
 ghost use Rattle.decoder.specs.Pieces.{AreLawful, AreOfBytes, points_of};
 
 use arrayvec::ArrayVec;
@@ -38,6 +41,64 @@ fn has_lens(piece: &Piece, len: u32, fragment_len: usize) -> bool
     piece.len == len && bytes.len() == fragment_len
 }
 
+/// Whether these are as many fragments as points, and `k` lawful pieces of a value of `len` bytes.
+pub(crate) fn are_lawful_parts(k: u8, len: usize, points: &[u8], fragments: &[&[u8]]) -> bool
+    ensures lawful { IsTrue result ↔ AreLawfulParts k len points.now (bytes_of fragments.now) }
+    ensures bytes { OnTrue result (AreOfBytes (pieces_at len points.now (bytes_of fragments.now))) }
+{
+    if !are_counts_lawful(k, len, points.len(), fragments.len()) {
+        return false;
+    }
+    if !have_len(fragments, len.div_ceil(k as usize)) {
+        return false;
+    }
+    are_distinct(points)
+}
+
+/// Whether these are `k` points and `k` fragments, within the limits.
+fn are_counts_lawful(k: u8, len: usize, points: usize, fragments: usize) -> bool
+    ensures { IsTrue result ↔ ((1 ≤ k) × (len ≤ LONGEST_VALUE) × (points ≡ k) × (fragments ≡ k)) }
+{
+    k >= 1 && len <= LONGEST_VALUE && points == k as usize && fragments == k as usize
+}
+
+/// Whether each fragment has this length.
+fn have_len(fragments: &[&[u8]], len: usize) -> bool
+    ensures lens { IsTrue result ↔ ((i : ℕ) → i < length fragments.now
+        → length (slice_index_or (bytes_of fragments.now) i []) ≡ len) }
+    ensures bytes { OnTrue result ((i : ℕ) → i < length fragments.now
+        → AreBytes (slice_index_or (bytes_of fragments.now) i [])) }
+{
+    for i in 0..fragments.len() {
+        if !has_len(fragments[i], len) {
+            return false;
+        }
+    }
+    true
+}
+
+/// Whether the fragment has this length.
+fn has_len(fragment: &[u8], len: usize) -> bool
+    ensures len { IsTrue result ↔ (length fragment.now ≡ len) }
+    ensures bytes { AreBytes fragment.now }
+{
+    fragment.len() == len
+}
+
+/// The fragments of the pieces, and empty ones behind them.
+pub(crate) fn fragments(pieces: &[Piece]) -> [&[u8]; MOST_MEMBERS]
+    requires { length pieces.now ≤ MOST_MEMBERS }
+    ensures len { length result ≡ MOST_MEMBERS }
+    ensures fragments { (i : ℕ) (d : PieceOf) → i < length pieces.now
+        → slice_index_or (bytes_of result) i [] ≡ (slice_index_or pieces.now i d).bytes }
+{
+    let mut fragments: [&[u8]; MOST_MEMBERS] = [&[]; MOST_MEMBERS];
+    for i in 0..pieces.len() {
+        fragments[i] = pieces[i].bytes.as_slice();
+    }
+    fragments
+}
+
 /// The points of the pieces.
 pub(crate) fn points(pieces: &[Piece]) -> ArrayVec<u8, MOST_MEMBERS>
     requires { length pieces.now ≤ MOST_MEMBERS }
@@ -53,7 +114,8 @@ pub(crate) fn points(pieces: &[Piece]) -> ArrayVec<u8, MOST_MEMBERS>
 
 /// Whether no two points are equal.
 fn are_distinct(points: &[u8]) -> bool
-    ensures { IsTrue result ↔ AreDistinct points.now }
+    ensures distinct { IsTrue result ↔ AreDistinct points.now }
+    ensures bytes { AreBytes points.now }
 {
     for i in 0..points.len() {
         for j in 0..i {

@@ -3,13 +3,20 @@
 
 pub use code::{empty_values_have_empty_fragments, fragments_determine_values};
 pub use decoded::{Decoded, decode};
+pub use into::decode_into;
 pub use past::bad_pieces_give_a_byte_past_the_length;
 
-mod blocks;
 mod code;
 mod decoded;
+mod into;
+#[cfg(test)]
+mod into_tests;
 mod lawful;
 mod padding;
 mod past;
+mod rooms;
+mod rows;
+mod sums;
 #[cfg(test)]
 mod tests;
+mod value;

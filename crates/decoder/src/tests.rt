@@ -5,7 +5,7 @@ use std::alloc::{AllocError, Global};
 use std::test::Fail;
 use tag::Refusal;
 
-type Fragment = (u8, &'static [u8]);
+pub(crate) type Fragment = (u8, &'static [u8]);
 
 /// The pieces with these points and fragments, of a value of `len` bytes.
 fn pieces_of(alloc: Global, len: u32, fragments: &[Fragment]) -> Result<Vec<Piece>, AllocError> {
@@ -21,16 +21,16 @@ fn pieces_of(alloc: Global, len: u32, fragments: &[Fragment]) -> Result<Vec<Piec
 }
 
 // The fragments of `hello` in two blocks.
-const ZERO: Fragment = (0, b"\x68\x65\x6c");
+pub(crate) const ZERO: Fragment = (0, b"\x68\x65\x6c");
 
-const ONE: Fragment = (1, b"\x04\x0a\x6c");
+pub(crate) const ONE: Fragment = (1, b"\x04\x0a\x6c");
 
-const TWO: Fragment = (2, b"\xb0\xbb\x6c");
+pub(crate) const TWO: Fragment = (2, b"\xb0\xbb\x6c");
 
 const THREE: Fragment = (3, b"\xdc\xd4\x6c");
 
 /// Worked out by hand from the definition of a fragment.
-const SMALL: [(u8, &[Fragment], &[u8]); 10] = [
+pub(crate) const SMALL: [(u8, &[Fragment], &[u8]); 10] = [
     (2, &[ZERO, ONE], b"hello"),
     (2, &[TWO, ZERO], b"hello"),
     (2, &[ZERO, THREE], b"hello"),
@@ -56,7 +56,7 @@ fn gives_back_small_values(rt: HostRuntime) -> Result<(), Fail> {
 
 /// What Intel ISA-L's `ec_encode_data` gives for the rows `i^0, i^1, .. i^(k-1)` of each point `i` and the value padded
 /// with zeros; ISA-L gives the value back by the inverse of that matrix, from `gf_invert_matrix`.
-const ISA_L: [(&[Fragment], &[u8]); 6] = [
+pub(crate) const ISA_L: [(&[Fragment], &[u8]); 6] = [
     (&[(200, b"\x8c"), (254, b"\xe0")], b"\x01\x02"),
     (
         &[

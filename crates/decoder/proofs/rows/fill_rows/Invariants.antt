@@ -1,0 +1,7 @@
+use Rattle.std.proofs.Common.{ℕ, ◌<◌}
+use Rattle.decoder.specs.Rows.{HasRow}
+use Rattle.decoder.proofs.rows.fill_rows.Given as goal
+
+-- the rows so far
+abbrev pub invariant-loop-i : goal.invariant-loop-i
+invariant-loop-i l = (m : ℕ) → m < l.i → HasRow l.table l.points m

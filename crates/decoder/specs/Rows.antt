@@ -1,0 +1,28 @@
+-- Tables of Lagrange's rows, and the sums of fragments by their columns.
+use Rattle.std.specs.Prelude.{◌≡◌, ℕ, ◌+◌, ◌*◌, ◌<◌, List, length, slice_index}
+use Rattle.gf256.specs.Polynomial.{IsBasisRow}
+use Rattle.dot_kernel.specs.Dot.{dot_byte, row}
+
+-- in line i of the table stands row i of Lagrange's basis of the points
+pub record HasRow (table points : List ℕ) (i : ℕ) : Type 0 where
+  pub basis : List ℕ
+  pub is_row : IsBasisRow points i basis
+  pub same : (j : ℕ) → j < length points → slice_index table (i * length points + j) ≡ slice_index basis j
+
+-- in each line stands its row
+abbrev pub HasRows : List ℕ → List ℕ → Type 0
+HasRows table points = (i : ℕ) → i < length points → HasRow table points i
+
+-- byte b of block j: the sum over the fragments of coefficient j of each one's row times its byte b
+abbrev pub block_byte : List ℕ → List (List ℕ) → ℕ → ℕ → ℕ
+block_byte table fragments j b = dot_byte (row table (length fragments) j) fragments b
+
+-- in each of `rows` rows of `size` bytes each stand the sums of a block, from block `first` on
+abbrev pub AreBlockRows : List ℕ → ℕ → ℕ → List ℕ → List (List ℕ) → ℕ → Type 0
+AreBlockRows out rows size table fragments first =
+    (r b : ℕ) → r < rows → b < size → slice_index out (r * size + b) ≡ block_byte table fragments (first + r) b
+
+-- these are the bytes of the blocks, of `size` bytes each, as far as they go
+abbrev pub AreBlockBytes : List ℕ → ℕ → List ℕ → List (List ℕ) → Type 0
+AreBlockBytes out size table fragments =
+    (j b : ℕ) → b < size → j * size + b < length out → slice_index out (j * size + b) ≡ block_byte table fragments j b

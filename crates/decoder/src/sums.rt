@@ -1,0 +1,170 @@
+//! Sums of fragments by the columns of a table, several columns in one pass over the fragments.
+
+ghost use Rattle.std.specs.Prelude.{◌≡◌, ◌≢◌, ℕ, ◌+◌, ◌*◌, ◌<◌, ◌≤◌, length, slice_index};
+ghost use Rattle.dot_kernel.specs.Dot.{bytes_of};
+ghost use Rattle.decoder.specs.Rows.{AreBlockBytes, AreBlockRows, block_byte};
+
+use dot_kernel::{Tables, dots_of};
+
+/// The most blocks of one pass, whose sums fit the registers.
+const MOST_BLOCKS: usize = 6;
+
+/// Makes `out` be the first bytes of the blocks, of `size` bytes each. A pass takes as many blocks as `room` has tables
+/// for.
+pub(crate) fn write_blocks(
+    out: &mut [u8],
+    room: &mut [Tables],
+    table: &[u8],
+    fragments: &[&[u8]],
+    size: usize,
+)
+    requires some { 1 ≤ length fragments.now }
+    requires table { length table.now ≡ length fragments.now * length fragments.now }
+    requires room { length fragments.now ≤ length room.old }
+    requires within { length out.old ≤ length fragments.now * size }
+    ensures { AreBlockBytes out.new size table.now (bytes_of fragments.now) }
+{
+    if size == 0 {
+        return;
+    }
+    let whole = out.len() / size;
+    let rest = out.len() % size;
+    let is_cut = rest > 0;
+    write_whole(out, room, table, fragments, size, whole);
+    if is_cut {
+        write_rows(out, whole * size, room, table, fragments, rest, whole, 1);
+    }
+}
+
+/// `write_blocks` on the first `n` blocks, which are whole.
+fn write_whole(
+    out: &mut [u8],
+    room: &mut [Tables],
+    table: &[u8],
+    fragments: &[&[u8]],
+    size: usize,
+    n: usize,
+)
+    requires some { 1 ≤ length fragments.now }
+    requires table { length table.now ≡ length fragments.now * length fragments.now }
+    requires room { length fragments.now ≤ length room.old }
+    requires few { n ≤ length fragments.now }
+    requires within { n * size ≤ length out.old }
+    ensures { AreBlockRows out.new n size table.now (bytes_of fragments.now) 0 }
+{
+    let most = (room.len() / fragments.len()).min(MOST_BLOCKS);
+    let mut done = 0;
+    while done < n {
+        let rows = most.min(n - done);
+        write_rows(out, done * size, room, table, fragments, size, done, rows);
+        done += rows;
+    }
+}
+
+/// `write_some` on the bytes of `out` from `start` on.
+fn write_rows(
+    out: &mut [u8],
+    start: usize,
+    room: &mut [Tables],
+    table: &[u8],
+    fragments: &[&[u8]],
+    size: usize,
+    first: usize,
+    rows: usize,
+)
+    requires most { rows ≤ MOST_BLOCKS }
+    requires table { length table.now ≡ length fragments.now * length fragments.now }
+    requires room { length fragments.now * rows ≤ length room.old }
+    requires few { first + rows ≤ length fragments.now }
+    requires within { start + rows * size ≤ length out.old }
+    ensures inside { (r b : ℕ) → r < rows → b < size → slice_index out.new (start + (r * size + b))
+        ≡ block_byte table.now (bytes_of fragments.now) (first + r) b }
+    ensures before { (n : ℕ) → n < start → slice_index out.new n ≡ slice_index out.old n }
+{
+    write_some(
+        &mut out[start..start + rows * size],
+        room,
+        table,
+        fragments,
+        size,
+        first,
+        rows,
+    );
+}
+
+/// Makes the `rows` rows of `out`, of `size` bytes each, be the sums of as many blocks, from block `first` on.
+fn write_some(
+    out: &mut [u8],
+    room: &mut [Tables],
+    table: &[u8],
+    fragments: &[&[u8]],
+    size: usize,
+    first: usize,
+    rows: usize,
+)
+    requires most { rows ≤ MOST_BLOCKS }
+    requires table { length table.now ≡ length fragments.now * length fragments.now }
+    requires room { length fragments.now * rows ≤ length room.old }
+    requires few { first + rows ≤ length fragments.now }
+    requires within { length out.old ≡ rows * size }
+    ensures { AreBlockRows out.new rows size table.now (bytes_of fragments.now) first }
+{
+    match rows {
+        1 => write_pass::<1>(out, room, table, fragments, size, first),
+        2 => write_pass::<2>(out, room, table, fragments, size, first),
+        3 => write_pass::<3>(out, room, table, fragments, size, first),
+        4 => write_pass::<4>(out, room, table, fragments, size, first),
+        5 => write_pass::<5>(out, room, table, fragments, size, first),
+        6 => write_pass::<6>(out, room, table, fragments, size, first),
+        _ => {}
+    }
+}
+
+/// `write_some` of `R` rows.
+fn write_pass<const R: usize>(
+    out: &mut [u8],
+    room: &mut [Tables],
+    table: &[u8],
+    fragments: &[&[u8]],
+    size: usize,
+    first: usize,
+)
+    requires most { R ≤ MOST_BLOCKS }
+    requires table { length table.now ≡ length fragments.now * length fragments.now }
+    requires room { length fragments.now * R ≤ length room.old }
+    requires few { first + R ≤ length fragments.now }
+    requires within { length out.old ≡ R * size }
+    ensures { AreBlockRows out.new R size table.now (bytes_of fragments.now) first }
+{
+    let tables = &mut room[..fragments.len() * R];
+    fill_columns(tables, table, fragments.len(), first, R);
+    dots_of::<R>(out, tables, fragments, size);
+}
+
+/// Fills in the tables of the columns from `first` on, those of one line side by side.
+fn fill_columns(tables: &mut [Tables], table: &[u8], k: usize, first: usize, rows: usize)
+    requires columns { first + rows ≤ k }
+    requires table { length table.now ≡ k * k }
+    requires room { length tables.old ≡ k * rows }
+    ensures { (i r : ℕ) → i < k → r < rows
+        → slice_index tables.new (i * rows + r) ≡ slice_index table.now (i * k + (first + r)) }
+{
+    for r in 0..rows {
+        fill_column(tables, table, k, first + r, rows, r);
+    }
+}
+
+/// Fills in column `r` of the tables with those of column `j`.
+fn fill_column(tables: &mut [Tables], table: &[u8], k: usize, j: usize, rows: usize, r: usize)
+    requires from { j < k }
+    requires column { r < rows }
+    requires table { length table.now ≡ k * k }
+    requires room { length tables.old ≡ k * rows }
+    ensures inside { (i : ℕ) → i < k → slice_index tables.new (i * rows + r) ≡ slice_index table.now (i * k + j) }
+    ensures others { (i q : ℕ) → q < rows → q ≢ r
+        → slice_index tables.new (i * rows + q) ≡ slice_index tables.old (i * rows + q) }
+{
+    for i in 0..k {
+        tables[i * rows + r] = Tables::new(table[i * k + j]);
+    }
+}
