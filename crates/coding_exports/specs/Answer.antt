@@ -1,14 +1,28 @@
 -- What an export answers and writes.
-use Rattle.std.specs.Prelude.{◌≡◌, ℕ, List, length, Option, Some, None, ◌==◌, if◌then◌else◌}
+use Rattle.std.specs.Prelude.{◌≡◌, ℕ, List, length, Option, Some, None, ◌==◌, nat_lt, if◌then◌else◌}
+use Rattle.tag.specs.declared.limits.TheConstants.{LONGEST_VALUE}
 use Rattle.tag.specs.Refusal.{number_of}
 use Rattle.tag.specs.declared.refusal.Refusal.{Refusal}
+use Rattle.tag.specs.declared.refusal.Refusal.TheVariants.{BadLayout, TooLong}
 use Rattle.encoder.specs.declared.fragment.Piece.{Piece}
 use Rattle.decoder.specs.Pieces.{AreLawful, IsInterpolated}
+use Rattle.coding_exports.specs.declared.answer.TheConstants.{BAD_BUFFER}
 
 -- the answer where this is the cause of refusal: its number, and 0 where there is none
 abbrev pub answer_of : Option Refusal → ℕ
 answer_of None = 0
 answer_of (Some refusal) = number_of refusal
+
+-- the answer of a call that writes so many bytes to a buffer of this length: first the cause of refusal,
+-- then the number of a buffer of another length, and 0 where nothing is wrong
+abbrev pub answer_into : Option Refusal → ℕ → ℕ → ℕ
+answer_into (Some refusal) bytes len = number_of refusal
+answer_into None bytes len = if len == bytes then 0 else BAD_BUFFER
+
+-- why a value of len bytes has no fragments for k: none where it has
+abbrev pub fragment_cause : ℕ → ℕ → Option Refusal
+fragment_cause k len =
+    if k == 0 then Some BadLayout else (if nat_lt LONGEST_VALUE len then Some TooLong else None)
 
 -- what the room holds after the bytes are written to it, which are written only where it has their length
 abbrev pub written : List ℕ → List ℕ → List ℕ

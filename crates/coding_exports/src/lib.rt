@@ -1,12 +1,21 @@
-//! Encode and decode for a caller in C, which passes each slice as a pointer and then its length, and nothing for the
-//! allocator. A call answers 0, or the number of a refusal.
+//! A coding library for programs in C and Rust, which pass each slice as a pointer and then its length. A call answers
+//! 0, or the number of a refusal, and then it has changed nothing.
 #![tactic(auto)]
 
 pub use decode::coding_exports_decode;
 pub use encode::coding_exports_encode;
+pub use fragments::{coding_encode, coding_encode_one, coding_fragment_length};
+pub use repair::coding_repair;
+pub use text::coding_text;
+pub use value::coding_decode;
 
+mod answer;
 mod decode;
 mod encode;
+mod fragments;
+mod repair;
 mod room;
 #[cfg(test)]
 mod tests;
+mod text;
+mod value;

@@ -38,6 +38,16 @@ pub fn encode_into(k: u8, n: u8, value: &[u8], out: &mut [u8])
     write_fragments(k, 0, n as usize, value, out);
 }
 
+/// Writes the fragment of `value` at the point `i` to `out`, `value.len().div_ceil(k)` bytes. It takes no memory.
+pub fn fragment_into(k: u8, i: u8, value: &[u8], out: &mut [u8])
+    requires threshold { 1 ≤ k }
+    requires longest { length value.now ≤ LONGEST_VALUE }
+    requires room { length out.old ≡ fragment_len k (length value.now) }
+    ensures { out.new ≡ fragment value.now k i }
+{
+    write_fragments(k, i as usize, 1, value, out);
+}
+
 /// The fragments of `value` at the `n` points from `first` on, one after another.
 pub(crate) fn fragments_from(
     alloc: Global,

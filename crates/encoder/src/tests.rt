@@ -127,6 +127,14 @@ fn encodes_into_the_caller_s_bytes(rt: HostRuntime) {
     assert_eq!(rt; out, *b"hel\x04\x0a\x6c\xb0\xbb\x6c\xdc\xd4\x6c");
 }
 
+// By `cuts_small_values`.
+#[test]
+fn writes_one_fragment(rt: HostRuntime) {
+    let mut out = [0xAA; 3];
+    fragment_into(2, 3, b"hello", &mut out);
+    assert_eq!(rt; out, *b"\xdc\xd4\x6c");
+}
+
 #[test]
 fn refuses_bad_numbers(rt: HostRuntime) -> Result<(), Fail> {
     for (k, n) in [(0, 3), (4, 3), (0, 0)] {
