@@ -47,7 +47,7 @@ pub fn dots_of<const R: usize>(out: &mut [u8], tables: &[Tables], sources: &[&[u
 }
 
 /// The length of the shortest source, and `most` where each is longer.
-fn shortest(sources: &[&[u8]], most: usize) -> usize
+pub(crate) fn shortest(sources: &[&[u8]], most: usize) -> usize
     ensures most { result ≤ most }
     ensures each { (j : ℕ) → j < length sources.now → result ≤ length (slice_index_or (bytes_of sources.now) j []) }
 {
@@ -112,7 +112,7 @@ fn row_lanes<const R: usize>(
 
 /// Writes the first `width` lanes of each row over its bytes from `start` on.
 #[inline(always)]
-fn store_rows<const R: usize>(
+pub(crate) fn store_rows<const R: usize>(
     out: &mut [u8],
     size: usize,
     start: usize,

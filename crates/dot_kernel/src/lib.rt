@@ -3,10 +3,14 @@
 #![tactic(auto)]
 
 pub use dots::{MOST_ROWS, dot, dots_of};
+pub use powers::powers_of;
 pub use tables::Tables;
 
 mod blocks;
 mod dots;
+mod lanes;
+mod line;
+mod powers;
 mod tables;
 #[cfg(test)]
 mod tests;

@@ -84,3 +84,45 @@ fn sums_rows_as_the_byte_loop_does(rt: HostRuntime) {
         }
     }
 }
+
+/// The sum of the bytes b of the sources by the powers of `point`, with the field's product.
+fn power_sum(sources: &[&[u8]], point: u8, b: usize) -> u8 {
+    let mut sum = 0;
+    let mut power = 1;
+    for source in sources {
+        sum ^= mul(power, source.get(b).copied().unwrap_or(0));
+        power = mul(power, point);
+    }
+    sum
+}
+
+// The last source ends early.
+#[test]
+fn sums_by_powers_as_the_byte_loop_does(rt: HostRuntime) {
+    let (one, two, three) = (bytes(3), bytes(7), bytes(11));
+    for size in LENGTHS {
+        let sources = [&one[..size], &two[..size], &three[..size / 2]];
+        for first in [0, 2, 246] {
+            let mut out = [0xAA; 800];
+            powers_of::<7>(&mut out[..7 * size], &sources, size, first);
+            for r in 0..7 {
+                for b in 0..size {
+                    let sum = power_sum(&sources, (first + r) as u8, b);
+                    assert_eq!(rt;
+                        out[r * size + b],
+                        sum,
+                        "row {r} from {first}, byte {b} of {size}"
+                    );
+                }
+            }
+        }
+    }
+}
+
+// By hand: 1, 2 and 3 at the points 0 and 1 are 1, and 1 ^ 2 ^ 3 = 0; at 2 they are 1 ^ 4 ^ 12 = 9.
+#[test]
+fn sums_powers_by_hand(rt: HostRuntime) {
+    let mut out = [0xAA; 3];
+    powers_of::<3>(&mut out, &[&[1], &[2], &[3]], 1, 0);
+    assert_eq!(rt; out, [1, 0, 9]);
+}

@@ -1,0 +1,215 @@
+//! Sums by the powers of points, of several points in one pass over the sources, without tables for each source.
+//!
+//! Two points u and u + 1, with u even, are the roots of x^2 + x + u(u + 1). What the polynomial whose coefficients are
+//! the sources leaves by it is a line with the polynomial's values at both, so that one product serves both of them.
+
+ghost use Rattle.std.specs.Prelude.{◌≡◌, ℕ, ◌+◌, ◌*◌, ◌%◌, ◌<◌, ◌≤◌, []};
+ghost use Rattle.std.specs.Prelude.{length, slice_index, slice_index_or, IsTrue};
+ghost use Rattle.gf256.specs.Field.{field_product};
+ghost use Rattle.dot_kernel.specs.Dot.{bytes_of};
+ghost use Rattle.dot_kernel.specs.Line.{ArePairs, ArePowers};
+
+use crate::Tables;
+use crate::blocks::{BLOCK, store_two};
+use crate::dots::{MOST_ROWS, shortest, store_rows};
+use crate::lanes::power_lanes;
+use gf256::mul;
+use std::simd::prelude::*;
+
+/// Makes byte b of row r of `out`, which has `R` rows of `size` bytes, be the sum of the bytes b of the sources, each
+/// source j times the power j of the point `first + r`. Past the end of a source its bytes are zero.
+pub fn powers_of<const R: usize>(out: &mut [u8], sources: &[&[u8]], size: usize, first: usize)
+    requires few { R ≤ MOST_ROWS }
+    requires some { 1 ≤ length sources.now }
+    requires even { first % 2 ≡ 0 }
+    requires points { first + R ≤ 256 }
+    requires rows { length out.old ≡ R * size }
+    ensures { ArePowers out.new R (bytes_of sources.now) size size first }
+{
+    let points = points::<R>(first);
+    let steps = steps::<R>(first);
+    if first == 0 {
+        write_rows::<R>(out, &steps, &points, sources, size, first, true);
+    } else {
+        write_rows::<R>(out, &steps, &points, sources, size, first, false);
+    }
+}
+
+/// The tables of the first points of the pairs from `first` on.
+fn points<const R: usize>(first: usize) -> [Tables; R]
+    requires few { R ≤ MOST_ROWS }
+    requires points { first + R ≤ 256 }
+    ensures { (p : ℕ) → p * 2 < R → slice_index result p ≡ first + p * 2 }
+{
+    let mut points = [Tables::zero(); R];
+    for p in 0..R.div_ceil(2) {
+        points[p] = Tables::new((first + 2 * p) as u8);
+    }
+    points
+}
+
+/// The tables of the products of both points of the pairs from `first` on.
+fn steps<const R: usize>(first: usize) -> [Tables; R]
+    requires few { R ≤ MOST_ROWS }
+    requires even { first % 2 ≡ 0 }
+    requires points { first + R ≤ 256 }
+    ensures { (p : ℕ) → p * 2 < R
+        → slice_index result p ≡ field_product (first + p * 2) (first + p * 2 + 1) }
+{
+    let mut steps = [Tables::zero(); R];
+    for p in 0..R.div_ceil(2) {
+        let point = first + 2 * p;
+        steps[p] = Tables::new(mul(point as u8, (point + 1) as u8));
+    }
+    steps
+}
+
+/// `powers_of`, where the tables are made. Where `first` is known to be 0, `zero` saves the products of the first pair.
+#[inline(always)]
+fn write_rows<const R: usize>(
+    out: &mut [u8],
+    steps: &[Tables; R],
+    points: &[Tables; R],
+    sources: &[&[u8]],
+    size: usize,
+    first: usize,
+    zero: bool,
+)
+    requires few { R ≤ MOST_ROWS }
+    requires some { 1 ≤ length sources.now }
+    requires zero { IsTrue zero → first ≡ 0 }
+    requires pairs { ArePairs points.now steps.now R first }
+    requires rows { length out.old ≡ R * size }
+    ensures { ArePowers out.new R (bytes_of sources.now) size size first }
+{
+    if size < BLOCK {
+        write_block::<R>(
+            out, steps, points, sources, size, first, 0, size, false, zero,
+        );
+        return;
+    }
+    let whole = shortest(sources, size) / BLOCK;
+    for two in 0..whole / 2 {
+        write_two_blocks::<R>(
+            out,
+            steps,
+            points,
+            sources,
+            size,
+            first,
+            two * 2 * BLOCK,
+            zero,
+        );
+    }
+    for block in whole / 2 * 2..size / BLOCK {
+        write_block::<R>(
+            out,
+            steps,
+            points,
+            sources,
+            size,
+            first,
+            block * BLOCK,
+            BLOCK,
+            false,
+            zero,
+        );
+    }
+    if size % BLOCK > 0 {
+        // It overlaps the one before it: `out` is written and never read.
+        write_block::<R>(
+            out,
+            steps,
+            points,
+            sources,
+            size,
+            first,
+            size - BLOCK,
+            BLOCK,
+            false,
+            zero,
+        );
+    }
+}
+
+/// Makes the rows, whose bytes up to `start` are made, go on for `width` bytes.
+#[inline(always)]
+fn write_block<const R: usize>(
+    out: &mut [u8],
+    steps: &[Tables; R],
+    points: &[Tables; R],
+    sources: &[&[u8]],
+    size: usize,
+    first: usize,
+    start: usize,
+    width: usize,
+    whole: bool,
+    zero: bool,
+)
+    requires few { R ≤ MOST_ROWS }
+    requires some { 1 ≤ length sources.now }
+    requires zero { IsTrue zero → first ≡ 0 }
+    requires pairs { ArePairs points.now steps.now R first }
+    requires rows { length out.old ≡ R * size }
+    requires block { width ≤ BLOCK }
+    requires within { start + width ≤ size }
+    requires whole { IsTrue whole → (j : ℕ) → j < length sources.now
+        → start + BLOCK ≤ length (slice_index_or (bytes_of sources.now) j []) }
+    ensures { ArePowers out.old R (bytes_of sources.now) size start first
+        → ArePowers out.new R (bytes_of sources.now) size (start + width) first }
+{
+    let sums = power_lanes::<R>(steps, points, sources, first, start, whole, zero);
+    store_rows::<R>(out, size, start, width, sums);
+}
+
+/// `write_block` of two whole blocks: what a row gains of both goes out together.
+#[inline(always)]
+fn write_two_blocks<const R: usize>(
+    out: &mut [u8],
+    steps: &[Tables; R],
+    points: &[Tables; R],
+    sources: &[&[u8]],
+    size: usize,
+    first: usize,
+    start: usize,
+    zero: bool,
+)
+    requires few { R ≤ MOST_ROWS }
+    requires some { 1 ≤ length sources.now }
+    requires zero { IsTrue zero → first ≡ 0 }
+    requires pairs { ArePairs points.now steps.now R first }
+    requires rows { length out.old ≡ R * size }
+    requires within { start + 2 * BLOCK ≤ size }
+    requires whole { (j : ℕ) → j < length sources.now
+        → start + 2 * BLOCK ≤ length (slice_index_or (bytes_of sources.now) j []) }
+    ensures { ArePowers out.old R (bytes_of sources.now) size start first
+        → ArePowers out.new R (bytes_of sources.now) size (start + 2 * BLOCK) first }
+{
+    let left = power_lanes::<R>(steps, points, sources, first, start, true, zero);
+    let right = power_lanes::<R>(steps, points, sources, first, start + BLOCK, true, zero);
+    store_two_rows::<R>(out, size, start, left, right);
+}
+
+/// Writes the lanes of two blocks of each row over its bytes from `start` on.
+#[inline(always)]
+fn store_two_rows<const R: usize>(
+    out: &mut [u8],
+    size: usize,
+    start: usize,
+    left: [u8x32; R],
+    right: [u8x32; R],
+)
+    requires few { R ≤ MOST_ROWS }
+    requires within { start + 2 * BLOCK ≤ size }
+    requires rows { length out.old ≡ R * size }
+    ensures left { (r i : ℕ) → r < R → i < BLOCK
+        → slice_index out.new (r * size + (start + i)) ≡ slice_index (slice_index_or left.entry r []) i }
+    ensures right { (r i : ℕ) → r < R → i < BLOCK
+        → slice_index out.new (r * size + (start + BLOCK + i)) ≡ slice_index (slice_index_or right.entry r []) i }
+    ensures before { (r b : ℕ) → r < R → b < start
+        → slice_index out.new (r * size + b) ≡ slice_index out.old (r * size + b) }
+{
+    for r in 0..R {
+        store_two(out, r * size + start, left[r], right[r]);
+    }
+}
