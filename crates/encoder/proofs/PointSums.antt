@@ -6,10 +6,8 @@ use Rattle.std.proofs.lemmas.Bool.{cases_lt}
 use Rattle.std.proofs.lemmas.Grind.{same_number_lists}
 use Rattle.gf256.specs.Field.{field_product, field_power, field_sum}
 use Rattle.gf256.proofs.Sums.{field_sum_same}
-use Rattle.std.specs.Borrow.{Bor}
 use Rattle.std.specs.List.{slice_range}
-use Rattle.dot_kernel.specs.Dot.{bytes_of, dot_byte, term}
-use Rattle.dot_kernel.proofs.LaneSums.{no_slice, bytes_at}
+use Rattle.dot_kernel.specs.Dot.{dot_byte, term}
 use Rattle.encoder.specs.Fragment.{fragment_len, fragment_byte, fragment}
 use Rattle.encoder.specs.Points.{AreBlocks, ArePoints, AreFragments}
 use Rattle.encoder.proofs.Columns.{length-fragment, get_or-fragment}
@@ -83,11 +81,3 @@ fragment-alone out k x value len known =
     let same : x + 0 ≡ x = omega arith in
     fragment-row out 1 k x 0 value out known (lit< tt) (omega (arith, len)) (λ b hb. ap (λ m. get_or out m 0) (omega arith))
     ∙ ap (fragment value k) same
-
--- the slices of the blocks alone
-pub AreBlocks-take : (slices : List (Bor (List ℕ))) (k size : ℕ) (value : List ℕ) → k ≤ length slices
-    → AreBlocks (bytes_of slices) k size value → AreBlocks (bytes_of (take k slices)) k size value
-AreBlocks-take slices k size value enough known j hj =
-    sym (bytes_at (take k slices) j no_slice (omega (arith, length-take k slices)))
-    ∙ ap (λ (s : Bor (List ℕ)). s.now) (get_or-take k slices j no_slice hj)
-    ∙ bytes_at slices j no_slice (omega arith) ∙ known j hj

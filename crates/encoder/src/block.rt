@@ -13,6 +13,9 @@ use tag::{LONGEST_VALUE, Refusal};
 /// The most blocks of a value, one for each element of the field but one.
 const MOST_BLOCKS: usize = 255;
 
+/// As many blocks as most codes have.
+const FEW_BLOCKS: usize = 16;
+
 /// The piece of `value` at the point `i`, with `value.len().div_ceil(k)` bytes. `NoMemory` is the only refusal.
 pub fn piece(alloc: Global, k: u8, i: u8, value: &[u8]) -> Result<Piece, Refusal>
     requires threshold { 1 ≤ k }
@@ -76,29 +79,51 @@ fn write_fragments(k: u8, first: usize, n: usize, value: &[u8], out: &mut [u8])
     requires room { length out.old ≡ n * fragment_len k (length value.now) }
     ensures { AreFragments out.new n value.now k first }
 {
-    let block_len = value.len().div_ceil(k as usize);
-    let blocks = blocks(value, block_len, k);
-    write_points(out, &blocks[..k as usize], block_len, first, n);
+    // To make room for the most blocks costs as much as to code a small value.
+    if k as usize <= FEW_BLOCKS {
+        let mut room: [&[u8]; FEW_BLOCKS] = [&[]; FEW_BLOCKS];
+        write_blocks(&mut room[..k as usize], first, n, value, out);
+    } else {
+        let mut room: [&[u8]; MOST_BLOCKS] = [&[]; MOST_BLOCKS];
+        write_blocks(&mut room[..k as usize], first, n, value, out);
+    }
 }
 
-/// The first `k` blocks of `value`, as far as the value goes.
-fn blocks<'a>(value: &'a [u8], block_len: usize, k: u8) -> [&'a [u8]; MOST_BLOCKS]
-    requires { k * block_len < 2 ^ 64 }
-    ensures len { length result ≡ MOST_BLOCKS }
-    ensures blocks { AreBlocks (bytes_of result) k block_len value.now }
+/// `write_fragments` of a value that is cut into as many blocks as `blocks` has room for.
+fn write_blocks<'a>(
+    blocks: &mut [&'a [u8]],
+    first: usize,
+    n: usize,
+    value: &'a [u8],
+    out: &mut [u8],
+)
+    requires threshold { 1 ≤ length blocks.old }
+    requires most { length blocks.old ≤ MOST_BLOCKS }
+    requires points { first + n ≤ 256 }
+    requires longest { length value.now ≤ LONGEST_VALUE }
+    requires room { length out.old ≡ n * fragment_len (length blocks.old) (length value.now) }
+    ensures { AreFragments out.new n value.now (length blocks.old) first }
 {
-    let mut blocks: [&[u8]; MOST_BLOCKS] = [&[]; MOST_BLOCKS];
-    for j in 0..k {
-        blocks[j as usize] = block(value, block_len, j);
+    let block_len = value.len().div_ceil(blocks.len());
+    fill_blocks(blocks, value, block_len);
+    write_points(out, blocks, block_len, first, n);
+}
+
+/// Makes `blocks` be the first blocks of `value`, as far as the value goes.
+fn fill_blocks<'a>(blocks: &mut [&'a [u8]], value: &'a [u8], block_len: usize)
+    requires { length blocks.old * block_len < 2 ^ 64 }
+    ensures { AreBlocks (bytes_of blocks.new) (length blocks.old) block_len value.now }
+{
+    for j in 0..blocks.len() {
+        blocks[j] = block(value, block_len, j);
     }
-    blocks
 }
 
 /// Block `j` of `value`, as far as the value goes.
-fn block(value: &[u8], block_len: usize, j: u8) -> &[u8]
+fn block(value: &[u8], block_len: usize, j: usize) -> &[u8]
     requires { j * block_len < 2 ^ 64 }
     ensures { result.now ≡ take block_len (drop (j * block_len) value.now) }
 {
-    let rest = &value[(j as usize * block_len).min(value.len())..];
+    let rest = &value[(j * block_len).min(value.len())..];
     &rest[..block_len.min(rest.len())]
 }

@@ -1,3 +1,5 @@
+ghost use Rattle.std.specs.Prelude.{◌≤◌, length};
+
 use super::*;
 use bytes::Bytes;
 use gf256::mul;
@@ -113,6 +115,55 @@ fn meets_the_definition_at_each_length(rt: HostRuntime) -> Result<(), Fail> {
                     fragment_byte(k, x, value, b),
                     "{len} bytes, {k}, {x}"
                 );
+            }
+        }
+    }
+    Ok(())
+}
+
+/// The most bytes of a value, and of all fragments of one, in the test below.
+const MOST_BYTES: usize = 255 * 65;
+
+/// Whether each byte of the first seven fragments, and of the last one, is as it is defined.
+fn are_fragments(k: u8, n: u8, value: &[u8]) -> bool
+    requires threshold { 1 ≤ k }
+    requires most { length value.now ≤ MOST_BYTES }
+{
+    let mut room = [0xAA; MOST_BYTES];
+    let block_len = value.len().div_ceil(k as usize);
+    let Some(out) = room.get_mut(..n as usize * block_len) else {
+        return false;
+    };
+    encode_into(k, n, value, out);
+    for x in 0..n {
+        if x < 7 || x == n - 1 {
+            for b in 0..block_len {
+                let made = out.get(x as usize * block_len + b).copied();
+                if made != Some(fragment_byte(k, x, value, b)) {
+                    return false;
+                }
+            }
+        }
+    }
+    true
+}
+
+#[test]
+fn meets_the_definition_at_each_shape(rt: HostRuntime) -> Result<(), Fail> {
+    let mut bytes = [0; MOST_BYTES];
+    let mut byte = 1u8;
+    for b in bytes.iter_mut() {
+        *b = byte;
+        byte = byte.wrapping_mul(5).wrapping_add(7);
+    }
+    for k in [1, 2, 3, 255] {
+        for block_len in [1, 31, 32, 33, 63, 64, 65] {
+            // The last block is one byte short, where it has 64 or more.
+            let Some(value) = bytes.get(..k as usize * block_len - block_len / 64) else {
+                return Err(Fail::from("the bytes are too few"));
+            };
+            for n in [1, 2, 3, 4, 5, 6, 7, 255] {
+                assert_eq!(rt; are_fragments(k, n, value), true, "{k} of {n}, {block_len}");
             }
         }
     }
