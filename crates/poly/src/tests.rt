@@ -14,7 +14,6 @@ fn gives_the_rows_of_lagrange(rt: HostRuntime) {
         (&[0x00, 0x01, 0x02], 2, &[0x00, 0x7a, 0x7a]),
     ];
     for (points, i, row) in rows {
-        assert_eq!(rt; basis(points, i).as_slice(), row, "row {i}");
         assert_eq!(rt; Rows::new(points).row(i).as_slice(), row, "row {i}");
     }
 }
