@@ -64,17 +64,16 @@ static double now(void) {
   return (double)time.tv_sec + (double)time.tv_nsec * 1e-9;
 }
 
-static double seconds_of(void (*work)(const struct task *), const struct task *t, long calls) {
+static double seconds_of(void (*work)(const struct task *, long), const struct task *t, long calls) {
   double start = now();
-  for (long call = 0; call < calls; call++)
-    work(t);
+  work(t, calls);
   return now() - start;
 }
 
 /* One of the works that are timed in turn: its calls a run, and the rates of its runs in GB/s of value bytes. */
 struct timing {
   void (*before)(const struct task *);
-  void (*work)(const struct task *);
+  void (*work)(const struct task *, long calls);
   long calls;
   double rates[RUNS];
 };
@@ -83,16 +82,16 @@ struct timing {
 enum { OWN_INTO, OWN_FRESH, ISAL, ISAL_FRESH, ISAL_KEPT };
 
 /* The rows of one call, for each code and each length. */
-static const struct timing ENCODES[WORKS] = {{NULL, own_encode, 0, {0}},
+static const struct timing ENCODES[WORKS] = {{NULL, own_encode_calls, 0, {0}},
                                              {NULL, own_encode_fresh, 0, {0}},
-                                             {NULL, isal_encode, 0, {0}},
-                                             {NULL, isal_encode_fresh, 0, {0}},
-                                             {isal_encode_tables, isal_encode_blocks, 0, {0}}};
-static const struct timing DECODES[WORKS] = {{NULL, own_decode, 0, {0}},
+                                             {NULL, isal_encode_calls, 0, {0}},
+                                             {NULL, isal_encode_fresh_calls, 0, {0}},
+                                             {isal_encode_tables, isal_encode_blocks_calls, 0, {0}}};
+static const struct timing DECODES[WORKS] = {{NULL, own_decode_calls, 0, {0}},
                                              {NULL, own_decode_fresh, 0, {0}},
-                                             {NULL, isal_decode, 0, {0}},
-                                             {NULL, isal_decode_fresh, 0, {0}},
-                                             {isal_decode_tables, isal_decode_blocks, 0, {0}}};
+                                             {NULL, isal_decode_calls, 0, {0}},
+                                             {NULL, isal_decode_fresh_calls, 0, {0}},
+                                             {isal_decode_tables, isal_decode_blocks_calls, 0, {0}}};
 static struct timing rows[CODE_COUNT][LENGTH_COUNT][2][WORKS];
 
 static int runs_of(size_t len) { return len > 1 << 20 ? RUNS_OF_LONG : RUNS; }

@@ -6,10 +6,11 @@
 #include <string.h>
 
 /* The exports of crates/coding_exports that take memory. */
-uint8_t coding_exports_encode(uint8_t k, uint8_t n, const uint8_t *value, size_t value_len, uint8_t i, uint8_t *room,
-                              size_t room_len);
+uint8_t coding_exports_encode(uint8_t k, uint8_t n, const uint8_t *value, size_t value_len, uint32_t times, uint8_t i,
+                              uint8_t *room, size_t room_len);
 uint8_t coding_exports_decode(uint8_t k, uint32_t len, const uint8_t *points, size_t points_len,
-                              const uint8_t *fragments, size_t fragments_len, uint8_t *room, size_t room_len);
+                              const uint8_t *fragments, size_t fragments_len, uint32_t times, uint8_t *room,
+                              size_t room_len);
 
 /* What an ISA-L caller keeps from call to call: memory, and the tables where it keeps them. */
 static uint8_t rows[MOST * MOST], inverse[MOST * MOST], tables[32 * MOST * MOST];
@@ -143,17 +144,38 @@ void own_repair(const struct task *t, int i, uint8_t *value) {
        coding_repair(t->k, t->points, t->k, t->pieces, t->k, i, value, t->len, room, t->fragment_len));
 }
 
-/* The copies' output goes to the room where the room has its length. */
-void own_encode_fresh_to(const struct task *t, int i, size_t room_len) {
-  done(t, "coding_exports_encode", coding_exports_encode(t->k, t->n, t->value, t->len, i, room, room_len));
+/* The input is copied once, and coded as often as is said; the last output goes to the room where the room has its
+   length. */
+static void encode_fresh(const struct task *t, uint32_t times, int i, size_t room_len) {
+  done(t, "coding_exports_encode", coding_exports_encode(t->k, t->n, t->value, t->len, times, i, room, room_len));
 }
 
-void own_decode_fresh_to(const struct task *t, size_t room_len) {
+static void decode_fresh(const struct task *t, uint32_t times, size_t room_len) {
   uint8_t answer = coding_exports_decode(t->k, t->len, t->points, t->k, t->pieces[0].bytes, t->k * t->fragment_len,
-                                         room, room_len);
+                                         times, room, room_len);
   done(t, "coding_exports_decode", answer);
 }
 
-void own_encode_fresh(const struct task *t) { own_encode_fresh_to(t, 0, 0); }
+void own_encode_fresh_to(const struct task *t, int i, size_t room_len) { encode_fresh(t, 1, i, room_len); }
 
-void own_decode_fresh(const struct task *t) { own_decode_fresh_to(t, 0); }
+void own_decode_fresh_to(const struct task *t, size_t room_len) { decode_fresh(t, 1, room_len); }
+
+void own_encode_fresh(const struct task *t, long calls) { encode_fresh(t, calls, 0, 0); }
+
+void own_decode_fresh(const struct task *t, long calls) { decode_fresh(t, calls, 0); }
+
+/* Each call anew, as often as is said. */
+#define REPEATED(name)                                                                                                 \
+  void name##_calls(const struct task *t, long calls) {                                                                \
+    for (long call = 0; call < calls; call++)                                                                          \
+      name(t);                                                                                                         \
+  }
+
+REPEATED(own_encode)
+REPEATED(own_decode)
+REPEATED(isal_encode)
+REPEATED(isal_decode)
+REPEATED(isal_encode_fresh)
+REPEATED(isal_decode_fresh)
+REPEATED(isal_encode_blocks)
+REPEATED(isal_decode_blocks)

@@ -34,13 +34,25 @@ void isal_decode_tables(const struct task *t);
 void isal_encode_blocks(const struct task *t);
 void isal_decode_blocks(const struct task *t);
 
-/* This repository: into the room; then in memory that is taken and given back in each call. */
+/* This repository, into the room. */
 void own_encode(const struct task *t);
 void own_decode(const struct task *t);
-void own_encode_fresh(const struct task *t);
-void own_decode_fresh(const struct task *t);
 
-/* The same with an output in the room: fragment i alone, fragment i from the task's pieces, and the copies' outputs. */
+/* This repository in memory that it takes and gives back, so many calls, over one copy of the input. */
+void own_encode_fresh(const struct task *t, long calls);
+void own_decode_fresh(const struct task *t, long calls);
+
+/* So many calls of the works above. */
+void own_encode_calls(const struct task *t, long calls);
+void own_decode_calls(const struct task *t, long calls);
+void isal_encode_calls(const struct task *t, long calls);
+void isal_decode_calls(const struct task *t, long calls);
+void isal_encode_fresh_calls(const struct task *t, long calls);
+void isal_decode_fresh_calls(const struct task *t, long calls);
+void isal_encode_blocks_calls(const struct task *t, long calls);
+void isal_decode_blocks_calls(const struct task *t, long calls);
+
+/* With an output in the room: fragment i alone, fragment i from the task's pieces, and the outputs in fresh memory. */
 void own_encode_one(const struct task *t, int i);
 void own_repair(const struct task *t, int i, uint8_t *value);
 void own_encode_fresh_to(const struct task *t, int i, size_t room_len);

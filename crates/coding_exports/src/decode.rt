@@ -1,4 +1,4 @@
-ghost use Rattle.std.specs.Prelude.{◌≡◌, ◌≢◌, ◌⊎◌, IfOk};
+ghost use Rattle.std.specs.Prelude.{◌≡◌, ◌≢◌, ◌⊎◌, IfErr, IfOk};
 ghost use Rattle.tag.specs.Refusal.{number_of};
 ghost use Rattle.decoder.specs.Pieces.{AreLawful, HaveNoValue};
 ghost use Rattle.coding_exports.specs.Answer.{WritesDecoded};
@@ -11,9 +11,9 @@ use encoder::Piece;
 use std::alloc::{AllocError, Global};
 use tag::Refusal;
 
-/// Decodes the fragments at these points, which stand one after another, each of `len.div_ceil(k)` bytes, and writes
-/// the value to `room` where it has its length. It asks for the memory of a copy of the fragments first, and answers 1,
-/// for `NoMemory`, wherever memory is refused.
+/// Decodes the fragments at these points, which stand one after another, each of `len.div_ceil(k)` bytes, as often as
+/// `times` says and at least once, and writes the value to `room` where it has its length. It asks for the memory of a
+/// copy of the fragments first, and answers 1, for `NoMemory`, wherever memory is refused.
 #[unsafe(no_mangle)]
 pub extern "C" fn coding_exports_decode(
     alloc: Global,
@@ -21,6 +21,7 @@ pub extern "C" fn coding_exports_decode(
     len: u32,
     points: &[u8],
     fragments: &[u8],
+    times: u32,
     room: &mut [u8],
 ) -> u8
     ensures answers { (result ≡ 0) ⊎ (result ≡ number_of Refusal.NoMemory)
@@ -39,6 +40,11 @@ pub extern "C" fn coding_exports_decode(
     let Ok(pieces) = pieces(alloc, len, fragment_len, points, fragments) else {
         return Refusal::NoMemory.number();
     };
+    for _ in 1..times {
+        if let Err(refusal) = decode_again(alloc, k, len, &pieces) {
+            return refusal.number();
+        }
+    }
     match decode(alloc, k, len, pieces) {
         Ok(decoded) => {
             write(decoded.value().as_slice(), room);
@@ -46,6 +52,19 @@ pub extern "C" fn coding_exports_decode(
         }
         Err(refusal) => refusal.number(),
     }
+}
+
+/// Decodes copies of the pieces, which share their bytes, and gives back what that took.
+fn decode_again(alloc: Global, k: u8, len: u32, pieces: &[Piece]) -> Result<(), Refusal>
+    ensures { IfErr result (λ r. (r ≡ Refusal.NoMemory) ⊎ ((r ≡ Refusal.BadPieces)
+        × ((¬ AreLawful k len pieces.now) ⊎ HaveNoValue k len pieces.now))) }
+{
+    let mut copies = Vec::with_capacity(alloc, pieces.len())?;
+    for piece in pieces {
+        copies.push(piece.clone()?)?;
+    }
+    decode(alloc, k, len, copies)?;
+    Ok(())
 }
 
 /// The pieces at these points of a value of `len` bytes, whose fragments stand one after another.

@@ -104,23 +104,23 @@ fn text_at(answer: u8) -> &'static [u8] {
 fn copies_hello(rt: HostRuntime) {
     let mut fragment = [0u8; 3];
     assert_eq!(rt;
-        coding_exports_encode(rt.alloc(), 2, 4, HELLO, 3, &mut fragment),
+        coding_exports_encode(rt.alloc(), 2, 4, HELLO, 3, 3, &mut fragment),
         0
     );
     assert_eq!(rt; fragment.as_slice(), THREE);
     let mut value = [0u8; 5];
     let fragments = b"\xdc\xd4\x6c\x04\x0a\x6c";
     assert_eq!(rt;
-        coding_exports_decode(rt.alloc(), 2, 5, &[3, 1], fragments, &mut value),
+        coding_exports_decode(rt.alloc(), 2, 5, &[3, 1], fragments, 3, &mut value),
         0
     );
     assert_eq!(rt; value.as_slice(), HELLO);
     assert_eq!(rt;
-        coding_exports_encode(rt.alloc(), 3, 2, HELLO, 0, &mut fragment),
+        coding_exports_encode(rt.alloc(), 3, 2, HELLO, 1, 0, &mut fragment),
         2
     );
     assert_eq!(rt;
-        coding_exports_decode(rt.alloc(), 0, 3, &[0, 0], b"abcd", &mut fragment),
+        coding_exports_decode(rt.alloc(), 0, 3, &[0, 0], b"abcd", 1, &mut fragment),
         15
     );
     assert_eq!(rt; fragment.as_slice(), THREE);

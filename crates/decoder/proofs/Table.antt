@@ -6,6 +6,16 @@ use Rattle.gf256.specs.Polynomial.{IsBasisRow}
 use Rattle.encoder.proofs.Places.{rows_apart}
 use Rattle.decoder.specs.Rows.{HasRow, AreBlockRows, AreBlockBytes, block_byte}
 
+-- a place has one column
+pub same_column : (i j q r w : ℕ) → q < w → r < w → i * w + q ≡ j * w + r → q ≡ r
+same_column i j q r w hq hr e =
+    ⊎_elim (λ low. absurd (omega (arith, rows_apart i j w low)))
+    (λ high.
+    ⊎_elim (λ less. absurd (omega (arith, rows_apart j i w less)))
+    (λ not_less. let line : i ≡ j = omega arith in omega (arith, ap (λ n. n * w) line))
+    (cases_lt j i))
+    (cases_lt i j)
+
 -- one more line
 pub HasRow-more : (old new points items row : List ℕ) (i : ℕ) → row ≡ items → IsBasisRow points i items
     → ((j : ℕ) → j < length row → get_or new (i * length points + j) 0 ≡ get_or row j 0)
