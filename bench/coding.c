@@ -1,12 +1,12 @@
 /* Measures the coding library of this repository against Intel ISA-L: first it compares all bytes, then it times, and
-   prints three tables. README.md says what is measured, and what is in and out. */
-#include "works.h"
+   prints four tables. README.md says what is measured, and what is in and out. */
+#include "peers.h"
 #include <stdio.h>
 #include <stdlib.h>
 #include <string.h>
 #include <time.h>
 
-enum { RUNS = 5, RUNS_OF_LONG = 3, WORKS = 5 };
+enum { RUNS = 5, RUNS_OF_LONG = 3, WORKS = 6 };
 
 static const int CODES[][2] = {{2, 4}, {3, 5}, {4, 6}, {8, 12}, {10, 14}, {32, 32}, {100, 255}};
 static const size_t LENGTHS[] = {64, 4 << 10, 64 << 10, 300 << 10, 1 << 20, 16 << 20};
@@ -79,19 +79,21 @@ struct timing {
 };
 
 /* The places of the works in each row. */
-enum { OWN_INTO, OWN_FRESH, ISAL, ISAL_FRESH, ISAL_KEPT };
+enum { OWN_INTO, OWN_FRESH, ISAL, ISAL_FRESH, ISAL_KEPT, PEER };
 
 /* The rows of one call, for each code and each length. */
 static const struct timing ENCODES[WORKS] = {{NULL, own_encode_calls, 0, {0}},
                                              {NULL, own_encode_fresh, 0, {0}},
                                              {NULL, isal_encode_calls, 0, {0}},
                                              {NULL, isal_encode_fresh_calls, 0, {0}},
-                                             {isal_encode_tables, isal_encode_blocks_calls, 0, {0}}};
+                                             {isal_encode_tables, isal_encode_blocks_calls, 0, {0}},
+                                             {NULL, peer_encode_calls, 0, {0}}};
 static const struct timing DECODES[WORKS] = {{NULL, own_decode_calls, 0, {0}},
                                              {NULL, own_decode_fresh, 0, {0}},
                                              {NULL, isal_decode_calls, 0, {0}},
                                              {NULL, isal_decode_fresh_calls, 0, {0}},
-                                             {isal_decode_tables, isal_decode_blocks_calls, 0, {0}}};
+                                             {isal_decode_tables, isal_decode_blocks_calls, 0, {0}},
+                                             {NULL, peer_decode_calls, 0, {0}}};
 static struct timing rows[CODE_COUNT][LENGTH_COUNT][2][WORKS];
 
 static int runs_of(size_t len) { return len > 1 << 20 ? RUNS_OF_LONG : RUNS; }
@@ -112,10 +114,10 @@ static int by_rate(const void *a, const void *b) {
 }
 
 /* Calibrates each work, times it in its runs, the works in turn, and sorts the rates. */
-static void measure(const struct task *t, struct timing *works) {
+static void measure(const struct task *t, struct timing *works, int count) {
   int runs = runs_of(t->len);
   for (int run = -1; run < runs; run++) {
-    for (int i = 0; i < WORKS; i++) {
+    for (int i = 0; i < count; i++) {
       struct timing *w = &works[i];
       if (w->before != NULL)
         w->before(t);
@@ -125,7 +127,7 @@ static void measure(const struct task *t, struct timing *works) {
         w->rates[run] = (double)t->len * (double)w->calls / seconds_of(w->work, t, w->calls) * 1e-9;
     }
   }
-  for (int i = 0; i < WORKS; i++)
+  for (int i = 0; i < count; i++)
     qsort(works[i].rates, runs, sizeof(double), by_rate);
 }
 
@@ -135,26 +137,31 @@ static void print_rates(const struct timing *w, int runs) {
   printf(" %.3f | %.3f%s |", best, median, best > 1.25 * w->rates[0] ? " ~" : "");
 }
 
-static void print_row(const char *call, int code, size_t len, const struct timing *works, int own, int isal) {
+/* Ours, the other's, the ratios, and ISA-L's with its tables kept where that is asked for. */
+static void print_row(const char *call, int code, size_t len, const struct timing *works, int own, int other,
+                      int with_kept) {
   int is_small = len < 1 << 10, runs = runs_of(len);
   printf("| %s | %d of %d | %zu %s |", call, CODES[code][0], CODES[code][1], is_small ? len : len >> 10,
          is_small ? "B" : "KiB");
   print_rates(&works[own], runs);
-  print_rates(&works[isal], runs);
-  printf(" %.3f | %.3f |", works[own].rates[runs - 1] / works[isal].rates[runs - 1],
-         works[own].rates[runs / 2] / works[isal].rates[runs / 2]);
-  print_rates(&works[ISAL_KEPT], runs);
+  print_rates(&works[other], runs);
+  printf(" %.3f | %.3f |", works[own].rates[runs - 1] / works[other].rates[runs - 1],
+         works[own].rates[runs / 2] / works[other].rates[runs / 2]);
+  if (with_kept)
+    print_rates(&works[ISAL_KEPT], runs);
   printf("\n");
 }
 
-static void print_table(const char *title, int own, int isal) {
-  printf("%s\n\n| | k of n | value | ours, best | median | ISA-L, best | median | ours / ISA-L, best | median "
-         "| ISA-L, tables kept, best | median |\n|-|-|-|-|-|-|-|-|-|-|-|\n",
-         title);
+static void print_table(const char *title, const char *name, int own, int other, int with_kept) {
+  printf("%s\n\n| | k of n | value | ours, best | median | %s, best | median | ours / %s, best | median |%s\n", title,
+         name, name, with_kept ? " ISA-L, tables kept, best | median |" : "");
+  printf("|-|-|-|-|-|-|-|-|-|%s\n", with_kept ? "-|-|" : "");
   for (int c = 0; c < CODE_COUNT; c++) {
     for (int l = 0; l < LENGTH_COUNT; l++) {
-      print_row("encode", c, LENGTHS[l], rows[c][l][0], own, isal);
-      print_row("decode", c, LENGTHS[l], rows[c][l][1], own, isal);
+      if (rows[c][l][0][other].calls == 0)
+        continue;
+      print_row("encode", c, LENGTHS[l], rows[c][l][0], own, other, with_kept);
+      print_row("decode", c, LENGTHS[l], rows[c][l][1], own, other, with_kept);
     }
   }
   printf("\n");
@@ -174,6 +181,7 @@ static struct task task_of(const int *code, size_t len, const uint8_t *value, co
 int main(void) {
   size_t most_bytes = 3 * (size_t)LONGEST + MOST * 64; /* n fragments, where n is at most 3k */
   uint8_t *value = memory(LONGEST), *other = memory(LONGEST), *fragments = memory(most_bytes);
+  uint8_t *place = memory(most_bytes + MOST * 16);
   prepare_works(most_bytes);
   uint64_t state = 88172645463325252u; /* xorshift */
   for (size_t at = 0; at < LONGEST; at++) {
@@ -196,12 +204,16 @@ int main(void) {
       memcpy(fragments, room, t.n * t.fragment_len);
       memcpy(rows[c][l][0], ENCODES, sizeof ENCODES);
       memcpy(rows[c][l][1], DECODES, sizeof DECODES);
-      measure(&t, rows[c][l][0]);
-      measure(&t, rows[c][l][1]);
+      int has_peer = peer_prepare(&t, place);
+      if (has_peer)
+        peer_compare(&t);
+      measure(&t, rows[c][l][0], has_peer ? WORKS : PEER);
+      measure(&t, rows[c][l][1], has_peer ? WORKS : PEER);
     }
   }
-  print_table("The caller's buffers on both sides.", OWN_INTO, ISAL);
-  print_table("Fresh memory on both sides.", OWN_FRESH, ISAL_FRESH);
-  print_table("Ours in fresh memory, ISA-L in warm buffers.", OWN_FRESH, ISAL);
+  print_table("The caller's buffers on both sides.", "ISA-L", OWN_INTO, ISAL, 1);
+  print_table("Fresh memory on both sides.", "ISA-L", OWN_FRESH, ISAL_FRESH, 1);
+  print_table("Ours in fresh memory, ISA-L in warm buffers.", "ISA-L", OWN_FRESH, ISAL, 1);
+  print_table("Jerasure's systematic code, in the caller's buffers on both sides.", "Jerasure", OWN_INTO, PEER, 0);
   return 0;
 }
