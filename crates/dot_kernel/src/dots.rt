@@ -1,11 +1,11 @@
 //! Sums of products, of several rows of coefficients in one pass over the sources.
 
 ghost use Rattle.std.specs.Prelude.{◌≡◌, ℕ, ◌+◌, ◌*◌, ◌<◌, ◌≤◌, [], length, slice_index, slice_index_or};
-ghost use Rattle.std.specs.Prelude.{EachIndex, IsTrue};
+ghost use Rattle.std.specs.Prelude.{EachIndex};
 ghost use Rattle.dot_kernel.specs.Dot.{AreDots, bytes_of, dot_byte, row, lanes_from};
 
 use crate::Tables;
-use crate::blocks::{BLOCK, load, store};
+use crate::blocks::{BLOCK, load, store, store_two};
 use std::simd::prelude::*;
 
 /// The most rows of one pass. With more than some six, their sums no longer fit the registers.
@@ -30,19 +30,19 @@ pub fn dots_of<const R: usize>(out: &mut [u8], tables: &[Tables], sources: &[&[u
     ensures { AreDots out.new tables.now R (bytes_of sources.now) size size }
 {
     if size < BLOCK {
-        write_block::<R>(out, tables, sources, size, 0, size, false);
+        write_block::<R>(out, tables, sources, size, 0, size);
         return;
     }
     let whole = shortest(sources, size) / BLOCK;
-    for block in 0..whole {
-        write_block::<R>(out, tables, sources, size, block * BLOCK, BLOCK, true);
+    for two in 0..whole / 2 {
+        write_two_blocks::<R>(out, tables, sources, size, two * 2 * BLOCK);
     }
-    for block in whole..size / BLOCK {
-        write_block::<R>(out, tables, sources, size, block * BLOCK, BLOCK, false);
+    for block in whole / 2 * 2..size / BLOCK {
+        write_block::<R>(out, tables, sources, size, block * BLOCK, BLOCK);
     }
     if size % BLOCK > 0 {
         // It overlaps the one before it: `out` is written and never read.
-        write_block::<R>(out, tables, sources, size, size - BLOCK, BLOCK, false);
+        write_block::<R>(out, tables, sources, size, size - BLOCK, BLOCK);
     }
 }
 
@@ -68,41 +68,64 @@ fn write_block<const R: usize>(
     size: usize,
     start: usize,
     width: usize,
-    whole: bool,
 )
     requires few { R ≤ MOST_ROWS }
     requires coefficients { length tables.now ≡ length sources.now * R }
     requires rows { length out.old ≡ R * size }
     requires block { width ≤ BLOCK }
     requires within { start + width ≤ size }
-    requires whole { IsTrue whole → (j : ℕ) → j < length sources.now
-        → start + BLOCK ≤ length (slice_index_or (bytes_of sources.now) j []) }
     ensures { AreDots out.old tables.now R (bytes_of sources.now) size start
         → AreDots out.new tables.now R (bytes_of sources.now) size (start + width) }
 {
-    let sums = row_lanes::<R>(tables, sources, start, whole);
+    let sums = row_lanes::<R>(tables, sources, start);
     store_rows::<R>(out, size, start, width, sums);
+}
+
+/// `write_block` of two whole blocks: the tables of a coefficient are fetched once for both.
+#[inline(always)]
+fn write_two_blocks<const R: usize>(
+    out: &mut [u8],
+    tables: &[Tables],
+    sources: &[&[u8]],
+    size: usize,
+    start: usize,
+)
+    requires few { R ≤ MOST_ROWS }
+    requires coefficients { length tables.now ≡ length sources.now * R }
+    requires rows { length out.old ≡ R * size }
+    requires within { start + 2 * BLOCK ≤ size }
+    requires whole { (j : ℕ) → j < length sources.now
+        → start + 2 * BLOCK ≤ length (slice_index_or (bytes_of sources.now) j []) }
+    ensures { AreDots out.old tables.now R (bytes_of sources.now) size start
+        → AreDots out.new tables.now R (bytes_of sources.now) size (start + 2 * BLOCK) }
+{
+    let mut left = [u8x32::splat(0); R];
+    let mut right = [u8x32::splat(0); R];
+    for j in 0..sources.len() {
+        let source = sources[j];
+        let near = load(source, start, true);
+        let far = load(source, start + BLOCK, true);
+        for r in 0..R {
+            let coefficient = &tables[j * R + r];
+            left[r] = left[r] ^ coefficient.times(near);
+            right[r] = right[r] ^ coefficient.times(far);
+        }
+    }
+    store_two_rows::<R>(out, size, start, left, right);
 }
 
 /// 32 bytes of each row's sum, from byte `start` on.
 #[inline(always)]
-fn row_lanes<const R: usize>(
-    tables: &[Tables],
-    sources: &[&[u8]],
-    start: usize,
-    whole: bool,
-) -> [u8x32; R]
+fn row_lanes<const R: usize>(tables: &[Tables], sources: &[&[u8]], start: usize) -> [u8x32; R]
     requires few { R ≤ MOST_ROWS }
     requires coefficients { length tables.now ≡ length sources.now * R }
-    requires whole { IsTrue whole → (j : ℕ) → j < length sources.now
-        → start + BLOCK ≤ length (slice_index_or (bytes_of sources.now) j []) }
     ensures { (r : ℕ) → r < R
         → slice_index_or result r [] ≡ lanes_from (dot_byte (row tables.now R r) (bytes_of sources.now)) start }
 {
     let mut sums = [u8x32::splat(0); R];
     for j in 0..sources.len() {
         let source = sources[j];
-        let lanes = load(source, start, whole);
+        let lanes = load(source, start, false);
         for r in 0..R {
             sums[r] = sums[r] ^ tables[j * R + r].times(lanes);
         }
@@ -130,5 +153,29 @@ pub(crate) fn store_rows<const R: usize>(
 {
     for r in 0..R {
         store(out, r * size + start, width, sums[r]);
+    }
+}
+
+/// Writes the lanes of two blocks of each row over its bytes from `start` on.
+#[inline(always)]
+pub(crate) fn store_two_rows<const R: usize>(
+    out: &mut [u8],
+    size: usize,
+    start: usize,
+    left: [u8x32; R],
+    right: [u8x32; R],
+)
+    requires few { R ≤ MOST_ROWS }
+    requires within { start + 2 * BLOCK ≤ size }
+    requires rows { length out.old ≡ R * size }
+    ensures left { (r i : ℕ) → r < R → i < BLOCK
+        → slice_index out.new (r * size + (start + i)) ≡ slice_index (slice_index_or left.entry r []) i }
+    ensures right { (r i : ℕ) → r < R → i < BLOCK
+        → slice_index out.new (r * size + (start + BLOCK + i)) ≡ slice_index (slice_index_or right.entry r []) i }
+    ensures before { (r b : ℕ) → r < R → b < start
+        → slice_index out.new (r * size + b) ≡ slice_index out.old (r * size + b) }
+{
+    for r in 0..R {
+        store_two(out, r * size + start, left[r], right[r]);
     }
 }

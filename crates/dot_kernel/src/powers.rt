@@ -10,8 +10,8 @@ ghost use Rattle.dot_kernel.specs.Dot.{bytes_of};
 ghost use Rattle.dot_kernel.specs.Line.{ArePairs, ArePowers};
 
 use crate::Tables;
-use crate::blocks::{BLOCK, store_two};
-use crate::dots::{MOST_ROWS, shortest, store_rows};
+use crate::blocks::BLOCK;
+use crate::dots::{MOST_ROWS, shortest, store_rows, store_two_rows};
 use crate::lanes::power_lanes;
 use gf256::mul;
 use std::simd::prelude::*;
@@ -188,28 +188,4 @@ fn write_two_blocks<const R: usize>(
     let left = power_lanes::<R>(steps, points, sources, first, start, true, zero);
     let right = power_lanes::<R>(steps, points, sources, first, start + BLOCK, true, zero);
     store_two_rows::<R>(out, size, start, left, right);
-}
-
-/// Writes the lanes of two blocks of each row over its bytes from `start` on.
-#[inline(always)]
-fn store_two_rows<const R: usize>(
-    out: &mut [u8],
-    size: usize,
-    start: usize,
-    left: [u8x32; R],
-    right: [u8x32; R],
-)
-    requires few { R ≤ MOST_ROWS }
-    requires within { start + 2 * BLOCK ≤ size }
-    requires rows { length out.old ≡ R * size }
-    ensures left { (r i : ℕ) → r < R → i < BLOCK
-        → slice_index out.new (r * size + (start + i)) ≡ slice_index (slice_index_or left.entry r []) i }
-    ensures right { (r i : ℕ) → r < R → i < BLOCK
-        → slice_index out.new (r * size + (start + BLOCK + i)) ≡ slice_index (slice_index_or right.entry r []) i }
-    ensures before { (r b : ℕ) → r < R → b < start
-        → slice_index out.new (r * size + b) ≡ slice_index out.old (r * size + b) }
-{
-    for r in 0..R {
-        store_two(out, r * size + start, left[r], right[r]);
-    }
 }

@@ -1,13 +1,7 @@
-use Rattle.std.proofs.Common.{◌≡◌, ℕ, ◌+◌, ◌*◌, ◌<◌, ◌≤◌, [], get_or, mul-le-mul_right, ap, sym, ◌∙◌, arith, ⊎_elim}
+use Rattle.std.proofs.Common.{◌≡◌, ◌+◌, ◌*◌, [], get_or, ap, sym, ◌∙◌, arith, ⊎_elim}
 use Rattle.std.proofs.lemmas.Bool.{cases_lt}
+use Rattle.dot_kernel.proofs.RowSums.{rows_apart}
 use Rattle.dot_kernel.proofs.dots.store_rows.Goals as goal
-
-one_more : (q r : ℕ) → q < r → q + 1 ≤ r
-one_more q r less = omega arith
-
--- a row ends where a later one begins, or before it
-rows_apart : (q r size : ℕ) → q < r → q * size + size ≤ r * size
-rows_apart q r size less = omega (arith, mul-le-mul_right size (one_more q r less))
 
 pub loop-r-preserved : goal.loop-r-preserved
 loop-r-preserved g c =

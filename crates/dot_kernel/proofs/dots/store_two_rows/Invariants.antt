@@ -1,5 +1,5 @@
 use Rattle.std.proofs.Common.{◌≡◌, ℕ, ◌+◌, ◌*◌, ◌<◌, [], get_or}
-use Rattle.dot_kernel.proofs.powers.store_two_rows.Given as goal
+use Rattle.dot_kernel.proofs.dots.store_two_rows.Given as goal
 
 -- the rows so far are written, and what stands before them in each row is as it was
 abbrev pub invariant-loop-r : goal.invariant-loop-r
