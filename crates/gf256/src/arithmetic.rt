@@ -3,6 +3,8 @@
 ghost use Rattle.std.specs.Prelude.{◌≡◌, ◌<◌};
 ghost use Rattle.gf256.specs.Field.{field_product, field_power};
 
+use crate::logarithms::{ORDER, logarithm, power};
+
 /// `x^8` modulo `x^8 + x^4 + x^3 + x^2 + 1`: what is added where a doubling carries out of the byte.
 pub const REDUCED_X8: u8 = 0x1D;
 
@@ -10,23 +12,10 @@ pub const REDUCED_X8: u8 = 0x1D;
 pub fn mul(a: u8, b: u8) -> u8
     ensures { result ≡ field_product a b }
 {
-    let mut sum = 0;
-    let mut term = b;
-    for i in 0..8u32 {
-        if (a >> i) & 1 == 1 {
-            sum ^= term;
-        }
-        term = double(term);
+    if a == 0 || b == 0 {
+        return 0;
     }
-    sum
-}
-
-/// `x` times `a`.
-fn double(a: u8) -> u8
-    ensures { result ≡ field_product 2 a }
-{
-    let high = a >> 7;
-    ((a & 0x7F) << 1) ^ (high * REDUCED_X8)
+    power(logarithm(a) + logarithm(b))
 }
 
 /// The inverse of `a`: the element that gives 1 when it is multiplied by `a`.
@@ -34,8 +23,8 @@ pub fn inv(a: u8) -> u8
     requires { 0 < a }
     ensures { field_product result a ≡ 1 }
 {
-    // The 255 elements that are not zero form a group under the product, so a^255 is 1.
-    pow(a, 254)
+    // The 255 elements that are not zero form a group under the product, so x^255 is 1.
+    power(ORDER - logarithm(a))
 }
 
 /// `a` divided by `b`: the element that gives `a` when it is multiplied by `b`.

@@ -8,6 +8,7 @@ ghost use Rattle.gf256.specs.Field.{field_product, polynomial_product, IsRemaind
 pub use arithmetic::{REDUCED_X8, div, inv, mul, pow};
 
 mod arithmetic;
+mod logarithms;
 #[cfg(test)]
 mod tests;
 

@@ -1,8 +1,9 @@
 use Rattle.std.proofs.Common.{ap, ◌∙◌}
 use Rattle.gf256.specs.Field.{field_product}
-use Rattle.gf256.proofs.FieldLaws.{inverse, product-inverse}
+use Rattle.gf256.proofs.Exponents.{product-of_inverse_power}
 use Rattle.gf256.proofs.arithmetic.inv.Goals as goal
 
 pub returns : goal.returns
-unfolding inverse
-returns c = ap (λ x. field_product x c.args.a) c.pow.ensures ∙ product-inverse c.args.a c.requires c.ranges.a.fits
+returns c =
+    ap (λ x. field_product x c.args.a) c.power.ensures
+    ∙ product-of_inverse_power c.args.a c.logarithm.result c.logarithm.ensures.small (c.logarithm.ensures.power c.requires)
