@@ -15,10 +15,13 @@ use Rattle.dot_kernel.specs.declared.tables.TheConstants.{HALVES}
 halves_sum : all_below 256 (λ x. eqb (bit_xor (x % 16) (x / 16 * 16)) x) ≡ true
 halves_sum = refl
 
+pub halves-sum : (x : ℕ) → x < 256 → bit_xor (x % 16) (x / 16 * 16) ≡ x
+halves-sum x lt = eqb-true _ _ (all_below-at 256 (λ x. eqb (bit_xor (x % 16) (x / 16 * 16)) x) halves_sum x lt)
+
 pub product-halves : (c x : ℕ) → x < 256 → bit_xor (field_product c (x % 16)) (field_product c (x / 16 * 16)) ≡ field_product c x
 product-halves c x lt =
     sym (product-sum_right c (x % 16) (x / 16 * 16))
-    ∙ ap (field_product c) (eqb-true _ _ (all_below-at 256 (λ x. eqb (bit_xor (x % 16) (x / 16 * 16)) x) halves_sum x lt))
+    ∙ ap (field_product c) (halves-sum x lt)
 
 halves_low : all_below 16 (λ x. eqb (get_or HALVES x 0) x) ≡ true
 halves_low = refl
@@ -26,19 +29,25 @@ halves_low = refl
 halves_high : all_below 16 (λ x. eqb (get_or HALVES (16 + x) 0) (x * 16)) ≡ true
 halves_high = refl
 
+pub half_low : (x : ℕ) → x < 16 → get_or HALVES x 0 ≡ x
+half_low x lt = eqb-true _ _ (all_below-at 16 (λ x. eqb (get_or HALVES x 0) x) halves_low x lt)
+
+pub half_high : (x : ℕ) → x < 16 → get_or HALVES (16 + x) 0 ≡ x * 16
+half_high x lt = eqb-true _ _ (all_below-at 16 (λ x. eqb (get_or HALVES (16 + x) 0) (x * 16)) halves_high x lt)
+
 -- what the tables of c hold
 pub product_low : (c x : ℕ) (products : List ℕ) → products ≡ scaled c HALVES → x < 16 → get_or products x 0 ≡ field_product c x
 product_low c x products are lt =
     ap (λ ps. get_or ps x 0) are
     ∙ get_or-scaled c HALVES x
-    ∙ ap (field_product c) (eqb-true _ _ (all_below-at 16 (λ x. eqb (get_or HALVES x 0) x) halves_low x lt))
+    ∙ ap (field_product c) (half_low x lt)
 
 pub product_high : (c x : ℕ) (products : List ℕ) → products ≡ scaled c HALVES → x < 16
     → get_or products (16 + x) 0 ≡ field_product c (x * 16)
 product_high c x products are lt =
     ap (λ ps. get_or ps (16 + x) 0) are
     ∙ get_or-scaled c HALVES (16 + x)
-    ∙ ap (field_product c) (eqb-true _ _ (all_below-at 16 (λ x. eqb (get_or HALVES (16 + x) 0) (x * 16)) halves_high x lt))
+    ∙ ap (field_product c) (half_high x lt)
 
 halves_small : all_below 32 (λ n. eqb (get_or HALVES n 0 % 256) (get_or HALVES n 0)) ≡ true
 halves_small = refl

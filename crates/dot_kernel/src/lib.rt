@@ -11,6 +11,7 @@ mod dots;
 mod lanes;
 mod line;
 mod powers;
+mod products;
 mod tables;
 #[cfg(test)]
 mod tests;

@@ -4,12 +4,12 @@ ghost use Rattle.std.specs.Prelude.{◌≡◌, ℕ, ◌+◌, ◌%◌, ◌<◌, �
 ghost use Rattle.gf256.specs.Field.{field_product};
 ghost use Rattle.gf256.specs.Polynomial.{scaled};
 
-use lane_kernel::add_scaled;
+use crate::products::products;
 use std::marker::Model;
 use std::simd::prelude::*;
 
 /// The bytes of which the upper half is zero, and then those of which the lower half is.
-const HALVES: [u8; 32] = [
+pub(crate) const HALVES: [u8; 32] = [
     0, 1, 2, 3, 4, 5, 6, 7, 8, 9, 10, 11, 12, 13, 14, 15, 0, 16, 32, 48, 64, 80, 96, 112, 128, 144,
     160, 176, 192, 208, 224, 240,
 ];
@@ -49,9 +49,9 @@ impl Tables {
     pub fn new(c: u8) -> Tables
         ensures { result ≡ c }
     {
-        let mut products = [0; 32];
-        add_scaled(&mut products, c, &HALVES);
-        Tables { products }
+        Tables {
+            products: products(c),
+        }
     }
 
     /// The coefficient times each lane.
