@@ -110,7 +110,7 @@ fn write_blocks<'a>(
 }
 
 /// Makes `blocks` be the first blocks of `value`, as far as the value goes.
-fn fill_blocks<'a>(blocks: &mut [&'a [u8]], value: &'a [u8], block_len: usize)
+pub fn fill_blocks<'a>(blocks: &mut [&'a [u8]], value: &'a [u8], block_len: usize)
     requires { length blocks.old * block_len < 2 ^ 64 }
     ensures { AreBlocks (bytes_of blocks.new) (length blocks.old) block_len value.now }
 {
