@@ -3,6 +3,7 @@ pub mod Cut
 pub mod Determined
 pub mod Interpolated
 pub mod Parts
+mod Striped
 pub mod Summed
 pub mod Table
 pub mod Whole

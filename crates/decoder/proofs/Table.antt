@@ -1,8 +1,9 @@
 -- The table of rows, line by line, and the bytes of the blocks, pass by pass.
 use Rattle.std.proofs.Common.{◌≡◌, ℕ, ◌+◌, ◌-◌, ◌*◌, ◌<◌, ◌≤◌, List, length, get_or, ap, ◌∙◌, sym, arith, ⊎_elim, lit<}
-use Rattle.std.proofs.Common.{subst}
+use Rattle.std.proofs.Common.{rules, subst}
+use Rattle.std.proofs.lemmas.List.{places}
+use borrow.Rule.Slice.PartMut.{put_mid}
 use Rattle.std.proofs.lemmas.Bool.{cases_lt}
-use Rattle.gf256.specs.Polynomial.{IsBasisRow}
 use Rattle.encoder.proofs.Places.{rows_apart}
 use Rattle.decoder.specs.Rows.{HasRow, AreBlockRows, AreBlockBytes, block_byte}
 
@@ -16,13 +17,17 @@ same_column i j q r w hq hr e =
     (cases_lt j i))
     (cases_lt i j)
 
+-- a byte that is written into the middle of a list
+pub get_or-middle : (a k : ℕ) (xs ys : List ℕ) (j : ℕ) → a ≤ length xs → j < length ys
+    → get_or (put_mid a k xs ys) (a + j) 0 ≡ get_or ys j 0
+get_or-middle a k xs ys j ha hj = search (rules, places)
+
 -- one more line
-pub HasRow-more : (old new points items row : List ℕ) (i : ℕ) → row ≡ items → IsBasisRow points i items
-    → ((j : ℕ) → j < length row → get_or new (i * length points + j) 0 ≡ get_or row j 0)
+pub HasRow-more : (old new points : List ℕ) (i : ℕ) → HasRow new points i
     → ((n : ℕ) → n < i * length points → get_or new n 0 ≡ get_or old n 0)
     → ((m : ℕ) → m < i → HasRow old points m)
     → (m : ℕ) → m < i + 1 → HasRow new points m
-HasRow-more old new points items row i same is_row inside before known m hm =
+HasRow-more old new points i is_row before known m hm =
     ⊎_elim (λ low.
     let line = known m low in
     record {
@@ -33,12 +38,7 @@ HasRow-more old new points items row i same is_row inside before known m hm =
     })
     (λ high.
     let e : i ≡ m = omega arith in
-    subst (HasRow new points) e
-    (record {
-      basis = row;
-      is_row = subst (IsBasisRow points i) (sym same) is_row;
-      same = λ j hj. inside j (omega (arith, ap length same, is_row.len));
-    }))
+    subst (HasRow new points) e is_row)
     (cases_lt m i)
 
 from_zero : (n : ℕ) → 0 + n ≡ n

@@ -1,5 +1,6 @@
 -- Tables of Lagrange's rows, and the sums of fragments by their columns.
-use Rattle.std.specs.Prelude.{◌≡◌, ℕ, ◌+◌, ◌*◌, ◌<◌, List, length, slice_index}
+use Rattle.std.specs.Prelude.{◌≡◌, ℕ, ◌+◌, ◌*◌, ◌<◌, List, length, slice_index, map, take, drop}
+use Rattle.std.specs.List.{range_with_len}
 use Rattle.gf256.specs.Polynomial.{IsBasisRow}
 use Rattle.dot_kernel.specs.Dot.{dot_byte, row}
 
@@ -21,6 +22,15 @@ block_byte table fragments j b = dot_byte (row table (length fragments) j) fragm
 abbrev pub AreBlockRows : List ℕ → ℕ → ℕ → List ℕ → List (List ℕ) → ℕ → Type 0
 AreBlockRows out rows size table fragments first =
     (r b : ℕ) → r < rows → b < size → slice_index out (r * size + b) ≡ block_byte table fragments (first + r) b
+
+-- the first k pieces of the bytes, of `width` each
+unfoldable pub cut : ℕ → ℕ → List ℕ → List (List ℕ)
+cut k width bytes = map (λ j. take width (drop (j * width) bytes)) (range_with_len 0 k)
+
+-- up to byte `until` each of `rows` rows of `size` bytes each has the sums of its block
+abbrev pub AreBlockRowsUntil : List ℕ → ℕ → ℕ → List ℕ → List (List ℕ) → ℕ → Type 0
+AreBlockRowsUntil out rows size table fragments until =
+    (r b : ℕ) → r < rows → b < until → slice_index out (r * size + b) ≡ block_byte table fragments r b
 
 -- these are the bytes of the blocks, of `size` bytes each, as far as they go
 abbrev pub AreBlockBytes : List ℕ → ℕ → List ℕ → List (List ℕ) → Type 0

@@ -106,13 +106,15 @@ fn from_the_last(alloc: Global, k: u8, value: &Bytes) -> Result<(Decoded, Vec<u8
     Ok((decode(alloc, k, len as u32, pieces)?, out))
 }
 
-// Lengths that loops over lanes, passes of six blocks and a last block that is not whole could get wrong, in each room.
+// Lengths that loops over lanes, passes of six blocks and a last block that is not whole could get wrong, in each room,
+// and values that go in stripes of each width.
 #[test]
 fn gives_back_what_the_encoder_made(rt: HostRuntime) -> Result<(), Fail> {
     for (k, len) in [
         (1, 100),
         (2, 64),
         (3, 100),
+        (5, 100),
         (7, 1),
         (7, 500),
         (8, 0),
@@ -122,6 +124,9 @@ fn gives_back_what_the_encoder_made(rt: HostRuntime) -> Result<(), Fail> {
         (65, 3001),
         (255, 254),
         (255, 9000),
+        (7, 300_001),
+        (65, 270_000),
+        (129, 262_146),
     ] {
         let value = value_of_len(rt.alloc(), len)?;
         let (decoded, out) = from_the_last(rt.alloc(), k, &value)?;

@@ -16,6 +16,7 @@ mod padding;
 mod past;
 mod rooms;
 mod rows;
+mod stripes;
 mod sums;
 #[cfg(test)]
 mod tests;

@@ -34,7 +34,8 @@ pub(crate) fn make_value(
         ⊎ ((e ≡ Refusal.NoMemory) × (¬ HaveNoValue k len (pieces_at len points.now (bytes_of fragments.now))))) }
 {
     match k {
-        0..=8 => make_in::<64, 48>(alloc, k, len, points, fragments),
+        0..=4 => make_in::<16, 16>(alloc, k, len, points, fragments),
+        5..=8 => make_in::<64, 48>(alloc, k, len, points, fragments),
         9..=16 => make_in::<256, 96>(alloc, k, len, points, fragments),
         17..=64 => make_in::<4096, MOST_TABLES>(alloc, k, len, points, fragments),
         65..=255 => make_in::<MOST_COEFFICIENTS, MOST_TABLES>(alloc, k, len, points, fragments),
@@ -92,7 +93,8 @@ pub(crate) fn write_value(
     ensures unchanged { OnErr result (out.new ≡ out.old) }
 {
     match k {
-        0..=8 => write_in::<64, 48>(k, points, fragments, out),
+        0..=4 => write_in::<16, 16>(k, points, fragments, out),
+        5..=8 => write_in::<64, 48>(k, points, fragments, out),
         9..=16 => write_in::<256, 96>(k, points, fragments, out),
         17..=64 => write_in::<4096, MOST_TABLES>(k, points, fragments, out),
         65..=255 => write_in::<MOST_COEFFICIENTS, MOST_TABLES>(k, points, fragments, out),

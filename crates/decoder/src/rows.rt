@@ -2,7 +2,7 @@
 
 ghost use Rattle.std.specs.Prelude.{◌≡◌, ℕ, ◌+◌, ◌*◌, ◌<◌, ◌≤◌, length, slice_index};
 ghost use Rattle.gf256.specs.Polynomial.{AreDistinct};
-ghost use Rattle.decoder.specs.Rows.{HasRows};
+ghost use Rattle.decoder.specs.Rows.{HasRow, HasRows};
 
 use poly::Rows;
 use tag::MOST_MEMBERS;
@@ -16,16 +16,17 @@ pub(crate) fn fill_rows(table: &mut [u8], points: &[u8])
 {
     let rows = Rows::new(points);
     for i in 0..points.len() {
-        let row = rows.row(i);
-        write(table, i * points.len(), row.as_slice());
+        write_row(table, points.len(), &rows, i);
     }
 }
 
-/// Writes `row` over the bytes from `start` on.
-fn write(table: &mut [u8], start: usize, row: &[u8])
-    requires { start + length row.now ≤ length table.old }
-    ensures inside { (j : ℕ) → j < length row.now → slice_index table.new (start + j) ≡ slice_index row.now j }
-    ensures before { (n : ℕ) → n < start → slice_index table.new n ≡ slice_index table.old n }
+/// Writes row `i` to line `i` of the table, whose lines have `k` bytes.
+fn write_row(table: &mut [u8], k: usize, rows: &Rows, i: usize)
+    requires points { k ≡ length rows.now.points }
+    requires line { i < k }
+    requires room { length table.old ≡ k * k }
+    ensures row { HasRow table.new rows.now.points i }
+    ensures before { (n : ℕ) → n < i * k → slice_index table.new n ≡ slice_index table.old n }
 {
-    table[start..start + row.len()].copy_from_slice(row);
+    rows.row(i, &mut table[i * k..i * k + k]);
 }

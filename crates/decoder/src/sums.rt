@@ -1,13 +1,18 @@
 //! Sums of fragments by the columns of a table, several columns in one pass over the fragments.
 
-ghost use Rattle.std.specs.Prelude.{◌≡◌, ◌≢◌, ℕ, ◌+◌, ◌*◌, ◌<◌, ◌≤◌, length, slice_index};
+ghost use Rattle.std.specs.Prelude.{◌≡◌, ◌≢◌, ℕ, ◌+◌, ◌*◌, ◌<◌, ◌≤◌, [], length, slice_index, slice_index_or};
 ghost use Rattle.dot_kernel.specs.Dot.{bytes_of};
 ghost use Rattle.decoder.specs.Rows.{AreBlockBytes, AreBlockRows, block_byte};
 
+use crate::stripes::write_stripes;
 use dot_kernel::{Tables, dots_of};
+use tag::MOST_MEMBERS;
 
 /// The most blocks of one pass, whose sums fit the registers.
 const MOST_BLOCKS: usize = 6;
+
+/// The most bytes of a value whose fragments stay in the cache between passes.
+const LONG: usize = 262_144;
 
 /// Makes `out` be the first bytes of the blocks, of `size` bytes each. A pass takes as many blocks as `room` has tables
 /// for.
@@ -22,6 +27,9 @@ pub(crate) fn write_blocks(
     requires table { length table.now ≡ length fragments.now * length fragments.now }
     requires room { length fragments.now ≤ length room.old }
     requires within { length out.old ≤ length fragments.now * size }
+    requires most { length fragments.now ≤ MOST_MEMBERS }
+    requires lens { (j : ℕ) → j < length fragments.now
+        → length (slice_index_or (bytes_of fragments.now) j []) ≡ size }
     ensures { AreBlockBytes out.new size table.now (bytes_of fragments.now) }
 {
     if size == 0 {
@@ -30,14 +38,40 @@ pub(crate) fn write_blocks(
     let whole = out.len() / size;
     let rest = out.len() % size;
     let is_cut = rest > 0;
-    write_whole(out, room, table, fragments, size, whole);
+    write_all(out, room, table, fragments, size, whole);
     if is_cut {
         write_rows(out, whole * size, room, table, fragments, rest, whole, 1);
     }
 }
 
+/// `write_whole`, stripe by stripe where passes over all fragments would fetch them anew from beyond the caches.
+fn write_all(
+    out: &mut [u8],
+    room: &mut [Tables],
+    table: &[u8],
+    fragments: &[&[u8]],
+    size: usize,
+    n: usize,
+)
+    requires some { 1 ≤ length fragments.now }
+    requires most { length fragments.now ≤ MOST_MEMBERS }
+    requires table { length table.now ≡ length fragments.now * length fragments.now }
+    requires room { length fragments.now ≤ length room.old }
+    requires few { n ≤ length fragments.now }
+    requires within { n * size ≤ length out.old }
+    requires lens { (j : ℕ) → j < length fragments.now
+        → length (slice_index_or (bytes_of fragments.now) j []) ≡ size }
+    ensures { AreBlockRows out.new n size table.now (bytes_of fragments.now) 0 }
+{
+    if n > MOST_BLOCKS && out.len() > LONG {
+        write_stripes(out, room, table, fragments, size, n);
+    } else {
+        write_whole(out, room, table, fragments, size, n);
+    }
+}
+
 /// `write_blocks` on the first `n` blocks, which are whole.
-fn write_whole(
+pub(crate) fn write_whole(
     out: &mut [u8],
     room: &mut [Tables],
     table: &[u8],

@@ -1,6 +1,7 @@
 //! The value of lawful pieces: first whether there is one, then its bytes.
 
-ghost use Rattle.std.specs.Prelude.{◌≡◌, ◌*◌, ◌≤◌, ◌⊎◌, ℕ, List, length, IfErr, IfOk, IsFalse, IsTrue, OnErr, OnOk};
+ghost use Rattle.std.specs.Prelude.{◌≡◌, ◌*◌, ◌<◌, ◌≤◌, ◌⊎◌, ℕ, List, [], length, slice_index_or};
+ghost use Rattle.std.specs.Prelude.{IfErr, IfOk, IsFalse, IsTrue, OnErr, OnOk};
 ghost use Rattle.dot_kernel.specs.Dot.{bytes_of};
 ghost use Rattle.encoder.specs.Fragment.{fragment_len};
 ghost use Rattle.decoder.specs.Parts.{AreLawfulParts, pieces_at};
@@ -12,7 +13,7 @@ use crate::rows::fill_rows;
 use crate::sums::write_blocks;
 use dot_kernel::Tables;
 use std::alloc::{AllocError, Global};
-use tag::Refusal;
+use tag::{MOST_MEMBERS, Refusal};
 
 /// Makes the value of `len` bytes of which these are lawful pieces. Memory is asked for only where there is such a
 /// value, so that bad pieces are always told.
@@ -55,6 +56,9 @@ fn made_blocks(
     requires table { length table.now ≡ length fragments.now * length fragments.now }
     requires room { length fragments.now ≤ length tables.old }
     requires within { len ≤ length fragments.now * size }
+    requires most { length fragments.now ≤ MOST_MEMBERS }
+    requires lens { (j : ℕ) → j < length fragments.now
+        → length (slice_index_or (bytes_of fragments.now) j []) ≡ size }
     ensures len { IfOk result (λ out. length out.items ≡ len) }
     ensures bytes { IfOk result (λ out. AreBlockBytes out.items size table.now (bytes_of fragments.now)) }
 {

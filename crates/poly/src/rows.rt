@@ -41,16 +41,16 @@ impl Rows {
         Rows { points, product }
     }
 
-    /// Row `i`: the coefficients of the polynomial that is 1 at point `i` and 0 at the others, as many as there are
-    /// points, the constant one first.
-    pub fn row(&self, i: usize) -> ArrayVec<u8, MOST_MEMBERS>
-        requires { i < length self.now.points }
-        ensures { IsBasisRow self.now.points i result.items }
+    /// Makes `row` be row `i`: the coefficients of the polynomial that is 1 at point `i` and 0 at the others, as many
+    /// as there are points, the constant one first.
+    pub fn row(&self, i: usize, row: &mut [u8])
+        requires place { i < length self.now.points }
+        requires room { length row.old ≡ length self.now.points }
+        ensures { IsBasisRow self.now.points i row.new }
     {
         let point = self.points[i];
-        let mut row = quotient(self.product.as_slice(), point);
-        let value = value_at(row.as_slice(), point);
-        scale(row.as_mut_slice(), inv(value));
-        row
+        quotient(row, self.product.as_slice(), point);
+        let value = value_at(row, point);
+        scale(row, inv(value));
     }
 }

@@ -10,6 +10,6 @@ returns-then-is_cut c =
     let some : 0 < size = omega arith in
     let short = mod-lt len some in
     let split : len / size * size + len % size ≡ len = div-add-mod' len size in
-    AreBlockBytes-rest c.write_whole.new.out c.write_rows.new.out (len / size) (len % size) size c.args.table.now
+    AreBlockBytes-rest c.write_all.new.out c.write_rows.new.out (len / size) (len % size) size c.args.table.now
     (bytes_of c.args.fragments.now) (omega arith) (omega arith)
-    c.write_rows.ensures.inside c.write_rows.ensures.before c.write_whole.ensures
+    c.write_rows.ensures.inside c.write_rows.ensures.before c.write_all.ensures
