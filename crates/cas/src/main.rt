@@ -4,7 +4,7 @@
 
 use coding_commands::Fault;
 use commands::run_words;
-use std::io::BufWriter;
+use std::io::{BufWriter, IsTerminal};
 use std::process::ExitCode;
 use std::rt::Stdout;
 use std::{env, io};
@@ -12,8 +12,9 @@ use tag::Refusal;
 
 fn main(rt: HostRuntime) -> ExitCode {
     let mut err = rt.stderr();
+    let is_terminal = err.is_terminal();
     let status = match begun(&rt) {
-        Ok((words, mut out)) => run_words(&rt, words.as_slice(), &mut out, &mut err),
+        Ok((words, mut out)) => run_words(&rt, words.as_slice(), &mut out, &mut err, is_terminal),
         Err(fault) => fault.report(&mut err),
     };
     ExitCode::from(status)

@@ -13,30 +13,34 @@ use std::io::Write;
 use std::rt::Files;
 use std::sync::Wait;
 use std::thread::Threads;
+use std::time::Clock;
 
 /// Carries out the words after the program's name, and answers the exit status: 0 where the line of the answer is
 /// written, or the script of the file played to its end, 1 for a refusal or lost output, 2 for words that spell no
-/// request or a script that cannot be read or is bad. A text on `err` says why.
-pub fn run_words<R: Files + AllocGlobal + Threads + Wait + Sync, O: Write, E: Write>(
+/// request or a script that cannot be read or is bad. A text on `err` says why; where that is a terminal, a line there
+/// tells how far a long soak has come.
+pub fn run_words<R: Files + AllocGlobal + Threads + Wait + Clock + Sync, O: Write, E: Write>(
     rt: &R,
     words: &[String],
     out: &mut O,
     err: &mut E,
+    is_terminal: bool,
 ) -> u8
     ensures { EndsBy (map string_bytes words.now) (O.contents out.old) (O.contents out.new) result }
 {
     match parse_request(rt.alloc(), words) {
-        Ok(request) => carry_out(rt, request, out, err),
+        Ok(request) => carry_out(rt, request, out, err, is_terminal),
         Err(fault) => fault.report(err),
     }
 }
 
 /// Carries out the request, and answers the exit status.
-fn carry_out<R: Files + AllocGlobal + Threads + Wait + Sync, O: Write, E: Write>(
+fn carry_out<R: Files + AllocGlobal + Threads + Wait + Clock + Sync, O: Write, E: Write>(
     rt: &R,
     request: Request,
     out: &mut O,
     err: &mut E,
+    is_terminal: bool,
 ) -> u8
     ensures { (words : List Word) → Spells words request
         → EndsBy words (O.contents out.old) (O.contents out.new) result }
@@ -44,6 +48,6 @@ fn carry_out<R: Files + AllocGlobal + Threads + Wait + Sync, O: Write, E: Write>
     match request {
         Request::Coding { request } => answer_request(rt.alloc(), request, out, err),
         Request::Run { file } => run_file(rt, file.as_str(), out, err),
-        Request::Soak { plan } => run_soak(rt, plan, out, err),
+        Request::Soak { plan } => run_soak(rt, plan, out, err, is_terminal),
     }
 }

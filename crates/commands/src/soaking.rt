@@ -11,18 +11,22 @@ use soak::{Plan, Summary, run_plan};
 use std::io::Write;
 use std::sync::Wait;
 use std::thread::Threads;
+use std::time::Clock;
 
 /// Lets clients work through a store as the plan says, prints what it comes to, and answers the exit status. Where a
-/// call is refused or a thread cannot be started, a text on `err` says so.
-pub(crate) fn run_soak<R: AllocGlobal + Threads + Wait + Sync, O: Write, E: Write>(
+/// call is refused or a thread cannot be started, a text on `err` says so; where that is a terminal, a line there tells
+/// how far a long soak has come.
+pub(crate) fn run_soak<R: AllocGlobal + Threads + Wait + Clock + Sync, O: Write, E: Write>(
     rt: &R,
     plan: Plan,
     out: &mut O,
     err: &mut E,
+    is_terminal: bool,
 ) -> u8
     ensures { Soaks plan (O.contents out.old) (O.contents out.new) result }
 {
-    match run_plan(rt, rt.alloc(), plan) {
+    let screen = if is_terminal { Some(&mut *err) } else { None };
+    match run_plan(rt, rt.alloc(), plan, screen) {
         Ok(summary) => match print_summary(out, &summary) {
             Ok(()) => summary.status(),
             Err(fault) => fault.report(err),

@@ -15,6 +15,7 @@ use std::io;
 use std::rt::Files;
 use std::sync::Wait;
 use std::thread::Threads;
+use std::time::Clock;
 use table::parse_table;
 
 fn main(rt: HostRuntime) -> Result<()> {
@@ -30,7 +31,7 @@ fn main(rt: HostRuntime) -> Result<()> {
 }
 
 /// Plays each row, prints those that differ, and answers how many they are.
-fn play_all<R: Files + Print + AllocGlobal + Threads + Wait + Sync>(
+fn play_all<R: Files + Print + AllocGlobal + Threads + Wait + Clock + Sync>(
     rt: &R,
     rows: &[Row],
 ) -> Result<usize> {

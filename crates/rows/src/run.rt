@@ -6,6 +6,7 @@ use std::fmt;
 use std::rt::Files;
 use std::sync::Wait;
 use std::thread::Threads;
+use std::time::Clock;
 
 /// What a run prints, and its exit status. It shows as the lines of a row.
 #[derive(Drop, PartialEq, Eq)]
@@ -17,7 +18,10 @@ pub(crate) struct Run {
 
 impl Run {
     /// Plays the script, or carries out the command line.
-    pub(crate) fn of<R: Files + AllocGlobal + Threads + Wait + Sync>(rt: &R, deed: &Deed) -> Run {
+    pub(crate) fn of<R: Files + AllocGlobal + Threads + Wait + Clock + Sync>(
+        rt: &R,
+        deed: &Deed,
+    ) -> Run {
         let mut out = Vec::new(rt.alloc());
         let mut err = Vec::new(rt.alloc());
         let status = match deed {
@@ -25,7 +29,7 @@ impl Run {
                 let mut reader = script.as_slice();
                 run_script(rt.alloc(), "story", &mut reader, &mut out, &mut err)
             }
-            Deed::Words(words) => run_words(rt, words.as_slice(), &mut out, &mut err),
+            Deed::Words(words) => run_words(rt, words.as_slice(), &mut out, &mut err, false),
         };
         Run { out, err, status }
     }

@@ -5,5 +5,6 @@ pub mod Closed
 pub mod Made
 pub mod Moves
 pub mod Plan
+pub mod Progress
 pub mod Setting
 pub mod Summary

@@ -4,6 +4,7 @@ ghost use Rattle.soak.specs.Made.{HasMade, IsNew, Makes};
 
 use crate::call::{object_of, value_of};
 use crate::chooser::Congruential;
+use crate::counts::Counts;
 use crate::moves::TURNS;
 use crate::plan::Plan;
 use client::{Seat, Store, StoreName};
@@ -25,6 +26,7 @@ pub(crate) fn make_calls<L: StoreName, R: Threads + Wait + Sync>(
     store: &Store<L>,
     mut seat: Seat<L>,
     plan: Plan,
+    counts: &Counts,
 ) -> Ended<L>
     requires { IsNew seat }
     ensures { IfOk result (λ seat. HasMade plan.calls seat) }
@@ -33,6 +35,7 @@ pub(crate) fn make_calls<L: StoreName, R: Threads + Wait + Sync>(
     for call in 0..plan.calls {
         make_call(rt, alloc, store, &mut seat, call, &mut chooser)?;
         stir_often(rt, store, object_of(call), &mut chooser)?;
+        counts.add_call();
     }
     Ok(seat)
 }

@@ -4,13 +4,17 @@ ghost use Rattle.std.specs.List.{AllByRecursion};
 ghost use Rattle.soak.specs.Made.{HasMade, IsNew};
 
 use crate::client_thread::{Ended, make_calls};
+use crate::counts::Counts;
 use crate::moves::make_moves;
 use crate::plan::Plan;
+use crate::watch::watch_all;
 use client::{Admin, Seat, Store, StoreName};
 use std::alloc::Global;
+use std::io::Write;
 use std::sync::Wait;
 use std::thread;
 use std::thread::{JoinHandle, Promise, PromisedHandle, Scope, Threads};
+use std::time::Clock;
 use tag::Refusal;
 
 /// What the thread of a client promises: where it hands a seat back, so many calls were made with it.
@@ -30,43 +34,50 @@ type Started<L> = Result<PromisedHandle<Ended<L>, CallsMade>, Refusal>;
 /// Lets each client work in a thread of its own, and the administrator in another, and gives the seats back once all
 /// have ended, each with all calls of the plan made. The first client's refusal is passed on, or else that of the
 /// administrator; a thread that cannot be started is refused with `NoMemory`, and hinders no other.
-pub(crate) fn work_all<L: StoreName + Send + Sync, R: Threads + Wait + Sync>(
+pub(crate) fn work_all<L: StoreName + Send + Sync, R: Threads + Wait + Clock + Sync, E: Write>(
     rt: &R,
     alloc: Global,
     store: &Store<L>,
     seats: Vec<Seat<L>>,
     admin: Admin<L>,
     plan: Plan,
+    screen: Option<&mut E>,
 ) -> Result<Vec<Seat<L>>, Refusal>
     requires { AllByRecursion IsNew seats.items }
     ensures { IfOk result (λ seats. AllByRecursion (HasMade plan.calls) seats.items) }
 {
+    let counts = Counts::new();
     thread::scope(
         thread::scope_env(),
         rt,
         |scope| -> Result<Vec<Seat<L>>, Refusal>
             requires { AllByRecursion IsNew seats.items }
             ensures { IfOk result (λ seats. AllByRecursion (HasMade plan.calls) seats.items) }
-        { work_in(scope, rt, alloc, store, seats, admin, plan) },
+        { work_in(scope, rt, alloc, store, seats, admin, plan, &counts, screen) },
     )
 }
 
 // Starts the threads, and waits for them. A refusal is passed on once all have ended, since the scope waits for those
 // that nobody joins.
-fn work_in<'s, E, L: StoreName + Send + Sync, R: Threads + Wait + Sync>(
-    scope: &Scope<'s, E>,
+fn work_in<'s, V, L: StoreName + Send + Sync, R: Threads + Wait + Clock + Sync, E: Write>(
+    scope: &Scope<'s, V>,
     rt: &'s R,
     alloc: Global,
     store: &'s Store<L>,
     seats: Vec<Seat<L>>,
     admin: Admin<L>,
     plan: Plan,
+    counts: &'s Counts,
+    screen: Option<&mut E>,
 ) -> Result<Vec<Seat<L>>, Refusal>
     requires { AllByRecursion IsNew seats.items }
     ensures { IfOk result (λ seats. AllByRecursion (HasMade plan.calls) seats.items) }
 {
-    let mover = start_moves(scope, rt, store, admin, plan);
-    let started = start_all(scope, rt, alloc, store, seats, plan)?;
+    let mover = start_moves(scope, rt, store, admin, plan, counts);
+    let started = start_all(scope, rt, alloc, store, seats, plan, counts)?;
+    if let Some(screen) = screen {
+        watch_all(rt, counts, plan, screen);
+    }
     let seats = end_all(rt, alloc, started)?;
     mover?.join(rt)?;
     Ok(seats)
@@ -80,6 +91,7 @@ fn start_all<'s, E, L: StoreName + Send + Sync, R: Threads + Wait + Sync>(
     store: &'s Store<L>,
     mut seats: Vec<Seat<L>>,
     plan: Plan,
+    counts: &'s Counts,
 ) -> Result<Vec<Started<L>>, Refusal>
     requires { AllByRecursion IsNew seats.items }
     ensures { IfOk result
@@ -87,7 +99,7 @@ fn start_all<'s, E, L: StoreName + Send + Sync, R: Threads + Wait + Sync>(
 {
     let mut started = Vec::with_capacity(alloc, seats.len())?;
     while let Some(seat) = seats.pop() {
-        started.push(start_calls(scope, rt, alloc, store, seat, plan))?;
+        started.push(start_calls(scope, rt, alloc, store, seat, plan, counts))?;
     }
     Ok(started)
 }
@@ -99,6 +111,7 @@ fn start_calls<'s, E, L: StoreName + Send + Sync, R: Threads + Wait + Sync>(
     store: &'s Store<L>,
     seat: Seat<L>,
     plan: Plan,
+    counts: &'s Counts,
 ) -> Started<L>
     requires { IsNew seat }
     ensures { IfOk result (λ handle. handle.promise.0 ≡ plan.calls) }
@@ -106,10 +119,17 @@ fn start_calls<'s, E, L: StoreName + Send + Sync, R: Threads + Wait + Sync>(
     let client = move || -> Ended<L>
         requires { IsNew seat }
         ensures { IfOk result (λ seat. HasMade plan.calls seat) }
-    { make_calls(rt, alloc, store, seat, plan) };
+    {
+        let ended = make_calls(rt, alloc, store, seat, plan, counts);
+        counts.add_end();
+        ended
+    };
     match scope.spawn_with(CallsMade(plan.calls), client) {
         Ok(handle) => Ok(handle),
-        Err(_) => Err(Refusal::NoMemory),
+        Err(_) => {
+            counts.add_end();
+            Err(Refusal::NoMemory)
+        }
     }
 }
 
@@ -119,10 +139,19 @@ fn start_moves<'s, E, L: StoreName + Send + Sync, R: Threads + Wait + Sync>(
     store: &'s Store<L>,
     admin: Admin<L>,
     plan: Plan,
+    counts: &'s Counts,
 ) -> Result<JoinHandle<Result<(), Refusal>>, Refusal> {
-    match scope.spawn(move || make_moves(rt, store, admin, plan)) {
+    let mover = move || {
+        let ended = make_moves(rt, store, admin, plan, counts);
+        counts.add_end();
+        ended
+    };
+    match scope.spawn(mover) {
         Ok(handle) => Ok(handle),
-        Err(_) => Err(Refusal::NoMemory),
+        Err(_) => {
+            counts.add_end();
+            Err(Refusal::NoMemory)
+        }
     }
 }
 

@@ -3,6 +3,7 @@ ghost use Rattle.std.specs.Prelude.{◌≡◌, ◌<◌};
 ghost use Rattle.soak.specs.Moves.{layout_after, object_moved};
 
 use crate::chooser::Congruential;
+use crate::counts::Counts;
 use crate::plan::{MOST_CLIENTS, Plan};
 use client::{Admin, Store, StoreName};
 use cluster::LayoutId;
@@ -34,6 +35,7 @@ pub(crate) fn make_moves<L: StoreName, R: Threads + Wait + Sync>(
     store: &Store<L>,
     mut admin: Admin<L>,
     plan: Plan,
+    counts: &Counts,
 ) -> Result<(), Refusal> {
     let mut chooser = Congruential::new(plan.choices, MOST_CLIENTS);
     for number in 0..plan.moves {
@@ -45,6 +47,7 @@ pub(crate) fn make_moves<L: StoreName, R: Threads + Wait + Sync>(
             &mut chooser,
             TURNS,
         )?;
+        counts.add_move();
     }
     Ok(())
 }

@@ -8,10 +8,12 @@ use crate::setting::make_setting;
 use crate::summary::Summary;
 use client::{Store, StoreName};
 use std::alloc::Global;
+use std::io::Write;
 use std::marker::Brand;
 use std::sync::Wait;
 use std::sync::ledger::Blank;
 use std::thread::Threads;
+use std::time::Clock;
 use tag::Refusal;
 
 /// How many workers code a value.
@@ -21,25 +23,30 @@ const WORKERS: usize = 2;
 /// says what it comes to: each client has made all its calls, each with a receipt, and the summary is of a cluster
 /// whose reads and writes are those that the clients' seats recorded, each once.
 ///
+/// Where there is a screen, one line there that moves tells how far a soak of two seconds or more has come, and is
+/// cleared at the end.
+///
 /// In place of a summary it passes on the refusal of a call, and `NoMemory` where a thread cannot be started.
-pub fn run_plan<R: Threads + Wait + Sync>(
+pub fn run_plan<R: Threads + Wait + Clock + Sync, E: Write>(
     rt: &R,
     alloc: Global,
     plan: Plan,
+    screen: Option<&mut E>,
 ) -> Result<Summary, Refusal>
     ensures closed { IfOk result (λ summary. IsOfClosed plan.clients plan.calls summary) }
     ensures receipts { IfOk result (λ summary. summary.receipts ≡ plan.clients * plan.calls) }
 {
     let parts = plan.clients as u64 + 1;
-    soak_named::<Brand, R>(rt, alloc, Blank::new(parts), plan)
+    soak_named::<Brand, R, E>(rt, alloc, Blank::new(parts), plan, screen)
 }
 
 // The same of the store of this name.
-fn soak_named<L: StoreName + Send + Sync, R: Threads + Wait + Sync>(
+fn soak_named<L: StoreName + Send + Sync, R: Threads + Wait + Clock + Sync, E: Write>(
     rt: &R,
     alloc: Global,
     blank: Blank,
     plan: Plan,
+    screen: Option<&mut E>,
 ) -> Result<Summary, Refusal>
     requires name { blank.name ≡ L.name }
     requires parts { (blank.parts ≡ L.parts) × (blank.parts ≡ L.seats + 1) × (plan.clients ≡ L.seats) }
@@ -52,7 +59,7 @@ fn soak_named<L: StoreName + Send + Sync, R: Threads + Wait + Sync>(
         plan.clients,
         WORKERS,
     )?;
-    let seats = work_all(rt, alloc, &store, seats, admin, plan)?;
+    let seats = work_all(rt, alloc, &store, seats, admin, plan, screen)?;
     match store.close(seats) {
         Ok(closed) => Summary::of(alloc, &closed.cluster, closed.receipts),
         Err(not_closed) => Err(not_closed.refusal),

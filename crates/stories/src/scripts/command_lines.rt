@@ -9,6 +9,7 @@ use std::rt::Files;
 use std::sync::Wait;
 use std::test::Fail;
 use std::thread::Threads;
+use std::time::Clock;
 
 const LINE: &[u8] = b"0:. 1:. 2:.\n";
 
@@ -51,17 +52,17 @@ enum End {
 }
 
 /// Runs the words, and answers the status and what stands on standard error.
-fn run<R: AllocGlobal + Files + Threads + Wait + Sync>(
+fn run<R: AllocGlobal + Files + Threads + Wait + Clock + Sync>(
     rt: &R,
     words: &[String],
     out: &mut FailingWriter,
 ) -> (u8, Vec<u8>) {
     let mut err = Vec::new(rt.alloc());
-    let status = run_words(rt, words, out, &mut err);
+    let status = run_words(rt, words, out, &mut err, false);
     (status, err)
 }
 
-fn end_behind<R: AllocGlobal + Files + Threads + Wait + Sync + Abort>(
+fn end_behind<R: AllocGlobal + Files + Threads + Wait + Clock + Sync + Abort>(
     rt: &R,
     words: &[String],
     calls: u64,
@@ -85,7 +86,7 @@ fn end_behind<R: AllocGlobal + Files + Threads + Wait + Sync + Abort>(
 }
 
 /// A writer that takes more and more calls loses a part of the line, then its flush alone, and then nothing.
-fn assert_lost<R: AllocGlobal + Files + Threads + Wait + Sync + Abort>(
+fn assert_lost<R: AllocGlobal + Files + Threads + Wait + Clock + Sync + Abort>(
     rt: &R,
     error: ErrorKind,
     said: &[u8],

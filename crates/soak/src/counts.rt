@@ -1,0 +1,50 @@
+//! What the threads of a soak have done so far.
+use std::sync::atomic::{AtomicU64, Ordering};
+
+/// Counts that the threads of a soak share. They are for whoever watches, and nothing that is promised rests on them.
+#[derive(Drop)]
+pub(crate) struct Counts {
+    calls: AtomicU64,
+    moves: AtomicU64,
+    ended: AtomicU64,
+}
+
+impl Counts {
+    pub(crate) fn new() -> Counts {
+        Counts {
+            calls: AtomicU64::new(0),
+            moves: AtomicU64::new(0),
+            ended: AtomicU64::new(0),
+        }
+    }
+
+    /// A client has made a call.
+    pub(crate) fn add_call(&self) {
+        self.calls.fetch_add(1, Ordering::SeqCst);
+    }
+
+    /// The administrator has made a move.
+    pub(crate) fn add_move(&self) {
+        self.moves.fetch_add(1, Ordering::SeqCst);
+    }
+
+    /// A thread has ended, or could not be started.
+    pub(crate) fn add_end(&self) {
+        self.ended.fetch_add(1, Ordering::SeqCst);
+    }
+
+    /// How many calls are made.
+    pub(crate) fn calls(&self) -> u64 {
+        self.calls.load(Ordering::SeqCst)
+    }
+
+    /// How many moves are made.
+    pub(crate) fn moves(&self) -> u64 {
+        self.moves.load(Ordering::SeqCst)
+    }
+
+    /// How many threads have ended.
+    pub(crate) fn ended(&self) -> u64 {
+        self.ended.load(Ordering::SeqCst)
+    }
+}
