@@ -9,14 +9,10 @@ pub use past::bad_pieces_give_a_byte_past_the_length;
 mod code;
 mod decoded;
 mod into;
-#[cfg(test)]
-mod into_tests;
 mod lawful;
 mod padding;
 mod past;
 mod rooms;
 mod rows;
 mod sums;
-#[cfg(test)]
-mod tests;
 mod value;

@@ -12,5 +12,3 @@ mod lanes;
 mod line;
 mod powers;
 mod tables;
-#[cfg(test)]
-mod tests;

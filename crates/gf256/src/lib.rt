@@ -8,8 +8,6 @@ ghost use Rattle.gf256.specs.Field.{field_product, polynomial_product, IsRemaind
 pub use arithmetic::{REDUCED_X8, div, inv, mul, pow};
 
 mod arithmetic;
-#[cfg(test)]
-mod tests;
 
 /// A product in the field is what is left of the polynomials' product when a multiple of the modulus is taken away.
 pub fn product_is_the_remainder()
