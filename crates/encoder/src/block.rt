@@ -109,7 +109,8 @@ fn write_blocks<'a>(
     write_points(out, blocks, block_len, first, n);
 }
 
-/// Makes `blocks` be the first blocks of `value`, as far as the value goes.
+/// Makes `blocks` be the first blocks of `value`, of `block_len` bytes each, as far as the value goes: the block at its
+/// end is shorter, and one past it is empty.
 pub fn fill_blocks<'a>(blocks: &mut [&'a [u8]], value: &'a [u8], block_len: usize)
     requires { length blocks.old * block_len < 2 ^ 64 }
     ensures { AreBlocks (bytes_of blocks.new) (length blocks.old) block_len value.now }
