@@ -6,5 +6,6 @@ use Rattle.bank.proofs.bank.Bank.fetch.Goals as goal
 
 pub returns-clause-served : goal.returns-clause-served
 returns-clause-served c =
-    served_as c.args.self.now c.finalize.new.self (request.Fetch c.args.tag) c.args.now (answer.Piece c.in_ok-piece.piece)
+    served_as c.args.self.now _ (request.Fetch c.args.tag) c.args.now (answer.Piece c.in_ok-piece.piece)
     (c.in_ok-finalize.ensures.bank) (ap answer.Piece c.in_ok-piece.ensures.copy) (λ is. absurd (cc))
+    c.in_ok-piece.ensures.collected
