@@ -1,5 +1,5 @@
 -- The record of one object: its layouts and banks by position, its waiting messages, and its calls with their phases.
-use Rattle.std.specs.Prelude.{ℕ, List, [], Option, get_or}
+use Rattle.std.specs.Prelude.{ℕ, List, [], Option, None, get_or}
 use Rattle.std.specs.FinMap as map
 use Rattle.layout.specs.Layout.{Layout}
 use Rattle.bank.specs.Bank.{Bank}
@@ -26,7 +26,7 @@ pub record Object : Type 0 where
 
 -- a bank that knows nothing, where there is none
 abbrev pub no_bank : Bank
-no_bank = record { rows = map.empty; pointer = pointer.Unset }
+no_bank = record { rows = map.empty; pointer = pointer.Unset; delta = None; retired = None }
 
 -- a layout without members, where there is none
 abbrev pub no_layout : Layout
