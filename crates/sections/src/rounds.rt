@@ -9,6 +9,7 @@ ghost use Rattle.register.specs.State.{State};
 ghost use Rattle.register.specs.View.{value_at};
 ghost use Rattle.cluster.specs.Cluster.{if_named, named};
 ghost use Rattle.sections.specs.Calls.{client_calls};
+ghost use Rattle.sections.specs.Course.{GoesOn};
 ghost use Rattle.driver.specs.Driver.{wanted};
 ghost use Rattle.sections.specs.Sections.{Copies, Goes, GoesNot, SeatGoes, SeatGoesNot, SeatLeaves, going_cause};
 ghost use Rattle.sections.specs.Sections.{round_cause, tells};
@@ -45,7 +46,8 @@ impl Hand {
 }
 
 /// One round of the seat's pending call: one step of the call, or of one of its messages; or none and a copy of what is
-/// to be coded or decoded for the next round, or none where what is handed in came too late.
+/// to be coded or decoded for the next round, or none where what is handed in came too late. The seat counts the rounds
+/// that ask again.
 ///
 /// `Stranger` where the seat has seen a later step than there was, `NoCall` where it has no pending call, `NotNow`
 /// where that is answered, `GaveUp` where no turns are left, and else as `make_round`, `supply` and `settle` are
@@ -60,7 +62,7 @@ pub fn round_in<L: StoreName, C: Chooser>(
 ) -> Result<Round, Refusal>
     ensures steps { IfOk result
         (λ r. SeatGoes C.chooses seat.old.pending hand asks_again booked.old chooser.old booked.new chooser.new r) }
-    ensures seat { IfOk result (λ r. SeatLeaves seat.old r seat.new) }
+    ensures seat { IfOk result (λ r. SeatLeaves asks_again seat.old r seat.new) }
     ensures cause { MatchResult result (λ r. round_cause booked.old seat.old turns ≡ None) (λ e.
         ((round_cause booked.old seat.old turns ≡ Some e) × (chooser.new ≡ chooser.old))
         ⊎ ((round_cause booked.old seat.old turns ≡ None)
@@ -85,15 +87,18 @@ pub fn round_in<L: StoreName, C: Chooser>(
         turns,
         chooser,
     )?;
+    if asks_again {
+        seat.note_asked();
+    }
     if let Round::Answered(receipt) = &round {
         seat.settle(receipt, copy);
     }
     Ok(round)
 }
 
-// One round of a call, and, where that answers it, a second copy of the value that it tells, which is had before the
-// step.
-fn round_with_copy<C: Chooser>(
+/// One round of a call, and, where that answers it, a second copy of the value that it tells, which is had before the
+/// step.
+pub(crate) fn round_with_copy<C: Chooser>(
     cluster: &mut Cluster,
     name: &str,
     call: u64,
@@ -112,10 +117,11 @@ fn round_with_copy<C: Chooser>(
 
     ensures unchanged { OnErr result (cluster.new ≡ cluster.old) }
     ensures count { client_calls cluster.new ≡ client_calls cluster.old }
+    ensures course { GoesOn cluster.old cluster.new }
 {
     let want = want_to_go(cluster, name, call, turns)?;
     let copy = copy_to_keep(cluster, name, call, want, &hand)?;
-    past_calls(cluster, name);
+    past_calls_at_end(cluster, name, want);
     let round = round_with(cluster, name, call, want, hand, asks_again, chooser)?;
     cluster.keeping();
     let copy = kept_value(&round, copy);
@@ -156,8 +162,8 @@ fn copy_to_keep(
     }
 }
 
-/// The calls of an object were made by the last step. It does nothing.
-pub(crate) fn past_calls(cluster: &Cluster, name: &str)
+// The calls of an object were made by the last step. It does nothing.
+fn past_calls(cluster: &Cluster, name: &str)
     ensures { (state : State) → named cluster.now.objects name.now ≡ Some state
         → AllByRecursion (λ call. call.called ≤ cluster.now.counter) state.object.calls }
 {
@@ -165,6 +171,16 @@ pub(crate) fn past_calls(cluster: &Cluster, name: &str)
     match cluster.register(name) {
         Ok(register) => register.soundness(),
         Err(_) => {}
+    }
+}
+
+// The same for a call that wants to be answered. It looks up nothing for another.
+fn past_calls_at_end(cluster: &Cluster, name: &str, due: Want)
+    ensures { due ≡ want.Answer → (state : State) → named cluster.now.objects name.now ≡ Some state
+        → AllByRecursion (λ call. call.called ≤ cluster.now.counter) state.object.calls }
+{
+    if due == Want::Answer {
+        past_calls(cluster, name);
     }
 }
 
@@ -178,13 +194,8 @@ fn kept_value(round: &Round, copy: Option<Bytes>) -> Option<Bytes>
     }
 }
 
-/// What a call wants that may go on.
-pub(crate) fn want_to_go(
-    cluster: &Cluster,
-    name: &str,
-    call: u64,
-    turns: u64,
-) -> Result<Want, Refusal>
+// What a call wants that may go on.
+fn want_to_go(cluster: &Cluster, name: &str, call: u64, turns: u64) -> Result<Want, Refusal>
     ensures want { IfOk result (λ w. wanted cluster.now name.now call ≡ Some w) }
     ensures cause { MatchResult result (λ w. going_cause cluster.now name.now call turns ≡ None)
         (λ e. going_cause cluster.now name.now call turns ≡ Some e) }
@@ -199,8 +210,8 @@ pub(crate) fn want_to_go(
     Ok(want)
 }
 
-/// One round of a call that wants this, which answers it only where it wants to be answered and nothing is handed in.
-pub(crate) fn round_with<C: Chooser>(
+// One round of a call that wants this, which answers it only where it wants to be answered and nothing is handed in.
+fn round_with<C: Chooser>(
     cluster: &mut Cluster,
     name: &str,
     call: u64,
@@ -216,6 +227,7 @@ pub(crate) fn round_with<C: Chooser>(
         (λ e. GoesNot C.chooses name.entry.now call hand asks_again cluster.old chooser.old chooser.new e) }
     ensures unchanged { OnErr result (cluster.new ≡ cluster.old) }
     ensures count { client_calls cluster.new ≡ client_calls cluster.old }
+    ensures course { GoesOn cluster.old cluster.new }
 {
     match hand {
         Hand::Empty => match make_round(cluster, name, call, due, asks_again, chooser) {
