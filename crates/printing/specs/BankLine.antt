@@ -1,12 +1,12 @@
 -- The line of a bank.
-use Rattle.std.specs.Prelude.{ℕ, List, [], ◌∷◌, ◌++◌, length, codes}
+use Rattle.std.specs.Prelude.{ℕ, List, [], ◌∷◌, ◌++◌, length, codes, Some}
 use Rattle.std.specs.Fmt.{decimal}
 use Rattle.std.specs.FinMap as map
 use Rattle.std.specs.List.{flat_map}
 use Rattle.tag.specs.declared.tag.Tag.{Tag}
 use Rattle.tag.specs.Tag.{tag_text}
 use Rattle.bank.specs.declared.row.Row.{Row}
-use Rattle.bank.specs.Bank.{Bank}
+use Rattle.bank.specs.Bank.{Bank, piece_of_row}
 use Rattle.bank.specs.Pointer.{status_of}
 use Rattle.printing.specs.Vocabulary.{word_of_label, word_of_status}
 use Rattle.printing.specs.Words.{in_words, text_or_dash}
@@ -15,7 +15,7 @@ use Rattle.printing.specs.Words.{in_words, text_or_dash}
 abbrev pub row_text : Tag → Row → List ℕ
 row_text tag row =
     in_words
-    (tag_text tag ∷ word_of_label row.label ∷ text_or_dash (λ a. decimal (length a.piece.bytes)) row.arrival ∷ [])
+    (tag_text tag ∷ word_of_label row.label ∷ text_or_dash (λ p. decimal (length p.bytes)) (piece_of_row (Some row)) ∷ [])
 
 -- what is kept for a tag, after a semicolon and a space
 abbrev pub kept_text : Tag × Row → List ℕ

@@ -38,8 +38,8 @@ impl fmt::Display for RowText<'_> {
     ghost output = { λ text. Some (row_text text.tag text.row.now) };
 
     fn fmt<W: fmt::Write>(&self, f: &mut fmt::Formatter<W>) -> fmt::Result {
-        let bytes = match &self.row.arrival {
-            Some(arrival) => Some(arrival.piece.bytes.len() as u64),
+        let bytes = match self.row.piece() {
+            Some(piece) => Some(piece.bytes.len() as u64),
             None => None,
         };
         write!(

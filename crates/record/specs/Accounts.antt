@@ -5,7 +5,7 @@ use Rattle.layout.specs.Layout.{Layout}
 use Rattle.bank.specs.Answer.{answer_bytes}
 use Rattle.bank.specs.Bank.{Bank}
 use Rattle.bank.specs.Bytes.{bank_bytes, added_bytes}
-use Rattle.bank.specs.Serve.{answer_to}
+use Rattle.bank.specs.Serve.{answer_to, freed_bytes}
 use Rattle.bank.specs.declared.kind.Kind.{Kind}
 use Rattle.mail.specs.Mail.{mail_bytes}
 use Rattle.mail.specs.Message.{request_bytes, message_bytes}
@@ -73,6 +73,19 @@ abbrev pub stored_by : Object → Step → (server : ℕ) → ℕ
 stored_by object (Step.Serve place) server =
     some_bytes (slice_get object.mail place) (λ message. stored_by_body object message message.body server)
 stored_by object s server = 0
+
+-- what a server stores less once this is served, for the pieces that are then no longer kept
+abbrev pub freed_by_body : Object → Message → Body → (now server : ℕ) → ℕ
+freed_by_body object message (body.Request asked) now server =
+    for_server server (server_at object message.position message.member)
+    (freed_bytes (bank_at object message.position message.member) asked now)
+freed_by_body object message (body.Reply kind made) now server = 0
+
+-- what a step takes from the bytes that a server stores
+abbrev pub freed_by : Object → Step → (now server : ℕ) → ℕ
+freed_by object (Step.Serve place) now server =
+    some_bytes (slice_get object.mail place) (λ message. freed_by_body object message message.body now server)
+freed_by object s now server = 0
 
 -- the bytes of the reply to what is served
 abbrev pub reply_bytes : Object → Message → Body → ℕ

@@ -26,7 +26,7 @@ pub record Object : Type 0 where
 
 -- a bank that knows nothing, where there is none
 abbrev pub no_bank : Bank
-no_bank = record { rows = map.empty; pointer = pointer.Unset }
+no_bank = record { rows = map.empty; pointer = pointer.Unset; delta = None; retired = None }
 
 -- a layout without members, where there is none
 abbrev pub no_layout : Layout

@@ -59,7 +59,7 @@ with_phase object index call kind position now piece =
 -- the banks of members `member`, `member` + 1, .., one for each server
 abbrev pub opened_banks : List ℕ → (member now : ℕ) → List Bank
 opened_banks [] member now = []
-opened_banks (server ∷ servers) member now = opened_bank member now ∷ opened_banks servers (suc member) now
+opened_banks (server ∷ servers) member now = opened_bank member None now ∷ opened_banks servers (suc member) now
 
 -- an object that begins with this layout
 abbrev pub opened_object : Layout → ℕ → Object

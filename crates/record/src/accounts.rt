@@ -1,10 +1,18 @@
 //! What each step changes of the bytes that servers store and messages bring.
 ghost use Rattle.std.specs.Prelude.{◌≡◌, ◌+◌, ℕ};
-ghost use Rattle.record.specs.Accounts.{mailed, mailed_by, stored, stored_by, unmailed_by};
+ghost use Rattle.record.specs.Accounts.{freed_by, mailed, mailed_by, stored, stored_by, unmailed_by};
 ghost use Rattle.record.specs.Fragments.{Code};
 ghost use Rattle.record.specs.Records.{Object};
 ghost use Rattle.record.specs.Sound.{IsSound};
 ghost use Rattle.record.specs.Steps.{Step, stepped};
+
+/// A step adds to what a server stores the bytes of the piece that its bank gains where it serves a request, and takes
+/// off those of the pieces that the bank then no longer keeps, and nothing else.
+pub fn stored_bytes_come_and_go()
+    ensures { (fragment : Code) (object : Object) (last now server : ℕ) (step : Step) → IsSound fragment object last
+        → stored (stepped fragment step now object) server + freed_by object step now server
+        ≡ stored object server + stored_by object step server }
+{}
 
 /// A step adds to what a server stores the bytes that its bank gains where it serves a request, and nothing else.
 pub fn stored_bytes_grow_by_new_pieces()

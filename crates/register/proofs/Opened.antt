@@ -1,5 +1,5 @@
 -- An object that was just opened.
-use Rattle.std.proofs.Common.{◌≡◌, ℕ, suc, ◌+◌, false, List, [], ◌∷◌, sym, ap, ◌∙◌, refl, arith}
+use Rattle.std.proofs.Common.{◌≡◌, ℕ, suc, ◌+◌, false, List, [], ◌∷◌, None, sym, ap, ◌∙◌, refl, arith}
 use Rattle.std.proofs.lemmas.List.Sums.{sum_by-cons}
 use Rattle.encoder.specs.Fragment.{fragment}
 use Rattle.layout.specs.Layout.{Layout, IsLawful}
@@ -20,7 +20,7 @@ pub opened_banks_bytes : (servers : List ℕ) (member now : ℕ) → banks_bytes
 opened_banks_bytes [] member now = refl
 opened_banks_bytes (s ∷ ss) member now =
     let rest = opened_banks_bytes ss (suc member) now in
-    omega (arith, rest, opened_bytes member now, sum_by-cons bank_bytes (opened_bank member now) (opened_banks ss (suc member) now))
+    omega (arith, rest, opened_bytes member None now, sum_by-cons bank_bytes (opened_bank member None now) (opened_banks ss (suc member) now))
 
 pub opened_keeps : (layout : Layout) (now : ℕ) → IsLawful layout
     → IsKept (record {

@@ -9,6 +9,8 @@ use Rattle.encoder.specs.declared.fragment.Piece.{Piece}
 use Rattle.bank.specs.Bank.{Bank, knows, piece_of, piece_of_row}
 use Rattle.bank.specs.Bytes.{bank_bytes, added_bytes}
 use Rattle.bank.specs.Answer.{answer_bytes}
+use Rattle.bank.specs.Collect.{is_outside}
+use Rattle.bank.specs.Knowledge.{arrived_at}
 use Rattle.bank.specs.Serve.{served_bank, reply_to, answer_to}
 use Rattle.bank.specs.declared.request.Request.{Request}
 use Rattle.bank.specs.declared.reply.Answer.TheVariants as answer
@@ -35,7 +37,7 @@ use Rattle.register.proofs.Waiting.{there}
 
 -- a request adds no more bytes than those of the piece that it brings
 added_few : (b : Bank) (q : Request) → added_bytes b q ≤ request_bytes q
-added_few b (request.PreWrite tag piece) = go (is_some (piece_of b tag))
+added_few b (request.PreWrite tag piece) = go (is_some (arrived_at b tag))
   where
     go : (known : Bool) → cond known 0 (length piece.bytes) ≤ length piece.bytes
     go true = omega arith
@@ -47,7 +49,7 @@ added_few b (request.Finalize tag) = omega arith
 added_few b (request.Fetch tag) = omega arith
 
 pub served_few : (b : Bank) (q : Request) (now : ℕ) → bank_bytes (served_bank b q now) ≤ bank_bytes b + request_bytes q
-served_few b q now = let same = served_bytes b q now in let few = added_few b q in omega (arith, same, few)
+served_few b q now = let sum = served_bytes b q now in let few = added_few b q in omega (arith, sum, few)
 
 abbrev parts : List Layout → List (List Bank) → List Message → List Call → Object
 parts layouts banks mail calls = record { layouts = layouts; banks = banks; mail = mail; calls = calls }
@@ -144,7 +146,11 @@ module _ {c : Contents} {place : ℕ} {m : Message} {p : Position} {q : Request}
               go (Some row) is = refl
 
       go : (q : Request) → answer_bytes (answer_to b q) ≤ LONGEST_VALUE
-      go (request.Fetch tag) = kept_short tag (piece_of b tag) refl
+      go (request.Fetch tag) = kept (is_outside b tag)
+        where
+          kept : (outside : Bool) → answer_bytes (answer.Piece (cond outside None (piece_of b tag))) ≤ LONGEST_VALUE
+          kept true = omega arith
+          kept false = kept_short tag (piece_of b tag) refl
       go request.Next = omega arith
       go (request.Spread status) = omega arith
       go request.Query = omega arith

@@ -43,7 +43,7 @@ impl Position {
     {
         let mut banks = Vec::with_capacity(alloc, usize::from(layout.n()))?;
         for member in 0..layout.n() {
-            banks.push(Bank::new(alloc, member, now)?)?;
+            banks.push(Bank::new(alloc, member, None, now)?)?;
         }
         Ok(Position { layout, banks })
     }

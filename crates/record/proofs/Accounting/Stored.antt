@@ -1,14 +1,17 @@
 -- The bytes that a server stores.
 use Rattle.std.proofs.Common.{◌≡◌, ℕ, zero, suc, ◌+◌, ◌<◌, ◌==◌, Bool, true, false, cond, List, []}
-use Rattle.std.proofs.Common.{◌∷◌, ◌++◌, length, set, get_or, Option, Some, None, is_some, refl, ap, ◌∙◌, arith}
+use Rattle.std.proofs.Common.{◌∷◌, ◌++◌, length, set, get_or, Option, Some, None, is_some, refl, sym, ap, ◌∙◌, arith}
 use Rattle.layout.specs.Layout.{Layout}
 use Rattle.encoder.specs.declared.fragment.Piece.{Piece}
-use Rattle.bank.specs.Bank.{Bank, opened_bank}
+use Rattle.bank.specs.Bank.{Bank, opened_bank, pre_written, finalized}
 use Rattle.bank.specs.Bytes.{bank_bytes, added_bytes}
-use Rattle.bank.specs.Serve.{served_bank}
+use Rattle.bank.specs.Collect.{KeepsAll, dropped_bytes}
+use Rattle.bank.specs.Serve.{served_bank, freed_bytes}
 use Rattle.bank.specs.declared.kind.Kind.{Kind}
 use Rattle.bank.specs.declared.request.Request.{Request}
-use Rattle.bank.proofs.Account.{served_bytes, opened_bytes}
+use Rattle.bank.specs.declared.request.Request.TheVariants as request
+use Rattle.bank.proofs.Account.{collected_bytes, served_bytes, opened_bytes}
+use Rattle.bank.proofs.Collecting.{collected-keeps_all}
 use Rattle.mail.specs.declared.message.Message.{Message}
 use Rattle.mail.specs.declared.message.Body.{Body}
 use Rattle.phase.specs.Phase.{Phase}
@@ -16,7 +19,7 @@ use Rattle.record.specs.Records.{Call, Object, layout_at, bank_at, no_bank, no_l
 use Rattle.record.specs.Courses.{due}
 use Rattle.record.specs.Legal.{stage_of}
 use Rattle.record.specs.Fragments.{Code}
-use Rattle.record.specs.Accounts.{position_bytes, stored_bytes, stored, server_at, for_server}
+use Rattle.record.specs.Accounts.{position_bytes, stored_bytes, stored, server_at, for_server, stored_by_body, freed_by_body}
 use Rattle.record.specs.Steps.{with_bank, with_phase, opened_banks, moving_object, begun_object}
 use Rattle.record.specs.Steps.{advanced_object, handled_object, taken_by, asked_again, supplied_by}
 use Rattle.mail.specs.declared.message.Body.TheVariants as body
@@ -90,23 +93,40 @@ stored-with_bank object position member bank server p b m n =
     (stored-set server object.layouts object.banks position (set (get_or object.banks position []) member bank) p b)
     (position-set server (layout_at object position).members (get_or object.banks position []) member bank m n)
 
-more_of_it : (s t old added : ℕ) (new : ℕ) → s + old ≡ t + new → new ≡ old + added → s ≡ t + added
-more_of_it s t old added new e f = omega arith
+-- what is there after a request, by what it adds and what it frees
+more_and_less : (s t old new added freed : ℕ) → s + old ≡ t + new → new + freed ≡ old + added → s + freed ≡ t + added
+more_and_less s t old new added freed e f = omega arith
 
 pub stored-served : (object : Object) (position member : ℕ) (asked : Request) (now server : ℕ) → position < length object.layouts →
     position < length object.banks →
     member < length (layout_at object position).members → member < length (get_or object.banks position []) →
     stored (with_bank object position member (served_bank (bank_at object position member) asked now)) server
+    + for_server server (server_at object position member) (freed_bytes (bank_at object position member) asked now)
     ≡ stored object server + for_server server (server_at object position member) (added_bytes (bank_at object position member) asked)
 stored-served object position member asked now server p b m n =
     let bank = bank_at object position member in
-    more_of_it (stored (with_bank object position member (served_bank bank asked now)) server) (stored object server)
-    (for_server server (server_at object position member) (bank_bytes bank))
-    (for_server server (server_at object position member) (added_bytes bank asked))
-    (for_server server (server_at object position member) (bank_bytes (served_bank bank asked now)))
-    (stored-with_bank object position member (served_bank bank asked now) server p b m n)
-    (ap (for_server server (server_at object position member)) (served_bytes bank asked now)
+    let new = served_bank bank asked now in
+    let there = for_server server (server_at object position member) in
+    more_and_less (stored (with_bank object position member new) server) (stored object server)
+    (there (bank_bytes bank)) (there (bank_bytes new)) (there (added_bytes bank asked)) (there (freed_bytes bank asked now))
+    (stored-with_bank object position member new server p b m n)
+    (sym (for_server-sum server (server_at object position member) (bank_bytes new) (freed_bytes bank asked now))
+    ∙ ap there (served_bytes bank asked now)
     ∙ for_server-sum server (server_at object position member) (bank_bytes bank) (added_bytes bank asked))
+
+-- where a bank keeps all, a request frees nothing
+module _ (bank : Bank) (keeps : KeepsAll bank) where
+  none_dropped : (changed : Bank) → KeepsAll changed → dropped_bytes changed ≡ 0
+  none_dropped changed all =
+      let sum = collected_bytes changed in let same = ap bank_bytes (collected-keeps_all changed all) in omega (arith, sum, same)
+
+  pub none_freed : (asked : Request) (now : ℕ) → freed_bytes bank asked now ≡ 0
+  none_freed request.Next now = refl
+  none_freed (request.Spread status) now = refl
+  none_freed request.Query now = refl
+  none_freed (request.PreWrite tag piece) now = none_dropped (pre_written bank tag piece now) keeps
+  none_freed (request.Finalize tag) now = none_dropped (finalized bank tag now) keeps
+  none_freed (request.Fetch tag) now = none_dropped (finalized bank tag now) keeps
 
 -- banks that were just opened
 pub position-opened : (server : ℕ) (members servers : List ℕ) (member now : ℕ) →
@@ -115,9 +135,9 @@ position-opened server [] servers member now = refl
 position-opened server (x ∷ members) [] member now = refl
 position-opened server (x ∷ members) (y ∷ servers) member now =
     let rest = position-opened server members servers (suc member) now in
-    let first : for_server server x (bank_bytes (opened_bank member now)) ≡ 0 = ap (for_server server x) (opened_bytes member now)
+    let first : for_server server x (bank_bytes (opened_bank member None now)) ≡ 0 = ap (for_server server x) (opened_bytes member None now)
     ∙ none (x == server) 0 in
-    sum_none (for_server server x (bank_bytes (opened_bank member now)))
+    sum_none (for_server server x (bank_bytes (opened_bank member None now)))
     (position_bytes server members (opened_banks servers (suc member) now)) first rest
   where
     none : (c : Bool) (n : ℕ) → cond c n n ≡ n
@@ -145,12 +165,12 @@ stored-append server (l ∷ layouts) (b ∷ banks) layout row e =
 -- Each step, by the records that it leaves
 
 module _ (object : Object) (server : ℕ) where
-  -- a server handles a request: it stores what the request adds, and the reply waits in the request's place
+  -- a server handles a request: it stores what the request adds, without what it frees, and the reply waits in its place
   pub stored-handled : (place : ℕ) (message : Message) (asked : Request) (now : ℕ) → message.position < length object.layouts →
       message.position < length object.banks → message.member < length (layout_at object message.position).members →
       message.member < length (get_or object.banks message.position []) →
-      stored (handled_object object place message asked now) server ≡ stored object server + for_server server
-      (server_at object message.position message.member) (added_bytes (bank_at object message.position message.member) asked)
+      stored (handled_object object place message asked now) server + freed_by_body object message (body.Request asked) now server
+      ≡ stored object server + stored_by_body object message (body.Request asked) server
   stored-handled place message asked now p b m n = stored-served object message.position message.member asked now server p b m n
 
   -- the beginning of a phase, and every step on calls and messages alone

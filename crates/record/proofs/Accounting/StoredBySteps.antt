@@ -1,65 +1,68 @@
--- What each step adds to what a server stores.
-use Rattle.std.proofs.Common.{◌≡◌, ℕ, ◌+◌, ◌<◌, length, Option, Some, None, refl, arith, slice_get}
+-- What each step adds to what a server stores, and what it frees.
+use Rattle.std.proofs.Common.{◌≡◌, ℕ, ◌+◌, ◌<◌, ◌==◌, Bool, true, false, cond, length, Option, Some, None, refl, ap, ◌∙◌, arith, slice_get}
 use Rattle.mail.specs.declared.message.Message.{Message}
 use Rattle.mail.specs.declared.message.Body.{Body}
-use Rattle.record.specs.Records.{Call, Object}
+use Rattle.bank.specs.Collect.{KeepsAll}
+use Rattle.record.specs.Records.{Call, Object, bank_at}
 use Rattle.record.specs.Courses.{due}
 use Rattle.record.specs.Legal.{stage_of}
 use Rattle.record.specs.Fragments.{Code}
-use Rattle.record.specs.Accounts.{stored, some_bytes, stored_by_body, stored_by}
+use Rattle.record.specs.Accounts.{stored, server_at, for_server, some_bytes, stored_by_body, stored_by, freed_by_body, freed_by}
 use Rattle.record.specs.Steps.{moving_object, advanced_object, settled_object, answered_object, served_by, taken_by}
 use Rattle.record.specs.Steps.{repeated_object, asked_again, supplied_object, Step, on_call, on_message, stepped}
 use Rattle.record.specs.Wants.{current_phase}
 use Rattle.record.specs.Sound.{IsPosted, IsSound}
 use Rattle.record.specs.Knowledge.{IsTruePhase}
 use Rattle.mail.specs.declared.message.Body.TheVariants as body
-use Rattle.record.proofs.Accounting.Stored.{stored-handled, stored-begun, stored-asked_again, stored-supplied, stored-taken, stored-moving}
+use Rattle.record.proofs.Accounting.Stored.{none_freed, stored-handled, stored-begun, stored-asked_again, stored-supplied, stored-taken, stored-moving}
 use Rattle.record.proofs.Lists.{all_get}
 
 -- Each step, by its name
 
-same_more : (a b : ℕ) → a ≡ b → a ≡ b + 0
+same_more : (a b : ℕ) → a ≡ b → a + 0 ≡ b + 0
 same_more a b e = omega arith
 
 -- a step on a call changes no bank
 stored-on_call : (object : Object) (server : ℕ) (o : Option Call) (change : Call → Object) →
     ((call : Call) → stored (change call) server ≡ stored object server) →
-    stored (on_call object o change) server ≡ stored object server + 0
+    stored (on_call object o change) server + 0 ≡ stored object server + 0
 stored-on_call object server None change kept = same_more (stored object server) (stored object server) refl
 stored-on_call object server (Some call) change kept = same_more (stored (change call) server) (stored object server) (kept call)
 
 stored-on_message : (object : Object) (server : ℕ) (o : Option Message) (change : Message → Object) →
     ((message : Message) → stored (change message) server ≡ stored object server) →
-    stored (on_message object o change) server ≡ stored object server + 0
+    stored (on_message object o change) server + 0 ≡ stored object server + 0
 stored-on_message object server None change kept = same_more (stored object server) (stored object server) refl
 stored-on_message object server (Some message) change kept =
     same_more (stored (change message) server) (stored object server) (kept message)
 
--- A step adds to what a server stores the bytes that its bank adds where it serves a request, and nothing else
-pub stored-stepped : (fragment : Code) (object : Object) (step now : ℕ) (s : Step) (server : ℕ) → IsSound fragment object step →
-    stored (stepped fragment s now object) server ≡ stored object server + stored_by object s server
-stored-stepped fragment object step now Step.CallRead server sound = same_more (stored object server) (stored object server) refl
-stored-stepped fragment object step now (Step.CallWrite value) server sound = same_more (stored object server) (stored object server) refl
-stored-stepped fragment object step now (Step.CallMove layout) server sound =
+-- A step adds to what a server stores the bytes that its bank adds where it serves a request, takes off those that it frees,
+-- and nothing else
+pub stored-changed : (fragment : Code) (object : Object) (step now : ℕ) (s : Step) (server : ℕ) → IsSound fragment object step →
+    stored (stepped fragment s now object) server + freed_by object s now server ≡ stored object server + stored_by object s server
+stored-changed fragment object step now Step.CallRead server sound = same_more (stored object server) (stored object server) refl
+stored-changed fragment object step now (Step.CallWrite value) server sound = same_more (stored object server) (stored object server) refl
+stored-changed fragment object step now (Step.CallMove layout) server sound =
     same_more (stored (moving_object object layout now) server) (stored object server)
     (stored-moving object server layout now sound.shape.banks)
-stored-stepped fragment object step now (Step.Advance index) server sound =
+stored-changed fragment object step now (Step.Advance index) server sound =
     stored-on_call object server (slice_get object.calls index) (λ call. advanced_object fragment object index call now)
     (λ call. stored-begun object server fragment index call (due (stage_of object index call)) now)
-stored-stepped fragment object step now (Step.Supply index) server sound =
+stored-changed fragment object step now (Step.Supply index) server sound =
     stored-on_call object server (slice_get object.calls index) (λ call. supplied_object fragment object index call now)
     (λ call. stored-supplied object server fragment index call now (current_phase call.phases))
-stored-stepped fragment object step now (Step.Post index) server sound =
+stored-changed fragment object step now (Step.Post index) server sound =
     stored-on_call object server (slice_get object.calls index) (λ call. asked_again fragment object call (current_phase call.phases))
     (λ call. stored-asked_again object server fragment call (current_phase call.phases))
-stored-stepped fragment object step now (Step.Settle index value) server sound =
+stored-changed fragment object step now (Step.Settle index value) server sound =
     stored-on_call object server (slice_get object.calls index) (λ call. settled_object object index call value) (λ call. refl)
-stored-stepped fragment object step now (Step.AnswerCall index) server sound =
+stored-changed fragment object step now (Step.AnswerCall index) server sound =
     stored-on_call object server (slice_get object.calls index) (λ call. answered_object object index call now) (λ call. refl)
-stored-stepped fragment object step now (Step.Serve place) server sound = found (slice_get object.mail place) refl
+stored-changed fragment object step now (Step.Serve place) server sound = found (slice_get object.mail place) refl
   where
     by_body : (message : Message) → IsPosted object message → (b : Body) →
-        stored (served_by object place message b now) server ≡ stored object server + stored_by_body object message b server
+        stored (served_by object place message b now) server + freed_by_body object message b now server
+        ≡ stored object server + stored_by_body object message b server
     by_body message posted (body.Reply kind made) = same_more (stored object server) (stored object server) refl
     by_body message posted (body.Request asked) =
         let truth = all_get (IsTruePhase object) posted.call.phases posted.place posted.phase
@@ -74,12 +77,50 @@ stored-stepped fragment object step now (Step.Serve place) server sound = found 
 
     found : (o : Option Message) → slice_get object.mail place ≡ o →
         stored (on_message object o (λ message. served_by object place message message.body now)) server
+        + some_bytes o (λ message. freed_by_body object message message.body now server)
         ≡ stored object server + some_bytes o (λ message. stored_by_body object message message.body server)
     found None at = same_more (stored object server) (stored object server) refl
     found (Some message) at = by_body message (all_get (IsPosted object) object.mail place message sound.mail at) message.body
-stored-stepped fragment object step now (Step.Take place) server sound =
+stored-changed fragment object step now (Step.Take place) server sound =
     stored-on_message object server (slice_get object.mail place) (λ message. taken_by object place message message.body now)
     (λ message. stored-taken object server place message message.body now)
-stored-stepped fragment object step now (Step.Lose place) server sound = same_more (stored object server) (stored object server) refl
-stored-stepped fragment object step now (Step.Repeat place) server sound =
+stored-changed fragment object step now (Step.Lose place) server sound = same_more (stored object server) (stored object server) refl
+stored-changed fragment object step now (Step.Repeat place) server sound =
     stored-on_message object server (slice_get object.mail place) (λ message. repeated_object object message) (λ message. refl)
+
+-- where each bank keeps all, a step frees nothing
+none_freed_by : (object : Object) (s : Step) (now server : ℕ) → ((p i : ℕ) → KeepsAll (bank_at object p i)) →
+    freed_by object s now server ≡ 0
+none_freed_by object (Step.Serve place) now server keep = found (slice_get object.mail place)
+  where
+    none_there : (here : Bool) → cond here 0 0 ≡ 0
+    none_there true = refl
+    none_there false = refl
+
+    by_body : (message : Message) (b : Body) → freed_by_body object message b now server ≡ 0
+    by_body message (body.Request asked) =
+        ap (λ n. for_server server (server_at object message.position message.member) n)
+        (none_freed (bank_at object message.position message.member) (keep message.position message.member) asked now)
+        ∙ none_there (server_at object message.position message.member == server)
+    by_body message (body.Reply kind made) = refl
+
+    found : (o : Option Message) → some_bytes o (λ message. freed_by_body object message message.body now server) ≡ 0
+    found None = refl
+    found (Some message) = by_body message message.body
+none_freed_by object Step.CallRead now server keep = refl
+none_freed_by object (Step.CallWrite value) now server keep = refl
+none_freed_by object (Step.CallMove layout) now server keep = refl
+none_freed_by object (Step.Advance index) now server keep = refl
+none_freed_by object (Step.Supply index) now server keep = refl
+none_freed_by object (Step.Post index) now server keep = refl
+none_freed_by object (Step.Settle index value) now server keep = refl
+none_freed_by object (Step.AnswerCall index) now server keep = refl
+none_freed_by object (Step.Take place) now server keep = refl
+none_freed_by object (Step.Lose place) now server keep = refl
+none_freed_by object (Step.Repeat place) now server keep = refl
+
+pub stored-stepped : (fragment : Code) (object : Object) (step now : ℕ) (s : Step) (server : ℕ) → IsSound fragment object step →
+    stored (stepped fragment s now object) server ≡ stored object server + stored_by object s server
+stored-stepped fragment object step now s server sound =
+    let changed = stored-changed fragment object step now s server sound in
+    let none = none_freed_by object s now server sound.shape.keeps_all in omega (arith, changed, none)

@@ -8,7 +8,9 @@ use Rattle.encoder.specs.declared.fragment.Piece.{Piece}
 use Rattle.bank.specs.declared.row.Row.{Row}
 use Rattle.bank.specs.declared.row.Label.TheVariants.{PreWritten, Finalized}
 use Rattle.bank.specs.Bank.{Bank, opened_bank, pre_written, finalized, piece_of, piece_of_row, row_after_pre_write, row_after_finalize}
+use Rattle.bank.specs.Collect.{collected}
 use Rattle.bank.specs.Serve.{greatest_among, greatest_final}
+use Rattle.bank.proofs.Collecting.{collected-keeps_all}
 use Rattle.bank.specs.declared.kind.Kind.TheVariants.{Query, Fetch}
 use Rattle.bank.specs.declared.kind.Kind.{Kind}
 use Rattle.bank.specs.declared.reply.Answer.{Answer}
@@ -40,27 +42,32 @@ first_tag = record { number = 1; call = 1 }
 abbrev pub letter : ℕ → Piece
 letter member = record { point = member; len = 1; bytes = 65 ∷ [] }
 
-opened_greatest : (point now : ℕ) → greatest_final (opened_bank point now) ≡ opening_tag
+opened_greatest : (point now : ℕ) → greatest_final (opened_bank point None now) ≡ opening_tag
 opened_greatest point now = ap greatest_among (finmap.entries-insert tag_cmp_total (finmap.empty {X = Row} {R = tag_cmp}) opening_tag _
     ∙ ap (finmap.put tag_cmp opening_tag _) entries-empty)
 
 -- a bank that was opened, pre-wrote the first tag and finalized it
 abbrev stored : (point opened wrote final : ℕ) → Bank
-stored point opened wrote final = finalized (pre_written (opened_bank point opened) first_tag (letter point) wrote) first_tag final
+stored point opened wrote final =
+    collected (finalized (collected (pre_written (opened_bank point None opened) first_tag (letter point) wrote)) first_tag final)
 
 abbrev wrote_row : (point wrote : ℕ) → Row
-wrote_row point wrote = record { label = PreWritten wrote; arrival = Some (record { piece = letter point; step = wrote }) }
+wrote_row point wrote = record { label = PreWritten wrote; arrival = Some (record { piece = Some (letter point); step = wrote }) }
 
 abbrev final_row : (point wrote final : ℕ) → Row
-final_row point wrote final = record { label = Finalized final; arrival = Some (record { piece = letter point; step = wrote }) }
+final_row point wrote final = record { label = Finalized final; arrival = Some (record { piece = Some (letter point); step = wrote }) }
 
 abbrev stored_rows : (point opened wrote final : ℕ) → finmap.FinMap tag_cmp Row
 stored_rows point opened wrote final =
-    finmap.insert (finmap.insert (opened_bank point opened).rows first_tag (wrote_row point wrote)) first_tag (final_row point wrote final)
+    finmap.insert (finmap.insert (opened_bank point None opened).rows first_tag (wrote_row point wrote)) first_tag (final_row point wrote final)
 
-stored-rows : (point opened wrote final : ℕ) → (stored point opened wrote final).rows ≡ stored_rows point opened wrote final
-stored-rows point opened wrote final =
-    let rows = (opened_bank point opened).rows in
+-- nothing is dropped there
+abbrev plain : (point opened wrote final : ℕ) → Bank
+plain point opened wrote final = finalized (pre_written (opened_bank point None opened) first_tag (letter point) wrote) first_tag final
+
+plain-rows : (point opened wrote final : ℕ) → (plain point opened wrote final).rows ≡ stored_rows point opened wrote final
+plain-rows point opened wrote final =
+    let rows = (opened_bank point None opened).rows in
     let none : finmap.get rows first_tag ≡ None = finmap.get-insert tag_cmp_total
     (finmap.empty {X = Row} {R = tag_cmp}) opening_tag _ first_tag
     ∙ finmap.get-empty tag_cmp first_tag in
@@ -69,6 +76,14 @@ stored-rows point opened wrote final =
     (row_after_finalize (finmap.get (finmap.insert rows first_tag r) first_tag) final)) none
     ∙ ap (λ o. finmap.insert (finmap.insert rows first_tag (wrote_row point wrote)) first_tag (row_after_finalize o final))
     (finmap.get-insert tag_cmp_total rows first_tag (wrote_row point wrote) first_tag)
+
+stored-rows : (point opened wrote final : ℕ) → (stored point opened wrote final).rows ≡ stored_rows point opened wrote final
+stored-rows point opened wrote final =
+    let bank = pre_written (opened_bank point None opened) first_tag (letter point) wrote in
+    ap (λ (b : Bank). b.rows)
+    (collected-keeps_all (finalized (collected bank) first_tag final) (refl, refl)
+    ∙ ap (λ b. finalized b first_tag final) (collected-keeps_all bank (refl, refl)))
+    ∙ plain-rows point opened wrote final
 
 pub stored_greatest : (point opened wrote final : ℕ) → greatest_final (stored point opened wrote final) ≡ first_tag
 stored_greatest point opened wrote final =

@@ -16,6 +16,9 @@ use Rattle.bank.specs.declared.row.Row.{Row}
 use Rattle.bank.specs.Bank.{Bank, finalized_label, row_after_pre_write, row_after_finalize, pre_written, finalized}
 use Rattle.bank.specs.Bank.{opening_row, opened_bank}
 use Rattle.bank.specs.Serve.{kind_of, served_bank}
+use Rattle.bank.specs.Collect.{emptied_row, collected}
+use Rattle.bank.specs.Knowledge.{is_dropped}
+use Rattle.bank.proofs.Collecting.{get-collected}
 use Rattle.bank.proofs.Changes.{get-with_row}
 use Rattle.record.specs.Records.{no_bank}
 use Rattle.record.specs.Origins.{label_at, Gives}
@@ -77,25 +80,34 @@ pre_written_gives bank asked piece now tag label e =
     at_tag true same e = here (sym (tag_eq-true tag asked same)) (by_row (map.get bank.rows asked) e)
     at_tag false other e = inl e
 
+-- dropping pieces leaves the labels
+label-collected : (bank : Bank) (tag : Tag) → label_at (collected bank) tag ≡ label_at bank tag
+label-collected bank tag = ap row_label (get-collected bank tag) ∙ go (is_dropped bank tag) (map.get bank.rows tag)
+  where
+    go : (dropped : Bool) (row : Option Row) → row_label (option_map (λ r. cond dropped (emptied_row r) r) row) ≡ row_label row
+    go dropped None = refl
+    go true (Some row) = refl
+    go false (Some row) = refl
+
 pub served_gives : (bank : Bank) (asked : Request) (now : ℕ) (tag : Tag) (label : Label) →
     label_at (served_bank bank asked now) tag ≡ Some label →
     (label_at bank tag ≡ Some label) ⊎ Gives (kind_of asked) tag label now
 served_gives bank request.Next now tag label e = inl e
 served_gives bank (request.Spread status) now tag label e = inl e
 served_gives bank request.Query now tag label e = inl e
-served_gives bank (request.PreWrite asked piece) now tag label e = go (pre_written_gives bank asked piece now tag label e)
+served_gives bank (request.PreWrite asked piece) now tag label e = go (pre_written_gives bank asked piece now tag label (sym (label-collected (pre_written bank asked piece now) tag) ∙ e))
   where
     go : (label_at bank tag ≡ Some label) ⊎ ((asked ≡ tag) × (label ≡ PreWritten now)) →
         (label_at bank tag ≡ Some label) ⊎ Gives (PreWrite asked) tag label now
     go (inl old) = inl old
     go (inr new) = inr (inl (ap PreWrite new.0, new.1))
-served_gives bank (request.Finalize asked) now tag label e = go (finalized_gives bank asked now tag label e)
+served_gives bank (request.Finalize asked) now tag label e = go (finalized_gives bank asked now tag label (sym (label-collected (finalized bank asked now) tag) ∙ e))
   where
     go : (label_at bank tag ≡ Some label) ⊎ ((asked ≡ tag) × (label ≡ Finalized now)) →
         (label_at bank tag ≡ Some label) ⊎ Gives (Finalize asked) tag label now
     go (inl old) = inl old
     go (inr new) = inr (inr (inl (ap Finalize new.0), new.1))
-served_gives bank (request.Fetch asked) now tag label e = go (finalized_gives bank asked now tag label e)
+served_gives bank (request.Fetch asked) now tag label e = go (finalized_gives bank asked now tag label (sym (label-collected (finalized bank asked now) tag) ∙ e))
   where
     go : (label_at bank tag ≡ Some label) ⊎ ((asked ≡ tag) × (label ≡ Finalized now)) →
         (label_at bank tag ≡ Some label) ⊎ Gives (Fetch asked) tag label now
@@ -105,12 +117,12 @@ served_gives bank (request.Fetch asked) now tag label e = go (finalized_gives ba
 -- Banks that open
 
 opened_row : (member now : ℕ) (tag : Tag) →
-    map.get (opened_bank member now).rows tag ≡ cond (tag_eq tag opening_tag) (Some (opening_row member now)) None
+    map.get (opened_bank member None now).rows tag ≡ cond (tag_eq tag opening_tag) (Some (opening_row member now)) None
 opened_row member now tag =
     get-with_row map.empty opening_tag (λ row. opening_row member now) tag
     ∙ ap (λ o. cond (tag_eq tag opening_tag) (Some (opening_row member now)) o) (map.get-empty tag_cmp tag)
 
-pub opened_label : (member now : ℕ) (tag : Tag) (label : Label) → label_at (opened_bank member now) tag ≡ Some label →
+pub opened_label : (member now : ℕ) (tag : Tag) (label : Label) → label_at (opened_bank member None now) tag ≡ Some label →
     (tag ≡ opening_tag) × (label ≡ Finalized now)
 opened_label member now tag label e = go (tag_eq tag opening_tag) refl (sym (ap row_label (opened_row member now tag)) ∙ e)
   where

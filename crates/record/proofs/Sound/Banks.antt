@@ -8,11 +8,15 @@ use Rattle.encoder.specs.declared.fragment.Piece.{Piece}
 use Rattle.bank.specs.declared.row.Arrival.{Arrival}
 use Rattle.bank.specs.declared.row.Row.{Row}
 use Rattle.bank.specs.declared.request.Request.{Request}
-use Rattle.bank.specs.Bank.{Bank, filled_arrival, row_after_pre_write, row_after_finalize, piece_of, piece_of_row, knows}
-use Rattle.bank.specs.Knowledge.{since, row_finalized, finalized_at, arrived_at, IsTrueAnswer}
+use Rattle.bank.specs.Bank.{Bank, filled_arrival, row_after_pre_write, row_after_finalize, pre_written, finalized, piece_of, piece_that_came}
+use Rattle.bank.specs.Bank.{piece_of_row, knows}
+use Rattle.bank.specs.Collect.{emptied_arrival, emptied_row, collected, IsCollected, is_outside, fetched_piece}
+use Rattle.bank.specs.Knowledge.{since, row_finalized, finalized_at, arrived_at, is_dropped, IsTrueAnswer}
 use Rattle.bank.specs.Facts.{IsBefore}
 use Rattle.bank.specs.Serve.{kind_of, greatest_final, served_bank, answer_to}
-use Rattle.bank.proofs.Changes.{Table, Comes, with_row, get-with_row, served_grows}
+use Rattle.bank.proofs.Collecting.{get-collected}
+use Rattle.bank.proofs.Changes.{Comes, with_row, all_rows}
+use Rattle.bank.proofs.Growth.{served_grows}
 use Rattle.bank.proofs.Query.{greatest_final_is}
 use Rattle.bank.proofs.Truth.{grows_order, served_truth}
 use Rattle.record.specs.Records.{Object}
@@ -58,20 +62,23 @@ served_opened_at bank asked now step opened =
     }
 
 -- what it answers is true of the bank that it leaves
-pub served_true : (bank : Bank) (asked : Request) (now step : ℕ) → IsBefore bank now → IsOpenedAt bank step →
+pub served_true : (bank : Bank) (asked : Request) (now step : ℕ) → IsBefore bank now → IsOpenedAt bank step → IsCollected bank →
     IsTrueAnswer (served_bank bank asked now) now (kind_of asked) (answer_to bank asked)
-served_true bank asked now step before opened = served_truth bank asked now before (λ query. ap is_some opened.finalized)
+served_true bank asked now step before opened collects =
+    served_truth bank asked now before (λ query. ap is_some opened.finalized) collects
 
 -- Pieces
 
--- what holds of each tag with its row holds after the row of a tag changes, where it holds of the row that is made
-all_rows : (P : Tag → Option Row → Type 0) (rows : Table) (tag : Tag) (f : Option Row → Row) →
-    P tag (Some (f (map.get rows tag))) → ((t : Tag) → P t (map.get rows t)) → (t : Tag) → P t (map.get (with_row rows tag f) t)
-all_rows P rows tag f made all t = subst (P t) (sym (get-with_row rows tag f t)) (go (tag_eq t tag) refl)
+-- what holds of each tag with its row holds after pieces are dropped, where it holds without them
+collected_rows : (P : Tag → Option Row → Type 0) → ((t : Tag) (row : Row) → P t (Some row) → P t (Some (emptied_row row))) →
+    (bank : Bank) → ((t : Tag) → P t (map.get bank.rows t)) → (t : Tag) → P t (map.get (collected bank).rows t)
+collected_rows P emptied bank all t =
+    subst (P t) (sym (get-collected bank t)) (go (map.get bank.rows t) (is_dropped bank t) (all t))
   where
-    go : (b : Bool) → tag_eq t tag ≡ b → P t (cond b (Some (f (map.get rows tag))) (map.get rows t))
-    go true e = subst (λ u. P u (Some (f (map.get rows tag)))) (sym (tag_eq-true t tag e)) made
-    go false e = all t
+    go : (row : Option Row) (dropped : Bool) → P t row → P t (option_map (λ r. cond dropped (emptied_row r) r) row)
+    go None dropped here = here
+    go (Some row) true here = emptied t row here
+    go (Some row) false here = here
 
 module _ (fragment : Code) (object : Object) (position member : ℕ) where
   -- a tag that a bank knows is in the journal, with its piece
@@ -90,8 +97,8 @@ module _ (fragment : Code) (object : Object) (position member : ℕ) where
   pre_write_coded tag piece now new None coded some = new
   pre_write_coded tag piece now new (Some row) coded some = go row.arrival (coded refl)
     where
-      go : (arrival : Option Arrival) → IsCoded fragment object position member tag (option_map (λ a. a.piece) arrival) →
-          IsCoded fragment object position member tag (option_map (λ a. a.piece) (filled_arrival arrival piece now))
+      go : (arrival : Option Arrival) → IsCoded fragment object position member tag (piece_that_came arrival) →
+          IsCoded fragment object position member tag (piece_that_came (filled_arrival arrival piece now))
       go None old = new
       go (Some arrival) old = old
 
@@ -103,8 +110,16 @@ module _ (fragment : Code) (object : Object) (position member : ℕ) where
   finalized_coded : (bank : Bank) (tag : Tag) (now : ℕ) → IsCoded fragment object position member tag None → BankCoded bank →
       (t : Tag) → RowCoded t (map.get (with_row bank.rows tag (λ row. row_after_finalize row now)) t)
   finalized_coded bank tag now new coded =
-      all_rows RowCoded bank.rows tag (λ row. row_after_finalize row now)
+      all_rows bank.rows tag (λ row. row_after_finalize row now) RowCoded
       (finalize_coded tag now new (map.get bank.rows tag) (coded tag)) coded
+
+  emptied_coded : (tag : Tag) (row : Row) → RowCoded tag (Some row) → RowCoded tag (Some (emptied_row row))
+  emptied_coded tag row coded some = go row.arrival (coded refl)
+    where
+      go : (arrival : Option Arrival) → IsCoded fragment object position member tag (piece_that_came arrival) →
+          IsCoded fragment object position member tag (piece_that_came (emptied_arrival arrival))
+      go None old = old
+      go (Some arrival) old = without_piece tag arrival.piece old
 
   -- so is each tag that it knows after a request
   pub served_coded : (bank : Bank) (asked : Request) (now : ℕ) →
@@ -114,10 +129,13 @@ module _ (fragment : Code) (object : Object) (position member : ℕ) where
   served_coded bank (request.Spread status) now new coded = coded
   served_coded bank request.Query now new coded = coded
   served_coded bank (request.PreWrite tag piece) now new coded =
-      all_rows RowCoded bank.rows tag (λ row. row_after_pre_write row piece now)
-      (pre_write_coded tag piece now new (map.get bank.rows tag) (coded tag)) coded
-  served_coded bank (request.Finalize tag) now new coded = finalized_coded bank tag now new coded
-  served_coded bank (request.Fetch tag) now new coded = finalized_coded bank tag now new coded
+      collected_rows RowCoded emptied_coded (pre_written bank tag piece now)
+      (all_rows bank.rows tag (λ row. row_after_pre_write row piece now) RowCoded
+      (pre_write_coded tag piece now new (map.get bank.rows tag) (coded tag)) coded)
+  served_coded bank (request.Finalize tag) now new coded =
+      collected_rows RowCoded emptied_coded (finalized bank tag now) (finalized_coded bank tag now new coded)
+  served_coded bank (request.Fetch tag) now new coded =
+      collected_rows RowCoded emptied_coded (finalized bank tag now) (finalized_coded bank tag now new coded)
 
   finalized_known : (bank : Bank) (tag : Tag) → IsSome (finalized_at bank tag) → knows bank tag ≡ true
   finalized_known bank tag some = go (map.get bank.rows tag) some
@@ -138,8 +156,14 @@ module _ (fragment : Code) (object : Object) (position member : ℕ) where
       (coded (greatest_final bank) (finalized_known bank (greatest_final bank) greatest.final))
   answer_coded bank (request.PreWrite tag piece) step opened new coded = without_piece tag (Some piece) new
   answer_coded bank (request.Finalize tag) step opened new coded = new
-  answer_coded bank (request.Fetch tag) step opened new coded = go (map.get bank.rows tag) (coded tag)
+  answer_coded bank (request.Fetch tag) step opened new coded =
+      kept (is_outside bank tag) (piece_of bank tag) (go (map.get bank.rows tag) (coded tag))
     where
       go : (row : Option Row) → RowCoded tag row → IsCoded fragment object position member tag (piece_of_row row)
       go None old = new
       go (Some row) old = old refl
+
+      kept : (outside : Bool) (piece : Option Piece) → IsCoded fragment object position member tag piece →
+          IsCoded fragment object position member tag (cond outside None piece)
+      kept true piece here = new
+      kept false piece here = here

@@ -14,7 +14,7 @@ use Rattle.bank.specs.Bank.{Bank}
 use Rattle.bank.specs.Serve.{served_bank}
 use Rattle.bank.specs.Knowledge.{IsTrueAnswer}
 use Rattle.bank.specs.Facts.{SameBefore}
-use Rattle.bank.proofs.Changes.{served_grows}
+use Rattle.bank.proofs.Growth.{served_grows}
 use Rattle.bank.proofs.Truth.{grows_past}
 use Rattle.phase.specs.declared.phase.Taken.{Taken}
 use Rattle.phase.specs.Phase.{Phase, members_of}
@@ -25,7 +25,12 @@ use Rattle.record.proofs.Lists.{all_weaker, all_pairs, all_push}
 
 -- a bank agrees with itself
 pub agree_same : (now : ℕ) (bank : Bank) → SameBefore bank bank now
-agree_same now bank = record { finalized = λ tag step h. refl; arrived = λ tag step h. refl; pointer = λ step h. refl }
+agree_same now bank = record {
+  finalized = λ tag step h. refl;
+  arrived = λ tag step h. refl;
+  pointer = λ step h. refl;
+  dropped = λ tag step h. refl;
+}
 
 -- a request changes nothing that was known before
 pub served_agrees : (b : Bank) (asked : Request) (now : ℕ) → SameBefore b (served_bank b asked now) now
@@ -42,7 +47,10 @@ answer_kept now old new made (PreWrite tag) answer.Done agree h says = agree.arr
 answer_kept now old new made (Finalize tag) answer.Done agree h says = agree.finalized tag made h ∙ says
 answer_kept now old new made (Fetch tag) (answer.Piece piece) agree h says = (
   agree.finalized tag made h ∙ says.0,
-  ((λ s. agree.arrived tag made h ∙ says.1.0 s), (λ a. says.1.1 (sym (agree.arrived tag made h) ∙ a))),
+  (
+    (λ some. let held = says.1.0 some in (agree.arrived tag made h ∙ held.0, agree.dropped tag made h ∙ held.1)),
+    (λ held. says.1.1 (sym (agree.arrived tag made h) ∙ held.0, sym (agree.dropped tag made h) ∙ held.1)),
+  ),
 )
 answer_kept now old new made kind answer agree h says = absurd says
 

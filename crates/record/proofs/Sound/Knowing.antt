@@ -7,7 +7,9 @@ use Rattle.tag.specs.Tag.{tag_eq}
 use Rattle.tag.proofs.Tags.{tag_eq-true}
 use Rattle.encoder.specs.declared.fragment.Piece.{Piece}
 use Rattle.bank.specs.Bank.{Bank, pre_written, finalized}
+use Rattle.bank.specs.Collect.{collected}
 use Rattle.bank.specs.Knowledge.{since, finalized_at, arrived_at}
+use Rattle.bank.proofs.Collecting.{finalized_at-collected, arrived_at-collected}
 use Rattle.bank.proofs.Changes.{finalized_at-finalized, arrived_at-finalized, finalized_at-pre_written, arrived_at-pre_written}
 use Rattle.record.specs.Records.{Object, bank_at, no_bank}
 use Rattle.record.specs.Steps.{with_bank}
@@ -39,25 +41,28 @@ tag_cases tag other o new now step is e = go (came_cases (tag_eq other tag) o ne
     go (inl here) = inl (sym (same_tag other tag here.0), here.1)
     go (inr old) = inr old
 
-pub label_arrived : (b : Bank) (tag : Tag) (now : ℕ) (other : Tag) → arrived_at (finalized b tag now) other ≡ arrived_at b other
-label_arrived b tag now other = arrived_at-finalized b tag now other
+pub label_arrived : (b : Bank) (tag : Tag) (now : ℕ) (other : Tag) →
+    arrived_at (collected (finalized b tag now)) other ≡ arrived_at b other
+label_arrived b tag now other = arrived_at-collected (finalized b tag now) other ∙ arrived_at-finalized b tag now other
 
 pub piece_finalized : (b : Bank) (tag : Tag) (piece : Piece) (now : ℕ) (other : Tag) →
-    finalized_at (pre_written b tag piece now) other ≡ finalized_at b other
-piece_finalized b tag piece now other = finalized_at-pre_written b tag now other piece
+    finalized_at (collected (pre_written b tag piece now)) other ≡ finalized_at b other
+piece_finalized b tag piece now other =
+    finalized_at-collected (pre_written b tag piece now) other ∙ finalized_at-pre_written b tag now other piece
 
 pub label_cases : (b : Bank) (tag : Tag) (now : ℕ) (other : Tag) (step : ℕ) →
-    finalized_at (finalized b tag now) other ≡ Some step → ((tag ≡ other) × (step ≡ now)) ⊎ (finalized_at b other ≡ Some step)
+    finalized_at (collected (finalized b tag now)) other ≡ Some step →
+    ((tag ≡ other) × (step ≡ now)) ⊎ (finalized_at b other ≡ Some step)
 label_cases b tag now other step e =
-    tag_cases tag other (finalized_at b other) (finalized_at (finalized b tag now) other) now step
-    (finalized_at-finalized b tag now other) e
+    tag_cases tag other (finalized_at b other) (finalized_at (collected (finalized b tag now)) other) now step
+    (finalized_at-collected (finalized b tag now) other ∙ finalized_at-finalized b tag now other) e
 
 pub piece_cases : (b : Bank) (tag : Tag) (piece : Piece) (now : ℕ) (other : Tag) (step : ℕ) →
-    arrived_at (pre_written b tag piece now) other ≡ Some step →
+    arrived_at (collected (pre_written b tag piece now)) other ≡ Some step →
     ((tag ≡ other) × (step ≡ now)) ⊎ (arrived_at b other ≡ Some step)
 piece_cases b tag piece now other step e =
-    tag_cases tag other (arrived_at b other) (arrived_at (pre_written b tag piece now) other) now step
-    (arrived_at-pre_written b tag now other piece) e
+    tag_cases tag other (arrived_at b other) (arrived_at (collected (pre_written b tag piece now)) other) now step
+    (arrived_at-collected (pre_written b tag piece now) other ∙ arrived_at-pre_written b tag now other piece) e
 
 pub get_or_set : {A : Type 0} (xs : List A) (i j : ℕ) (y d : A) →
     (get_or (set xs i y) j d ≡ get_or xs j d) ⊎ ((j ≡ i) × (get_or (set xs i y) j d ≡ y))

@@ -154,7 +154,7 @@ module _ (fragment : Code) (object : Object) (last now position member : ℕ) (t
       fresh = opened_banks layout.members 0 now
 
       here : position ≡ length object.banks → (get_or fresh member no_bank ≡ no_bank)
-          ⊎ (get_or fresh member no_bank ≡ opened_bank (0 + member) now) →
+          ⊎ (get_or fresh member no_bank ≡ opened_bank (0 + member) None now) →
           label_at (get_or fresh member no_bank) tag ≡ Some label → Comes (Step.CallMove layout)
       here p (inl none) e = absurd (unknown_label tag label (sym (ap (λ bank. label_at bank tag) none) ∙ e))
       here p (inr new) e =

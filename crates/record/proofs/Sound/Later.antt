@@ -187,6 +187,7 @@ before_later s u h bank before = record {
   arrived = λ tag step e. le_trans (before.arrived tag step e) h;
   pending = λ step e. le_trans (before.pending step e) h;
   final = λ step e. le_trans (before.final step e) h;
+  retired = λ step e. le_trans (before.retired step e) h;
 }
 
 pub bank_past_later : (s u : ℕ) → s ≤ u → (bank : Bank) → IsBefore bank (suc s) → IsBefore bank (suc u)
@@ -234,4 +235,6 @@ bank_grows fragment step now old new less grows position member bank same more r
   past = bank_past_later step now less bank rest.past;
   coded = λ tag known. coded_grows now fragment old new grows position member same tag (piece_of bank tag) (rest.coded tag known);
   next = record { pending = λ s e. le_trans (rest.next.pending s e) more; final = λ s e. le_trans (rest.next.final s e) more };
+  collected = rest.collected;
+  keeps_all = rest.keeps_all;
 }

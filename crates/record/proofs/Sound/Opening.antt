@@ -1,5 +1,5 @@
 -- An object that was just opened is legal and sound.
-use Rattle.std.proofs.Common.{◌≡◌, ℕ, zero, suc, ◌+◌, ◌<◌, ◌⊎◌, Bool, true, false, cond, List, [], ◌∷◌}
+use Rattle.std.proofs.Common.{◌≡◌, ℕ, zero, suc, ◌+◌, ◌<◌, ◌⊎◌, ◌&&◌, not, Bool, true, false, cond, List, [], ◌∷◌}
 use Rattle.std.proofs.Common.{length, get_or, Option, Some, None, is_some, refl, sym, subst, ap, ◌∙◌, inl, inr, arith}
 use Rattle.std.proofs.lemmas.Option.{same_Some}
 use Rattle.tag.specs.declared.tag.Tag.{Tag}
@@ -9,8 +9,9 @@ use Rattle.layout.specs.Layout.{Layout, IsLawful}
 use Rattle.encoder.specs.declared.fragment.Piece.{Piece}
 use Rattle.bank.specs.declared.row.Row.{Row}
 use Rattle.bank.specs.Bank.{Bank, opening_row, empty_piece, opened_bank, piece_of, piece_of_row, knows}
-use Rattle.bank.specs.Knowledge.{row_finalized, row_arrived}
+use Rattle.bank.specs.Knowledge.{row_finalized, row_arrived, is_dropped}
 use Rattle.bank.proofs.Changes.{get-with_row}
+use Rattle.bank.proofs.Pieces.{opened_collected}
 use Rattle.bank.proofs.Truth.{opened_before}
 use Rattle.record.specs.Records.{Object, layout_at, bank_at, no_bank}
 use Rattle.record.specs.Legal.{IsOpenedAt, IsCaused, IsLegal}
@@ -23,18 +24,18 @@ use Rattle.record.proofs.Sound.Parts.{BankRest, sound_of}
 -- what a bank has that was just opened
 
 get-opened : (member now : ℕ) (tag : Tag) →
-    map.get (opened_bank member now).rows tag ≡ cond (tag_eq tag opening_tag) (Some (opening_row member now)) None
+    map.get (opened_bank member None now).rows tag ≡ cond (tag_eq tag opening_tag) (Some (opening_row member now)) None
 get-opened member now tag =
     get-with_row map.empty opening_tag (λ o. opening_row member now) tag
     ∙ ap (λ o. cond (tag_eq tag opening_tag) (Some (opening_row member now)) o) (map.get-empty tag_cmp tag)
 
-get-opened_here : (member now : ℕ) → map.get (opened_bank member now).rows opening_tag ≡ Some (opening_row member now)
+get-opened_here : (member now : ℕ) → map.get (opened_bank member None now).rows opening_tag ≡ Some (opening_row member now)
 get-opened_here member now =
     get-opened member now opening_tag ∙ ap (λ b. cond b (Some (opening_row member now)) None) (tag_eq-same opening_tag)
 
 -- a tag that an opened bank has is the opening tag
 opened_cases : {A : Type 0} (g : Option Row → Option A) (member now : ℕ) (tag : Tag) (x : A) → g None ≡ None →
-    g (map.get (opened_bank member now).rows tag) ≡ Some x →
+    g (map.get (opened_bank member None now).rows tag) ≡ Some x →
     (tag ≡ opening_tag) × (g (Some (opening_row member now)) ≡ Some x)
 opened_cases g member now tag x none e = go (tag_eq tag opening_tag) refl (sym (ap g (get-opened member now tag)) ∙ e)
   where
@@ -43,13 +44,13 @@ opened_cases g member now tag x none e = go (tag_eq tag opening_tag) refl (sym (
     go true h k = (tag_eq-true tag opening_tag h, k)
     go false h k = absurd (let no : None ≡ Some x = sym none ∙ k in cc)
 
-pub opened_at : (member now : ℕ) → IsOpenedAt (opened_bank member now) now
+pub opened_at : (member now : ℕ) → IsOpenedAt (opened_bank member None now) now
 opened_at member now = record {
   finalized = ap row_finalized (get-opened_here member now);
   arrived = ap row_arrived (get-opened_here member now);
 }
 
-pub opened_known : (member now : ℕ) (tag : Tag) → knows (opened_bank member now) tag ≡ true → tag ≡ opening_tag
+pub opened_known : (member now : ℕ) (tag : Tag) → knows (opened_bank member None now) tag ≡ true → tag ≡ opening_tag
 opened_known member now tag known = go (tag_eq tag opening_tag) refl (sym (ap is_some (get-opened member now tag)) ∙ known)
   where
     go : (b : Bool) → tag_eq tag opening_tag ≡ b →
@@ -68,25 +69,25 @@ no_bank_gives g tag x none e = let no : None ≡ Some x = sym (ap g (none_there 
 -- the banks of an opened position
 
 pub opened_get : (servers : List ℕ) (member now i : ℕ) → (get_or (opened_banks servers member now) i no_bank ≡ no_bank)
-    ⊎ (get_or (opened_banks servers member now) i no_bank ≡ opened_bank (member + i) now)
+    ⊎ (get_or (opened_banks servers member now) i no_bank ≡ opened_bank (member + i) None now)
 opened_get [] member now i = inl refl
-opened_get (server ∷ servers) member now zero = let same : member ≡ member + 0 = omega arith in inr (ap (λ m. opened_bank m now) same)
+opened_get (server ∷ servers) member now zero = let same : member ≡ member + 0 = omega arith in inr (ap (λ m. opened_bank m None now) same)
 opened_get (server ∷ servers) member now (suc i) = go (opened_get servers (suc member) now i)
   where
     go : (get_or (opened_banks servers (suc member) now) i no_bank ≡ no_bank)
-        ⊎ (get_or (opened_banks servers (suc member) now) i no_bank ≡ opened_bank (suc member + i) now) →
+        ⊎ (get_or (opened_banks servers (suc member) now) i no_bank ≡ opened_bank (suc member + i) None now) →
         (get_or (opened_banks servers (suc member) now) i no_bank ≡ no_bank)
-        ⊎ (get_or (opened_banks servers (suc member) now) i no_bank ≡ opened_bank (member + suc i) now)
+        ⊎ (get_or (opened_banks servers (suc member) now) i no_bank ≡ opened_bank (member + suc i) None now)
     go (inl none) = inl none
-    go (inr here) = let same : suc member + i ≡ member + suc i = omega arith in inr (here ∙ ap (λ m. opened_bank m now) same)
+    go (inr here) = let same : suc member + i ≡ member + suc i = omega arith in inr (here ∙ ap (λ m. opened_bank m None now) same)
 
 pub opened_there : (servers : List ℕ) (member now i : ℕ) → i < length servers →
-    get_or (opened_banks servers member now) i no_bank ≡ opened_bank (member + i) now
+    get_or (opened_banks servers member now) i no_bank ≡ opened_bank (member + i) None now
 opened_there [] member now i h = absurd (omega arith)
-opened_there (server ∷ servers) member now zero h = let same : member ≡ member + 0 = omega arith in ap (λ m. opened_bank m now) same
+opened_there (server ∷ servers) member now zero h = let same : member ≡ member + 0 = omega arith in ap (λ m. opened_bank m None now) same
 opened_there (server ∷ servers) member now (suc i) h =
     let same : suc member + i ≡ member + suc i = omega arith in
-    let below : i < length servers = omega arith in opened_there servers (suc member) now i below ∙ ap (λ m. opened_bank m now) same
+    let below : i < length servers = omega arith in opened_there servers (suc member) now i below ∙ ap (λ m. opened_bank m None now) same
 
 pub opened_length : (servers : List ℕ) (member now : ℕ) → length (opened_banks servers member now) ≡ length servers
 opened_length [] member now = refl
@@ -102,7 +103,7 @@ no_bank_caused object position = record {
   final = λ step e. absurd (cc);
 }
 
-pub opened_caused : (object : Object) (position member now : ℕ) → IsCaused object position (opened_bank member now)
+pub opened_caused : (object : Object) (position member now : ℕ) → IsCaused object position (opened_bank member None now)
 opened_caused object position member now = record {
   finalized = λ tag step e. inl ((opened_cases row_finalized member now tag step refl e).0);
   arrived = λ tag step e. inl ((opened_cases row_arrived member now tag step refl e).0);
@@ -111,7 +112,7 @@ opened_caused object position member now = record {
 }
 
 pub either_caused : (object : Object) (now position member : ℕ) (bank : Bank) →
-    (bank ≡ no_bank) ⊎ (bank ≡ opened_bank (0 + member) now) → IsCaused object position bank
+    (bank ≡ no_bank) ⊎ (bank ≡ opened_bank (0 + member) None now) → IsCaused object position bank
 either_caused object now position member bank (inl none) = subst (IsCaused object position) (sym none) (no_bank_caused object position)
 either_caused object now position member bank (inr new) =
     subst (IsCaused object position) (sym new) (opened_caused object position (0 + member) now)
@@ -125,26 +126,32 @@ no_bank_rest fragment object now position member = record {
     arrived = λ tag step e. absurd (no_bank_gives row_arrived tag step refl e);
     pending = λ step e. absurd (cc);
     final = λ step e. absurd (cc);
+    retired = λ step e. absurd (cc);
   };
   coded = λ tag known. absurd (let no : false ≡ true = sym (ap is_some (none_there tag)) ∙ known in cc);
   next = record { pending = λ s e. absurd (cc); final = λ s e. absurd (cc) };
+  collected = λ tag. ap (λ row. is_some (piece_of_row row)) (none_there tag)
+      ∙ sym (ap (λ row. is_some (row_arrived row) && not (is_dropped no_bank tag)) (none_there tag));
+  keeps_all = (refl, refl);
 }
 
-opened_piece : (member now : ℕ) (kept : Piece) → piece_of (opened_bank member now) opening_tag ≡ Some kept →
+opened_piece : (member now : ℕ) (kept : Piece) → piece_of (opened_bank member None now) opening_tag ≡ Some kept →
     empty_piece member ≡ kept
 opened_piece member now kept e = same_Some (empty_piece member) kept (sym (ap piece_of_row (get-opened_here member now)) ∙ e)
 
 pub opened_rest : (fragment : Code) → IsCode fragment → (object : Object) (now position member : ℕ) →
-    BankRest fragment object now position member (opened_bank (0 + member) now)
+    BankRest fragment object now position member (opened_bank (0 + member) None now)
 opened_rest fragment code object now position member = record {
-  past = opened_before (0 + member) now (suc now) (omega arith);
+  past = opened_before (0 + member) None now (suc now) (omega arith);
   coded = λ tag known.
-      subst (λ t. IsCoded fragment object position member t (piece_of (opened_bank (0 + member) now) t))
+      subst (λ t. IsCoded fragment object position member t (piece_of (opened_bank (0 + member) None now) t))
       (sym (opened_known (0 + member) now tag known)) opening;
   next = record { pending = λ s e. absurd (cc); final = λ s e. absurd (cc) };
+  collected = opened_collected (0 + member) None now;
+  keeps_all = (refl, refl);
 }
   where
-    opening : IsCoded fragment object position member opening_tag (piece_of (opened_bank (0 + member) now) opening_tag)
+    opening : IsCoded fragment object position member opening_tag (piece_of (opened_bank (0 + member) None now) opening_tag)
     opening = record {
       value = [];
       journaled = inl (refl, refl);
@@ -153,7 +160,7 @@ opened_rest fragment code object now position member = record {
     }
 
 pub either_rest : (fragment : Code) → IsCode fragment → (object : Object) (now position member : ℕ) (bank : Bank) →
-    (bank ≡ no_bank) ⊎ (bank ≡ opened_bank (0 + member) now) →
+    (bank ≡ no_bank) ⊎ (bank ≡ opened_bank (0 + member) None now) →
     BankRest fragment object now position member bank
 either_rest fragment code object now position member bank (inl none) = subst (BankRest fragment object now position member) (sym none)
     (no_bank_rest fragment object now position member)

@@ -4,6 +4,7 @@ use Rattle.std.proofs.Common.{◌∷◌, length, get_or, Option, Some, IsSome, r
 use Rattle.std.specs.List.{AllByRecursion}
 use Rattle.tag.specs.declared.tag.Tag.{Tag}
 use Rattle.bank.specs.Bank.{Bank, knows, piece_of}
+use Rattle.bank.specs.Collect.{IsCollected, KeepsAll}
 use Rattle.bank.specs.Facts.{IsBefore}
 use Rattle.bank.specs.declared.kind.Kind.{Kind}
 use Rattle.bank.specs.declared.reply.Reply.{Reply}
@@ -46,6 +47,8 @@ pub record BankRest (fragment : Code) (object : Object) (now position member : �
   pub past : IsBefore bank (suc now)
   pub coded : (tag : Tag) → knows bank tag ≡ true → IsCoded fragment object position member tag (piece_of bank tag)
   pub next : HasNext (length object.layouts) position bank
+  pub collected : IsCollected bank
+  pub keeps_all : KeepsAll bank
 
 -- of a message
 pub record MessageRest (fragment : Code) (object : Object) (now : ℕ) (message : Message) : Type 0 where
@@ -94,6 +97,8 @@ sound_of fragment object now legal sizes calls banks mail tags = record {
     members = sizes.members;
     opened = sizes.opened;
     next = λ position member. (banks position member).next;
+    collected = λ position member. (banks position member).collected;
+    keeps_all = λ position member. (banks position member).keeps_all;
   };
   values = record {
     written = λ index call value at e. (calls index call at).values.written value e;
@@ -142,6 +147,8 @@ bank_rest fragment object now sound position member = record {
   past = sound.past.banks position member;
   coded = sound.coded.banks position member;
   next = sound.shape.next position member;
+  collected = sound.shape.collected position member;
+  keeps_all = sound.shape.keeps_all position member;
 }
 
 mail_rests : (fragment : Code) (object : Object) (now : ℕ) (mail : List Message) → AllByRecursion (IsPosted object) mail →

@@ -78,7 +78,7 @@ pub sound_enough : (fragment : Code) (object : Object) (step : ℕ) → IsSound 
     (index place : ℕ) (call : Call) (phase : Phase) → slice_get object.calls index ≡ Some call →
     slice_get call.phases place ≡ Some phase → IsFetch phase.kind → (end : ℕ) → phase.end ≡ Some end → HasEnough object phase
 sound_enough fragment object step sound index place call phase at within fetch end e =
-    fetch_has_enough object sound.legal sound.open_banks index place call phase at within
+    fetch_has_enough object sound.legal sound.open_banks sound.shape.keeps_all index place call phase at within
     (all_get (IsTruePhase object) call.phases place phase (sound.legal.calls index call at).phases within) fetch end e
 
 pub run_atomic : (fragment : Code) → IsCode fragment → (layout : Layout) (start : ℕ) (steps : List Step) → IsLawful layout →

@@ -12,6 +12,8 @@ use Rattle.bank.specs.declared.request.Request.{Request}
 use Rattle.mail.specs.Message.{body_kind, answered}
 use Rattle.mail.specs.declared.message.Message.{Message}
 use Rattle.phase.specs.declared.phase.Taken.{Taken}
+use Rattle.bank.proofs.KeptAll.{keeps_all-served}
+use Rattle.bank.proofs.Pieces.{served_collected}
 use Rattle.record.specs.Records.{Object, bank_at, no_bank}
 use Rattle.record.specs.Knowledge.{IsTrueReply, IsTruePhase}
 use Rattle.record.specs.Legal.{HasBegun, IsOpenedAt}
@@ -184,6 +186,8 @@ handled_sound fragment object step now place less sound message asked at is =
       past = served_past old asked now before;
       coded = served_coded fragment new message.position message.member old asked now sent old_coded;
       next = served_next (length object.layouts) message.position old asked now kind_there old_rest.next;
+      collected = served_collected old asked now old_rest.collected;
+      keeps_all = keeps_all-served old asked now old_rest.keeps_all;
     }
 
     banks : (p i : ℕ) → (bank_at new p i ≡ bank_at object p i)
@@ -206,7 +210,7 @@ handled_sound fragment object step now place less sound message asked at is =
 
     true_now : IsTrueAnswer (bank_at new message.position message.member) now (body_kind message.body) (answer_to old asked)
     true_now = subst₂ (λ bank k. IsTrueAnswer bank now k (answer_to old asked)) (sym here) (sym kind_is)
-        (served_true old asked now opened_old.0 before opened_old.1)
+        (served_true old asked now opened_old.0 before opened_old.1 old_rest.collected)
 
     reply_rest : MessageRest fragment new now reply
     reply_rest = record {

@@ -183,16 +183,16 @@ moving_sound fragment code object step now less sound layout lawful no_open =
     )
 
     further : (p i : ℕ) → (get_or new.banks p [] ≡ []) ⊎ (get_or new.banks p [] ≡ fresh) →
-        (bank_at new p i ≡ no_bank) ⊎ (bank_at new p i ≡ opened_bank (0 + i) now)
+        (bank_at new p i ≡ no_bank) ⊎ (bank_at new p i ≡ opened_bank (0 + i) None now)
     further p i (inl none) = inl (ap (λ banks. get_or banks i no_bank) none)
     further p i (inr here) = go (opened_get layout.members 0 now i)
       where
-        go : (get_or fresh i no_bank ≡ no_bank) ⊎ (get_or fresh i no_bank ≡ opened_bank (0 + i) now) →
-            (bank_at new p i ≡ no_bank) ⊎ (bank_at new p i ≡ opened_bank (0 + i) now)
+        go : (get_or fresh i no_bank ≡ no_bank) ⊎ (get_or fresh i no_bank ≡ opened_bank (0 + i) None now) →
+            (bank_at new p i ≡ no_bank) ⊎ (bank_at new p i ≡ opened_bank (0 + i) None now)
         go (inl e) = inl (ap (λ banks. get_or banks i no_bank) here ∙ e)
         go (inr e) = inr (ap (λ banks. get_or banks i no_bank) here ∙ e)
 
-    beyond : (p i : ℕ) → length object.layouts ≤ p → (bank_at new p i ≡ no_bank) ⊎ (bank_at new p i ≡ opened_bank (0 + i) now)
+    beyond : (p i : ℕ) → length object.layouts ≤ p → (bank_at new p i ≡ no_bank) ⊎ (bank_at new p i ≡ opened_bank (0 + i) None now)
     beyond p i h = further p i (get_or_after object.banks fresh [] p (let b = sizes.banks in omega arith))
 
     wide : Wider fragment now object new

@@ -12,8 +12,10 @@ use Rattle.phase.specs.declared.phase.Taken.{Taken}
 use Rattle.phase.specs.Phase.{Phase, members_of}
 use Rattle.record.specs.Records.{Call, Object, layout_at, bank_at}
 use Rattle.bank.specs.Bank.{Bank}
+use Rattle.bank.specs.Collect.{KeepsAll}
 use Rattle.bank.specs.declared.kind.Kind.TheVariants.{Fetch}
-use Rattle.bank.specs.Knowledge.{came_by, arrived_at, HadPiece, IsTrueAnswer}
+use Rattle.bank.specs.Knowledge.{came_by, arrived_at, HadPiece, HoldsPiece, IsTrueAnswer}
+use Rattle.bank.proofs.Collecting.{none_dropped_at}
 use Rattle.record.specs.Knowledge.{IsTrueReply, IsTruePhase}
 use Rattle.record.specs.Courses.{due}
 use Rattle.record.specs.Legal.{IsLegal, BeginInOpen, AreOpened}
@@ -29,11 +31,14 @@ use Rattle.record.proofs.Sound.Enough.Stages.{AtPhase, call_at_phase}
 
 -- the pieces that a fetch took
 true_fetched : (tag : Tag) (bank : Bank) (made : ℕ) (answer : Answer) → IsTrueAnswer bank made (Fetch tag) answer →
-    HadPiece bank tag made → IsSome (answer_piece answer)
-true_fetched tag bank made (answer.Piece piece) says had = says.1.1 had
-true_fetched tag bank made answer.Done says had = absurd says
-true_fetched tag bank made (answer.Pointer s) says had = absurd says
-true_fetched tag bank made (answer.Greatest t) says had = absurd says
+    HoldsPiece bank tag made → IsSome (answer_piece answer)
+true_fetched tag bank made (answer.Piece piece) says held = says.1.1 held
+true_fetched tag bank made answer.Done says held = absurd says
+true_fetched tag bank made (answer.Pointer s) says held = absurd says
+true_fetched tag bank made (answer.Greatest t) says held = absurd says
+
+abbrev KeepAll : Object → (position : ℕ) → Type 0
+KeepAll object position = (member : ℕ) → KeepsAll (bank_at object position member)
 
 all_at : (P : ℕ → Type 0) (xs : List ℕ) (i : ℕ) → AllByRecursion P xs → has xs i ≡ true → P i
 all_at P [] i all h = absurd (cc)
@@ -57,11 +62,11 @@ reply_place P (reply ∷ replies) i all h =
     go (inr e) rest = let found = rest e in (suc found.0, found.1, found.2, found.3, found.4)
 
 took_of : (object : Object) (phase : Phase) (tag : Tag) (members : List ℕ) (shared : List ℕ) → phase.kind ≡ Fetch tag →
-    IsTruePhase object phase → AllByRecursion (λ i. HadPiece (bank_at object phase.position i) tag phase.start) members →
+    IsTruePhase object phase → KeepAll object phase.position → AllByRecursion (λ i. HadPiece (bank_at object phase.position i) tag phase.start) members →
     AllByRecursion (λ i. has members i ≡ true) shared → AllByRecursion (λ i. has (members_of phase.replies) i ≡ true) shared →
     AllByRecursion (TookPiece phase) shared
-took_of object phase tag members [] k truth had a b = tt
-took_of object phase tag members (i ∷ shared) k truth had a b =
+took_of object phase tag members [] k truth keep had a b = tt
+took_of object phase tag members (i ∷ shared) k truth keep had a b =
     let found = reply_place (IsTrueReply object phase) phase.replies i truth.replies b.0 in
     let reply = found.1 in
     let bank = bank_at object phase.position reply.member in
@@ -75,22 +80,25 @@ took_of object phase tag members (i ∷ shared) k truth had a b =
         same_member = found.4;
         some_piece = true_fetched tag bank reply.reply.step reply.reply.answer
             (subst (λ kind. IsTrueAnswer bank reply.reply.step kind reply.reply.answer) k found.3.says)
-            (came_by_later (arrived_at bank tag) phase.start reply.reply.step (le_of_lt late) known);
+            (
+              came_by_later (arrived_at bank tag) phase.start reply.reply.step (le_of_lt late) known,
+              none_dropped_at bank (keep reply.member) tag reply.reply.step,
+            );
       },
-      took_of object phase tag members shared k truth had a.1 b.1,
+      took_of object phase tag members shared k truth keep had a.1 b.1,
     )
 
 enough_from : (object : Object) (phase : Phase) (end : ℕ) (tag : Tag) → AllByRecursion IsLawful object.layouts →
-    IsTruePhase object phase → phase.end ≡ Some end → phase.kind ≡ Fetch tag → Had object phase.position tag phase.start →
-    HasEnough object phase
-enough_from object phase end tag lawful truth e k had =
+    IsTruePhase object phase → KeepAll object phase.position → phase.end ≡ Some end → phase.kind ≡ Fetch tag →
+    Had object phase.position tag phase.start → HasEnough object phase
+enough_from object phase end tag lawful truth keep e k had =
     let share = quorums_share (layout_at object phase.position) had.members (members_of phase.replies)
     (lawful_at object phase.position lawful truth.placed) had.is_quorum (phase_quorum object phase end truth e) in
     record {
       members = share.members;
       distinct = share.distinct;
       enough = share.enough;
-      pieces = took_of object phase tag had.members share.members k truth had.all share.in_first share.in_second;
+      pieces = took_of object phase tag had.members share.members k truth keep had.all share.in_first share.in_second;
     }
 
 -- every bank had the opening tag's piece from its opening
@@ -105,11 +113,12 @@ opening_had object phase end truth e opened = record {
       subst (λ came. came_by came phase.start ≡ true) (sym o.1.arrived) (le-leb o.0 phase.start o.2)) phase.replies truth.replies);
 }
 
--- a complete fetch has pieces of at least k members
-pub fetch_has_enough : (object : Object) → IsLegal object → BeginInOpen object → (index place : ℕ) (call : Call) (phase : Phase) →
+-- where banks keep all, a complete fetch has pieces of at least k members
+pub fetch_has_enough : (object : Object) → IsLegal object → BeginInOpen object → ((position : ℕ) → KeepAll object position) →
+    (index place : ℕ) (call : Call) (phase : Phase) →
     slice_get object.calls index ≡ Some call → slice_get call.phases place ≡ Some phase → IsTruePhase object phase →
     IsFetch phase.kind → (end : ℕ) → phase.end ≡ Some end → HasEnough object phase
-fetch_has_enough object legal open_banks index place call phase at within truth fetch end e =
+fetch_has_enough object legal open_banks keep index place call phase at within truth fetch end e =
     go (had_before object legal there.now phase.position fetch.0 there.now (le_refl there.now)
     (fetch_rests object there.now phase.position there.stage fetch.0 there.facts
     (subst (λ k. due there.stage ≡ Some (k, phase.position)) fetch.1 there.is_due)))
@@ -119,9 +128,9 @@ fetch_has_enough object legal open_banks index place call phase at within truth 
 
     go : (fetch.0 ≡ opening_tag) ⊎ Had object phase.position fetch.0 there.now → HasEnough object phase
     go (inl opening) =
-        enough_from object phase end fetch.0 legal.layouts truth e fetch.1
+        enough_from object phase end fetch.0 legal.layouts truth (keep phase.position) e fetch.1
         (subst (λ t. Had object phase.position t phase.start) (sym opening)
         (opening_had object phase end truth e (open_banks index place call phase at within)))
     go (inr had) =
-        enough_from object phase end fetch.0 legal.layouts truth e fetch.1
+        enough_from object phase end fetch.0 legal.layouts truth (keep phase.position) e fetch.1
         (had_later object phase.position fetch.0 there.now phase.start there.before had)
