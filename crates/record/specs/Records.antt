@@ -1,5 +1,5 @@
 -- The record of one object: its layouts and banks by position, its waiting messages, and its calls with their phases.
-use Rattle.std.specs.Prelude.{ℕ, List, [], Option, get_or}
+use Rattle.std.specs.Prelude.{ℕ, List, [], Option, None, get_or}
 use Rattle.std.specs.FinMap as map
 use Rattle.layout.specs.Layout.{Layout}
 use Rattle.bank.specs.Bank.{Bank}

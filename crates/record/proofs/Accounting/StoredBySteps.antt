@@ -93,15 +93,15 @@ none_freed_by : (object : Object) (s : Step) (now server : ℕ) → ((p i : ℕ)
     freed_by object s now server ≡ 0
 none_freed_by object (Step.Serve place) now server keep = found (slice_get object.mail place)
   where
-    none_there : (here : Bool) → cond here 0 0 ≡ 0
-    none_there true = refl
-    none_there false = refl
+    none_there : (here : Bool) (n : ℕ) → cond here n n ≡ n
+    none_there true n = refl
+    none_there false n = refl
 
     by_body : (message : Message) (b : Body) → freed_by_body object message b now server ≡ 0
     by_body message (body.Request asked) =
         ap (λ n. for_server server (server_at object message.position message.member) n)
         (none_freed (bank_at object message.position message.member) (keep message.position message.member) asked now)
-        ∙ none_there (server_at object message.position message.member == server)
+        ∙ none_there (server_at object message.position message.member == server) 0
     by_body message (body.Reply kind made) = refl
 
     found : (o : Option Message) → some_bytes o (λ message. freed_by_body object message message.body now server) ≡ 0
