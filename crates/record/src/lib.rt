@@ -6,7 +6,9 @@
 //! (1996).
 #![tactic(auto)]
 
-pub use accounts::{mailed_bytes_come_and_go, stored_bytes_come_and_go, stored_bytes_grow_by_new_pieces};
+pub use accounts::{
+    mailed_bytes_come_and_go, stored_bytes_come_and_go, stored_bytes_grow_by_new_pieces,
+};
 pub use atomicity::{
     journaled_values_are_unique, reads_return_journaled_values, runs_are_atomic,
     settled_values_are_journaled, sound_records_are_atomic, tag_sequences_are_sequences,

@@ -79,8 +79,7 @@ took_of object phase tag members (i ∷ shared) k truth keep had a b =
         within = found.2;
         same_member = found.4;
         some_piece = true_fetched tag bank reply.reply.step reply.reply.answer
-            (subst (λ kind. IsTrueAnswer bank reply.reply.step kind reply.reply.answer) k found.3.says)
-            (
+            (subst (λ kind. IsTrueAnswer bank reply.reply.step kind reply.reply.answer) k found.3.says) (
               came_by_later (arrived_at bank tag) phase.start reply.reply.step (le_of_lt late) known,
               none_dropped_at bank (keep reply.member) tag reply.reply.step,
             );
