@@ -1,28 +1,22 @@
 -- What each request makes of the steps that a bank keeps: each stays, or comes now where there was none.
 use Rattle.std.proofs.Common.{◌≡◌, ℕ, ◌<◌, ◌⊎◌, inl, inr, Bool, true, false, cond, Option, Some, None, is_some, option_map, sym, ap, ◌∙◌}
-use Rattle.std.proofs.Common.{refl, arith}
+use Rattle.std.proofs.Common.{◌+◌, ◌&&◌, subst, refl, arith}
 use Rattle.std.specs.FinMap as map
 use Rattle.std.proofs.lemmas.Bool.{lt-leb, le-leb}
 use Rattle.tag.specs.declared.tag.Tag.{Tag}
-use Rattle.tag.specs.Tag.{tag_cmp, tag_eq}
+use Rattle.tag.specs.Tag.{tag_cmp, tag_eq, tag_lt}
 use Rattle.tag.proofs.Tags.{tag_cmp_total, eq_by_cmp-tag, tag_eq-true}
 use Rattle.encoder.specs.declared.fragment.Piece.{Piece}
 use Rattle.bank.specs.declared.row.Label.{Label}
 use Rattle.bank.specs.declared.row.Label.TheVariants.{PreWritten, Finalized}
 use Rattle.bank.specs.declared.row.Arrival.{Arrival}
 use Rattle.bank.specs.declared.row.Row.{Row}
-use Rattle.bank.specs.declared.status.Status.{Status}
-use Rattle.bank.specs.declared.status.Status.TheVariants as status
-use Rattle.bank.specs.declared.status.Pointer.{Pointer}
-use Rattle.bank.specs.declared.status.Pointer.TheVariants.{Unset, Pending, Final}
-use Rattle.bank.specs.declared.request.Request.{Request}
-use Rattle.bank.specs.declared.request.Request.TheVariants as request
-use Rattle.bank.specs.Pointer.{raised}
 use Rattle.bank.specs.Bank.{Bank, finalized_label, filled_arrival, row_after_pre_write, row_after_finalize, pre_written, finalized}
-use Rattle.bank.specs.Serve.{served_bank}
-use Rattle.bank.specs.Knowledge.{came_by, since, final_step, row_finalized, row_arrived, finalized_at, arrived_at, pending_since}
-use Rattle.bank.specs.Knowledge.{final_since}
+use Rattle.bank.specs.Bank.{piece_of, piece_of_row}
+use Rattle.bank.specs.Knowledge.{came_by, since, final_step, row_finalized, row_arrived, finalized_at, arrived_at}
+use Rattle.bank.specs.Knowledge.{finals_above, finals_above_at}
 use Rattle.bank.specs.Facts.{IsEarlier}
+use Rattle.bank.proofs.Counting.{one_if, changed_count, same_count}
 
 some_inj : (x y : ℕ) → Some x ≡ Some y → x ≡ y
 some_inj x y same = cc
@@ -71,7 +65,7 @@ module _ (rows : Table) (tag : Tag) (f : Option Row → Row) where
       ∙ ap (λ b. cond b (Some (f (map.get rows tag))) (map.get rows t)) (eq_by_cmp-tag t tag)
 
   -- a step that the change makes, as h says
-  changes : (g : Option Row → Option ℕ) (h : Option ℕ → Option ℕ) → g (Some (f (map.get rows tag))) ≡ h (g (map.get rows tag)) → (t : Tag)
+  changes : {X : Type 0} (g : Option Row → X) (h : X → X) → g (Some (f (map.get rows tag))) ≡ h (g (map.get rows tag)) → (t : Tag)
       → g (map.get (with_row rows tag f) t) ≡ cond (tag_eq t tag) (h (g (map.get rows t))) (g (map.get rows t))
   changes g h made t = ap g (get-with_row t) ∙ elim (tag_eq t tag)
       as (λ c. tag_eq t tag ≡ c → g (cond c (Some (f (map.get rows tag))) (map.get rows t))
@@ -81,13 +75,22 @@ module _ (rows : Table) (tag : Tag) (f : Option Row → Row) where
       ] refl
 
   -- a step that it leaves
-  leaves : (g : Option Row → Option ℕ) → g (Some (f (map.get rows tag))) ≡ g (map.get rows tag) → (t : Tag)
+  leaves : {X : Type 0} (g : Option Row → X) → g (Some (f (map.get rows tag))) ≡ g (map.get rows tag) → (t : Tag)
       → g (map.get (with_row rows tag f) t) ≡ g (map.get rows t)
-  leaves g kept t = changes g (λ o. o) kept t ∙ both (tag_eq t tag) (g (map.get rows t))
+  leaves {X = X} g kept t = changes g (λ o. o) kept t ∙ both (tag_eq t tag) (g (map.get rows t))
     where
-      both : (c : Bool) (o : Option ℕ) → cond c o o ≡ o
+      both : (c : Bool) (o : X) → cond c o o ≡ o
       both true o = refl
       both false o = refl
+
+  -- what holds of each tag with its row holds then, where it holds of the row that is made
+  pub all_rows : (P : Tag → Option Row → Type 0) → P tag (Some (f (map.get rows tag))) → ((t : Tag) → P t (map.get rows t)) → (t : Tag)
+      → P t (map.get (with_row rows tag f) t)
+  all_rows P made all t = subst (P t) (sym (get-with_row t)) (go (tag_eq t tag) refl)
+    where
+      go : (b : Bool) → tag_eq t tag ≡ b → P t (cond b (Some (f (map.get rows tag))) (map.get rows t))
+      go true e = subst (λ u. P u (Some (f (map.get rows tag)))) (sym (tag_eq-true t tag e)) made
+      go false e = all t
 
 finalize_finalizes : (o : Option Row) (now : ℕ) → row_finalized (Some (row_after_finalize o now)) ≡ since (row_finalized o) now
 finalize_finalizes None now = refl
@@ -96,6 +99,10 @@ finalize_finalizes (Some r) now = label r.label
     label : (l : Label) → final_step (finalized_label l now) ≡ since (final_step l) now
     label (PreWritten came) = refl
     label (Finalized came) = refl
+
+finalize_leaves : (o : Option Row) (now : ℕ) → piece_of_row (Some (row_after_finalize o now)) ≡ piece_of_row o
+finalize_leaves None now = refl
+finalize_leaves (Some r) now = refl
 
 finalize_brings : (o : Option Row) (now : ℕ) → row_arrived (Some (row_after_finalize o now)) ≡ row_arrived o
 finalize_brings None now = refl
@@ -122,6 +129,30 @@ module _ (b : Bank) (tag : Tag) (now : ℕ) (t : Tag) where
   pub arrived_at-finalized : arrived_at (finalized b tag now) t ≡ arrived_at b t
   arrived_at-finalized = leaves b.rows tag (λ o. row_after_finalize o now) row_arrived (finalize_brings (map.get b.rows tag) now) t
 
+  pub piece_of-finalized : piece_of (finalized b tag now) t ≡ piece_of b t
+  piece_of-finalized = leaves b.rows tag (λ o. row_after_finalize o now) piece_of_row (finalize_leaves (map.get b.rows tag) now) t
+
+  pub above-finalized : (step : ℕ) → step < now → finals_above_at (finalized b tag now) t step ≡ finals_above_at b t step
+  above-finalized step past =
+      same_count (λ o. came_by o step) refl t b.rows tag (row_after_finalize (map.get b.rows tag) now)
+      (ap (λ o. came_by o step) (finalize_finalizes (map.get b.rows tag) now) ∙ since_past (row_finalized (map.get b.rows tag)) now step past)
+
+  -- a tag that was not final counts from then on
+  pub finals-finalized : finals_above (finalized b tag now) t + one_if (tag_lt t tag && is_some (finalized_at b tag))
+      ≡ one_if (tag_lt t tag) + finals_above b t
+  finals-finalized =
+      let all = changed_count is_some refl t b.rows tag (row_after_finalize (map.get b.rows tag) now) in
+      let made : one_if (tag_lt t tag && is_some (final_step (row_after_finalize (map.get b.rows tag) now).label))
+      ≡ one_if (tag_lt t tag) =
+      ap (λ o. one_if (tag_lt t tag && is_some o)) (finalize_finalizes (map.get b.rows tag) now)
+      ∙ comes (tag_lt t tag) (row_finalized (map.get b.rows tag)) in
+      omega (arith, all, made)
+    where
+      comes : (c : Bool) (o : Option ℕ) → one_if (c && is_some (since o now)) ≡ one_if c
+      comes true None = refl
+      comes true (Some came) = refl
+      comes false o = refl
+
   -- a request to pre-write a tag brings a piece of that tag, and finalizes nothing
   pub finalized_at-pre_written : (p : Piece) → finalized_at (pre_written b tag p now) t ≡ finalized_at b t
   finalized_at-pre_written p =
@@ -132,68 +163,12 @@ module _ (b : Bank) (tag : Tag) (now : ℕ) (t : Tag) where
   arrived_at-pre_written p = changes b.rows tag (λ o. row_after_pre_write o p now) row_arrived (λ o. since o now)
       (pre_write_brings (map.get b.rows tag) p now) t
 
-pending-raised : (q : Pointer) (s : Status) (now : ℕ) → Comes now (pending_since q) (pending_since (raised q s now))
-pending-raised Unset status.Unset now = inl refl
-pending-raised Unset status.Pending now = inr refl
-pending-raised Unset status.Final now = inr refl
-pending-raised (Pending came) status.Unset now = inl refl
-pending-raised (Pending came) status.Pending now = inl refl
-pending-raised (Pending came) status.Final now = inl refl
-pending-raised (Final pending came) status.Unset now = inl refl
-pending-raised (Final pending came) status.Pending now = inl refl
-pending-raised (Final pending came) status.Final now = inl refl
+  pub above-pre_written : (p : Piece) (step : ℕ) → finals_above_at (pre_written b tag p now) t step ≡ finals_above_at b t step
+  above-pre_written p step =
+      same_count (λ o. came_by o step) refl t b.rows tag (row_after_pre_write (map.get b.rows tag) p now)
+      (ap (λ o. came_by o step) (pre_write_finalizes (map.get b.rows tag) p now))
 
-final-raised : (q : Pointer) (s : Status) (now : ℕ) → Comes now (final_since q) (final_since (raised q s now))
-final-raised Unset status.Unset now = inl refl
-final-raised Unset status.Pending now = inl refl
-final-raised Unset status.Final now = inr refl
-final-raised (Pending came) status.Unset now = inl refl
-final-raised (Pending came) status.Pending now = inl refl
-final-raised (Pending came) status.Final now = inr refl
-final-raised (Final pending came) status.Unset now = inl refl
-final-raised (Final pending came) status.Pending now = inl refl
-final-raised (Final pending came) status.Final now = inl refl
-
--- each step that the old bank keeps stays in the new one, or comes now
-pub record Grows (now : ℕ) (old new : Bank) : Type 0 where
-  pub finalized : (tag : Tag) → Comes now (finalized_at old tag) (finalized_at new tag)
-  pub arrived : (tag : Tag) → Comes now (arrived_at old tag) (arrived_at new tag)
-  pub pending : Comes now (pending_since old.pointer) (pending_since new.pointer)
-  pub final : Comes now (final_since old.pointer) (final_since new.pointer)
-
-either : (now : ℕ) (old new : Option ℕ) (c : Bool) → new ≡ cond c (since old now) old → Comes now old new
-either now old new true is = inr is
-either now old new false is = inl is
-
-grows_same : (b : Bank) (now : ℕ) → Grows now b b
-grows_same b now = record { finalized = λ tag. inl refl; arrived = λ tag. inl refl; pending = inl refl; final = inl refl }
-
-grows_finalized : (b : Bank) (tag : Tag) (now : ℕ) → Grows now b (finalized b tag now)
-grows_finalized b tag now = record {
-  finalized = λ t. either now (finalized_at b t) (finalized_at (finalized b tag now) t) (tag_eq t tag) (finalized_at-finalized b tag now t);
-  arrived = λ t. inl (arrived_at-finalized b tag now t);
-  pending = inl refl;
-  final = inl refl;
-}
-
--- any request only adds what comes now
-pub served_grows : (b : Bank) (q : Request) (now : ℕ) → Grows now b (served_bank b q now)
-served_grows b request.Next now = grows_same b now
-served_grows b (request.Spread s) now = record {
-  finalized = λ tag. inl refl;
-  arrived = λ tag. inl refl;
-  pending =
-      pending-raised b.pointer s now;
-  final = final-raised b.pointer s now;
-}
-served_grows b request.Query now = grows_same b now
-served_grows b (request.PreWrite tag piece) now = record {
-  finalized = λ t. inl (finalized_at-pre_written b tag now t piece);
-  arrived =
-      λ t. either now (arrived_at b t) (arrived_at (pre_written b tag piece now) t) (tag_eq t tag)
-      (arrived_at-pre_written b tag now t piece);
-  pending = inl refl;
-  final = inl refl;
-}
-served_grows b (request.Finalize tag) now = grows_finalized b tag now
-served_grows b (request.Fetch tag) now = grows_finalized b tag now
+  pub finals-pre_written : (p : Piece) → finals_above (pre_written b tag p now) t ≡ finals_above b t
+  finals-pre_written p =
+      same_count is_some refl t b.rows tag (row_after_pre_write (map.get b.rows tag) p now)
+      (ap is_some (pre_write_finalizes (map.get b.rows tag) p now))

@@ -10,12 +10,12 @@ use Rattle.std.specs.Cmp.{eq_by_cmp_equiv}
 use Rattle.std.specs.List.{AllByRecursion}
 use Rattle.std.specs.List.Sorted.{IsStrictlySortedBy}
 use Rattle.std.specs.declared.cmp.Ordering.TheVariants.{Less}
-use Rattle.std.specs.Ordering.{eq_by_cmp, is_lt}
+use Rattle.std.specs.Ordering.{eq_by_cmp, is_lt, is_eq}
 use Rattle.std.proofs.lemmas.Bool.{and_parts}
 use Rattle.std.proofs.lemmas.Bool.Decides.{nat_tests}
 use Rattle.std.proofs.lemmas.Map.Keys.{sorted_head, sorted_tail}
 use Rattle.tag.specs.declared.tag.Tag.{Tag}
-use Rattle.tag.specs.Tag.{tag_cmp, tag_lt}
+use Rattle.tag.specs.Tag.{tag_cmp, tag_lt, tag_eq}
 use Rattle.tag.proofs.Tags.{tag_cmp_total, tag_cmp-IsAntisymmetric, eq_by_cmp-tag, tag_eq-same}
 use Rattle.bank.specs.declared.row.Row.{Row}
 use Rattle.bank.specs.Bank.{Bank}
@@ -41,7 +41,7 @@ pub is_lt-tag : (s t : Tag) → is_lt (tag_cmp s t) ≡ tag_lt s t
 is_lt-tag s t = grind (arith, nat_tests)
 
 -- the first tag is below each of the rest
-below_at : (x : Tag) (es : Rows) (i : ℕ) (d : Tag × Row) → below_all tag_cmp x es ≡ true → i < length es → tag_lt x (get_or es i d).0 ≡ true
+pub below_at : (x : Tag) (es : Rows) (i : ℕ) (d : Tag × Row) → below_all tag_cmp x es ≡ true → i < length es → tag_lt x (get_or es i d).0 ≡ true
 below_at x [] i d below within = absurd (omega arith)
 below_at x (e ∷ es) zero d below within = sym (is_lt-tag x e.0) ∙ (and_parts (is_lt (tag_cmp x e.0)) (below_all tag_cmp x es) below).0
 below_at x (e ∷ es) (suc i) d below within =
@@ -61,6 +61,20 @@ find_sorted (e ∷ es) (suc i) d sorted within =
     (lt-apart e.0 (get_or es i d).0 (below_at e.0 es i d parts.0 (omega arith)))
     ∙ find_sorted es i d parts.1 (omega arith)
 
+pub below_not : (x y z : Tag) → tag_lt x y ≡ true → tag_lt y z ≡ true → (tag_eq x z ≡ false) × (tag_lt x z ≡ true)
+below_not x y z less rest = (grind (arith, nat_tests), grind (arith, nat_tests))
+
+-- a tag below the least is not found
+pub find-below : (x y : Tag) (es : Rows) → tag_lt x y ≡ true → below_all tag_cmp y es ≡ true → map.find tag_cmp x es ≡ None
+find-below x y [] less below = refl
+find-below x y (e ∷ es) less below =
+    let parts = and_parts (is_lt (tag_cmp y e.0)) (below_all tag_cmp y es) below in
+    let apart = below_not x y e.0 less (sym (is_lt-tag y e.0) ∙ parts.0) in
+    ap (λ b. cond b (Some e.1) (map.find tag_cmp x es)) (eq_by_cmp-tag x e.0 ∙ apart.0) ∙ find-below x y es less parts.1
+
+pub less_than : (x y : Tag) → tag_cmp x y ≡ Less → (eq_by_cmp tag_cmp x y ≡ false) × (tag_lt x y ≡ true)
+less_than x y is = (ap is_eq is, sym (is_lt-tag x y) ∙ ap is_lt is)
+
 -- the tags of the entries rise
 abbrev pub Rise : Rows → Type 0
 Rise es = IsStrictlySortedBy tag_cmp (keys_of es)
@@ -69,7 +83,7 @@ below_from_all : (x : Tag) (es : Rows) → AllByRecursion (λ y. tag_cmp x y ≡
 below_from_all x [] all = refl
 below_from_all x (e ∷ es) all = ap (λ b. b && below_all tag_cmp x es) (ap is_lt all.0) ∙ below_from_all x es all.1
 
-is_sorted-rise : (es : Rows) → Rise es → map.is_sorted tag_cmp es ≡ true
+pub is_sorted-rise : (es : Rows) → Rise es → map.is_sorted tag_cmp es ≡ true
 is_sorted-rise [] rise = refl
 is_sorted-rise (e ∷ es) rise =
     ap (λ b. b && map.is_sorted tag_cmp es) (below_from_all e.0 es (sorted_head tag_cmp e.0 (keys_of es) rise))
@@ -78,7 +92,7 @@ is_sorted-rise (e ∷ es) rise =
 in_order : (es : Rows) → Rise es → T (map.is_sorted tag_cmp es)
 in_order es rise = subst T (sym (is_sorted-rise es rise)) tt
 
-lookup-find : (q : Tag) (es : Rows) → lookup (is_at (tag_cmp q)) es ≡ map.find tag_cmp q es
+pub lookup-find : (q : Tag) (es : Rows) → lookup (is_at (tag_cmp q)) es ≡ map.find tag_cmp q es
 lookup-find q [] = refl
 lookup-find q (e ∷ es) = ap (cond (eq_by_cmp tag_cmp q e.0) (Some e.1)) (lookup-find q es)
 

@@ -14,6 +14,8 @@ use Rattle.bank.specs.Serve.{greatest_among, greatest_final}
 use Rattle.bank.specs.Knowledge.{since, is_finalized, finalized_at}
 use Rattle.bank.specs.Facts.{IsGreatest}
 use Rattle.bank.proofs.Entries.{Rows, is_final_row, is_final, find_sorted, t_true}
+use Rattle.bank.specs.Collect.{collected}
+use Rattle.bank.proofs.Collecting.{finalized_at-collected}
 use Rattle.bank.proofs.Changes.{get-with_row, finalized_at-finalized, finalized_at-pre_written}
 
 -- no finalized entry is above the greatest among them
@@ -154,21 +156,28 @@ module _ (b : Bank) (tag : Tag) (now : ℕ) (opening : IsSome (finalized_at b op
   pub opening-pre_written : (p : Piece) → IsSome (finalized_at (pre_written b tag p now) opening_tag)
   opening-pre_written p = ap is_some (finalized_at-pre_written b tag now opening_tag p) ∙ opening
 
-module _ (point now : ℕ) where
-  finalized_at-opened : (t : Tag) → is_final (opened_bank point now) t ≡ tag_eq t opening_tag
+module _ (point : ℕ) (delta : Option ℕ) (now : ℕ) where
+  finalized_at-opened : (t : Tag) → is_final (opened_bank point delta now) t ≡ tag_eq t opening_tag
   finalized_at-opened t = ap is_final_row (get-with_row map.empty opening_tag (λ o. opening_row point now) t) ∙ pick (tag_eq t opening_tag)
     where
       pick : (c : Bool) → is_final_row (cond c (Some (opening_row point now)) (map.get (map.empty {X = Row} {R = tag_cmp}) t)) ≡ c
       pick true = refl
       pick false = ap is_final_row (map.get-empty tag_cmp t)
 
-  pub opening-opened : IsSome (finalized_at (opened_bank point now) opening_tag)
+  pub opening-opened : IsSome (finalized_at (opened_bank point delta now) opening_tag)
   opening-opened = finalized_at-opened opening_tag ∙ tag_eq-same opening_tag
 
   -- a bank that was just opened has finalized the opening tag alone
-  pub greatest-opened : greatest_final (opened_bank point now) ≡ opening_tag
-  greatest-opened = greatest_is (opened_bank point now) opening_tag (record {
+  pub greatest-opened : greatest_final (opened_bank point delta now) ≡ opening_tag
+  greatest-opened = greatest_is (opened_bank point delta now) opening_tag (record {
     final = opening-opened;
     greatest = λ other final.
         ap (tag_lt opening_tag) (tag_eq-true other opening_tag (sym (finalized_at-opened other) ∙ final)) ∙ opening_least opening_tag;
   })
+
+-- what is dropped changes no greatest
+pub greatest-collected : (u : Bank) → IsSome (finalized_at u opening_tag) → greatest_final (collected u) ≡ greatest_final u
+greatest-collected u opening = greatest_is (collected u) (greatest_final u) (record {
+  final = ap is_some (finalized_at-collected u (greatest_final u)) ∙ (greatest_final_is u opening).final;
+  greatest = λ other final. (greatest_final_is u opening).greatest other (sym (ap is_some (finalized_at-collected u other)) ∙ final);
+})

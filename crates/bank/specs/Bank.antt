@@ -1,7 +1,7 @@
 -- What a contract sees of a bank.
-use Rattle.std.specs.Prelude.{ℕ, Bool, [], Option, Some, None, is_some, option_map, refl}
+use Rattle.std.specs.Prelude.{ℕ, Bool, [], Option, Some, None, is_some, refl}
 use Rattle.std.specs.FinMap as map
-use Rattle.std.specs.Coded.{Coded, code_by, coded×}
+use Rattle.std.specs.Coded.{Coded, code_by, coded×, coded_ℕ, coded_option}
 use Rattle.tag.specs.declared.tag.Tag.{Tag}
 use Rattle.tag.specs.Tag.{tag_cmp, opening_tag}
 use Rattle.encoder.specs.declared.fragment.Piece.{Piece}
@@ -12,16 +12,21 @@ use Rattle.bank.specs.declared.row.Row.{Row}
 use Rattle.bank.specs.declared.status.Pointer.{Pointer}
 use Rattle.bank.specs.declared.status.Pointer.TheVariants.{Unset}
 
--- the rows by their tags, and the pointer
+-- the rows by their tags, the pointer, how many finalized versions beside the newest keep their pieces (None: all do),
+-- and the step at which the bank was retired
 pub record Bank : Type 0 where
   pub rows : map.FinMap tag_cmp Row
   pub pointer : Pointer
+  pub delta : Option ℕ
+  pub retired : Option ℕ
 
--- a bank is stored as the pair of its parts
+-- a bank is stored as the tuple of its parts
 abbrev pub bank_code : Coded Tag → Coded Row → Coded Pointer → Coded Bank
 bank_code tag row pointer =
-    code_by (map.FinMap tag_cmp Row × Pointer) (coded× (map.code tag row) pointer) (λ b. (b.rows, b.pointer))
-    (λ p. record { rows = p.0; pointer = p.1 }) (λ _. refl)
+    code_by ((map.FinMap tag_cmp Row × Pointer) × (Option ℕ × Option ℕ))
+    (coded× (coded× (map.code tag row) pointer) (coded× (coded_option coded_ℕ) (coded_option coded_ℕ)))
+    (λ b. ((b.rows, b.pointer), (b.delta, b.retired)))
+    (λ p. record { rows = p.0.0; pointer = p.0.1; delta = p.1.0; retired = p.1.1 }) (λ _. refl)
 
 -- the fragment of the empty value
 abbrev pub empty_piece : ℕ → Piece
@@ -30,11 +35,16 @@ empty_piece point = record { point = point; len = 0; bytes = [] }
 -- the row of the opening tag: finalized at the opening, with the fragment of the empty value
 abbrev pub opening_row : ℕ → ℕ → Row
 opening_row point now =
-    record { label = Finalized now; arrival = Some (record { piece = empty_piece point; step = now }) }
+    record { label = Finalized now; arrival = Some (record { piece = Some (empty_piece point); step = now }) }
 
 -- a bank that was opened at a step
-abbrev pub opened_bank : ℕ → ℕ → Bank
-opened_bank point now = record { rows = map.insert map.empty opening_tag (opening_row point now); pointer = Unset }
+abbrev pub opened_bank : ℕ → Option ℕ → ℕ → Bank
+opened_bank point delta now = record {
+  rows = map.insert map.empty opening_tag (opening_row point now);
+  pointer = Unset;
+  delta = delta;
+  retired = None;
+}
 
 -- a label after a request at step `now` to finalize its tag
 abbrev pub finalized_label : Label → ℕ → Label
@@ -47,7 +57,7 @@ finalized_row r now = record { label = finalized_label r.label now; arrival = r.
 
 -- what came first, or else a piece that comes at step `now`
 abbrev pub filled_arrival : Option Arrival → Piece → ℕ → Option Arrival
-filled_arrival None p now = Some (record { piece = p; step = now })
+filled_arrival None p now = Some (record { piece = Some p; step = now })
 filled_arrival (Some a) p now = Some a
 
 -- a row after a piece is handed to it at step `now`
@@ -56,7 +66,8 @@ filled_row r p now = record { label = r.label; arrival = filled_arrival r.arriva
 
 -- the row of a tag after a request to pre-write it
 abbrev pub row_after_pre_write : Option Row → Piece → ℕ → Row
-row_after_pre_write None p now = record { label = PreWritten now; arrival = Some (record { piece = p; step = now }) }
+row_after_pre_write None p now =
+    record { label = PreWritten now; arrival = Some (record { piece = Some p; step = now }) }
 row_after_pre_write (Some r) p now = filled_row r p now
 
 -- the row of a tag after a request to finalize it
@@ -64,25 +75,31 @@ abbrev pub row_after_finalize : Option Row → ℕ → Row
 row_after_finalize None now = record { label = Finalized now; arrival = None }
 row_after_finalize (Some r) now = finalized_row r now
 
--- the bank after a request to pre-write a tag with a piece
+-- the bank with other rows
+abbrev pub with_rows : Bank → map.FinMap tag_cmp Row → Bank
+with_rows b rows = record { rows = rows; pointer = b.pointer; delta = b.delta; retired = b.retired }
+
+-- the bank with another pointer
+abbrev pub with_pointer : Bank → Pointer → Bank
+with_pointer b pointer = record { rows = b.rows; pointer = pointer; delta = b.delta; retired = b.retired }
+
+-- the bank after a request to pre-write a tag with a piece, before anything is dropped
 abbrev pub pre_written : Bank → Tag → Piece → ℕ → Bank
-pre_written b tag p now = record {
-  rows = map.insert b.rows tag (row_after_pre_write (map.get b.rows tag) p now);
-  pointer = b.pointer;
-}
+pre_written b tag p now = with_rows b (map.insert b.rows tag (row_after_pre_write (map.get b.rows tag) p now))
 
--- the bank after a request to finalize a tag
+-- the bank after a request to finalize a tag, before anything is dropped
 abbrev pub finalized : Bank → Tag → ℕ → Bank
-finalized b tag now = record {
-  rows = map.insert b.rows tag (row_after_finalize (map.get b.rows tag) now);
-  pointer =
-      b.pointer;
-}
+finalized b tag now = with_rows b (map.insert b.rows tag (row_after_finalize (map.get b.rows tag) now))
 
--- the piece of a row, where one came
+-- the piece of an arrival, where it is still there
+abbrev pub piece_that_came : Option Arrival → Option Piece
+piece_that_came None = None
+piece_that_came (Some a) = a.piece
+
+-- the piece of a row, where it is still there
 abbrev pub piece_of_row : Option Row → Option Piece
 piece_of_row None = None
-piece_of_row (Some r) = option_map (λ a. a.piece) r.arrival
+piece_of_row (Some r) = piece_that_came r.arrival
 
 -- the piece that a bank has for a tag
 abbrev pub piece_of : Bank → Tag → Option Piece
@@ -91,7 +108,3 @@ piece_of b tag = piece_of_row (map.get b.rows tag)
 -- whether a bank has a row for a tag
 abbrev pub knows : Bank → Tag → Bool
 knows b tag = is_some (map.get b.rows tag)
-
--- the bank with another pointer
-abbrev pub with_pointer : Bank → Pointer → Bank
-with_pointer b pointer = record { rows = b.rows; pointer = pointer }

@@ -6,7 +6,8 @@ use Rattle.bank.specs.declared.kind.Kind.{Kind}
 use Rattle.bank.specs.declared.reply.Answer.{Answer}
 use Rattle.bank.specs.Bank.{Bank}
 use Rattle.bank.specs.Knowledge.{came_by, finalized_at, arrived_at, pending_since, final_since, pointer_at}
-use Rattle.bank.specs.Knowledge.{IsTrueAnswer}
+use Rattle.bank.specs.Knowledge.{is_dropped_at, IsTrueAnswer}
+use Rattle.bank.specs.Collect.{IsCollected}
 
 -- if it came, it came before step `now`
 abbrev pub IsEarlier : Option ℕ → ℕ → Type 0
@@ -18,6 +19,7 @@ pub record IsBefore (b : Bank) (now : ℕ) : Type 0 where
   pub arrived : (tag : Tag) → IsEarlier (arrived_at b tag) now
   pub pending : IsEarlier (pending_since b.pointer) now
   pub final : IsEarlier (final_since b.pointer) now
+  pub retired : IsEarlier b.retired now
 
 -- of each step before `now`, both banks say the same
 pub record SameBefore (old new : Bank) (now : ℕ) : Type 0 where
@@ -26,6 +28,7 @@ pub record SameBefore (old new : Bank) (now : ℕ) : Type 0 where
   pub arrived : (tag : Tag) (step : ℕ) → step < now
       → came_by (arrived_at new tag) step ≡ came_by (arrived_at old tag) step
   pub pointer : (step : ℕ) → step < now → pointer_at new step ≡ pointer_at old step
+  pub dropped : (tag : Tag) (step : ℕ) → step < now → is_dropped_at new tag step ≡ is_dropped_at old tag step
 
 -- the tag is finalized, and no finalized tag is above it
 pub record IsGreatest (b : Bank) (tag : Tag) : Type 0 where
@@ -33,8 +36,9 @@ pub record IsGreatest (b : Bank) (tag : Tag) : Type 0 where
   pub greatest : (other : Tag) → IsSome (finalized_at b other) → tag_lt tag other ≡ false
 
 -- a request was served at step `now`: nothing of the past changed, all that is known came before any later step,
--- and the answer is true
+-- the answer is true, and just the pieces are there that are kept
 pub record IsServed (old new : Bank) (now : ℕ) (kind : Kind) (answer : Answer) : Type 0 where
   pub past : SameBefore old new now
   pub order : (later : ℕ) → now < later → IsBefore new later
   pub truth : IsTrueAnswer new now kind answer
+  pub collected : IsCollected new

@@ -1,6 +1,6 @@
 -- What a member knew: at which step each thing came to its bank, if it did.
-use Rattle.std.specs.Prelude.{◌≡◌, ℕ, ◌↔◌, Bool, true, false, nat_le, if◌then◌else◌, Option, Some, None, IsSome}
-use Rattle.std.specs.Prelude.{is_some, option_map}
+use Rattle.std.specs.Prelude.{◌≡◌, ℕ, ◌+◌, ◌↔◌, ◌&&◌, ◌||◌, Bool, true, false, nat_le, if◌then◌else◌, Option, Some, None}
+use Rattle.std.specs.Prelude.{IsSome, is_some, option_map, List, [], ◌∷◌}
 use Rattle.std.specs.FinMap as map
 use Rattle.tag.specs.declared.tag.Tag.{Tag}
 use Rattle.tag.specs.Tag.{tag_lt}
@@ -87,6 +87,37 @@ status_le status.Pending t = true
 status_le status.Final status.Final = true
 status_le status.Final t = false
 
+-- how many of the entries have a greater tag, and a label that passes a test
+abbrev pub count_above : (Label → Bool) → Tag → List (Tag × Row) → ℕ
+count_above test tag [] = 0
+count_above test tag (e ∷ es) = (if tag_lt tag e.0 && test e.1.label then 1 else 0) + count_above test tag es
+
+-- how many greater tags are finalized
+abbrev pub finals_above : Bank → Tag → ℕ
+finals_above b tag = count_above is_finalized tag (map.entries b.rows)
+
+-- how many greater tags the member had finalized after this step
+abbrev pub finals_above_at : Bank → Tag → ℕ → ℕ
+finals_above_at b tag step = count_above (λ l. came_by (final_step l) step) tag (map.entries b.rows)
+
+-- a number of greater finalized tags is at least delta + 1
+abbrev pub exceeds : Option ℕ → ℕ → Bool
+exceeds None greater = false
+exceeds (Some delta) greater = nat_le (delta + 1) greater
+
+-- no piece of the tag is kept: the bank is retired, or the tag and at least delta + 1 greater ones are finalized
+abbrev pub is_dropped : Bank → Tag → Bool
+is_dropped b tag = is_some b.retired || (is_some (finalized_at b tag) && exceeds b.delta (finals_above b tag))
+
+-- so it was after this step
+abbrev pub is_dropped_at : Bank → Tag → ℕ → Bool
+is_dropped_at b tag step =
+    came_by b.retired step || (came_by (finalized_at b tag) step && exceeds b.delta (finals_above_at b tag step))
+
+-- the member held a piece for the tag after this step
+abbrev pub HoldsPiece : Bank → Tag → ℕ → Type 0
+HoldsPiece b tag step = HadPiece b tag step × (is_dropped_at b tag step ≡ false)
+
 -- the answer to a request of this kind says what was so after the step at which it was made
 abbrev pub IsTrueAnswer : Bank → ℕ → Kind → Answer → Type 0
 IsTrueAnswer b made kind.Next (answer.Pointer found) = pointer_at b made ≡ found
@@ -96,5 +127,5 @@ IsTrueAnswer b made kind.Query (answer.Greatest tag) =
 IsTrueAnswer b made (kind.PreWrite tag) answer.Done = HadPiece b tag made
 IsTrueAnswer b made (kind.Finalize tag) answer.Done = HasFinalized b tag made
 IsTrueAnswer b made (kind.Fetch tag) (answer.Piece piece) =
-    HasFinalized b tag made × (IsSome piece ↔ HadPiece b tag made)
+    HasFinalized b tag made × (IsSome piece ↔ HoldsPiece b tag made)
 IsTrueAnswer b made k a = ⊥

@@ -1,8 +1,10 @@
 pub mod Answer
 pub mod Bank
 pub mod Bytes
+pub mod Collect
 pub mod Facts
 pub mod Kept
 pub mod Knowledge
 pub mod Pointer
 pub mod Serve
+pub mod Window

@@ -12,8 +12,9 @@ use Rattle.bank.specs.declared.reply.Answer.{Answer}
 use Rattle.bank.specs.declared.reply.Answer.TheVariants as answer
 use Rattle.bank.specs.declared.reply.Reply.{Reply}
 use Rattle.bank.specs.Pointer.{status_of, raised}
-use Rattle.bank.specs.Bank.{Bank, pre_written, finalized, with_pointer, knows, piece_of}
+use Rattle.bank.specs.Bank.{Bank, pre_written, finalized, with_pointer, knows}
 use Rattle.bank.specs.Knowledge.{is_finalized}
+use Rattle.bank.specs.Collect.{collected, fetched_piece, dropped_bytes}
 
 -- what is asked, without the piece
 abbrev pub kind_of : Request → Kind
@@ -33,14 +34,30 @@ greatest_among (e ∷ es) = if is_finalized e.1.label then later_tag (greatest_a
 abbrev pub greatest_final : Bank → Tag
 greatest_final b = greatest_among (map.entries b.rows)
 
+-- the bank after a request at step `now`, before it drops what is not kept
+abbrev pub uncollected_bank : Bank → Request → ℕ → Bank
+uncollected_bank b request.Next now = b
+uncollected_bank b (request.Spread status) now = with_pointer b (raised b.pointer status now)
+uncollected_bank b request.Query now = b
+uncollected_bank b (request.PreWrite tag piece) now = pre_written b tag piece now
+uncollected_bank b (request.Finalize tag) now = finalized b tag now
+uncollected_bank b (request.Fetch tag) now = finalized b tag now
+
 -- the bank after a request at step `now`
 abbrev pub served_bank : Bank → Request → ℕ → Bank
 served_bank b request.Next now = b
 served_bank b (request.Spread status) now = with_pointer b (raised b.pointer status now)
 served_bank b request.Query now = b
-served_bank b (request.PreWrite tag piece) now = pre_written b tag piece now
-served_bank b (request.Finalize tag) now = finalized b tag now
-served_bank b (request.Fetch tag) now = finalized b tag now
+served_bank b (request.PreWrite tag piece) now = collected (pre_written b tag piece now)
+served_bank b (request.Finalize tag) now = collected (finalized b tag now)
+served_bank b (request.Fetch tag) now = collected (finalized b tag now)
+
+-- the bytes that a request at step `now` frees: those of the pieces that are then no longer kept
+abbrev pub freed_bytes : Bank → Request → ℕ → ℕ
+freed_bytes b (request.PreWrite tag piece) now = dropped_bytes (pre_written b tag piece now)
+freed_bytes b (request.Finalize tag) now = dropped_bytes (finalized b tag now)
+freed_bytes b (request.Fetch tag) now = dropped_bytes (finalized b tag now)
+freed_bytes b q now = 0
 
 -- what the bank answers to a request
 abbrev pub answer_to : Bank → Request → Answer
@@ -49,7 +66,7 @@ answer_to b (request.Spread status) = answer.Done
 answer_to b request.Query = answer.Greatest (greatest_final b)
 answer_to b (request.PreWrite tag piece) = answer.Done
 answer_to b (request.Finalize tag) = answer.Done
-answer_to b (request.Fetch tag) = answer.Piece (piece_of b tag)
+answer_to b (request.Fetch tag) = answer.Piece (fetched_piece b tag)
 
 -- the reply to a request, with its step
 abbrev pub reply_to : Bank → Request → ℕ → Reply
@@ -62,4 +79,4 @@ takes_memory b (request.Spread status) = false
 takes_memory b request.Query = false
 takes_memory b (request.PreWrite tag piece) = true
 takes_memory b (request.Finalize tag) = not (knows b tag)
-takes_memory b (request.Fetch tag) = not (knows b tag) || is_some (piece_of b tag)
+takes_memory b (request.Fetch tag) = not (knows b tag) || is_some (fetched_piece b tag)

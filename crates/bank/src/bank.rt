@@ -1,7 +1,8 @@
-ghost use Rattle.std.specs.Prelude.{◌≡◌, ℕ, ◌<◌, ◌-◌, ◌^◌, min, IsTrue, Some, slice_get, option_copied};
+ghost use Rattle.std.specs.Prelude.{◌≡◌, ℕ, ◌<◌, ◌^◌, IsTrue, option_copied};
 ghost use Rattle.std.specs.Prelude.{IfOk, IfErr, OnOk, OnErr, IsOk, IsNone};
 ghost use Rattle.tag.specs.declared.refusal.Refusal.TheVariants.{NoMemory};
 
+use crate::window::{self, Window};
 use crate::{Answer, Arrival, HeldPiece, Label, Pointer, Reply, Row, Status, rows};
 use bytes::Bytes;
 use encoder::Piece;
@@ -9,6 +10,8 @@ use std::alloc::Global;
 use std::collections::BTreeMap;
 use std::marker::Model;
 use tag::{Refusal, Stamp, Tag};
+
+mod reading;
 
 /// One server's bank for one position of an object.
 ///
@@ -22,9 +25,13 @@ pub struct Bank {
     rows: BTreeMap<Tag, Row>,
     // The greatest finalized tag.
     greatest: Tag,
-    // How many bytes all the pieces have, or the greatest number where they have more.
+    // How many bytes all the pieces have, as a word counts it.
     bytes: u64,
     pointer: Pointer,
+    // The finalized tags whose pieces are kept; none where all are.
+    window: Option<Window>,
+    // The step at which the bank was retired: no piece is kept from then on.
+    retired: Option<Stamp>,
     alloc: Global,
 }
 
@@ -37,15 +44,17 @@ impl Model for Bank {
 
     ghost coded = { bank_code (Prim.hlevel codes) (Prim.hlevel codes) (Prim.hlevel codes) };
 
-    ghost view = { λ b. bank_of b.rows.entries b.pointer };
+    ghost view = { λ b. bank_of b.rows.entries b.pointer b.window b.retired };
 
-    ghost invariant = { λ b. IsKeptBank b.rows.entries b.pointer b.greatest b.bytes };
+    ghost invariant = { λ b.
+        IsKeptBank b.rows.entries b.pointer b.window b.retired b.greatest b.bytes };
 }
 
 impl Bank {
     ghost use Rattle.std.specs.FinMap as map;
-    ghost use Rattle.bank.specs.Bank.{opened_bank, pre_written, finalized, with_pointer, piece_of, knows};
+    ghost use Rattle.bank.specs.Bank.{opened_bank, pre_written, finalized, with_pointer, knows};
     ghost use Rattle.bank.specs.Bytes.{bank_bytes};
+    ghost use Rattle.bank.specs.Collect.{collected, fetched_piece, retired_bank};
     ghost use Rattle.bank.specs.Facts.{IsBefore, IsGreatest, IsServed};
     ghost use Rattle.bank.specs.Pointer.{status_of, raised};
     ghost use Rattle.bank.specs.Serve.{greatest_final};
@@ -53,8 +62,11 @@ impl Bank {
     ghost use Rattle.bank.specs.declared.reply.Answer.TheVariants as answer;
 
     /// A bank that keeps the opening tag, finalized, with the fragment of the empty value at `point`.
-    pub fn new(alloc: Global, point: u8, now: Stamp) -> Result<Bank, Refusal>
-        ensures bank { IfOk result (λ b. b ≡ opened_bank point now) }
+    ///
+    /// It keeps the pieces of its `delta` + 1 greatest finalized tags and of those that are not finalized; without
+    /// `delta` it keeps all.
+    pub fn new(alloc: Global, point: u8, delta: Option<u32>, now: Stamp) -> Result<Bank, Refusal>
+        ensures bank { IfOk result (λ b. b ≡ opened_bank point delta now) }
         ensures order { (later : ℕ) → now < later → IfOk result (λ b. IsBefore b later) }
         ensures bytes { IfOk result (λ b. bank_bytes b ≡ 0) }
         ensures refused { IfErr result (λ e. e ≡ NoMemory) }
@@ -66,7 +78,10 @@ impl Bank {
         };
         let row = Row {
             label: Label::Finalized { since: now },
-            arrival: Some(Arrival { piece, step: now }),
+            arrival: Some(Arrival {
+                piece: Some(piece),
+                step: now,
+            }),
         };
         let mut rows = BTreeMap::new(alloc);
         rows::put(&mut rows, Tag::OPENING, row)?;
@@ -75,48 +90,10 @@ impl Bank {
             greatest: Tag::OPENING,
             bytes: 0,
             pointer: Pointer::Unset,
+            window: window::opened(delta),
+            retired: None,
             alloc,
         })
-    }
-
-    /// The pointer to the position after the bank's own.
-    pub fn pointer(&self) -> Pointer
-        ensures { result ≡ self.now.pointer }
-    {
-        self.pointer
-    }
-
-    /// How many tags there are.
-    pub fn count(&self) -> usize
-        ensures { result ≡ map.len self.now.rows }
-    {
-        self.rows.len()
-    }
-
-    /// The tag that has `i` others below it, with what is kept for it. It is found by a walk over those.
-    pub fn kept(&self, i: usize) -> (Tag, &Row)
-        requires { i < map.len self.now.rows }
-        ensures { slice_get (map.entries self.now.rows) i ≡ Some (result.0, result.1.now) }
-    {
-        match self.rows.iter().nth(i) {
-            Some((tag, row)) => (*tag, row),
-            None => unreachable!(),
-        }
-    }
-
-    /// How many bytes all the pieces have.
-    pub fn bytes(&self) -> u64
-        requires { bank_bytes self.now < 2 ^ 64 }
-        ensures { result ≡ bank_bytes self.now }
-    {
-        self.bytes
-    }
-
-    /// The same, added anew by one walk over the tags; or the greatest number where they have more.
-    pub fn bytes_anew(&self) -> u64
-        ensures { result ≡ min (bank_bytes self.now) (2 ^ 64 - 1) }
-    {
-        rows::bytes(&self.rows)
     }
 
     /// Answers the status of the pointer.
@@ -155,9 +132,10 @@ impl Bank {
         }
     }
 
-    /// Keeps `piece` for `tag`, unless a piece came before. A new tag is pre-written; a known one keeps its label.
+    /// Keeps `piece` for `tag`, unless a piece came before. A new tag is pre-written; a known one keeps its label. Where
+    /// the piece is not kept, that it came is.
     pub fn pre_write(&mut self, tag: Tag, piece: Piece, now: Stamp) -> Result<Reply, Refusal>
-        ensures bank { OnOk result (self.new ≡ pre_written self.old tag piece now) }
+        ensures bank { OnOk result (self.new ≡ collected (pre_written self.old tag piece now)) }
         ensures reply { IfOk result (λ r. r ≡ record { step = now; answer = answer.Done }) }
         ensures served { IsBefore self.old now
             → IfOk result (λ r. IsServed self.old self.new now (kind.PreWrite tag) r.answer) }
@@ -167,16 +145,18 @@ impl Bank {
         ensures known { IsTrue (knows self.old tag) → IsOk result }
     {
         let added = rows::fill(&mut self.rows, tag, piece, now)?;
-        self.bytes = self.bytes.saturating_add(added);
+        let late = window::late(self.window, self.retired, &self.rows, tag);
+        let freed = rows::empty(&mut self.rows, late);
+        self.bytes = self.bytes.wrapping_add(added).wrapping_sub(freed);
         Ok(Reply {
             step: now,
             answer: Answer::Done,
         })
     }
 
-    /// Makes `tag` final. A new tag is finalized without a piece.
+    /// Makes `tag` final, and drops the piece that is no longer kept. A new tag is finalized without a piece.
     pub fn finalize(&mut self, tag: Tag, now: Stamp) -> Result<Reply, Refusal>
-        ensures bank { OnOk result (self.new ≡ finalized self.old tag now) }
+        ensures bank { OnOk result (self.new ≡ collected (finalized self.old tag now)) }
         ensures reply { IfOk result (λ r. r ≡ record { step = now; answer = answer.Done }) }
         ensures served { IsBefore self.old now
             → IfOk result (λ r. IsServed self.old self.new now (kind.Finalize tag) r.answer) }
@@ -185,26 +165,32 @@ impl Bank {
         ensures unchanged { OnErr result (self.new ≡ self.old) }
         ensures known { IsTrue (knows self.old tag) → IsOk result }
     {
-        rows::finalize(&mut self.rows, tag, now)?;
+        let anew = rows::finalize(&mut self.rows, tag, now)?;
         self.greatest = self.greatest.later(tag);
+        let fallen = window::admit(&mut self.window, anew, &self.rows, tag);
+        let freed = rows::empty(&mut self.rows, fallen);
+        self.bytes = self.bytes.wrapping_sub(freed);
         Ok(Reply {
             step: now,
             answer: Answer::Done,
         })
     }
 
-    /// Makes `tag` final, as `finalize` does, and answers its piece, which shares its bytes with the one that is kept.
+    /// Makes `tag` final, as `finalize` does, and answers its piece if that is still there. The answer shares its bytes
+    /// with the piece that is kept.
     pub fn fetch(&mut self, tag: Tag, now: Stamp) -> Result<Reply, Refusal>
-        ensures bank { OnOk result (self.new ≡ finalized self.old tag now) }
-        ensures reply { IfOk result (λ r. r ≡ record { step = now; answer = answer.Piece (piece_of self.old tag) }) }
+        ensures bank { OnOk result (self.new ≡ collected (finalized self.old tag now)) }
+        ensures reply { IfOk result (λ r.
+            r ≡ record { step = now; answer = answer.Piece (fetched_piece self.old tag) }) }
+
         ensures served { IsBefore self.old now
             → IfOk result (λ r. IsServed self.old self.new now (kind.Fetch tag) r.answer) }
 
         ensures refused { IfErr result (λ e. e ≡ NoMemory) }
         ensures unchanged { OnErr result (self.new ≡ self.old) }
-        ensures known { IsTrue (knows self.old tag) → IsNone (piece_of self.old tag) → IsOk result }
+        ensures known { IsTrue (knows self.old tag) → IsNone (fetched_piece self.old tag) → IsOk result }
     {
-        let piece = self.copy_of(tag)?;
+        let piece = self.copy_to_answer(tag)?;
         self.finalize(tag, now)?;
         Ok(Reply {
             step: now,
@@ -212,12 +198,32 @@ impl Bank {
         })
     }
 
-    // A copy of the tag's piece.
-    fn copy_of(&self, tag: Tag) -> Result<Option<HeldPiece>, Refusal>
-        ensures copy { IfOk result (λ p. p ≡ piece_of self.now tag) }
-        ensures refused { IfErr result (λ e. e ≡ NoMemory) }
-        ensures none { IsNone (piece_of self.now tag) → IsOk result }
+    /// Drops all pieces, and those that come from now on. Answers how many bytes that frees.
+    ///
+    /// It takes time in the number of tags.
+    pub fn retire(&mut self, now: Stamp) -> u64
+        ensures bank { self.new ≡ retired_bank self.old now }
+        ensures freed { bank_bytes self.old < 2 ^ 64 → result ≡ bank_bytes self.old }
+        ensures none { bank_bytes self.new ≡ 0 }
     {
+        let freed = self.bytes;
+        rows::empty_all(&mut self.rows);
+        self.bytes = 0;
+        if self.retired.is_none() {
+            self.retired = Some(now);
+        }
+        freed
+    }
+
+    // A copy of the piece that a fetch of the tag answers.
+    fn copy_to_answer(&self, tag: Tag) -> Result<Option<HeldPiece>, Refusal>
+        ensures copy { IfOk result (λ p. p ≡ fetched_piece self.now tag) }
+        ensures refused { IfErr result (λ e. e ≡ NoMemory) }
+        ensures none { IsNone (fetched_piece self.now tag) → IsOk result }
+    {
+        if self.retired.is_some() || window::is_excluded(self.window, tag) {
+            return Ok(None);
+        }
         match self.row_of(tag) {
             Some(row) => row.copy_of_piece(self.alloc),
             None => Ok(None),

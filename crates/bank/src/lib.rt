@@ -3,13 +3,15 @@
 //! of ARES (Nicolaou, Cadambe, Prakash, Trigeorgi, Konwar, Médard and Lynch, 2019).
 #![tactic(auto)]
 
-ghost use Rattle.std.specs.Prelude.{◌≡◌, ℕ, ◌+◌, ◌<◌, IsSome};
+ghost use Rattle.std.specs.Prelude.{◌≡◌, ℕ, ◌+◌, ◌<◌, ◌≤◌, ◌↔◌, Option, Some, None, IsSome};
 ghost use Rattle.tag.specs.Tag.{opening_tag};
-ghost use Rattle.bank.specs.Bank.{Bank as Table};
+ghost use Rattle.tag.specs.declared.tag.Tag.{Tag as Version};
+ghost use Rattle.bank.specs.Bank.{Bank as Table, opened_bank, piece_of};
 ghost use Rattle.bank.specs.Bytes.{bank_bytes, added_bytes};
-ghost use Rattle.bank.specs.Knowledge.{finalized_at, IsTrueAnswer};
+ghost use Rattle.bank.specs.Collect.{IsCollected, KeepsAll, fetched_piece, final_pieces, retired_bank};
+ghost use Rattle.bank.specs.Knowledge.{finalized_at, HadPiece, HoldsPiece, IsTrueAnswer};
 ghost use Rattle.bank.specs.Facts.{IsBefore, SameBefore};
-ghost use Rattle.bank.specs.Serve.{served_bank, answer_to, kind_of};
+ghost use Rattle.bank.specs.Serve.{served_bank, uncollected_bank, freed_bytes, answer_to, kind_of};
 ghost use Rattle.bank.specs.declared.request.Request.{Request as Asked};
 
 pub use bank::Bank;
@@ -29,28 +31,56 @@ mod row;
 mod rows;
 mod serve;
 mod status;
+mod window;
 #[cfg(test)]
 mod tests;
 
-/// Of each step before `now`, a bank says the same after any request at `now`.
+/// Of each step before `now`, a bank says the same after any request at `now`, and after it is retired.
 pub fn serving_keeps_the_past()
-    ensures { (b : Table) (q : Asked) (now : ℕ) → SameBefore b (served_bank b q now) now }
+    ensures served { (b : Table) (q : Asked) (now : ℕ) → SameBefore b (served_bank b q now) now }
+    ensures retired { (b : Table) (now : ℕ) → SameBefore b (retired_bank b now) now }
 {}
 
 /// Where all that a member knows came before `now`, it came before any later step once a request is served at `now`.
 pub fn serving_keeps_order()
-    ensures { (b : Table) (q : Asked) (now later : ℕ)
+    ensures served { (b : Table) (q : Asked) (now later : ℕ)
         → now < later → IsBefore b now → IsBefore (served_bank b q now) later }
+    ensures retired { (b : Table) (now later : ℕ) → now < later → IsBefore b now → IsBefore (retired_bank b now) later }
 {}
 
 /// The answer to a request at a step after all that a member knows is true of the bank that it leaves.
 pub fn replies_are_true()
     ensures { (b : Table) (q : Asked) (now : ℕ)
-        → IsBefore b now → IsSome (finalized_at b opening_tag)
+        → IsBefore b now → IsSome (finalized_at b opening_tag) → IsCollected b
         → IsTrueAnswer (served_bank b q now) now (kind_of q) (answer_to b q) }
 {}
 
-/// A request adds the bytes of a piece that it brings, and no others.
+/// A bank has just the pieces that are kept: so it begins, and so it stays.
+pub fn serving_collects()
+    ensures opened { (point : ℕ) (delta : Option ℕ) (now : ℕ) → IsCollected (opened_bank point delta now) }
+    ensures served { (b : Table) (q : Asked) (now : ℕ) → IsCollected b → IsCollected (served_bank b q now) }
+    ensures retired { (b : Table) (now : ℕ) → IsCollected (retired_bank b now) }
+{}
+
+/// A bank with `delta` has at most `delta` + 1 pieces of finalized tags, whatever it was asked.
+pub fn few_are_kept()
+    ensures { (b : Table) (delta : ℕ) → IsCollected b → b.delta ≡ Some delta → final_pieces b ≤ delta + 1 }
+{}
+
+/// A request adds the bytes of a piece that it brings, and takes off those of the pieces that are no longer kept.
 pub fn serving_adds_bytes()
-    ensures { (b : Table) (q : Asked) (now : ℕ) → bank_bytes (served_bank b q now) ≡ bank_bytes b + added_bytes b q }
+    ensures { (b : Table) (q : Asked) (now : ℕ)
+        → bank_bytes (served_bank b q now) + freed_bytes b q now ≡ bank_bytes b + added_bytes b q }
+{}
+
+/// A bank without `delta` that is not retired drops nothing: a request leaves all that it brought, a fetch answers what
+/// came, and a member holds what it had. It stays one.
+pub fn serving_keeps_all()
+    ensures opened { (point now : ℕ) → KeepsAll (opened_bank point None now) }
+    ensures served { (b : Table) (q : Asked) (now : ℕ)
+        → KeepsAll b → served_bank b q now ≡ uncollected_bank b q now }
+
+    ensures stays { (b : Table) (q : Asked) (now : ℕ) → KeepsAll b → KeepsAll (served_bank b q now) }
+    ensures fetched { (b : Table) (tag : Version) → KeepsAll b → fetched_piece b tag ≡ piece_of b tag }
+    ensures holds { (b : Table) (tag : Version) (step : ℕ) → KeepsAll b → HoldsPiece b tag step ↔ HadPiece b tag step }
 {}

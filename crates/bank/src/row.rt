@@ -1,4 +1,5 @@
-ghost use Rattle.std.specs.Prelude.{◌≡◌, ◌<◌, ◌^◌, length, is_some, if◌then◌else◌, Some, IfOk, IfErr, IsOk, IsNone};
+ghost use Rattle.std.specs.Prelude.{◌≡◌, ◌<◌, ◌^◌, length, is_some, not, if◌then◌else◌, Some, IfOk, IfErr, IsOk, IsNone};
+ghost use Rattle.std.specs.Prelude.{option_copied};
 ghost use Rattle.tag.specs.declared.refusal.Refusal.TheVariants.{NoMemory};
 
 use crate::HeldPiece;
@@ -13,10 +14,10 @@ pub enum Label {
     Finalized { since: Stamp },
 }
 
-/// A piece, with the step at which it came.
+/// That a piece came, with the step at which it did, and the piece while it is kept.
 #[derive(Clone, Debug, PartialEq, Eq, Drop)]
 pub struct Arrival {
-    pub piece: Piece,
+    pub piece: Option<Piece>,
     pub step: Stamp,
 }
 
@@ -29,7 +30,8 @@ pub struct Row {
 
 impl Row {
     ghost use Rattle.bank.specs.Bank.{finalized_row, filled_row, piece_of_row};
-    ghost use Rattle.bank.specs.Knowledge.{is_finalized};
+    ghost use Rattle.bank.specs.Knowledge.{is_finalized, row_arrived};
+    ghost use Rattle.bank.specs.Collect.{emptied_row};
     ghost use Rattle.bank.specs.Bytes.{row_bytes};
 
     /// Whether the tag is final.
@@ -42,51 +44,79 @@ impl Row {
         }
     }
 
-    /// How many bytes the piece has, where one came.
+    /// The piece, where one came and is kept.
+    pub fn piece(&self) -> Option<&Piece>
+        ensures { option_copied result ≡ piece_of_row (Some self.now) }
+    {
+        match &self.arrival {
+            Some(arrival) => arrival.piece.as_ref(),
+            None => None,
+        }
+    }
+
+    /// How many bytes the piece has, where there is one.
     pub fn bytes(&self) -> u64
         ensures value { result ≡ row_bytes self.now }
         ensures bound { result < 2 ^ 63 }
     {
-        match &self.arrival {
-            Some(arrival) => arrival.piece.bytes.len() as u64,
+        match self.piece() {
+            Some(piece) => piece.bytes.len() as u64,
             None => 0,
         }
     }
 
-    /// A copy of the piece, where one came.
+    /// A copy of the piece, where there is one.
     pub(crate) fn copy_of_piece(&self, alloc: Global) -> Result<Option<HeldPiece>, Refusal>
         ensures copy { IfOk result (λ p. p ≡ piece_of_row (Some self.now)) }
         ensures refused { IfErr result (λ e. e ≡ NoMemory) }
         ensures none { IsNone (piece_of_row (Some self.now)) → IsOk result }
     {
-        match &self.arrival {
-            Some(arrival) => {
-                let copy = arrival.piece.clone()?;
+        match self.piece() {
+            Some(piece) => {
+                let copy = piece.clone()?;
                 Ok(Some(HeldPiece::new(alloc, copy)?))
             }
             None => Ok(None),
         }
     }
 
-    /// Makes the tag final at step `now`, where it is not yet.
-    pub(crate) fn finalize(&mut self, now: Stamp)
-        ensures { self.new ≡ finalized_row self.old now }
+    /// Makes the tag final at step `now`, where it is not yet. Answers whether it was not.
+    pub(crate) fn finalize(&mut self, now: Stamp) -> bool
+        ensures row { self.new ≡ finalized_row self.old now }
+        ensures anew { result ≡ not (is_finalized self.old.label) }
     {
-        if let Label::PreWritten { since: _ } = self.label {
-            self.label = Label::Finalized { since: now };
+        if self.is_finalized() {
+            return false;
         }
+        self.label = Label::Finalized { since: now };
+        true
     }
 
     /// Keeps `piece`, which comes at step `now`, where no piece came before. Answers how many bytes it adds.
     pub(crate) fn fill(&mut self, piece: Piece, now: Stamp) -> u64
         ensures row { self.new ≡ filled_row self.old piece now }
-        ensures added { result ≡ (if is_some (piece_of_row (Some self.old)) then 0 else length piece.bytes) }
+        ensures added { result ≡ (if is_some (row_arrived (Some self.old)) then 0 else length piece.bytes) }
     {
         if self.arrival.is_some() {
             return 0;
         }
         let added = piece.bytes.len() as u64;
-        self.arrival = Some(Arrival { piece, step: now });
+        self.arrival = Some(Arrival {
+            piece: Some(piece),
+            step: now,
+        });
         added
+    }
+
+    /// Drops the piece, where there is one; the step at which it came stays. Answers how many bytes that frees.
+    pub(crate) fn empty(&mut self) -> u64
+        ensures row { self.new ≡ emptied_row self.old }
+        ensures freed { result ≡ row_bytes self.old }
+    {
+        let freed = self.bytes();
+        if let Some(arrival) = &mut self.arrival {
+            arrival.piece = None;
+        }
+        freed
     }
 }

@@ -1,11 +1,14 @@
-ghost use Rattle.std.specs.Prelude.{◌≡◌, ◌-◌, ◌^◌, min, sum_by, length, is_some, if◌then◌else◌, Some, None, IfOk};
-ghost use Rattle.std.specs.Prelude.{IfErr, OnOk, OnErr};
+ghost use Rattle.std.specs.Prelude.{◌≡◌, ◌-◌, ◌^◌, min, sum_by, length, is_some, not, if◌then◌else◌, Some, None, IfOk};
+ghost use Rattle.std.specs.Prelude.{IfErr, OnOk, OnErr, map};
 ghost use Rattle.std.specs.BTreeMap.{get, Updates, IsOrdered, IsUnchanged};
 ghost use Rattle.tag.specs.Tag.{tag_cmp};
 ghost use Rattle.tag.specs.declared.refusal.Refusal.TheVariants.{NoMemory};
 ghost use Rattle.std.specs.BTreeMap.{values};
+ghost use Rattle.bank.specs.Bank.{row_after_pre_write, row_after_finalize};
 ghost use Rattle.bank.specs.Bytes.{row_bytes};
-ghost use Rattle.bank.specs.Bank.{row_after_pre_write, row_after_finalize, piece_of_row};
+ghost use Rattle.bank.specs.Collect.{emptied_entry};
+ghost use Rattle.bank.specs.Knowledge.{row_finalized, row_arrived};
+ghost use Rattle.bank.specs.Window.{final_after, without_piece, freed_by};
 
 use crate::{Arrival, Label, Row};
 use encoder::Piece;
@@ -35,7 +38,7 @@ pub fn fill(
         (Some (row_after_pre_write (get tag_cmp rows.old tag) piece now))) }
 
     ensures added { IfOk result (λ n.
-        n ≡ (if is_some (piece_of_row (get tag_cmp rows.old tag)) then 0 else length piece.bytes)) }
+        n ≡ (if is_some (row_arrived (get tag_cmp rows.old tag)) then 0 else length piece.bytes)) }
 
     ensures refused { IfErr result (λ e. e ≡ NoMemory) }
     ensures unchanged { OnErr result (IsUnchanged rows.old rows.new) }
@@ -48,32 +51,80 @@ pub fn fill(
     let added = piece.bytes.len() as u64;
     let row = Row {
         label: Label::PreWritten { since: now },
-        arrival: Some(Arrival { piece, step: now }),
+        arrival: Some(Arrival {
+            piece: Some(piece),
+            step: now,
+        }),
     };
     put(rows, tag, row)?;
     Ok(added)
 }
 
-// Makes `tag` final. A new tag is finalized without a piece.
-pub fn finalize(rows: &mut BTreeMap<Tag, Row>, tag: Tag, now: Stamp) -> Result<(), Refusal>
+// Makes `tag` final. A new tag is finalized without a piece. Answers whether the tag was not final before.
+pub fn finalize(rows: &mut BTreeMap<Tag, Row>, tag: Tag, now: Stamp) -> Result<bool, Refusal>
     ensures rows { OnOk result (Updates tag_cmp rows.old rows.new tag
         (Some (row_after_finalize (get tag_cmp rows.old tag) now))) }
 
+    ensures anew { IfOk result (λ anew. anew ≡ not (is_some (row_finalized (get tag_cmp rows.old tag)))) }
     ensures refused { IfErr result (λ e. e ≡ NoMemory) }
     ensures unchanged { OnErr result (IsUnchanged rows.old rows.new) }
     ensures absent { OnErr result (get tag_cmp rows.old tag ≡ None) }
     ensures ordered { IsOrdered tag_cmp rows.new }
 {
     if let Some(row) = rows.get_mut(&tag) {
-        row.finalize(now);
-        return Ok(());
+        return Ok(row.finalize(now));
     }
     let row = Row {
         label: Label::Finalized { since: now },
         arrival: None,
     };
     put(rows, tag, row)?;
-    Ok(())
+    Ok(true)
+}
+
+// Whether `tag` is final.
+pub fn is_final(rows: &BTreeMap<Tag, Row>, tag: Tag) -> bool
+    ensures { result ≡ is_some (row_finalized (get tag_cmp rows.now tag)) }
+{
+    match rows.get(&tag) {
+        Some(row) => row.is_finalized(),
+        None => false,
+    }
+}
+
+// The least final tag above `tag`. It is found by a search for `tag` and a walk over the pre-written tags behind it.
+pub fn next_final(rows: &BTreeMap<Tag, Row>, tag: Tag) -> Option<Tag>
+    ensures next { result ≡ final_after tag rows.now.entries }
+    ensures ordered { IsOrdered tag_cmp rows.now }
+{
+    rows.range(tag..)
+        .find(|(other, row)| tag < **other && row.is_finalized())
+        .map(|(other, _)| *other)
+}
+
+// Drops the piece of `tag`, where there is one. Answers how many bytes that frees.
+pub fn empty(rows: &mut BTreeMap<Tag, Row>, tag: Option<Tag>) -> u64
+    ensures rows { (q : Tag) → get tag_cmp rows.new q ≡ without_piece tag q (get tag_cmp rows.old q) }
+    ensures freed { result ≡ freed_by tag rows.old.entries }
+    ensures ordered { IsOrdered tag_cmp rows.old → IsOrdered tag_cmp rows.new }
+{
+    let Some(tag) = tag else {
+        return 0;
+    };
+    match rows.get_mut(&tag) {
+        Some(row) => row.empty(),
+        None => 0,
+    }
+}
+
+// Drops all pieces.
+pub fn empty_all(rows: &mut BTreeMap<Tag, Row>)
+    ensures { rows.new.entries ≡ map emptied_entry rows.old.entries }
+{
+    rows.retain(|_, row| {
+        row.empty();
+        true
+    });
 }
 
 // How many bytes all the pieces have, or the greatest number where they have more.

@@ -38,7 +38,7 @@ fn assert_keeps(rt: &impl Abort, bank: &Bank, rows: [(Tag, Label, Option<Stamp>)
 #[test]
 fn answers_the_table_of_requests(rt: HostRuntime) -> Result<(), Fail> {
     let alloc = rt.alloc();
-    let mut bank = Bank::new(alloc, 1, 1)?;
+    let mut bank = Bank::new(alloc, 1, None, 1)?;
     let table = [
         (2, Request::Finalize(FIRST), Answer::Done),
         (3, Request::Query, Answer::Greatest(FIRST)),
@@ -77,7 +77,7 @@ fn answers_the_table_of_requests(rt: HostRuntime) -> Result<(), Fail> {
 #[test]
 fn keeps_tags_in_rising_order(rt: HostRuntime) -> Result<(), Fail> {
     let alloc = rt.alloc();
-    let mut bank = Bank::new(alloc, 1, 1)?;
+    let mut bank = Bank::new(alloc, 1, None, 1)?;
     assert_eq!(rt; bank.bytes(), 0);
     bank.pre_write(SECOND, piece(alloc)?, 2)?;
     bank.finalize(FIRST, 3)?;
@@ -95,5 +95,73 @@ fn keeps_tags_in_rising_order(rt: HostRuntime) -> Result<(), Fail> {
         ],
     );
     assert_eq!(rt; bank.bytes_anew(), 3);
+    Ok(())
+}
+
+// What a bank keeps for a tag: whether a piece came, whether it is there, and how many bytes all pieces have.
+fn assert_piece(rt: &impl Abort, bank: &Bank, tag: Tag, came: bool, there: bool) {
+    for i in 0..bank.count() {
+        let (kept, row) = bank.kept(i);
+        if kept == tag {
+            assert_eq!(rt; row.arrival.is_some(), came);
+            assert_eq!(rt; row.piece().is_some(), there);
+        }
+    }
+}
+
+// With delta 0 only the newest final tag keeps its piece. Each piece has 3 bytes, that of the opening tag none.
+#[test]
+fn drops_what_is_older(rt: HostRuntime) -> Result<(), Fail> {
+    let alloc = rt.alloc();
+    let mut bank = Bank::new(alloc, 1, Some(0), 1)?;
+    bank.pre_write(FIRST, piece(alloc)?, 2)?;
+    bank.pre_write(SECOND, piece(alloc)?, 3)?;
+    assert_eq!(rt; bank.bytes_anew(), 6);
+    bank.finalize(FIRST, 4)?;
+    assert_piece(&rt, &bank, Tag::OPENING, true, false);
+    assert_piece(&rt, &bank, FIRST, true, true);
+    bank.finalize(SECOND, 5)?;
+    assert_piece(&rt, &bank, FIRST, true, false);
+    assert_piece(&rt, &bank, SECOND, true, true);
+    assert_eq!(rt; bank.bytes_anew(), 3);
+    Ok(())
+}
+
+// A piece that comes for an older final tag is not kept, one that is fetched there is dropped first.
+#[test]
+fn keeps_nothing_that_comes_late(rt: HostRuntime) -> Result<(), Fail> {
+    let alloc = rt.alloc();
+    let mut bank = Bank::new(alloc, 1, Some(0), 1)?;
+    let table = [
+        (2, Request::PreWrite(FIRST, piece(alloc)?), Answer::Done),
+        (3, Request::Finalize(SECOND), Answer::Done),
+        (4, Request::Fetch(FIRST), Answer::Piece(None)),
+        (5, Request::PreWrite(FIRST, piece(alloc)?), Answer::Done),
+        (6, Request::PreWrite(SECOND, piece(alloc)?), Answer::Done),
+        (7, Request::Fetch(SECOND), Answer::Piece(Some(held(alloc)?))),
+    ];
+    for (step, request, answer) in table {
+        assert_eq!(rt; bank.serve(&request, step)?, Reply { step, answer });
+    }
+    assert_piece(&rt, &bank, FIRST, true, false);
+    assert_eq!(rt; bank.bytes_anew(), 3);
+    Ok(())
+}
+
+// With delta 1 the two newest final tags keep theirs; a retired bank keeps none.
+#[test]
+fn keeps_two_and_then_none(rt: HostRuntime) -> Result<(), Fail> {
+    let alloc = rt.alloc();
+    let mut bank = Bank::new(alloc, 1, Some(1), 1)?;
+    for (step, tag) in [(2, FIRST), (4, SECOND)] {
+        bank.pre_write(tag, piece(alloc)?, step)?;
+        bank.finalize(tag, step + 1)?;
+    }
+    assert_piece(&rt, &bank, Tag::OPENING, true, false);
+    assert_piece(&rt, &bank, FIRST, true, true);
+    assert_eq!(rt; bank.bytes_anew(), 6);
+    bank.retire(6);
+    assert_eq!(rt; bank.bytes_anew(), 0);
+    assert_eq!(rt; bank.fetch(SECOND, 7)?.answer, Answer::Piece(None));
     Ok(())
 }

@@ -1,23 +1,25 @@
-use Rattle.std.proofs.Common.{sym, ap, ◌∙◌, subst}
+use Rattle.std.proofs.Common.{◌≡◌, sym, ap, ◌∙◌, subst, refl}
 use Rattle.bank.specs.Bank.{Bank}
 use Rattle.bank.specs.Bytes.{bank_bytes}
 use Rattle.bank.specs.Facts.{IsBefore}
+use Rattle.bank.specs.Kept.{bank_of, IsKeptBank}
+use Rattle.bank.specs.declared.status.Pointer.TheVariants.{Unset}
 use Rattle.bank.proofs.Account.{opened_bytes}
-use Rattle.bank.proofs.Kept.{bank_opened, kept_opened}
+use Rattle.bank.proofs.Opening.{bank_opened, kept_opened}
 use Rattle.bank.proofs.Truth.{opened_before}
 use Rattle.bank.proofs.bank.Bank.new.Goals as goal
 
 pub invariant_of-result : goal.invariant_of-result
-invariant_of-result c = kept_opened c.new-rows.result.entries c.put.new.rows.entries c.args.point c.args.now c.new.result
+invariant_of-result c = kept_opened c.new-rows.result.entries c.put.new.rows.entries c.args.point c.args.delta c.args.now c.new.result
     c.new-rows.ensures.empty c.new-rows.ensures.ordered c.put.ensures.ordered c.new.ensures c.in_ok-put.ensures.rows.0
 
 pub returns-clause-bank : goal.returns-clause-bank
-returns-clause-bank c = bank_opened c.new-rows.result.entries c.put.new.rows.entries c.args.point c.args.now c.new.result
+returns-clause-bank c = bank_opened c.new-rows.result.entries c.put.new.rows.entries c.args.point c.args.delta c.args.now c.new.result
     c.new-rows.ensures.empty c.new-rows.ensures.ordered c.put.ensures.ordered c.new.ensures c.in_ok-put.ensures.rows.0
 
 pub returns-clause-order : goal.returns-clause-order
 returns-clause-order c later after = subst (λ (b : Bank). IsBefore b later) (sym (returns-clause-bank c))
-    (opened_before c.args.point c.args.now later after)
+    (opened_before c.args.point c.args.delta c.args.now later after)
 
 pub returns-clause-bytes : goal.returns-clause-bytes
-returns-clause-bytes c = ap bank_bytes (returns-clause-bank c) ∙ opened_bytes c.args.point c.args.now
+returns-clause-bytes c = ap bank_bytes (returns-clause-bank c) ∙ opened_bytes c.args.point c.args.delta c.args.now

@@ -1,0 +1,5 @@
+use Rattle.bank.proofs.Few.{few_kept}
+use Rattle.bank.proofs.few_are_kept.Goals as goal
+
+pub returns : goal.returns
+returns c = few_kept

@@ -1,0 +1,7 @@
+use Rattle.std.proofs.Common.{rules}
+use Rattle.std.proofs.lemmas.Map.Made.{map_same_pairs}
+use Rattle.bank.specs.Collect.{emptied_row}
+use Rattle.bank.proofs.rows.empty_all.Goals as goal
+
+pub returns : goal.returns
+returns c = ?
