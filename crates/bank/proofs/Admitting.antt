@@ -126,8 +126,10 @@ module _ (es fs : Rows) (w : Window) (tag : Tag) (is : IsWindow es w) (f : Final
       full = λ short t final. absurd (let less = short in omega (arith, less, is_full));
     };
     delta = refl;
-    gone = λ t e. (subst (λ t. is_final_in fs t ≡ true) (some_inj tag t e) f.new,
-        subst (λ t. excludes w t ≡ true) (some_inj tag t e) (both (w.above == w.delta) (tag_lt tag w.least) (is_equal w.above w.delta is_full) below));
+    gone = λ t e. (
+      subst (λ t. is_final_in fs t ≡ true) (some_inj tag t e) f.new,
+      subst (λ t. excludes w t ≡ true) (some_inj tag t e) (both (w.above == w.delta) (tag_lt tag w.least) (is_equal w.above w.delta is_full) below),
+    );
     only = λ t final out. which t out (f.others t final);
   }
     where
@@ -165,9 +167,11 @@ module _ (es fs : Rows) (w : Window) (tag : Tag) (is : IsWindow es w) (f : Final
       full = λ short t final. absurd (let less = short in omega (arith, less, is_full));
     };
     delta = refl;
-    gone = λ t e. (subst (λ t. is_final_in fs t ≡ true) (some_inj w.least t e) (f.stays w.least is.least),
-        subst (λ t. (w.above == w.delta && tag_lt t next) ≡ true) (some_inj w.least t e)
-        (both (w.above == w.delta) (tag_lt w.least next) (is_equal w.above w.delta is_full) (after_above w.least next fs found)));
+    gone = λ t e. (
+      subst (λ t. is_final_in fs t ≡ true) (some_inj w.least t e) (f.stays w.least is.least),
+      subst (λ t. (w.above == w.delta && tag_lt t next) ≡ true) (some_inj w.least t e)
+          (both (w.above == w.delta) (tag_lt w.least next) (is_equal w.above w.delta is_full) (after_above w.least next fs found)),
+    );
     only = λ t final out. which t final (and_parts (w.above == w.delta) (tag_lt t next) out).1 (tag_lt w.least t) refl (tag_lt t w.least) refl;
   }
     where
@@ -195,8 +199,10 @@ module _ (es fs : Rows) (w : Window) (tag : Tag) (is : IsWindow es w) (f : Final
           let fewer = after_count w.least next fs (is_sorted-rise fs f.risen) found in
           omega (arith, first, second, fewer))
       which t final less false least true below =
-          inr (old t below (f.others t final),
-          both (w.above == w.delta) (tag_lt t w.least) (is_equal w.above w.delta is_full) below)
+          inr (
+            old t below (f.others t final),
+            both (w.above == w.delta) (tag_lt t w.least) (is_equal w.above w.delta is_full) below,
+          )
       which t final less false least false same = inl (ap (λ t. Some t) (same_tag w.least t least same))
 
   -- in each case

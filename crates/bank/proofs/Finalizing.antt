@@ -21,6 +21,12 @@ use Rattle.bank.proofs.Above.{is_final_in, above}
 use Rattle.bank.proofs.Windows.{excludes_is}
 use Rattle.bank.proofs.Admitting.{Finalizes, IsAdmitted, admits}
 
+-- a window excludes what has more final tags above it than delta
+pub exceeds_is : (es : Rows) → Rise es → (w : Option Window) (t : Tag) → IsWindowed es w
+    → exceeds (option_map (λ (w : Window). w.delta) w) (above t es) ≡ is_excluded w t
+exceeds_is es rise None t windowed = refl
+exceeds_is es rise (Some w) t windowed = sym (excludes_is es w rise windowed t)
+
 module _ (es : Rows) (rise : Rise es) (p : Pointer) (w : Option Window) (r : Option ℕ) (t : Tag) where
   pub final_in : is_some (finalized_at (bank_of es p w r) t) ≡ is_final_in es t
   final_in = ap (λ o. is_some (row_finalized o)) (get-rise es rise t)
@@ -33,13 +39,9 @@ module _ (es : Rows) (rise : Rise es) (p : Pointer) (w : Option Window) (r : Opt
   dropped_is windowed =
       ap (λ f. is_some r || (f && exceeds (option_map (λ (w : Window). w.delta) w) (finals_above (bank_of es p w r) t))) final_in
       ∙ ap (λ n. is_some r || (is_final_in es t && exceeds (option_map (λ (w : Window). w.delta) w) n)) above_in
-      ∙ ap (λ e. is_some r || (is_final_in es t && e)) (by_window w windowed)
+      ∙ ap (λ e. is_some r || (is_final_in es t && e)) (exceeds_is es rise w t windowed)
       ∙ ap (λ b. is_some r || b) (turned (is_final_in es t) (is_excluded w t))
     where
-      by_window : (w : Option Window) → IsWindowed es w → exceeds (option_map (λ (w : Window). w.delta) w) (above t es) ≡ is_excluded w t
-      by_window None windowed = refl
-      by_window (Some w) windowed = sym (excludes_is es w rise windowed t)
-
       turned : (a b : Bool) → (a && b) ≡ (b && a)
       turned true true = refl
       turned true false = refl

@@ -18,3 +18,4 @@ pub mod Dropping
 pub mod Kept
 pub mod Opening
 pub mod Searching
+pub mod Answering

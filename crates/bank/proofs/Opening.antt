@@ -1,6 +1,6 @@
 -- A bank that is just opened, and one that is retired.
-use Rattle.std.proofs.Common.{◌≡◌, ℕ, ◌+◌, ◌%◌, ◌^◌, Bool, true, false, cond, ◌&&◌, ◌||◌, List, [], ◌∷◌, map, length, Option, Some, None}
-use Rattle.std.proofs.Common.{is_some, option_map, sum_by, sym, ap, ◌∙◌, subst, refl, arith}
+use Rattle.std.proofs.Common.{◌≡◌, ℕ, ◌+◌, ◌%◌, ◌^◌, Bool, true, false, cond, ◌&&◌, ◌||◌, List, [], ◌∷◌, map, length, Option}
+use Rattle.std.proofs.Common.{Some, None, is_some, option_map, sum_by, sym, ap, ◌∙◌, subst, refl, arith}
 use Rattle.std.specs.FinMap as map
 use Rattle.std.specs.BTreeMap.{is_at}
 use Rattle.std.specs.Map.{keys_of}
@@ -56,8 +56,12 @@ module _ (es fs : Rows) (point : ℕ) (delta : Option ℕ) (now : ℕ) (bytes : 
 
   pub bank_opened : bank_of fs Unset (opened_windows delta) None ≡ opened_bank point delta now
   bank_opened =
-      ap (λ m. let b : Bank = record { rows = m; pointer = Unset; delta = option_map (λ (w : Window). w.delta) (opened_windows delta);
-      retired = None } in b)
+      ap (λ m. let b : Bank = record {
+        rows = m;
+        pointer = Unset;
+        delta = option_map (λ (w : Window). w.delta) (opened_windows delta);
+        retired = None;
+      } in b)
       (insert-rise es fs rise risen opening_tag (first_row point now bytes) updates
       ∙ ap (λ m. map.insert m opening_tag (first_row point now bytes)) first
       ∙ ap (λ bs. map.insert map.empty opening_tag (first_row point now bs)) empty)
@@ -89,6 +93,14 @@ module _ (es fs : Rows) (point : ℕ) (delta : Option ℕ) (now : ℕ) (bytes : 
       }
 
 -- Retiring
+
+pub since-none : (r : Option ℕ) (now : ℕ) → is_some r ≡ false → since r now ≡ Some now
+since-none None now is = refl
+since-none (Some step) now is = absurd (cc)
+
+pub since-some : (r : Option ℕ) (now : ℕ) → is_some r ≡ true → since r now ≡ r
+since-some None now is = absurd (cc)
+since-some (Some step) now is = refl
 
 keys-emptied : (es : Rows) → keys_of (map emptied_entry es) ≡ keys_of es
 keys-emptied [] = refl

@@ -101,10 +101,10 @@ module _ (b : Bank) (tag : Tag) (now : ℕ) where
   dropped_itself =
       dropped_final (finalized b tag now) tag final_itself
       ∙ ap (λ n. is_some b.retired || exceeds b.delta n) (
-        let all = finals-finalized b tag now tag in
-        let none = ap (λ c. one_if (c && is_some (finalized_at b tag))) (lt-same tag) in
-        let nought = ap (λ c. one_if c) (lt-same tag) in
-        omega (arith, all, none, nought))
+      let all = finals-finalized b tag now tag in
+      let none = ap (λ c. one_if (c && is_some (finalized_at b tag))) (lt-same tag) in
+      let nought = ap (λ c. one_if c) (lt-same tag) in
+      omega (arith, all, none, nought))
 
   pub dropped-pre_written : (p : Piece) (t : Tag) → is_dropped (pre_written b tag p now) t ≡ is_dropped b t
   dropped-pre_written p t =
@@ -185,8 +185,8 @@ pub retired_collected : (b : Bank) (now : ℕ) → IsCollected (retired_bank b n
 retired_collected b now =
     let u : Bank = record { rows = b.rows; pointer = b.pointer; delta = b.delta; retired = since b.retired now } in
     collected_has u (λ t kept. absurd (
-      let gone : is_dropped u t ≡ true = ap (λ c. c || (is_some (finalized_at b t) && exceeds b.delta (finals_above u t))) (there b.retired) in
-      let no : false ≡ true = sym kept ∙ gone in cc))
+    let gone : is_dropped u t ≡ true = ap (λ c. c || (is_some (finalized_at b t) && exceeds b.delta (finals_above u t))) (there b.retired) in
+    let no : false ≡ true = sym kept ∙ gone in cc))
   where
     there : (o : Option ℕ) → is_some (since o now) ≡ true
     there None = refl

@@ -127,9 +127,11 @@ served_truth b (request.PreWrite tag piece) now before opening kept =
     ∙ ap (λ c. cond c (since (arrived_at b tag) now) (arrived_at b tag)) (tag_eq-same tag))
     ∙ since_by (arrived_at b tag) now (before.arrived tag)
 served_truth b (request.Finalize tag) now before opening kept = finalized_now b tag now before
-served_truth b (request.Fetch tag) now before opening kept =
-    (finalized_now b tag now before, fetched_truth b tag now before kept (grows_order b (finalized b tag now) now (suc now)
-    (grows_finalized b tag now) (omega arith) before))
+served_truth b (request.Fetch tag) now before opening kept = (
+  finalized_now b tag now before,
+  fetched_truth b tag now before kept (grows_order b (finalized b tag now) now (suc now)
+      (grows_finalized b tag now) (omega arith) before),
+)
 
 -- each request is rightly served
 pub served : (b : Bank) (q : Request) (now : ℕ) → IsBefore b now → (q ≡ request.Query → IsSome (finalized_at b opening_tag))

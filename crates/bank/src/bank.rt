@@ -54,7 +54,7 @@ impl Bank {
     ghost use Rattle.std.specs.FinMap as map;
     ghost use Rattle.bank.specs.Bank.{opened_bank, pre_written, finalized, with_pointer, knows};
     ghost use Rattle.bank.specs.Bytes.{bank_bytes};
-    ghost use Rattle.bank.specs.Collect.{collected, fetched_piece, retired_bank};
+    ghost use Rattle.bank.specs.Collect.{collected, IsCollected, fetched_piece, retired_bank};
     ghost use Rattle.bank.specs.Facts.{IsBefore, IsGreatest, IsServed};
     ghost use Rattle.bank.specs.Pointer.{status_of, raised};
     ghost use Rattle.bank.specs.Serve.{greatest_final};
@@ -220,6 +220,7 @@ impl Bank {
         ensures copy { IfOk result (λ p. p ≡ fetched_piece self.now tag) }
         ensures refused { IfErr result (λ e. e ≡ NoMemory) }
         ensures none { IsNone (fetched_piece self.now tag) → IsOk result }
+        ensures collected { IsCollected self.now }
     {
         if self.retired.is_some() || window::is_excluded(self.window, tag) {
             return Ok(None);

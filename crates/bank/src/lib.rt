@@ -31,9 +31,9 @@ mod row;
 mod rows;
 mod serve;
 mod status;
-mod window;
 #[cfg(test)]
 mod tests;
+mod window;
 
 /// Of each step before `now`, a bank says the same after any request at `now`, and after it is retired.
 pub fn serving_keeps_the_past()

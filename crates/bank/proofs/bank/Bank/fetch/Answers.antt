@@ -1,5 +1,4 @@
-use Rattle.std.proofs.Common.{ap, subst}
-use Rattle.bank.specs.Collect.{IsCollected}
+use Rattle.std.proofs.Common.{ap}
 use Rattle.bank.specs.declared.reply.Answer.TheVariants as answer
 use Rattle.bank.specs.declared.request.Request.TheVariants as request
 use Rattle.bank.proofs.Truth.{served_as}
@@ -7,6 +6,6 @@ use Rattle.bank.proofs.bank.Bank.fetch.Goals as goal
 
 pub returns-clause-served : goal.returns-clause-served
 returns-clause-served c =
-    served_as c.args.self.now c.finalize.new.self (request.Fetch c.args.tag) c.args.now (answer.Piece c.in_ok-piece.piece)
+    served_as c.args.self.now _ (request.Fetch c.args.tag) c.args.now (answer.Piece c.in_ok-piece.piece)
     (c.in_ok-finalize.ensures.bank) (ap answer.Piece c.in_ok-piece.ensures.copy) (λ is. absurd (cc))
-    (subst IsCollected c.self.view_is c.self.invariant.collected)
+    c.in_ok-piece.ensures.collected
