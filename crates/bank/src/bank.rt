@@ -19,9 +19,9 @@ mod reading;
 /// that the bank keeps, the clause `served` says that the past stays as it was and that the reply is true.
 /// A refusal is `NoMemory`: there was no room for a new tag, or for one more owner of a piece.
 ///
-/// A request that names a tag takes time in the logarithm of their number, and each other one the same time always. With
-/// `delta`, one that finalizes may also pass pre-written tags, which fall below what is kept: all requests together pass a
-/// tag once.
+/// A request that names a tag takes time in the logarithm of their number, and each other one the same time always.
+/// With `delta`, one that makes a tag final may also pass pre-written tags that come to lie below all that is kept:
+/// all requests together pass a tag once.
 #[derive(Debug, Drop)]
 pub struct Bank {
     rows: BTreeMap<Tag, Row>,
