@@ -13,7 +13,7 @@ invariant_of-self c =
     let below : length p.replies.items + 1 < p.quorum = omega (arith, c.if-len-from.true, c.len.ensures, c.push_reserved.ensures.len) in
     rw c.push_reserved.ensures.items (
       record_more p.members p.quorum p.replies.items (end_of p.quorum p.replies.items) _ c.args.taken c.self.invariant.0 unended missing
-      (ended_pushed p.quorum p.replies.items c.args.taken),
+          (ended_pushed p.quorum p.replies.items c.args.taken),
       omega (arith, c.self.invariant.1, c.push_reserved.ensures.capacity),
     )
 
@@ -26,7 +26,7 @@ invariant_of-self-2 c =
     let reached : p.quorum ≤ length p.replies.items + 1 = omega (arith, c.if-len-from.false, c.len.ensures, c.push_reserved.ensures.len) in
     rw c.push_reserved.ensures.items (
       record_more p.members p.quorum p.replies.items (end_of p.quorum p.replies.items) _ c.args.taken c.self.invariant.0 unended missing
-      (ended_pushed p.quorum p.replies.items c.args.taken),
+          (ended_pushed p.quorum p.replies.items c.args.taken),
       omega (arith, c.self.invariant.1, c.push_reserved.ensures.capacity),
     )
 
