@@ -2,7 +2,7 @@
 use Rattle.std.proofs.Common.{◌≡◌, ℕ, true, false, List, [], ◌∷◌, Option}
 use Rattle.std.proofs.Common.{Some, None, IsSome, is_some, refl, sym, subst, ap, ◌∙◌}
 use Rattle.tag.specs.declared.tag.Tag.{Tag}
-use Rattle.phase.specs.Phase.{Phase}
+use Rattle.phase.specs.Phase.{Phase, lacks_pieces}
 use Rattle.record.specs.declared.call.CallKind.{CallKind}
 use Rattle.record.specs.declared.call.CallKind.TheVariants.{Read, Write, Move}
 use Rattle.record.specs.declared.stage.Stage.{Stage}
@@ -27,7 +27,7 @@ record Begun (kind : CallKind) (number : ℕ) (stage : Stage) (phases : List Pha
 -- a complete phase before what a later stage begins with
 begun_on : (kind : CallKind) (number : ℕ) (stage : Stage) (phase : Phase) (later : List Phase) →
     due stage ≡ Some (phase.kind, phase.position) → IsEndedBefore phase later →
-    Begun kind number (after kind number stage phase.replies) later → Begun kind number stage (phase ∷ later)
+    Begun kind number (after kind number stage phase.replies (lacks_pieces phase)) later → Begun kind number stage (phase ∷ later)
 begun_on kind number stage phase later e ended rest = record {
   in_turn = (ended, rest.in_turn);
   finish = record {
@@ -70,19 +70,19 @@ begun_of kind number (phase ∷ []) stage orderly course = by_end phase.end refl
         begun_on kind number stage phase [] course.0 tt
         (record {
           in_turn = tt;
-          finish = finish kind number (after kind number stage phase.replies) (orderly_after kind number stage phase.replies orderly);
+          finish = finish kind number (after kind number stage phase.replies (lacks_pieces phase)) (orderly_after kind number stage phase.replies (lacks_pieces phase) orderly);
           begin = tt;
         })
 begun_of kind number (phase ∷ next ∷ later) stage orderly course =
     begun_on kind number stage phase (next ∷ later) course.0 course.1
-    (begun_of kind number (next ∷ later) (after kind number stage phase.replies) (orderly_after kind number stage phase.replies orderly)
-    (subst (λ o. IsCourse kind number (passed kind number stage o phase.replies) (next ∷ later)) course.1.1 course.2))
+    (begun_of kind number (next ∷ later) (after kind number stage phase.replies (lacks_pieces phase)) (orderly_after kind number stage phase.replies (lacks_pieces phase) orderly)
+    (subst (λ o. IsCourse kind number (passed kind number stage o phase.replies (lacks_pieces phase)) (next ∷ later)) course.1.1 course.2))
 
 -- and back
 
 course_step : (kind : CallKind) (number : ℕ) (stage : Stage) (phase : Phase) (later : List Phase) → IsEndedBefore phase later →
-    (IsSome phase.end → IsCourse kind number (after kind number stage phase.replies) later) → (o : Option ℕ) → phase.end ≡ o →
-    IsCourse kind number (passed kind number stage o phase.replies) later
+    (IsSome phase.end → IsCourse kind number (after kind number stage phase.replies (lacks_pieces phase)) later) → (o : Option ℕ) → phase.end ≡ o →
+    IsCourse kind number (passed kind number stage o phase.replies (lacks_pieces phase)) later
 course_step kind number stage phase [] ended rest None h = tt
 course_step kind number stage phase (next ∷ later) ended rest None h =
     absurd (let clash : None ≡ Some ended.0 = sym h ∙ ended.1 in cc)
@@ -96,7 +96,7 @@ course_of_begin kind number (phase ∷ later) (other ∷ others) stage end path 
   path.0 ∙ sym (due_of phase.kind phase.position other begin.0),
   turn.0,
   course_step kind number stage phase later turn.0
-      (λ some. course_of_begin kind number later others (after kind number stage phase.replies) end
+      (λ some. course_of_begin kind number later others (after kind number stage phase.replies (lacks_pieces phase)) end
       (subst (λ r. IsPath kind number (after kind number stage r) others end) (begin.1 some) path.1) turn.1 begin.2) phase.end refl,
 )
 

@@ -7,7 +7,7 @@ use Rattle.tag.specs.Tag.{opening_tag}
 use Rattle.encoder.specs.declared.fragment.Piece.{Piece}
 use Rattle.bank.specs.declared.kind.Kind.{Kind}
 use Rattle.mail.specs.declared.message.Message.{Message}
-use Rattle.phase.specs.Phase.{Phase}
+use Rattle.phase.specs.Phase.{Phase, lacks_pieces}
 use Rattle.record.specs.declared.call.CallKind.{CallKind}
 use Rattle.record.specs.Records.{Call, Object, layout_at}
 use Rattle.record.specs.declared.stage.Stage.{Stage}
@@ -50,9 +50,9 @@ get_last (x ∷ xs) y = get_last xs y
 
 stage_push : (kind : CallKind) (number : ℕ) (phases : List Phase) (stage : Stage) (next : Phase) → next.end ≡ None →
     stage_after kind number stage (phases ++ next ∷ []) ≡ stage_after kind number stage phases
-stage_push kind number [] stage next none = ap (λ o. passed kind number stage o next.replies) none
+stage_push kind number [] stage next none = ap (λ o. passed kind number stage o next.replies (lacks_pieces next)) none
 stage_push kind number (phase ∷ phases) stage next none =
-    stage_push kind number phases (passed kind number stage phase.end phase.replies) next none
+    stage_push kind number phases (passed kind number stage phase.end phase.replies (lacks_pieces phase)) next none
 
 settled_pushed : (fragment : Code) (object : Object) (call : Call) (next : Phase) (value : List ℕ) → (IsFetch next.kind → ⊥) →
     IsSettled fragment object call value →

@@ -139,7 +139,7 @@ settled_sound fragment object step now less sound index value may =
     changed = marked call call.answered (Some value) wanting.open_call
 
     stays : TagStays object index call new
-    stays = λ tag t. t
+    stays = λ value k tag t. t
 
     was : CallRest fragment (WithCall object object.mail index new) now call
     was = old_call fragment object step now less sound index call new object.mail at changed stays

@@ -8,7 +8,7 @@ use Rattle.tag.specs.Tag.{tag_lt, later_tag}
 use Rattle.bank.specs.declared.status.Status.{Status}
 use Rattle.bank.specs.declared.kind.Kind.{Kind}
 use Rattle.phase.specs.declared.phase.Taken.{Taken}
-use Rattle.phase.specs.Phase.{Phase}
+use Rattle.phase.specs.Phase.{Phase, lacks_pieces}
 use Rattle.record.specs.declared.call.CallKind.{CallKind}
 use Rattle.bank.specs.declared.status.Status.TheVariants.{Unset, Pending, Final}
 use Rattle.bank.specs.declared.kind.Kind.TheVariants.{Next, Spread, Query, PreWrite, Finalize, Fetch}
@@ -68,18 +68,18 @@ early_query number found p l greatest q = go (tag_lt found greatest) (eqb p l)
     go false true = tt
     go false false = tt
 
-early_after : (number : ℕ) (stage : Stage) (replies : List Taken) → IsEarly stage →
-    FetchDue (due stage) ⊎ IsEarly (after Read number stage replies)
-early_after number (ReadNext p m) replies early = inr (early_next p m (greatest_status replies))
-early_after number (ReadSpread p m s) replies early = inr (early_spread p m s)
-early_after number (QueryFrom p l t q) replies early = inr (early_query number (greatest_tag replies) p l t q)
-early_after number (FetchAt q l t) replies early = inl (t, refl)
-early_after number stage replies early = absurd early
+early_after : (number : ℕ) (stage : Stage) (replies : List Taken) (lacks : Bool) → IsEarly stage →
+    FetchDue (due stage) ⊎ IsEarly (after Read number stage replies lacks)
+early_after number (ReadNext p m) replies lacks early = inr (early_next p m (greatest_status replies))
+early_after number (ReadSpread p m s) replies lacks early = inr (early_spread p m s)
+early_after number (QueryFrom p l t q) replies lacks early = inr (early_query number (greatest_tag replies) p l t q)
+early_after number (FetchAt q l t) replies lacks early = inl (t, refl)
+early_after number stage replies lacks early = absurd early
 
-early_passed : (number : ℕ) (stage : Stage) (end : Option ℕ) (replies : List Taken) → IsEarly stage →
-    FetchDue (due stage) ⊎ IsEarly (passed Read number stage end replies)
-early_passed number stage None replies early = inr early
-early_passed number stage (Some end) replies early = early_after number stage replies early
+early_passed : (number : ℕ) (stage : Stage) (end : Option ℕ) (replies : List Taken) (lacks : Bool) → IsEarly stage →
+    FetchDue (due stage) ⊎ IsEarly (passed Read number stage end replies lacks)
+early_passed number stage None replies lacks early = inr early
+early_passed number stage (Some end) replies lacks early = early_after number stage replies lacks early
 
 pub early_due : (stage : Stage) → IsEarly stage → due stage ≡ None → ⊥
 early_due (ReadNext p m) early e = cc
@@ -94,11 +94,11 @@ pub has_fetch : (number : ℕ) (phases : List Phase) (stage : Stage) → IsCours
     (place : ℕ) × (phase : Phase) × (slice_get phases place ≡ Some phase) × IsFetch phase.kind
 has_fetch number [] stage course early none = absurd (none early)
 has_fetch number (phase ∷ phases) stage course early none =
-    go (early_passed number stage phase.end phase.replies early)
-    (λ e. has_fetch number phases (passed Read number stage phase.end phase.replies) course.2 e none)
+    go (early_passed number stage phase.end phase.replies (lacks_pieces phase) early)
+    (λ e. has_fetch number phases (passed Read number stage phase.end phase.replies (lacks_pieces phase)) course.2 e none)
   where
-    go : FetchDue (due stage) ⊎ IsEarly (passed Read number stage phase.end phase.replies) →
-        (IsEarly (passed Read number stage phase.end phase.replies) → (place : ℕ) × (p : Phase) × (slice_get phases place ≡ Some p)
+    go : FetchDue (due stage) ⊎ IsEarly (passed Read number stage phase.end phase.replies (lacks_pieces phase)) →
+        (IsEarly (passed Read number stage phase.end phase.replies (lacks_pieces phase)) → (place : ℕ) × (p : Phase) × (slice_get phases place ≡ Some p)
         × IsFetch p.kind) → (place : ℕ) × (p : Phase) × (slice_get (phase ∷ phases) place ≡ Some p) × IsFetch p.kind
     go (inl fetch) rest = (0, phase, refl, subst FetchDue course.0 fetch)
     go (inr e) rest = let found = rest e in (suc found.0, found.1, found.2, found.3)
@@ -108,30 +108,30 @@ late_again l p t Unset = cond_both (eqb p l) (Ended l t) (PreWriteAt p t) (λ st
 late_again l p t Pending = tt
 late_again l p t Final = tt
 
-late_after : (kind : CallKind) (number : ℕ) (stage : Stage) (replies : List Taken) → IsLate stage →
-    IsLate (after kind number stage replies)
-late_after kind number (PreWriteAt l t) replies late = tt
-late_after kind number (FinalizeAt l t) replies late = tt
-late_after kind number (AgainNext l p t) replies late = late_again l p t (greatest_status replies)
-late_after kind number (AgainSpread l p t s) replies late = tt
-late_after kind number (MovePreWrite p t) replies late = tt
-late_after kind number (MoveFinalize p t) replies late = tt
-late_after kind number (MoveFinal p t) replies late = tt
-late_after kind number (Ended l t) replies late = tt
-late_after kind number (Moved p t) replies late = tt
-late_after kind number stage replies late = absurd late
+late_after : (kind : CallKind) (number : ℕ) (stage : Stage) (replies : List Taken) (lacks : Bool) → IsLate stage →
+    IsLate (after kind number stage replies lacks)
+late_after kind number (PreWriteAt l t) replies lacks late = tt
+late_after kind number (FinalizeAt l t) replies lacks late = tt
+late_after kind number (AgainNext l p t) replies lacks late = late_again l p t (greatest_status replies)
+late_after kind number (AgainSpread l p t s) replies lacks late = tt
+late_after kind number (MovePreWrite p t) replies lacks late = tt
+late_after kind number (MoveFinalize p t) replies lacks late = tt
+late_after kind number (MoveFinal p t) replies lacks late = tt
+late_after kind number (Ended l t) replies lacks late = tt
+late_after kind number (Moved p t) replies lacks late = tt
+late_after kind number stage replies lacks late = absurd late
 
-late_passed : (kind : CallKind) (number : ℕ) (stage : Stage) (end : Option ℕ) (replies : List Taken) → IsLate stage →
-    IsLate (passed kind number stage end replies)
-late_passed kind number stage None replies late = late
-late_passed kind number stage (Some end) replies late = late_after kind number stage replies late
+late_passed : (kind : CallKind) (number : ℕ) (stage : Stage) (end : Option ℕ) (replies : List Taken) (lacks : Bool) → IsLate stage →
+    IsLate (passed kind number stage end replies lacks)
+late_passed kind number stage None replies lacks late = late
+late_passed kind number stage (Some end) replies lacks late = late_after kind number stage replies lacks late
 
 late_stays : (kind : CallKind) (number : ℕ) (phases : List Phase) (stage : Stage) → IsLate stage →
     IsLate (stage_after kind number stage phases)
 late_stays kind number [] stage late = late
 late_stays kind number (phase ∷ phases) stage late =
-    late_stays kind number phases (passed kind number stage phase.end phase.replies)
-    (late_passed kind number stage phase.end phase.replies late)
+    late_stays kind number phases (passed kind number stage phase.end phase.replies (lacks_pieces phase))
+    (late_passed kind number stage phase.end phase.replies (lacks_pieces phase) late)
 
 not_fetch : (kind : Kind) → (kind ≡ Next) ⊎ ((kind ≡ Query)
     ⊎ (((s : Status) × (kind ≡ Spread s)) ⊎ (((t : Tag) × (kind ≡ PreWrite t)) ⊎ ((t : Tag) × (kind ≡ Finalize t))))) →
@@ -142,25 +142,25 @@ not_fetch kind (inr (inr (inl (s, k)))) fetch = let no : Spread s ≡ Fetch fetc
 not_fetch kind (inr (inr (inr (inl (t, k))))) fetch = let no : PreWrite t ≡ Fetch fetch.0 = sym k ∙ fetch.1 in cc
 not_fetch kind (inr (inr (inr (inr (t, k))))) fetch = let no : Finalize t ≡ Fetch fetch.0 = sym k ∙ fetch.1 in cc
 
-fetch_late : (kind : CallKind) (number : ℕ) (stage : Stage) (replies : List Taken) → FetchDue (due stage) →
-    IsLate (after kind number stage replies)
-fetch_late kind number (FetchAt q l t) replies fetch =
+fetch_late : (kind : CallKind) (number : ℕ) (stage : Stage) (replies : List Taken) (lacks : Bool) → FetchDue (due stage) →
+    IsLate (after kind number stage replies lacks)
+fetch_late kind number (FetchAt q l t) replies lacks fetch =
     cond_both (eqb q l) (AgainNext l l t) (PreWriteAt l t) (λ stage. IsLate stage) (λ e. tt) (λ e. tt)
-fetch_late kind number (MoveFetch p t) replies fetch = tt
-fetch_late kind number (ReadNext p m) replies fetch = absurd (not_fetch Next (inl refl) fetch)
-fetch_late kind number (ReadSpread p m s) replies fetch = absurd (not_fetch (Spread s) (inr (inr (inl (s, refl)))) fetch)
-fetch_late kind number (QueryFrom p l t q) replies fetch = absurd (not_fetch Query (inr (inl refl)) fetch)
-fetch_late kind number (MoveSpread p) replies fetch = absurd (not_fetch (Spread Pending) (inr (inr (inl (Pending, refl)))) fetch)
-fetch_late kind number (MoveQuery p) replies fetch = absurd (not_fetch Query (inr (inl refl)) fetch)
-fetch_late kind number (PreWriteAt l t) replies fetch = tt
-fetch_late kind number (FinalizeAt l t) replies fetch = tt
-fetch_late kind number (AgainNext l p t) replies fetch = late_again l p t (greatest_status replies)
-fetch_late kind number (AgainSpread l p t s) replies fetch = tt
-fetch_late kind number (MovePreWrite p t) replies fetch = tt
-fetch_late kind number (MoveFinalize p t) replies fetch = tt
-fetch_late kind number (MoveFinal p t) replies fetch = tt
-fetch_late kind number (Ended l t) replies fetch = tt
-fetch_late kind number (Moved p t) replies fetch = tt
+fetch_late kind number (MoveFetch p t) replies lacks fetch = tt
+fetch_late kind number (ReadNext p m) replies lacks fetch = absurd (not_fetch Next (inl refl) fetch)
+fetch_late kind number (ReadSpread p m s) replies lacks fetch = absurd (not_fetch (Spread s) (inr (inr (inl (s, refl)))) fetch)
+fetch_late kind number (QueryFrom p l t q) replies lacks fetch = absurd (not_fetch Query (inr (inl refl)) fetch)
+fetch_late kind number (MoveSpread p) replies lacks fetch = absurd (not_fetch (Spread Pending) (inr (inr (inl (Pending, refl)))) fetch)
+fetch_late kind number (MoveQuery p) replies lacks fetch = absurd (not_fetch Query (inr (inl refl)) fetch)
+fetch_late kind number (PreWriteAt l t) replies lacks fetch = tt
+fetch_late kind number (FinalizeAt l t) replies lacks fetch = tt
+fetch_late kind number (AgainNext l p t) replies lacks fetch = late_again l p t (greatest_status replies)
+fetch_late kind number (AgainSpread l p t s) replies lacks fetch = tt
+fetch_late kind number (MovePreWrite p t) replies lacks fetch = tt
+fetch_late kind number (MoveFinalize p t) replies lacks fetch = tt
+fetch_late kind number (MoveFinal p t) replies lacks fetch = tt
+fetch_late kind number (Ended l t) replies lacks fetch = tt
+fetch_late kind number (Moved p t) replies lacks fetch = tt
 
 pub late_due : (stage : Stage) → IsLate stage → FetchDue (due stage) → ⊥
 late_due (PreWriteAt l t) late fetch = not_fetch (PreWrite t) (inr (inr (inr (inl (t, refl))))) fetch
@@ -181,11 +181,11 @@ pub course_late : (kind : CallKind) (number : ℕ) (phases : List Phase) (stage 
 course_late kind number [] stage course now ends place phase at fetch = absurd (cc)
 course_late kind number (first ∷ []) stage course now ends zero phase at fetch =
     let here : FetchDue (due stage) = subst FetchDue (sym course.0) (subst (λ p. IsFetch p.kind) (sym (same_Some first phase at)) fetch) in
-    subst (λ o. IsLate (passed kind number stage o first.replies)) (sym ends.1) (fetch_late kind number stage first.replies here)
+    subst (λ o. IsLate (passed kind number stage o first.replies (lacks_pieces first))) (sym ends.1) (fetch_late kind number stage first.replies (lacks_pieces first) here)
 course_late kind number (first ∷ []) stage course now ends (suc place) phase at fetch = absurd (cc)
 course_late kind number (first ∷ next ∷ later) stage course now ends zero phase at fetch =
     let here : FetchDue (due stage) = subst FetchDue (sym course.0) (subst (λ p. IsFetch p.kind) (sym (same_Some first phase at)) fetch) in
-    late_stays kind number (next ∷ later) (passed kind number stage first.end first.replies)
-    (subst (λ o. IsLate (passed kind number stage o first.replies)) (sym course.1.1) (fetch_late kind number stage first.replies here))
+    late_stays kind number (next ∷ later) (passed kind number stage first.end first.replies (lacks_pieces first))
+    (subst (λ o. IsLate (passed kind number stage o first.replies (lacks_pieces first))) (sym course.1.1) (fetch_late kind number stage first.replies (lacks_pieces first) here))
 course_late kind number (first ∷ next ∷ later) stage course now ends (suc place) phase at fetch =
-    course_late kind number (next ∷ later) (passed kind number stage first.end first.replies) course.2 now ends place phase at fetch
+    course_late kind number (next ∷ later) (passed kind number stage first.end first.replies (lacks_pieces first)) course.2 now ends place phase at fetch

@@ -10,7 +10,7 @@ use Rattle.layout.specs.Quorum.{has}
 use Rattle.bank.specs.declared.reply.Reply.{Reply}
 use Rattle.mail.specs.declared.message.Message.{Message}
 use Rattle.phase.specs.declared.phase.Taken.{Taken}
-use Rattle.phase.specs.Phase.{Phase, members_of, has_taken, after_reply, after_take}
+use Rattle.phase.specs.Phase.{Phase, members_of, has_taken, after_reply, after_take, lacks_pieces}
 use Rattle.record.specs.declared.call.CallKind.{CallKind}
 use Rattle.record.specs.Records.{Call, Object, layout_at}
 use Rattle.record.specs.declared.stage.Stage.{Stage}
@@ -41,11 +41,11 @@ tag_set kind number [] stage place old new tag at last none e = absurd (cc)
 tag_set kind number (first ∷ []) stage zero old new tag at last none e =
     let end_is : first.end ≡ None = ap (λ (p : Phase). p.end) (same_Some first old at) ∙ none in
     tag_passed kind number stage new.end new.replies tag
-    (subst (λ o. stage_tag (passed kind number stage o first.replies) ≡ Some tag) end_is e)
+    (subst (λ o. stage_tag (passed kind number stage o first.replies (lacks_pieces first)) ≡ Some tag) end_is e)
 tag_set kind number (first ∷ []) stage (suc place) old new tag at last none e = absurd (cc)
 tag_set kind number (first ∷ next ∷ later) stage zero old new tag at last none e = absurd (omega arith)
 tag_set kind number (first ∷ next ∷ later) stage (suc place) old new tag at last none e =
-    tag_set kind number (next ∷ later) (passed kind number stage first.end first.replies) place old new tag at (omega arith) none e
+    tag_set kind number (next ∷ later) (passed kind number stage first.end first.replies (lacks_pieces first)) place old new tag at (omega arith) none e
 
 -- the test on the replies is one on their members
 has-members_of : (replies : List Taken) (member : ℕ) → has (members_of replies) member ≡ has_taken replies member

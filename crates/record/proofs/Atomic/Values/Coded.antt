@@ -8,7 +8,7 @@ use Rattle.tag.specs.declared.tag.Tag.{Tag}
 use Rattle.tag.specs.declared.limits.TheConstants.{MOST_MEMBERS}
 use Rattle.layout.specs.Layout.{IsLawful}
 use Rattle.phase.specs.declared.phase.Taken.{Taken}
-use Rattle.phase.specs.Phase.{Phase}
+use Rattle.phase.specs.Phase.{Phase, lacks_pieces}
 use Rattle.record.specs.declared.call.CallKind.{CallKind}
 use Rattle.record.specs.Records.{Call, Object, layout_at}
 use Rattle.bank.specs.declared.kind.Kind.TheVariants.{Next, Spread, Query, PreWrite, Finalize, Fetch}
@@ -38,37 +38,37 @@ tag_of_again Unset last position tag =
 tag_of_again Pending last position tag = refl
 tag_of_again Final last position tag = refl
 
-tag_after : (kind : CallKind) (number : ℕ) (stage : Stage) (replies : List Taken) (tag : Tag) → stage_tag stage ≡ Some tag →
-    stage_tag (after kind number stage replies) ≡ Some tag
-tag_after kind number (FetchAt q l t) replies tag e =
+tag_after : (kind : CallKind) (number : ℕ) (stage : Stage) (replies : List Taken) (lacks : Bool) (tag : Tag) → stage_tag stage ≡ Some tag →
+    stage_tag (after kind number stage replies lacks) ≡ Some tag
+tag_after kind number (FetchAt q l t) replies lacks tag e =
     cond_both (eqb q l) (AgainNext l l t) (PreWriteAt l t) (λ stage. stage_tag stage ≡ Some tag) (λ _. e) (λ _. e)
-tag_after kind number (PreWriteAt l t) replies tag e = e
-tag_after kind number (FinalizeAt l t) replies tag e = e
-tag_after kind number (AgainNext l p t) replies tag e = tag_of_again (greatest_status replies) l p t ∙ e
-tag_after kind number (AgainSpread l p t s) replies tag e = e
-tag_after kind number (MoveFetch p t) replies tag e = e
-tag_after kind number (MovePreWrite p t) replies tag e = e
-tag_after kind number (MoveFinalize p t) replies tag e = e
-tag_after kind number (MoveFinal p t) replies tag e = e
-tag_after kind number (Ended l t) replies tag e = e
-tag_after kind number (Moved p t) replies tag e = e
-tag_after kind number (ReadNext a b) replies tag e = absurd (cc)
-tag_after kind number (ReadSpread a b c) replies tag e = absurd (cc)
-tag_after kind number (QueryFrom a b c d) replies tag e = absurd (cc)
-tag_after kind number (MoveSpread a) replies tag e = absurd (cc)
-tag_after kind number (MoveQuery a) replies tag e = absurd (cc)
+tag_after kind number (PreWriteAt l t) replies lacks tag e = e
+tag_after kind number (FinalizeAt l t) replies lacks tag e = e
+tag_after kind number (AgainNext l p t) replies lacks tag e = tag_of_again (greatest_status replies) l p t ∙ e
+tag_after kind number (AgainSpread l p t s) replies lacks tag e = e
+tag_after kind number (MoveFetch p t) replies lacks tag e = e
+tag_after kind number (MovePreWrite p t) replies lacks tag e = e
+tag_after kind number (MoveFinalize p t) replies lacks tag e = e
+tag_after kind number (MoveFinal p t) replies lacks tag e = e
+tag_after kind number (Ended l t) replies lacks tag e = e
+tag_after kind number (Moved p t) replies lacks tag e = e
+tag_after kind number (ReadNext a b) replies lacks tag e = absurd (cc)
+tag_after kind number (ReadSpread a b c) replies lacks tag e = absurd (cc)
+tag_after kind number (QueryFrom a b c d) replies lacks tag e = absurd (cc)
+tag_after kind number (MoveSpread a) replies lacks tag e = absurd (cc)
+tag_after kind number (MoveQuery a) replies lacks tag e = absurd (cc)
 
-pub tag_passed : (kind : CallKind) (number : ℕ) (stage : Stage) (end : Option ℕ) (replies : List Taken) (tag : Tag) →
-    stage_tag stage ≡ Some tag → stage_tag (passed kind number stage end replies) ≡ Some tag
-tag_passed kind number stage None replies tag e = e
-tag_passed kind number stage (Some end) replies tag e = tag_after kind number stage replies tag e
+pub tag_passed : (kind : CallKind) (number : ℕ) (stage : Stage) (end : Option ℕ) (replies : List Taken) (lacks : Bool) (tag : Tag) →
+    stage_tag stage ≡ Some tag → stage_tag (passed kind number stage end replies lacks) ≡ Some tag
+tag_passed kind number stage None replies lacks tag e = e
+tag_passed kind number stage (Some end) replies lacks tag e = tag_after kind number stage replies lacks tag e
 
 pub tag_stays : (kind : CallKind) (number : ℕ) (phases : List Phase) (stage : Stage) (tag : Tag) → stage_tag stage ≡ Some tag →
     stage_tag (stage_after kind number stage phases) ≡ Some tag
 tag_stays kind number [] stage tag e = e
 tag_stays kind number (phase ∷ phases) stage tag e =
-    tag_stays kind number phases (passed kind number stage phase.end phase.replies) tag
-    (tag_passed kind number stage phase.end phase.replies tag e)
+    tag_stays kind number phases (passed kind number stage phase.end phase.replies (lacks_pieces phase)) tag
+    (tag_passed kind number stage phase.end phase.replies (lacks_pieces phase) tag e)
 
 -- the tag that is fetched is the call's
 fetch_due : (stage : Stage) (tag : Tag) (position : ℕ) → due stage ≡ Some (Fetch tag, position) → stage_tag stage ≡ Some tag
@@ -98,7 +98,7 @@ fetched_tag kind number (first ∷ phases) stage course zero phase tag at e =
     tag_stays kind number (first ∷ phases) stage tag
     (fetch_due stage tag first.position (subst (λ k. due stage ≡ Some (k, first.position)) kind_is course.0))
 fetched_tag kind number (first ∷ phases) stage course (suc place) phase tag at e =
-    fetched_tag kind number phases (passed kind number stage first.end first.replies) course.2 place phase tag at e
+    fetched_tag kind number phases (passed kind number stage first.end first.replies (lacks_pieces first)) course.2 place phase tag at e
 
 -- the journal has one value for a tag
 pub journal_unique : (object : Object) → IsLegal object → (tag : Tag) (v w : List ℕ) → IsJournaled object tag v →

@@ -2,7 +2,7 @@
 use Rattle.std.proofs.Common.{◌≡◌, ℕ, zero, suc, List, [], ◌∷◌, Some, ap, ◌∙◌, slice_get}
 use Rattle.std.proofs.lemmas.Option.{same_Some}
 use Rattle.tag.specs.declared.tag.Tag.{Tag}
-use Rattle.phase.specs.Phase.{Phase}
+use Rattle.phase.specs.Phase.{Phase, lacks_pieces}
 use Rattle.record.specs.declared.call.CallKind.{CallKind}
 use Rattle.record.specs.declared.stage.Stage.{Stage}
 use Rattle.record.specs.Records.{Call, Object}
@@ -24,7 +24,7 @@ sent_tag kind number (first ∷ phases) stage course zero phase tag at e =
     let same : kind_tag first.kind ≡ Some tag = ap (λ (p : Phase). kind_tag p.kind) (same_Some first phase at) ∙ e in
     tag_stays kind number (first ∷ phases) stage tag (due_tag stage first.kind first.position tag course.0 same)
 sent_tag kind number (first ∷ phases) stage course (suc place) phase tag at e =
-    sent_tag kind number phases (passed kind number stage first.end first.replies) course.2 place phase tag at e
+    sent_tag kind number phases (passed kind number stage first.end first.replies (lacks_pieces first)) course.2 place phase tag at e
 
 pub sent_known : (fragment : Code) (object : Object) (step : ℕ) → IsSound fragment object step →
     (index place : ℕ) (call : Call) (phase : Phase) (tag : Tag) → slice_get object.calls index ≡ Some call →

@@ -1,5 +1,5 @@
 -- The tags that a call shows are known: its own, or those of banks.
-use Rattle.std.proofs.Common.{◌≡◌, ℕ, suc, cond, eqb, List, [], ◌∷◌, Option}
+use Rattle.std.proofs.Common.{◌≡◌, ℕ, zero, suc, Bool, true, false, cond, eqb, List, [], ◌∷◌, Option}
 use Rattle.std.proofs.Common.{Some, None, refl, sym, subst, ◌∙◌, inl, inr, slice_get}
 use Rattle.std.proofs.lemmas.Bool.{cond_both}
 use Rattle.std.proofs.lemmas.Option.{same_Some}
@@ -10,7 +10,7 @@ use Rattle.bank.specs.declared.status.Status.{Status}
 use Rattle.bank.specs.declared.kind.Kind.{Kind}
 use Rattle.bank.specs.declared.reply.Answer.{Answer}
 use Rattle.phase.specs.declared.phase.Taken.{Taken}
-use Rattle.phase.specs.Phase.{Phase}
+use Rattle.phase.specs.Phase.{Phase, lacks_pieces}
 use Rattle.record.specs.declared.call.CallKind.{CallKind}
 use Rattle.record.specs.Records.{Call, Object}
 use Rattle.bank.specs.declared.status.Status.TheVariants.{Unset, Pending, Final}
@@ -76,7 +76,7 @@ known_again object l p t Unset known =
 known_again object l p t Pending known = known
 known_again object l p t Final known = known
 
-abbrev IsNoWrite : CallKind → Type 0
+abbrev pub IsNoWrite : CallKind → Type 0
 IsNoWrite kind = (value : List ℕ) → kind ≡ Write value → ⊥
 
 known_tagged : (object : Object) (kind : CallKind) (number q l : ℕ) (t : Tag) → IsNoWrite kind → Known object t →
@@ -100,41 +100,43 @@ known_query object kind number found p l greatest q plain new old =
     known : Known object later
     known = cond_both (tag_lt greatest found) found greatest (λ t. Known object t) (λ e. new) (λ e. old)
 
-known_after : (object : Object) (kind : CallKind) (number : ℕ) (stage : Stage) (replies : List Taken) → IsNoWrite kind →
+known_after : (object : Object) (kind : CallKind) (number : ℕ) (stage : Stage) (replies : List Taken) (lacks : Bool) → IsNoWrite kind →
     Known object (greatest_tag replies) → KnownAt object stage →
-    KnownAt object (after kind number stage replies)
-known_after object kind number (ReadNext p m) replies plain shown known = known_next object p m (greatest_status replies)
-known_after object kind number (ReadSpread p m s) replies plain shown known = known_spread object p m s
-known_after object kind number (QueryFrom p l t q) replies plain shown known =
+    KnownAt object (after kind number stage replies lacks)
+known_after object kind number (ReadNext p m) replies lacks plain shown known = known_next object p m (greatest_status replies)
+known_after object kind number (ReadSpread p m s) replies lacks plain shown known = known_spread object p m s
+known_after object kind number (QueryFrom p l t q) replies lacks plain shown known =
     known_query object kind number (greatest_tag replies) p l t q plain shown known
-known_after object kind number (FetchAt q l t) replies plain shown known =
+known_after object kind number (FetchAt q l t) replies true plain shown known = tt
+known_after object kind number (FetchAt q l t) replies false plain shown known =
     cond_both (eqb q l) (AgainNext l l t) (PreWriteAt l t) (λ stage. KnownAt object stage) (λ e. known) (λ e. known)
-known_after object kind number (PreWriteAt l t) replies plain shown known = known
-known_after object kind number (FinalizeAt l t) replies plain shown known = known
-known_after object kind number (AgainNext l p t) replies plain shown known = known_again object l p t (greatest_status replies) known
-known_after object kind number (AgainSpread l p t s) replies plain shown known = known
-known_after object kind number (MoveSpread p) replies plain shown known = tt
-known_after object kind number (MoveQuery p) replies plain shown known = shown
-known_after object kind number (MoveFetch p t) replies plain shown known = known
-known_after object kind number (MovePreWrite p t) replies plain shown known = known
-known_after object kind number (MoveFinalize p t) replies plain shown known = known
-known_after object kind number (MoveFinal p t) replies plain shown known = known
-known_after object kind number (Ended l t) replies plain shown known = known
-known_after object kind number (Moved p t) replies plain shown known = known
+known_after object kind number (PreWriteAt l t) replies lacks plain shown known = known
+known_after object kind number (FinalizeAt l t) replies lacks plain shown known = known
+known_after object kind number (AgainNext l p t) replies lacks plain shown known = known_again object l p t (greatest_status replies) known
+known_after object kind number (AgainSpread l p t s) replies lacks plain shown known = known
+known_after object kind number (MoveSpread p) replies lacks plain shown known = tt
+known_after object kind number (MoveQuery p) replies lacks plain shown known = shown
+known_after object kind number (MoveFetch p t) replies true plain shown known = tt
+known_after object kind number (MoveFetch p t) replies false plain shown known = known
+known_after object kind number (MovePreWrite p t) replies lacks plain shown known = known
+known_after object kind number (MoveFinalize p t) replies lacks plain shown known = known
+known_after object kind number (MoveFinal p t) replies lacks plain shown known = known
+known_after object kind number (Ended l t) replies lacks plain shown known = known
+known_after object kind number (Moved p t) replies lacks plain shown known = known
 
-known_passed : (object : Object) (kind : CallKind) (number : ℕ) (stage : Stage) (end : Option ℕ) (replies : List Taken) →
+known_passed : (object : Object) (kind : CallKind) (number : ℕ) (stage : Stage) (end : Option ℕ) (replies : List Taken) (lacks : Bool) →
     IsNoWrite kind → Known object (greatest_tag replies) → KnownAt object stage →
-    KnownAt object (passed kind number stage end replies)
-known_passed object kind number stage None replies plain shown known = known
-known_passed object kind number stage (Some end) replies plain shown known = known_after object kind number stage replies plain shown known
+    KnownAt object (passed kind number stage end replies lacks)
+known_passed object kind number stage None replies lacks plain shown known = known
+known_passed object kind number stage (Some end) replies lacks plain shown known = known_after object kind number stage replies lacks plain shown known
 
 known_end : (object : Object) (kind : CallKind) (number : ℕ) (phases : List Phase) (stage : Stage) → IsNoWrite kind →
     AllByRecursion (λ phase. Known object (greatest_tag phase.replies)) phases →
     KnownAt object stage → KnownAt object (stage_after kind number stage phases)
 known_end object kind number [] stage plain shown known = known
 known_end object kind number (phase ∷ phases) stage plain shown known =
-    known_end object kind number phases (passed kind number stage phase.end phase.replies) plain shown.1
-    (known_passed object kind number stage phase.end phase.replies plain shown.0 known)
+    known_end object kind number phases (passed kind number stage phase.end phase.replies (lacks_pieces phase)) plain shown.1
+    (known_passed object kind number stage phase.end phase.replies (lacks_pieces phase) plain shown.0 known)
 
 known_tag : (object : Object) (stage : Stage) (tag : Tag) → KnownAt object stage → stage_tag stage ≡ Some tag → Known object tag
 known_tag object (FetchAt q l t) tag known e = subst (Known object) (same_Some t tag e) known
