@@ -14,7 +14,8 @@ use Rattle.record.specs.declared.stage.Stage.{Stage}
 use Rattle.record.specs.declared.stage.Stage.TheVariants.{MoveSpread, MoveQuery, MoveFetch, MovePreWrite, MoveFinalize, MoveFinal, Ended, Moved}
 use Rattle.record.specs.Courses.{due, after, passed, stage_after, greatest_tag, IsCourse}
 use Rattle.record.specs.Journals.{stage_tag}
-use Rattle.record.specs.Grammar.{IsMoveAttempt, move_attempt_phases, ArePhasesOfMove, FinishedAreWhole}
+use Rattle.record.specs.Grammar.{IsMoveAttempt, move_attempt_phases, ArePhasesOfMove}
+use Rattle.record.specs.Shape.{FinishedAreWhole}
 use Rattle.successor.specs.Laws.{AreComplete}
 use Rattle.transfer.specs.Moves.{move_phases, queried_tag, last_attempt, last_phases, given_up, MovesAreInOrder}
 
@@ -118,10 +119,11 @@ after_attempts : (attempts : List (Phase × Phase)) (from : ℕ) (query fetch : 
     → AllByRecursion (IsMoveAttempt from) attempts → lacks_pieces fetch ≡ false
     → (given_up (move_attempt_phases attempts ++ query ∷ fetch ∷ later) ≡ attempts)
     × (last_attempt (move_attempt_phases attempts ++ query ∷ fetch ∷ later) ≡ query ∷ fetch ∷ later)
-after_attempts [] from query fetch later all enough = rw enough in (refl, refl)
-after_attempts (attempt ∷ attempts) from query fetch later all enough =
+after_attempts [] from query fetch later all enough = (rw enough refl, rw enough refl)
+after_attempts ((asked, fetched) ∷ attempts) from query fetch later all enough =
     let more = after_attempts attempts from query fetch later all.1 enough in
-    rw all.0.2.1 in (ap (λ xs. attempt ∷ xs) more.0, more.1)
+    let lacks : lacks_pieces fetched ≡ true = all.0.2 in
+    (rw lacks (ap (λ xs. (asked, fetched) ∷ xs) more.0), rw lacks more.1)
 
 -- the last six are in their order
 module _ (number from : ℕ) (phases : List Phase) (tag : Tag) (whole : ArePhasesOfMove from phases tag) where
@@ -158,6 +160,6 @@ has_tag stage none = absurd (cc)
 pub moves_are_in_order : FinishedAreWhole → MovesAreInOrder
 moves_are_in_order whole number from phases course none =
     let tagged = has_tag (stage_after Move number (MoveSpread from) phases) none in
-    let finished = record { course = course; none_due = none; tagged = tagged.1 } in
-    let shape = (whole Move number from phases tagged.0).0 finished in
-    (complete_course number (MoveSpread from) phases course none, ordered_parts number from phases tagged.0 shape.1)
+    let shape = (whole Move number from phases tagged.0).0 (record { course = course; none_due = none; tagged = tagged.1 }) in
+    let parts = ordered_parts number from phases tagged.0 shape.1 in
+    (complete_course number (MoveSpread from) phases course none, parts.0, parts.1)
