@@ -1,16 +1,16 @@
 -- How a request changes the bytes of a bank.
-use Rattle.std.proofs.Common.{◌≡◌, ℕ, ◌+◌, Bool, ◌∷◌, [], length, map, true, false, cond, Option, Some, None, is_some, option_map, sum_by, sym}
+use Rattle.std.proofs.Common.{◌≡◌, ℕ, ◌+◌, Bool, ◌∷◌, [], length, map, true, false, cond, Option, Some, None, is_some, option_map, sum_by}
+use Rattle.std.proofs.Common.{sym}
 use Rattle.std.proofs.Common.{ap, ◌∙◌, refl, arith}
 use Rattle.std.specs.FinMap as map
 use Rattle.std.specs.FinMap.Entries.{below_all, by_order}
 use Rattle.std.specs.declared.cmp.Ordering.TheVariants.{Less, Equal, Greater}
-use Rattle.std.specs.Ordering.{eq_by_cmp, is_lt, is_eq}
+use Rattle.std.specs.Ordering.{is_eq}
 use Rattle.std.proofs.lemmas.Bool.{and_parts}
-use Rattle.std.proofs.lemmas.Bool.Decides.{nat_tests}
 use Rattle.std.proofs.lemmas.List.Sums.{sum_by-cons}
 use Rattle.tag.specs.declared.tag.Tag.{Tag}
-use Rattle.tag.specs.Tag.{tag_cmp, tag_lt, tag_eq, opening_tag}
-use Rattle.tag.proofs.Tags.{tag_cmp_total, eq_by_cmp-tag}
+use Rattle.tag.specs.Tag.{tag_cmp, opening_tag}
+use Rattle.tag.proofs.Tags.{tag_cmp_total}
 use Rattle.encoder.specs.declared.fragment.Piece.{Piece}
 use Rattle.bank.specs.declared.row.Row.{Row}
 use Rattle.bank.specs.declared.row.Arrival.{Arrival}
@@ -41,7 +41,8 @@ put_bytes k v (e ∷ es) sorted =
     (by_order o ((k, v) ∷ e ∷ es) ((e.0, v) ∷ es) (e ∷ map.put tag_cmp k v es)) + row_piece_bytes
     (cond (is_eq o) (Some e.1) (map.find tag_cmp k es)) ≡ row_bytes v + sum_by entry_bytes (e ∷ es)) [
       | Less ↦ λ is.
-          let none : row_piece_bytes (map.find tag_cmp k es) ≡ 0 = ap row_piece_bytes (find-below k e.0 es (less_than k e.0 is).1 parts.0) in
+          let none : row_piece_bytes (map.find tag_cmp k es) ≡ 0 =
+          ap row_piece_bytes (find-below k e.0 es (less_than k e.0 is).1 parts.0) in
           omega (arith, sum_by-cons entry_bytes (k, v) (e ∷ es), none)
       | Equal ↦ λ is. omega (arith, sum_by-cons entry_bytes (e.0, v) es, sum_by-cons entry_bytes e es)
       | Greater ↦ λ is.
@@ -85,7 +86,8 @@ finalize_bytes (Some r) now = omega arith
 pub pre_written_bytes : (b : Bank) (tag : Tag) (p : Piece) (now : ℕ)
     → bank_bytes (pre_written b tag p now) ≡ bank_bytes b + added_bytes b (request.PreWrite tag p)
 pre_written_bytes b tag p now =
-    with_row_bytes b tag (λ o. row_after_pre_write o p now) (added_bytes b (request.PreWrite tag p)) (pre_write_bytes (map.get b.rows tag) p now)
+    with_row_bytes b tag (λ o. row_after_pre_write o p now) (added_bytes b (request.PreWrite tag p))
+    (pre_write_bytes (map.get b.rows tag) p now)
 
 pub finalized_bytes : (b : Bank) (tag : Tag) (now : ℕ) → bank_bytes (finalized b tag now) ≡ bank_bytes b + 0
 finalized_bytes b tag now = with_row_bytes b tag (λ o. row_after_finalize o now) 0 (finalize_bytes (map.get b.rows tag) now)

@@ -1,5 +1,5 @@
 -- A tag that becomes final is let into the window.
-use Rattle.std.proofs.Common.{◌≡◌, ℕ, suc, ◌+◌, ◌<◌, ◌≤◌, ◌⊎◌, inl, inr, Bool, true, false, cond, ◌&&◌, Option, Some, None, sym, ap, ◌∙◌}
+use Rattle.std.proofs.Common.{◌≡◌, ℕ, ◌+◌, ◌<◌, ◌≤◌, ◌⊎◌, inl, inr, Bool, true, false, cond, ◌&&◌, Option, Some, None, sym, ap, ◌∙◌}
 use Rattle.std.proofs.Common.{subst, refl, arith}
 use Rattle.std.specs.Prelude.{◌==◌, nat_lt}
 use Rattle.std.proofs.lemmas.Bool.{and_parts}
@@ -11,7 +11,7 @@ use Rattle.bank.specs.declared.window.Window.{Window}
 use Rattle.bank.specs.Window.{final_after, excludes, moved_up, admitted, IsWindow}
 use Rattle.bank.proofs.Counting.{one_if}
 use Rattle.bank.proofs.Entries.{Rows, Rise, is_sorted-rise}
-use Rattle.bank.proofs.Above.{lt-same, lt-not, is_final_in, above, above_less, above_final, above_least_final}
+use Rattle.bank.proofs.Above.{lt-same, lt-not, is_final_in, above, above_final, above_least_final}
 use Rattle.bank.proofs.Windows.{after_above, after_final_in, after_count, after_none}
 
 -- a tag becomes final among entries that have the same other final tags
@@ -128,7 +128,8 @@ module _ (es fs : Rows) (w : Window) (tag : Tag) (is : IsWindow es w) (f : Final
     delta = refl;
     gone = λ t e. (
       subst (λ t. is_final_in fs t ≡ true) (some_inj tag t e) f.new,
-      subst (λ t. excludes w t ≡ true) (some_inj tag t e) (both (w.above == w.delta) (tag_lt tag w.least) (is_equal w.above w.delta is_full) below),
+      subst (λ t. excludes w t ≡ true) (some_inj tag t e)
+          (both (w.above == w.delta) (tag_lt tag w.least) (is_equal w.above w.delta is_full) below),
     );
     only = λ t final out. which t out (f.others t final);
   }
@@ -172,7 +173,8 @@ module _ (es fs : Rows) (w : Window) (tag : Tag) (is : IsWindow es w) (f : Final
       subst (λ t. (w.above == w.delta && tag_lt t next) ≡ true) (some_inj w.least t e)
           (both (w.above == w.delta) (tag_lt w.least next) (is_equal w.above w.delta is_full) (after_above w.least next fs found)),
     );
-    only = λ t final out. which t final (and_parts (w.above == w.delta) (tag_lt t next) out).1 (tag_lt w.least t) refl (tag_lt t w.least) refl;
+    only = λ t final out. which t final (and_parts (w.above == w.delta) (tag_lt t next) out).1 (tag_lt w.least t) refl
+        (tag_lt t w.least) refl;
   }
     where
       some_inj : (s t : Tag) → Some s ≡ Some t → s ≡ t

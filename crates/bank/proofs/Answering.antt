@@ -1,5 +1,6 @@
 -- What a fetch answers, by the window.
-use Rattle.std.proofs.Common.{◌≡◌, ℕ, Bool, ◌⊎◌, inl, inr, true, false, ◌||◌, cond, Option, Some, None, is_some, option_map, sym, ap, ◌∙◌, refl}
+use Rattle.std.proofs.Common.{◌≡◌, ℕ, Bool, ◌⊎◌, inl, inr, true, false, ◌||◌, cond, Option, None, is_some, option_map, sym, ap, ◌∙◌}
+use Rattle.std.proofs.Common.{refl}
 use Rattle.std.specs.FinMap as map
 use Rattle.tag.specs.declared.tag.Tag.{Tag}
 use Rattle.bank.specs.declared.status.Pointer.{Pointer}

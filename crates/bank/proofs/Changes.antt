@@ -135,7 +135,8 @@ module _ (b : Bank) (tag : Tag) (now : ℕ) (t : Tag) where
   pub above-finalized : (step : ℕ) → step < now → finals_above_at (finalized b tag now) t step ≡ finals_above_at b t step
   above-finalized step past =
       same_count (λ o. came_by o step) refl t b.rows tag (row_after_finalize (map.get b.rows tag) now)
-      (ap (λ o. came_by o step) (finalize_finalizes (map.get b.rows tag) now) ∙ since_past (row_finalized (map.get b.rows tag)) now step past)
+      (ap (λ o. came_by o step) (finalize_finalizes (map.get b.rows tag) now)
+      ∙ since_past (row_finalized (map.get b.rows tag)) now step past)
 
   -- a tag that was not final counts from then on
   pub finals-finalized : finals_above (finalized b tag now) t + one_if (tag_lt t tag && is_some (finalized_at b tag))

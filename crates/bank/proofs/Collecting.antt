@@ -1,13 +1,12 @@
 -- What is left where a bank drops the pieces that are not kept.
 use Rattle.std.proofs.Common.{◌≡◌, ℕ, ◌+◌, Bool, true, false, cond, ◌&&◌, ◌||◌, [], ◌∷◌, map, T, Option, Some, None, is_some, option_map}
-use Rattle.std.proofs.Common.{◌↔◌, sym, ap, ◌∙◌, subst, refl, arith}
+use Rattle.std.proofs.Common.{◌↔◌, sym, ap, ◌∙◌, subst, refl}
 use Rattle.std.specs.FinMap as map
 use Rattle.std.specs.FinMap.Entries.{below_all}
 use Rattle.std.specs.Ordering.{eq_by_cmp, is_lt}
 use Rattle.tag.specs.declared.tag.Tag.{Tag}
 use Rattle.tag.specs.Tag.{tag_cmp, tag_lt}
 use Rattle.tag.proofs.Tags.{tag_cmp_total, tag_cmp-IsAntisymmetric, eq_by_cmp-tag, tag_eq-true}
-use Rattle.encoder.specs.declared.fragment.Piece.{Piece}
 use Rattle.bank.specs.declared.row.Arrival.{Arrival}
 use Rattle.bank.specs.declared.row.Label.{Label}
 use Rattle.bank.specs.declared.row.Row.{Row}
@@ -144,7 +143,8 @@ module _ (b : Bank) where
   pub collected_is : (rows : map.FinMap tag_cmp Row)
       → ((t : Tag) → map.get rows t ≡ option_map (kept_row b t) (map.get b.rows t)) → with_rows b rows ≡ collected b
   collected_is rows same =
-      ap (λ m. with_rows b m) (map.same_map tag_cmp_total tag_cmp-IsAntisymmetric rows (collected b).rows (λ t. same t ∙ sym (get-collected t)))
+      ap (λ m. with_rows b m) (map.same_map tag_cmp_total tag_cmp-IsAntisymmetric rows (collected b).rows
+      (λ t. same t ∙ sym (get-collected t)))
 
 -- Where all is kept
 

@@ -1,12 +1,11 @@
 -- How many of the entries above a tag pass a test.
-use Rattle.std.proofs.Common.{◌≡◌, ℕ, zero, suc, ◌+◌, ◌<◌, ◌≤◌, Bool, true, false, cond, ◌&&◌, [], ◌∷◌, length, get_or, Option, Some, None}
+use Rattle.std.proofs.Common.{◌≡◌, ℕ, suc, ◌+◌, ◌<◌, Bool, true, false, cond, ◌&&◌, [], ◌∷◌, length, get_or, Option, Some, None}
 use Rattle.std.proofs.Common.{sym, ap, ◌∙◌, refl, arith}
 use Rattle.std.specs.FinMap as map
 use Rattle.std.specs.FinMap.Entries.{below_all, by_order}
 use Rattle.std.specs.declared.cmp.Ordering.TheVariants.{Less, Equal, Greater}
-use Rattle.std.specs.Ordering.{is_lt, is_eq}
+use Rattle.std.specs.Ordering.{is_eq}
 use Rattle.std.proofs.lemmas.Bool.{and_parts}
-use Rattle.std.proofs.lemmas.Bool.Decides.{nat_tests}
 use Rattle.tag.specs.declared.tag.Tag.{Tag}
 use Rattle.tag.specs.Tag.{tag_cmp, tag_lt}
 use Rattle.tag.proofs.Tags.{tag_cmp_total, tag_cmp-IsAntisymmetric}
@@ -94,7 +93,8 @@ module _ (h : Option ℕ → Bool) (none : h None ≡ false) (tag : Tag) where
 
   -- it stays where the test says the same
   pub same_count : (rows : map.FinMap tag_cmp Row) (k : Tag) (v : Row) → h (final_step v.label) ≡ h (row_finalized (map.get rows k))
-      → count_above (λ l. h (final_step l)) tag (map.entries (map.insert rows k v)) ≡ count_above (λ l. h (final_step l)) tag (map.entries rows)
+      → count_above (λ l. h (final_step l)) tag (map.entries (map.insert rows k v))
+      ≡ count_above (λ l. h (final_step l)) tag (map.entries rows)
   same_count rows k v same =
       let all = changed_count rows k v in
       let alike : one_if (tag_lt tag k && h (final_step v.label)) ≡ one_if (tag_lt tag k && h (row_finalized (map.get rows k))) =

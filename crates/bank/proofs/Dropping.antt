@@ -1,6 +1,6 @@
 -- Among the entries after a request, the piece of one tag is dropped: what is left is what the rule keeps.
 use Rattle.std.proofs.Common.{◌≡◌, ℕ, ◌+◌, ◌⊎◌, inl, inr, Bool, true, false, cond, Option, Some, None, option_map, sum_by, sym, ap, ◌∙◌}
-use Rattle.std.proofs.Common.{subst, refl, arith}
+use Rattle.std.proofs.Common.{refl, arith}
 use Rattle.std.specs.FinMap as map
 use Rattle.std.specs.BTreeMap.{is_at}
 use Rattle.tag.specs.declared.tag.Tag.{Tag}
@@ -10,7 +10,7 @@ use Rattle.bank.specs.declared.row.Row.{Row}
 use Rattle.bank.specs.declared.status.Pointer.{Pointer}
 use Rattle.bank.specs.declared.window.Window.{Window}
 use Rattle.bank.specs.Bank.{Bank, piece_of_row}
-use Rattle.bank.specs.Bytes.{entry_bytes, row_piece_bytes, bank_bytes}
+use Rattle.bank.specs.Bytes.{entry_bytes, row_piece_bytes}
 use Rattle.bank.specs.Collect.{emptied_row, kept_row, collected}
 use Rattle.bank.specs.Kept.{bank_of}
 use Rattle.bank.specs.Knowledge.{is_dropped}
@@ -106,7 +106,8 @@ module _ (fs gs : Rows) (rise : Rise fs) (risen : Rise gs) (x : Option Tag)
               let none : freed_by x fs ≡ 0 = ap (λ x. freed_by x fs) is ∙ ap row_piece_bytes at in
               omega (arith, same, none)
             where
-              pick : (q : Tag) (c : Bool) → is_at (tag_cmp y) q ≡ c → cond c (option_map emptied_row (found_in fs q)) (found_in fs q) ≡ found_in fs q
+              pick : (q : Tag) (c : Bool) → is_at (tag_cmp y) q ≡ c
+                  → cond c (option_map emptied_row (found_in fs q)) (found_in fs q) ≡ found_in fs q
               pick q true here = let nothing = ap (found_in fs) (sym (at_true y q here)) ∙ at in
                   ap (option_map emptied_row) nothing ∙ sym nothing
               pick q false here = refl
@@ -115,7 +116,8 @@ module _ (fs gs : Rows) (rise : Rise fs) (risen : Rise gs) (x : Option Tag)
               ∙ ap (λ x. without_piece x q (found_in fs q)) is ∙ pick q (is_at (tag_cmp y) q) refl) in
               let same = ap bytes inserted in
               let all = insert_bytes (map.from_sorted fs) y (emptied_row r) in
-              let here : row_piece_bytes (map.get (map.from_sorted fs) y) ≡ row_piece_bytes (found_in fs y) = ap row_piece_bytes (get-rise fs rise y) in
+              let here : row_piece_bytes (map.get (map.from_sorted fs) y) ≡ row_piece_bytes (found_in fs y) =
+              ap row_piece_bytes (get-rise fs rise y) in
               let none = emptied_bytes r.arrival in
               let off : freed_by x fs ≡ row_piece_bytes (found_in fs y) = ap (λ x. freed_by x fs) is in
               omega (arith, same, all, here, none, off)

@@ -41,7 +41,8 @@ pub is_lt-tag : (s t : Tag) → is_lt (tag_cmp s t) ≡ tag_lt s t
 is_lt-tag s t = grind (arith, nat_tests)
 
 -- the first tag is below each of the rest
-pub below_at : (x : Tag) (es : Rows) (i : ℕ) (d : Tag × Row) → below_all tag_cmp x es ≡ true → i < length es → tag_lt x (get_or es i d).0 ≡ true
+pub below_at : (x : Tag) (es : Rows) (i : ℕ) (d : Tag × Row) → below_all tag_cmp x es ≡ true → i < length es
+    → tag_lt x (get_or es i d).0 ≡ true
 below_at x [] i d below within = absurd (omega arith)
 below_at x (e ∷ es) zero d below within = sym (is_lt-tag x e.0) ∙ (and_parts (is_lt (tag_cmp x e.0)) (below_all tag_cmp x es) below).0
 below_at x (e ∷ es) (suc i) d below within =

@@ -8,8 +8,8 @@ use Rattle.tag.specs.Tag.{tag_cmp}
 use Rattle.bank.specs.declared.row.Row.{Row}
 use Rattle.bank.specs.Bank.{Bank, finalized, piece_of}
 use Rattle.bank.specs.Collect.{collected, IsCollected, is_outside, fetched_piece}
-use Rattle.bank.specs.Knowledge.{came_by, final_step, row_finalized, finalized_at, arrived_at, count_above, finals_above, finals_above_at}
-use Rattle.bank.specs.Knowledge.{exceeds, is_dropped, is_dropped_at, HadPiece, HoldsPiece}
+use Rattle.bank.specs.Knowledge.{came_by, final_step, row_finalized, finalized_at, arrived_at, finals_above, finals_above_at}
+use Rattle.bank.specs.Knowledge.{exceeds, is_dropped, is_dropped_at, HoldsPiece}
 use Rattle.bank.specs.Facts.{IsEarlier, IsBefore}
 use Rattle.bank.proofs.Entries.{find_sorted, t_true}
 use Rattle.bank.proofs.Counting.{count_same}

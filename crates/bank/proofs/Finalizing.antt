@@ -1,25 +1,24 @@
 -- A bank of entries in order: what it drops by its window, and what a request to finalize makes of that.
-use Rattle.std.proofs.Common.{◌≡◌, ℕ, ◌+◌, ◌≤◌, ◌⊎◌, inl, inr, Bool, true, false, cond, not, ◌&&◌, ◌||◌, Option, Some, None, IsSome, is_some}
-use Rattle.std.proofs.Common.{option_map, sym, ap, ◌∙◌, subst, refl, arith}
-use Rattle.std.specs.FinMap as map
+use Rattle.std.proofs.Common.{◌≡◌, ℕ, ◌+◌, ◌⊎◌, inl, inr, Bool, true, false, cond, not, ◌&&◌, ◌||◌, Option, Some, None}
+use Rattle.std.proofs.Common.{is_some}
+use Rattle.std.proofs.Common.{option_map, sym, ap, ◌∙◌, refl, arith}
 use Rattle.std.proofs.lemmas.Bool.{and_parts}
 use Rattle.tag.specs.declared.tag.Tag.{Tag}
-use Rattle.tag.specs.Tag.{tag_cmp, tag_lt, tag_eq}
+use Rattle.tag.specs.Tag.{tag_lt, tag_eq}
 use Rattle.tag.proofs.Tags.{tag_eq-true}
-use Rattle.bank.specs.declared.row.Row.{Row}
 use Rattle.bank.specs.declared.status.Pointer.{Pointer}
 use Rattle.bank.specs.declared.window.Window.{Window}
-use Rattle.bank.specs.Bank.{Bank, finalized}
+use Rattle.bank.specs.Bank.{finalized}
 use Rattle.bank.specs.Kept.{bank_of}
 use Rattle.bank.specs.Knowledge.{since, is_finalized, row_finalized, finalized_at, count_above, finals_above, exceeds, is_dropped}
-use Rattle.bank.specs.Window.{found_in, excludes, is_excluded, admitted, after_final, IsWindow, IsWindowed}
+use Rattle.bank.specs.Window.{excludes, is_excluded, admitted, after_final, IsWindowed}
 use Rattle.bank.proofs.Counting.{one_if}
 use Rattle.bank.proofs.Entries.{Rows, Rise, entries-rise, get-rise}
 use Rattle.bank.proofs.Changes.{finalized_at-finalized, finals-finalized}
 use Rattle.bank.proofs.Pieces.{stays, final_itself}
 use Rattle.bank.proofs.Above.{is_final_in, above}
 use Rattle.bank.proofs.Windows.{excludes_is}
-use Rattle.bank.proofs.Admitting.{Finalizes, IsAdmitted, admits}
+use Rattle.bank.proofs.Admitting.{Finalizes, admits}
 
 -- a window excludes what has more final tags above it than delta
 pub exceeds_is : (es : Rows) → Rise es → (w : Option Window) (t : Tag) → IsWindowed es w
@@ -77,7 +76,8 @@ module _ (es fs : Rows) (rise : Rise es) (risen : Rise fs) (p : Pointer) (w : Op
   final_after_request : (t : Tag) → is_final_in fs t ≡ is_some (finalized_at (finalized (bank_of es p w r) tag now) t)
   final_after_request t = sym (final_in fs risen p w r t) ∙ ap (λ b. is_some (finalized_at b t)) bank
 
-  final_by : (t : Tag) → is_final_in fs t ≡ is_some (cond (tag_eq t tag) (since (finalized_at (bank_of es p w r) t) now) (finalized_at (bank_of es p w r) t))
+  final_by : (t : Tag) → is_final_in fs t
+      ≡ is_some (cond (tag_eq t tag) (since (finalized_at (bank_of es p w r) t) now) (finalized_at (bank_of es p w r) t))
   final_by t = final_after_request t ∙ ap is_some (finalized_at-finalized (bank_of es p w r) tag now t)
 
   count_after : (t : Tag) → above t fs + one_if (tag_lt t tag && is_final_in es tag) ≡ one_if (tag_lt t tag) + above t es
@@ -155,7 +155,8 @@ module _ (es fs : Rows) (rise : Rise es) (risen : Rise fs) (p : Pointer) (w : Op
           pick true e = absurd (cc)
           pick false e = refl
 
-      cases : (v : Option Window) (anew : Bool) → anew ≡ not (is_final_in es tag) → IsWindowed es v → IsAfter es fs v (after_final v anew fs tag)
+      cases : (v : Option Window) (anew : Bool) → anew ≡ not (is_final_in es tag) → IsWindowed es v
+          → IsAfter es fs v (after_final v anew fs tag)
       cases None anew is windowed = record {
         windowed = tt;
         delta = refl;

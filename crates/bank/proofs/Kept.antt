@@ -1,6 +1,6 @@
 -- What a request makes of what a bank keeps.
-use Rattle.std.proofs.Common.{◌≡◌, ℕ, ◌+◌, ◌-◌, ◌%◌, ◌^◌, ◌≤◌, ◌<◌, ◌⊎◌, inl, inr, Bool, true, false, cond, not, ◌&&◌, ◌||◌, List, []}
-use Rattle.std.proofs.Common.{length, Option, Some, None, IsSome, is_some, option_map, sum_by, sym, ap, ◌∙◌, subst, refl, arith}
+use Rattle.std.proofs.Common.{◌≡◌, ℕ, ◌+◌, ◌-◌, ◌%◌, ◌^◌, ◌<◌, ◌⊎◌, inl, inr, Bool, true, false, cond, not, ◌&&◌, ◌||◌}
+use Rattle.std.proofs.Common.{length, Option, Some, None, IsSome, is_some, option_map, sym, ap, ◌∙◌, subst, refl, arith}
 use Rattle.std.specs.FinMap as map
 use Rattle.std.specs.BTreeMap.{is_at}
 use Rattle.tag.specs.declared.tag.Tag.{Tag}
@@ -12,15 +12,15 @@ use Rattle.bank.specs.declared.window.Window.{Window}
 use Rattle.bank.specs.declared.request.Request.TheVariants as request
 use Rattle.bank.specs.declared.status.Pointer.{Pointer}
 use Rattle.bank.specs.Bank.{Bank, with_rows, pre_written, finalized, knows, row_after_pre_write, row_after_finalize, piece_of, piece_of_row}
-use Rattle.bank.specs.Bytes.{entry_bytes, bank_bytes, added_bytes}
+use Rattle.bank.specs.Bytes.{bank_bytes, added_bytes}
 use Rattle.bank.specs.Collect.{collected, IsCollected}
 use Rattle.bank.specs.Kept.{bank_of, IsKeptBank}
 use Rattle.bank.specs.Knowledge.{row_arrived, finalized_at, count_above, is_finalized, is_dropped}
 use Rattle.bank.specs.Serve.{greatest_final}
 use Rattle.bank.specs.Window.{found_in, is_excluded, late_tag, after_final, without_piece, freed_by, IsWindowed}
-use Rattle.bank.proofs.Entries.{Rows, is_final, Rise, entries-rise, get-rise, insert-rise}
+use Rattle.bank.proofs.Entries.{Rows, is_final, Rise, get-rise, insert-rise}
 use Rattle.bank.proofs.Account.{pre_written_bytes, finalized_bytes}
-use Rattle.bank.proofs.Above.{is_final_in, above}
+use Rattle.bank.proofs.Above.{is_final_in}
 use Rattle.bank.proofs.Changes.{finalized_at-pre_written, finals-pre_written, piece_of-finalized}
 use Rattle.bank.proofs.Collecting.{finalized_at-collected, count-collected}
 use Rattle.bank.proofs.Dropping.{at_true, bank_of-collected, freed_is}
@@ -150,7 +150,8 @@ module _ (es fs gs : Rows) (p : Pointer) (w : Option Window) (r : Option ℕ) (g
         ∙ ap (λ o. cond (is_some (row_arrived o)) 0 (length piece.bytes)) (sym (get-rise es kept.sorted tag)) in
         let all = ap bank_bytes plain_pre_written ∙ pre_written_bytes (bank_of es p w r) tag piece now in
         let off = freed_is fs gs risen rests (late_tag w r fs tag) drops in
-        let total : bank_bytes (bank_of gs p w r) + freed ≡ bank_bytes (bank_of es p w r) + added = omega (arith, brought, all, off, frees) in
+        let total : bank_bytes (bank_of gs p w r) + freed ≡ bank_bytes (bank_of es p w r) + added =
+        omega (arith, brought, all, off, frees) in
         kept_rest u plain_pre_written (collected-pre_written (bank_of es p w r) tag piece now kept.collected)
         (opening-pre_written (bank_of es p w r) tag now kept.opening piece) w (late_tag w r fs tag) drops windowed_pre_written refl
         gone_late only_late g new (kept.greatest ∙ sym (greatest-pre_written (bank_of es p w r) tag now kept.opening piece))

@@ -1,5 +1,5 @@
 -- A bank without delta that is not retired keeps all.
-use Rattle.std.proofs.Common.{◌≡◌, ℕ, None, refl, ◌∙◌, sym}
+use Rattle.std.proofs.Common.{◌≡◌, ℕ, None, refl}
 use Rattle.bank.specs.declared.request.Request.{Request}
 use Rattle.bank.specs.declared.request.Request.TheVariants as request
 use Rattle.bank.specs.Bank.{Bank, opened_bank, pre_written, finalized}

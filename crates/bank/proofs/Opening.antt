@@ -18,9 +18,9 @@ use Rattle.bank.specs.Bank.{Bank, opened_bank}
 use Rattle.bank.specs.Bytes.{entry_bytes, bank_bytes}
 use Rattle.bank.specs.Collect.{emptied_row, emptied_entry, kept_row, collected, IsCollected, retired_bank}
 use Rattle.bank.specs.Kept.{bank_of, IsKeptBank}
-use Rattle.bank.specs.Knowledge.{since, row_finalized, finalized_at, count_above, is_finalized, finals_above, exceeds, is_dropped}
+use Rattle.bank.specs.Knowledge.{since, row_finalized, finalized_at, is_finalized, finals_above, exceeds, is_dropped}
 use Rattle.bank.specs.Serve.{greatest_final}
-use Rattle.bank.specs.Window.{opened_window, opened_windows, found_in, IsWindow, IsWindowed}
+use Rattle.bank.specs.Window.{opened_windows, found_in, IsWindowed}
 use Rattle.bank.proofs.Counting.{one_if}
 use Rattle.bank.proofs.Entries.{Rows, is_final, Rise, entries-rise, get-rise, insert-rise}
 use Rattle.bank.proofs.Account.{emptied_bytes, opened_bytes}
@@ -134,7 +134,8 @@ module _ (es gs : Rows) (p : Pointer) (w : Option Window) (r : Option ℕ) (g : 
   gone t = there r
     where
       there : (o : Option ℕ)
-          → (is_some (since o now) || (is_some (finalized_at retires t) && exceeds (option_map (λ (w : Window). w.delta) w) (finals_above retires t)))
+          → (is_some (since o now)
+          || (is_some (finalized_at retires t) && exceeds (option_map (λ (w : Window). w.delta) w) (finals_above retires t)))
           ≡ true
       there None = refl
       there (Some step) = refl

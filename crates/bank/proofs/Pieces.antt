@@ -1,11 +1,11 @@
 -- The pieces that a bank has are those that are kept.
-use Rattle.std.proofs.Common.{◌≡◌, ℕ, suc, ◌+◌, ◌<◌, ◌≤◌, ◌↔◌, Bool, true, false, cond, not, ◌&&◌, ◌||◌, [], ◌∷◌, length, get_or}
-use Rattle.std.proofs.Common.{Option, Some, None, IsSome, is_some, option_map, sym, ap, ◌∙◌, subst, refl, arith}
+use Rattle.std.proofs.Common.{◌≡◌, ℕ, ◌+◌, ◌≤◌, Bool, true, false, cond, not, ◌&&◌, ◌||◌, [], ◌∷◌, length}
+use Rattle.std.proofs.Common.{Option, Some, None, is_some, option_map, sym, ap, ◌∙◌, refl, arith}
 use Rattle.std.specs.FinMap as map
-use Rattle.std.proofs.lemmas.Bool.{le-leb, lt-leb, leb-true, and_parts}
+use Rattle.std.proofs.lemmas.Bool.{le-leb, lt-leb, leb-true}
 use Rattle.tag.specs.declared.tag.Tag.{Tag}
 use Rattle.tag.specs.Tag.{tag_cmp, tag_lt, tag_eq, opening_tag}
-use Rattle.tag.proofs.Tags.{tag_cmp_total, eq_by_cmp-tag, tag_eq-same, tag_eq-true}
+use Rattle.tag.proofs.Tags.{tag_eq-same, tag_eq-true}
 use Rattle.encoder.specs.declared.fragment.Piece.{Piece}
 use Rattle.bank.specs.declared.row.Arrival.{Arrival}
 use Rattle.bank.specs.declared.row.Row.{Row}
@@ -13,15 +13,16 @@ use Rattle.bank.specs.declared.request.Request.{Request}
 use Rattle.bank.specs.declared.request.Request.TheVariants as request
 use Rattle.bank.specs.Bank.{Bank, opening_row, opened_bank, filled_arrival, row_after_pre_write, row_after_finalize, pre_written, finalized}
 use Rattle.bank.specs.Bank.{piece_of, piece_of_row, piece_that_came}
-use Rattle.bank.specs.Knowledge.{since, final_step, row_finalized, row_arrived, finalized_at, arrived_at, count_above, finals_above, exceeds}
+use Rattle.bank.specs.Knowledge.{since, final_step, row_finalized, row_arrived, finalized_at, arrived_at, count_above, finals_above}
+use Rattle.bank.specs.Knowledge.{exceeds}
 use Rattle.bank.specs.Knowledge.{is_dropped}
-use Rattle.bank.specs.Collect.{collected, IsCollected, KeepsAll, is_outside, fetched_piece, retired_bank}
+use Rattle.bank.specs.Collect.{collected, IsCollected, is_outside, retired_bank}
 use Rattle.bank.specs.Serve.{served_bank}
 use Rattle.bank.proofs.Entries.{Rows}
 use Rattle.bank.proofs.Above.{lt-same}
 use Rattle.bank.proofs.Counting.{one_if, insert_count}
-use Rattle.bank.proofs.Collecting.{finalized_at-collected, arrived_at-collected, piece_of-collected, is_dropped-collected}
-use Rattle.bank.proofs.Changes.{get-with_row, all_rows, finalized_at-finalized, arrived_at-finalized, piece_of-finalized}
+use Rattle.bank.proofs.Collecting.{arrived_at-collected, piece_of-collected, is_dropped-collected}
+use Rattle.bank.proofs.Changes.{get-with_row, all_rows, finalized_at-finalized}
 use Rattle.bank.proofs.Changes.{finals-finalized, finalized_at-pre_written, finals-pre_written}
 
 never : (c : Bool) → (c && false) ≡ false
@@ -185,7 +186,8 @@ pub retired_collected : (b : Bank) (now : ℕ) → IsCollected (retired_bank b n
 retired_collected b now =
     let u : Bank = record { rows = b.rows; pointer = b.pointer; delta = b.delta; retired = since b.retired now } in
     collected_has u (λ t kept. absurd (
-    let gone : is_dropped u t ≡ true = ap (λ c. c || (is_some (finalized_at b t) && exceeds b.delta (finals_above u t))) (there b.retired) in
+    let gone : is_dropped u t ≡ true =
+    ap (λ c. c || (is_some (finalized_at b t) && exceeds b.delta (finals_above u t))) (there b.retired) in
     let no : false ≡ true = sym kept ∙ gone in cc))
   where
     there : (o : Option ℕ) → is_some (since o now) ≡ true

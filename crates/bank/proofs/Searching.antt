@@ -26,7 +26,8 @@ after-found tag (e ∷ es) = pick (tag_cmp tag e.0) refl (after-found tag es)
     first o = option_map (λ (e : Tag × Row). e.0) o
 
     taken : (c : Bool) → first (find (is_next tag) (entries_between tag_cmp (Included tag) Unbounded es)) ≡ final_after tag es
-        → first (cond c (Some e) (find (is_next tag) (entries_between tag_cmp (Included tag) Unbounded es))) ≡ cond c (Some e.0) (final_after tag es)
+        → first (cond c (Some e) (find (is_next tag) (entries_between tag_cmp (Included tag) Unbounded es)))
+        ≡ cond c (Some e.0) (final_after tag es)
     taken true rest = refl
     taken false rest = rest
 

@@ -14,7 +14,7 @@ use Rattle.bank.specs.declared.window.Window.{Window}
 use Rattle.bank.specs.Knowledge.{is_finalized, row_finalized}
 use Rattle.bank.specs.Window.{final_after, excludes, IsWindow}
 use Rattle.bank.proofs.Counting.{one_if}
-use Rattle.bank.proofs.Entries.{Rows, Rise, below_at, is_sorted-rise}
+use Rattle.bank.proofs.Entries.{Rows, Rise, below_at}
 use Rattle.bank.proofs.Above.{lt-same, lt-not, is_final_in, found_at, above, above_less, above_final, above_all, above_least_final}
 
 -- The next finalized tag
@@ -75,7 +75,8 @@ after_count x n (e ∷ es) sorted is =
     parts : (below_all tag_cmp e.0 es ≡ true) × (map.is_sorted tag_cmp es ≡ true)
     parts = and_parts (below_all tag_cmp e.0 es) (map.is_sorted tag_cmp es) sorted
 
-    later : above x es ≡ above n es + 1 → final_after x es ≡ Some n → one_if (tag_lt x e.0 && is_finalized e.1.label) ≡ 0 → above x (e ∷ es) ≡ above n (e ∷ es) + 1
+    later : above x es ≡ above n es + 1 → final_after x es ≡ Some n → one_if (tag_lt x e.0 && is_finalized e.1.label) ≡ 0
+        → above x (e ∷ es) ≡ above n (e ∷ es) + 1
     later rest is none =
         let p = after_place x n es is in
         let d : Tag × Row = (n, record { label = PreWritten 0; arrival = None }) in
@@ -104,7 +105,8 @@ pub after_none : (x : Tag) (es : Rows) → final_after x es ≡ None → above x
 after_none x [] is = refl
 after_none x (e ∷ es) is = pick (λ is. after_none x es is) (tag_lt x e.0 && is_finalized e.1.label) refl is
   where
-    pick : (final_after x es ≡ None → above x es ≡ 0) → (c : Bool) → (tag_lt x e.0 && is_finalized e.1.label) ≡ c → cond c (Some e.0) (final_after x es) ≡ None → above x (e ∷ es) ≡ 0
+    pick : (final_after x es ≡ None → above x es ≡ 0) → (c : Bool) → (tag_lt x e.0 && is_finalized e.1.label) ≡ c
+        → cond c (Some e.0) (final_after x es) ≡ None → above x (e ∷ es) ≡ 0
     pick rest true passes is = absurd (cc)
     pick rest false fails is =
         let none_there = rest is in

@@ -1,5 +1,6 @@
 -- Which pieces a bank keeps, and what is left where it drops the others.
-use Rattle.std.specs.Prelude.{◌≡◌, ℕ, ◌&&◌, ◌||◌, not, Bool, if◌then◌else◌, is_some, sum_by, count_by, Option, Some, None, map}
+use Rattle.std.specs.Prelude.{◌≡◌, ℕ, ◌&&◌, ◌||◌, not, Bool, if◌then◌else◌, is_some, sum_by, count_by, Option, Some}
+use Rattle.std.specs.Prelude.{None, map}
 use Rattle.std.specs.FinMap as map
 use Rattle.tag.specs.declared.tag.Tag.{Tag}
 use Rattle.encoder.specs.declared.fragment.Piece.{Piece}

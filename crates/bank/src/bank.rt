@@ -19,7 +19,9 @@ mod reading;
 /// that the bank keeps, the clause `served` says that the past stays as it was and that the reply is true.
 /// A refusal is `NoMemory`: there was no room for a new tag, or for one more owner of a piece.
 ///
-/// A request takes time in the logarithm of the number of tags, and those that name no tag take the same time always.
+/// A request that names a tag takes time in the logarithm of their number, and each other one the same time always.
+/// With `delta`, one that makes a tag final may also pass pre-written tags that come to lie below all that is kept:
+/// all requests together pass a tag once.
 #[derive(Debug, Drop)]
 pub struct Bank {
     rows: BTreeMap<Tag, Row>,
@@ -132,8 +134,8 @@ impl Bank {
         }
     }
 
-    /// Keeps `piece` for `tag`, unless a piece came before. A new tag is pre-written; a known one keeps its label. Where
-    /// the piece is not kept, that it came is.
+    /// Keeps `piece` for `tag`, unless a piece came before. A new tag is pre-written; a known one keeps its label.
+    /// Where the piece is not kept, that it came is.
     pub fn pre_write(&mut self, tag: Tag, piece: Piece, now: Stamp) -> Result<Reply, Refusal>
         ensures bank { OnOk result (self.new ≡ collected (pre_written self.old tag piece now)) }
         ensures reply { IfOk result (λ r. r ≡ record { step = now; answer = answer.Done }) }

@@ -1,5 +1,6 @@
 ghost use Rattle.std.specs.Prelude.{◌≡◌};
-ghost use Rattle.bank.specs.Window.{excludes, is_excluded, admitted, after_final, late_tag, opened_window, opened_windows};
+ghost use Rattle.bank.specs.Window.{excludes, is_excluded, admitted, after_final, late_tag, opened_window};
+ghost use Rattle.bank.specs.Window.{opened_windows};
 
 use crate::{Row, rows};
 use std::collections::BTreeMap;

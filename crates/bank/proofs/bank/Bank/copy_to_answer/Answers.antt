@@ -1,9 +1,7 @@
-use Rattle.std.proofs.Common.{◌≡◌, inl, inr, Option, Some, IfOk, IsNone, option_copied, sym, ap, ◌∙◌, subst, refl}
+use Rattle.std.proofs.Common.{◌≡◌, inl, inr, Option, IfOk, IsNone, option_copied, sym, ap, ◌∙◌, subst}
 use Rattle.encoder.specs.declared.fragment.Piece.{Piece}
-use Rattle.bank.specs.declared.row.Row.{Row}
-use Rattle.bank.specs.Bank.{Bank, piece_of_row}
+use Rattle.bank.specs.Bank.{piece_of_row}
 use Rattle.bank.specs.Collect.{IsCollected}
-use Rattle.bank.specs.Window.{is_excluded}
 use Rattle.bank.proofs.Answering.{fetched_outside, fetched_row}
 use Rattle.bank.proofs.bank.Bank.copy_to_answer.Goals as goal
 use Rattle.bank.proofs.bank.Bank.copy_to_answer.Goals.{then-is_some-via-then-is_some, then-is_some-via-else-is_some+then-is_excluded}

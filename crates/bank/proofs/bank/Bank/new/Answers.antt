@@ -1,4 +1,4 @@
-use Rattle.std.proofs.Common.{◌≡◌, sym, ap, ◌∙◌, subst, refl, None}
+use Rattle.std.proofs.Common.{sym, ap, ◌∙◌, subst, None}
 use Rattle.tag.specs.Tag.{opening_tag}
 use Rattle.bank.specs.Bank.{Bank}
 use Rattle.bank.specs.Bytes.{bank_bytes}
@@ -12,7 +12,8 @@ use Rattle.bank.proofs.bank.Bank.new.Goals as goal
 
 pub invariant_of-result : goal.invariant_of-result
 invariant_of-result c =
-    subst (λ w. IsKeptBank c.put.new.rows.entries Unset w None opening_tag 0) (sym c.opened.ensures) (kept_opened c.new-rows.result.entries c.put.new.rows.entries c.args.point c.args.delta c.args.now c.new.result
+    subst (λ w. IsKeptBank c.put.new.rows.entries Unset w None opening_tag 0) (sym c.opened.ensures)
+    (kept_opened c.new-rows.result.entries c.put.new.rows.entries c.args.point c.args.delta c.args.now c.new.result
     c.new-rows.ensures.empty c.new-rows.ensures.ordered c.put.ensures.ordered c.new.ensures c.in_ok-put.ensures.rows.0)
 
 pub returns-clause-bank : goal.returns-clause-bank

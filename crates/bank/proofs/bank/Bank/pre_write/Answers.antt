@@ -1,4 +1,4 @@
-use Rattle.std.proofs.Common.{◌≡◌, sym, ap, ◌∙◌, subst, refl}
+use Rattle.std.proofs.Common.{sym, ap, ◌∙◌, subst, refl}
 use Rattle.std.proofs.lemmas.Bool.{false≢true}
 use Rattle.tag.specs.declared.tag.Tag.{Tag}
 use Rattle.bank.specs.Bank.{Bank, pre_written}
