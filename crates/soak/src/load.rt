@@ -49,7 +49,7 @@ pub fn run_load<R: Threads + Wait + Clock + CpuClock + Sync>(
 ) -> Result<Cost, Refusal>
     ensures { IfOk result (λ cost. cost.calls ≡ load.clients * load.calls) }
 {
-    if load.clients as usize > MOST_SEATS {
+    if load.clients > MOST_SEATS {
         return Err(Refusal::Full);
     }
     let parts = load.clients as u64 + 1;
