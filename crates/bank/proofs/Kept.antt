@@ -4,8 +4,7 @@ use Rattle.std.proofs.Common.{length, Option, Some, None, IsSome, is_some, optio
 use Rattle.std.specs.FinMap as map
 use Rattle.std.specs.BTreeMap.{is_at}
 use Rattle.tag.specs.declared.tag.Tag.{Tag}
-use Rattle.tag.specs.Tag.{tag_cmp, tag_lt, tag_eq, later_tag, opening_tag}
-use Rattle.tag.proofs.Tags.{opening_least}
+use Rattle.tag.specs.Tag.{tag_cmp, later_tag, opening_tag}
 use Rattle.encoder.specs.declared.fragment.Piece.{Piece}
 use Rattle.bank.specs.declared.row.Row.{Row}
 use Rattle.bank.specs.declared.window.Window.{Window}

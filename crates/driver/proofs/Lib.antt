@@ -16,5 +16,4 @@ pub mod Asking
 pub mod Turning
 pub mod Finishing
 pub mod Mails
-pub mod Others
 pub mod Whole

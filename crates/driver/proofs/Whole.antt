@@ -6,8 +6,7 @@ use Rattle.cluster.specs.Cluster.{Cluster}
 use Rattle.driver.specs.declared.whole_call.NotAnswered.{NotAnswered}
 use Rattle.driver.specs.declared.whole_call.NotAnswered.TheVariants as unanswered
 use Rattle.driver.specs.Driver.{IsFinished, IsUnfinished}
-use Rattle.driver.specs.Others.{next_number}
-use Rattle.driver.specs.WholeCalls.{IsWholeCall}
+use Rattle.driver.specs.WholeCalls.{IsWholeCall, next_number}
 
 module _ {C : Type 0} (chooses : C → ℕ → ℕ → C → Type 0) (name : List ℕ) (turns : ℕ) (old : Cluster) (before : C) (new : Cluster)
     (after : C) where

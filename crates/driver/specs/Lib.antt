@@ -2,5 +2,4 @@ pub mod Choices
 pub mod Coding
 pub mod Driver
 pub mod Rounds
-pub mod Others
 pub mod WholeCalls

@@ -1,17 +1,20 @@
 -- Whole calls: the call step, and then the driver.
-use Rattle.std.specs.Prelude.{◌≡◌, ◌⊎◌, ℕ, false, List, Option, Some, None, Result, Ok, Err}
+use Rattle.std.specs.Prelude.{◌≡◌, ◌⊎◌, ℕ, suc, false, List, length, Option, Some, None, Result, Ok, Err}
 use Rattle.tag.specs.declared.refusal.Refusal.{Refusal}
 use Rattle.tag.specs.declared.refusal.Refusal.TheVariants.{NoMemory}
 use Rattle.record.specs.Steps.{Step}
 use Rattle.register.specs.Causes.{read_cause, write_cause}
 use Rattle.register.specs.declared.receipt.Receipt.{Receipt}
 use Rattle.cluster.specs.Causes.{next, object_cause, moving_cause}
-use Rattle.cluster.specs.Cluster.{Cluster}
+use Rattle.cluster.specs.Cluster.{Cluster, if_named}
 use Rattle.cluster.specs.Steps.{stepped, moved}
 use Rattle.driver.specs.declared.whole_call.NotAnswered.{NotAnswered}
 use Rattle.driver.specs.declared.whole_call.NotAnswered.TheVariants as unanswered
 use Rattle.driver.specs.Driver.{IsFinished, IsUnfinished}
-use Rattle.driver.specs.Others.{next_number}
+
+-- the number of the next call of the object of this name
+abbrev pub next_number : Cluster → (name : List ℕ) → Option ℕ
+next_number cluster name = if_named cluster name (λ object. Some (suc (length object.calls)))
 
 module _ {C : Type 0} (chooses : C → ℕ → ℕ → C → Type 0) (name : List ℕ) (turns : ℕ) (old : Cluster) (before : C)
     (new : Cluster) (after : C) where

@@ -7,7 +7,6 @@ ghost use Rattle.cluster.specs.Causes.{object_cause, place_cause};
 ghost use Rattle.cluster.specs.Steps.{stepped};
 ghost use Rattle.driver.specs.Choices.{Picks, choices, handled_at, handling_cause, request_at, step_of};
 ghost use Rattle.driver.specs.Driver.{wanted, IsTurn, IsRefused};
-ghost use Rattle.driver.specs.Others.{AreOthers, IsBehind};
 
 use crate::Chooser;
 use crate::choices::{Among, choose};
@@ -44,16 +43,13 @@ pub fn handle(cluster: &mut Cluster, name: &str, place: usize) -> Result<Handled
 }
 
 /// One of the call's messages that can be handled is handled, the one that is chosen. `Stuck` where there is none.
-/// None of them stands before the place `from`.
 pub(crate) fn handle_chosen<C: Chooser>(
     cluster: &mut Cluster,
     name: &str,
     call: u64,
-    from: usize,
     chooser: &mut C,
 ) -> Result<(), Refusal>
-    requires wants { wanted cluster.old name.now call ≡ Some want.Replies }
-    requires behind { IsBehind cluster.old name.now call from }
+    requires { wanted cluster.old name.now call ≡ Some want.Replies }
     ensures turn { OnOk result
         (IsTurn C.chooses name.entry.now call false cluster.old chooser.old cluster.new chooser.new) }
     ensures refused { IfErr result
@@ -61,7 +57,7 @@ pub(crate) fn handle_chosen<C: Chooser>(
     ensures unchanged { OnErr result (cluster.new ≡ cluster.old) }
 {
     let register = cluster.register(name)?;
-    let Some(place) = chosen(cluster, register, call, from, chooser) else {
+    let Some(place) = chosen(cluster, register, call, chooser) else {
         return Err(Refusal::Stuck);
     };
     handle(cluster, name, place)?;
@@ -83,17 +79,17 @@ fn is_request(cluster: &Cluster, name: &str, place: usize) -> Result<bool, Refus
     }
 }
 
-// The place of the message that is chosen among those of the call that can be handled. None where there is none.
+// The place of the message that is chosen among those of the call that can be handled. None where there is none. What
+// it costs does not grow with the messages of earlier calls.
 fn chosen<C: Chooser>(
     cluster: &Cluster,
     register: &Register,
     call: u64,
-    from: usize,
     chooser: &mut C,
 ) -> Option<usize>
-    requires { AreOthers call from register.now.object.mail }
     ensures { MatchOption result ((choices cluster.now call register.now.object ≡ []) × (chooser.new ≡ chooser.old))
         (λ place. Picks C.chooses (choices cluster.now call register.now.object) chooser.old chooser.new place) }
 {
+    let from = register.mail_view().first_place(call);
     choose(cluster, register, Among::Call(call), from, chooser)
 }

@@ -2,7 +2,6 @@
 ghost use Rattle.std.specs.Prelude.{◌≡◌, true, Some, IfOk, IfErr, OnErr};
 ghost use Rattle.record.specs.declared.stage.Want.TheVariants as want;
 ghost use Rattle.driver.specs.Driver.{wanted, IsRefused};
-ghost use Rattle.driver.specs.Others.{IsBehind};
 ghost use Rattle.driver.specs.Rounds.{IsRound};
 
 use crate::Chooser;
@@ -50,33 +49,12 @@ pub fn make_round<C: Chooser>(
         (λ e. IsRefused C.chooses name.entry.now call cluster.old asks_again chooser.old chooser.new e) }
     ensures unchanged { OnErr result (cluster.new ≡ cluster.old) }
 {
-    make_round_from(cluster, name, call, want, 0, asks_again, chooser)
-}
-
-/// The same, where no message of the call stands before a place of the mail.
-pub(crate) fn make_round_from<C: Chooser>(
-    cluster: &mut Cluster,
-    name: &str,
-    call: u64,
-    want: Want,
-    from: usize,
-    asks_again: bool,
-    chooser: &mut C,
-) -> Result<Round, Refusal>
-    requires wants { wanted cluster.old name.now call ≡ Some want }
-    requires behind { IsBehind cluster.old name.now call from }
-    ensures round { IfOk result
-        (λ r. IsRound C.chooses name.entry.now call asks_again cluster.old chooser.old cluster.new chooser.new r) }
-    ensures refused { IfErr result
-        (λ e. IsRefused C.chooses name.entry.now call cluster.old asks_again chooser.old chooser.new e) }
-    ensures unchanged { OnErr result (cluster.new ≡ cluster.old) }
-{
     match want {
         Want::Replies => {
             if asks_again {
                 return ask_again(cluster, name, call, chooser);
             }
-            handle_chosen(cluster, name, call, from, chooser)?;
+            handle_chosen(cluster, name, call, chooser)?;
             Ok(Round::Stepped)
         }
         Want::Advance => {

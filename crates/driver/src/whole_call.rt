@@ -1,12 +1,11 @@
 //! Whole calls, for one thread: the call step, and then the driver.
 ghost use Rattle.std.specs.Prelude.{MatchResult, ◌≡◌, false};
 ghost use Rattle.driver.specs.Driver.{IsFinished, IsUnfinished};
-ghost use Rattle.driver.specs.Others.{IsBehind, IsBehindNext};
 ghost use Rattle.driver.specs.WholeCalls.{IsWholeRead, IsWholeWrite, IsWholeMove};
 ghost use Rattle.driver.specs.declared.whole_call.NotAnswered.TheVariants as unanswered;
 
 use crate::Chooser;
-use crate::driver::finish_from;
+use crate::driver::finish;
 use bytes::Bytes;
 use cluster::{Cluster, LayoutId};
 use register::Receipt;
@@ -34,9 +33,8 @@ pub fn read<C: Chooser>(
 ) -> Result<Receipt, NotAnswered>
     ensures { IsWholeRead C.chooses name.entry.now turns cluster.old chooser.old cluster.new chooser.new result }
 {
-    let from = next_place(cluster, name);
     match cluster.call_read(name) {
-        Ok(call) => finish_begun(alloc, cluster, name, call, from, chooser, turns),
+        Ok(call) => finish_begun(alloc, cluster, name, call, chooser, turns),
         Err(refusal) => Err(NotAnswered::NotCalled(refusal)),
     }
 }
@@ -52,9 +50,8 @@ pub fn write<C: Chooser>(
 ) -> Result<Receipt, NotAnswered>
     ensures { IsWholeWrite C.chooses name.entry.now turns cluster.old chooser.old cluster.new chooser.new value result }
 {
-    let from = next_place(cluster, name);
     match cluster.call_write(name, value) {
-        Ok(call) => finish_begun(alloc, cluster, name, call, from, chooser, turns),
+        Ok(call) => finish_begun(alloc, cluster, name, call, chooser, turns),
         Err(refusal) => Err(NotAnswered::NotCalled(refusal)),
     }
 }
@@ -70,23 +67,9 @@ pub fn move_to<C: Chooser>(
 ) -> Result<Receipt, NotAnswered>
     ensures { IsWholeMove C.chooses name.entry.now turns cluster.old chooser.old cluster.new chooser.new id result }
 {
-    let from = next_place(cluster, name);
     match cluster.call_move(name, id) {
-        Ok(call) => finish_begun(alloc, cluster, name, call, from, chooser, turns),
+        Ok(call) => finish_begun(alloc, cluster, name, call, chooser, turns),
         Err(refusal) => Err(NotAnswered::NotCalled(refusal)),
-    }
-}
-
-// Where the messages of the next call will stand: behind those that wait.
-fn next_place(cluster: &Cluster, name: &str) -> usize
-    ensures { IsBehindNext cluster.now name.now result }
-{
-    match cluster.register(name) {
-        Ok(register) => {
-            register.soundness();
-            register.mail_view().len()
-        }
-        Err(_) => 0,
     }
 }
 
@@ -96,11 +79,9 @@ fn finish_begun<C: Chooser>(
     cluster: &mut Cluster,
     name: &str,
     call: u64,
-    from: usize,
     chooser: &mut C,
     turns: u64,
 ) -> Result<Receipt, NotAnswered>
-    requires { IsBehind cluster.old name.now call from }
     ensures { MatchResult result
         (λ receipt. IsFinished C.chooses name.entry.now call false turns cluster.old chooser.old cluster.new chooser.new
         receipt)
@@ -108,7 +89,7 @@ fn finish_begun<C: Chooser>(
         × IsUnfinished C.chooses name.entry.now call false turns cluster.old chooser.old cluster.new chooser.new
         refusal) }
 {
-    match finish_from(alloc, cluster, name, call, from, false, chooser, turns) {
+    match finish(alloc, cluster, name, call, false, chooser, turns) {
         Ok(receipt) => Ok(receipt),
         Err(refusal) => Err(NotAnswered::Open { call, refusal }),
     }

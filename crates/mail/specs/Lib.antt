@@ -1,2 +1,3 @@
+pub mod Bounds
 pub mod Mail
 pub mod Message

@@ -7,6 +7,7 @@ use Rattle.tag.specs.declared.refusal.Refusal.TheVariants.{Full}
 use Rattle.bank.specs.declared.reply.Reply.{Reply}
 use Rattle.mail.specs.declared.message.Message.{Message}
 use Rattle.mail.specs.Message.{message_bytes, answered}
+use Rattle.mail.specs.Bounds.{AreBounds}
 
 -- the bytes of the pieces in all messages
 abbrev pub mail_bytes : List Message → ℕ
@@ -16,9 +17,10 @@ mail_bytes messages = sum_by message_bytes messages
 abbrev pub is_within : List Message → Bool
 is_within messages = nat_le (length messages) MOST_MESSAGES && nat_le (mail_bytes messages) MOST_BYTES
 
--- the messages may wait together, and their pieces have so many bytes
-pub record IsKeptMail (messages : List Message) (bytes : ℕ) : Type 0 where
+-- the messages may wait together, their calls have these bounds, and their pieces so many bytes
+pub record IsKeptMail (messages : List Message) (bounds : List ℕ) (bytes : ℕ) : Type 0 where
   pub within : is_within messages ≡ true
+  pub bounded : AreBounds 0 messages bounds
   pub sum : bytes ≡ mail_bytes messages
 
 -- why these messages may not wait together, if they may not

@@ -1,13 +1,14 @@
-ghost use Rattle.std.specs.Prelude.{◌≡◌, ◌+◌, ◌<◌, ◌≤◌, ◌==◌, ◌++◌, [], length, nat_le, slice_get, remove};
-ghost use Rattle.std.specs.Prelude.{Some, OnOk, OnErr};
+ghost use Rattle.std.specs.Prelude.{◌≡◌, ◌+◌, ◌<◌, ◌≤◌, ◌==◌, ◌++◌, ℕ, [], length, nat_le, slice_get, slice_index};
+ghost use Rattle.std.specs.Prelude.{remove, Some, OnOk, OnErr};
 ghost use Rattle.tag.specs.Refusal.{IsByCause};
 ghost use Rattle.tag.specs.declared.limits.TheConstants.{MOST_BYTES, MOST_MESSAGES};
 ghost use Rattle.bank.specs.Answer.{answer_bytes};
+ghost use Rattle.mail.specs.Bounds.{AreOthers, AreRising, bounds_from, last_bound};
 ghost use Rattle.mail.specs.Mail.{is_within, mail_bytes, mail_cause, replied, repeated};
 
 use crate::Message;
 use bank::Reply;
-use std::alloc::Global;
+use std::alloc::{AllocError, Global};
 use std::marker::Model;
 use std::slice;
 use tag::{MOST_BYTES, MOST_MESSAGES, Refusal};
@@ -16,6 +17,8 @@ use tag::{MOST_BYTES, MOST_MESSAGES, Refusal};
 #[derive(Debug, Drop)]
 pub struct Mail {
     messages: Vec<Message>,
+    // Beside each message a bound of the calls up to it. It stays as it is where messages before it are removed.
+    bounds: Vec<u64>,
     // The bytes of the pieces in all messages.
     bytes: u64,
 }
@@ -29,7 +32,7 @@ impl Model for Mail {
 
     ghost view = { λ m. m.messages.items };
 
-    ghost invariant = { λ m. IsKeptMail m.messages.items m.bytes };
+    ghost invariant = { λ m. IsKeptMail m.messages.items m.bounds.items m.bytes };
 }
 
 impl Mail {
@@ -39,6 +42,7 @@ impl Mail {
     {
         Mail {
             messages: Vec::new(alloc),
+            bounds: Vec::new(alloc),
             bytes: 0,
         }
     }
@@ -66,6 +70,14 @@ impl Mail {
         &self.messages[place]
     }
 
+    /// A place before which no message of the call stands, found without a look at each message. Messages behind it may
+    /// be of other calls; none that was posted before the first of this call's number or of a greater one is.
+    pub fn first_place(&self, call: u64) -> usize
+        ensures { AreOthers call result self.now }
+    {
+        first_at_least(&self.bounds, call)
+    }
+
     /// How many bytes the pieces in all messages have.
     pub fn bytes(&self) -> u64
         ensures value { result ≡ mail_bytes self.now }
@@ -85,6 +97,8 @@ impl Mail {
             return Err(Refusal::Full);
         }
         let bytes = bytes_of(&messages);
+        self.messages.reserve(messages.len())?;
+        add_bounds(&mut self.bounds, &messages)?;
         let mut messages = messages;
         self.messages.append(&mut messages)?;
         self.bytes += bytes;
@@ -119,6 +133,7 @@ impl Mail {
         ensures rest { self.new ≡ remove self.old place }
     {
         let message = self.messages.remove(place);
+        self.bounds.remove(place);
         self.bytes -= message.bytes();
         message
     }
@@ -145,10 +160,56 @@ impl Mail {
         }
         let copy = message.clone()?;
         let bytes = copy.bytes();
-        self.messages.push(copy)?;
+        self.messages.reserve(1)?;
+        add_bounds(&mut self.bounds, slice::from_ref(&copy))?;
+        self.messages.push_reserved(copy);
         self.bytes += bytes;
         Ok(())
     }
+}
+
+// The bounds of more messages, posted behind those that have these, or none where they can't grow.
+fn add_bounds(bounds: &mut Vec<u64>, messages: &[Message]) -> Result<(), AllocError>
+    ensures added { OnOk result (bounds.new.items
+        ≡ bounds.old.items ++ bounds_from (last_bound 0 bounds.old.items) messages.now) }
+    ensures unchanged { OnErr result (bounds.new.items ≡ bounds.old.items) }
+{
+    bounds.reserve(messages.len())?;
+    let mut bound = last_of(bounds);
+    for message in messages {
+        bound = bound.max(message.call);
+        bounds.push_reserved(bound);
+    }
+    Ok(())
+}
+
+// The last bound, 0 where there is none.
+fn last_of(bounds: &[u64]) -> u64
+    ensures { result ≡ last_bound 0 bounds.now }
+{
+    match bounds.last() {
+        Some(bound) => *bound,
+        None => 0,
+    }
+}
+
+// The place of the first bound that is at least the call, or the count of the bounds where none is. They rise.
+fn first_at_least(bounds: &[u64], call: u64) -> usize
+    requires { AreRising bounds.now }
+    ensures within { result ≤ length bounds.now }
+    ensures below { (place : ℕ) → place < result → slice_index bounds.now place < call }
+{
+    let mut low = 0;
+    let mut high = bounds.len();
+    while low < high {
+        let middle = low + (high - low) / 2;
+        if bounds[middle] < call {
+            low = middle + 1;
+        } else {
+            high = middle;
+        }
+    }
+    low
 }
 
 // How many bytes the pieces in the messages have.

@@ -24,6 +24,16 @@ pub record Phase : Type 0 where
   pub replies : List Taken
   pub end : Option ℕ
 
+-- the step at which the last of these replies was taken
+abbrev pub last_step : List Taken → Option ℕ
+last_step [] = None
+last_step (taken ∷ []) = Some taken.step
+last_step (taken ∷ next ∷ replies) = last_step (next ∷ replies)
+
+-- the step at which a phase with these replies ended: that of the take which made the quorum
+abbrev pub end_of : (quorum : ℕ) → List Taken → Option ℕ
+end_of quorum replies = if nat_lt (length replies) quorum then None else last_step replies
+
 -- a phase that has taken nothing yet
 abbrev pub begun : (call number : ℕ) → Kind → (position members quorum now : ℕ) → Phase
 begun call number kind position members quorum now = record {

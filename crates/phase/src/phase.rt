@@ -15,10 +15,10 @@ pub struct Ask {
     pub call: u64,
     /// The phase's number in its call, from 1.
     pub number: u32,
-    /// What each member is asked.
-    pub kind: Kind,
     /// The position that is asked, from 0.
     pub position: u32,
+    /// What each member is asked.
+    pub kind: Kind,
 }
 
 /// A member's reply, with the step at which it was taken.
@@ -47,16 +47,15 @@ pub enum Took {
 #[derive(Debug, Drop)]
 pub struct Phase {
     ask: Ask,
+    start: Stamp,
+    // In the order of their takes, with room for a quorum's. The phase ended with the last of a quorum.
+    replies: Vec<Taken>,
     members: u8,
     quorum: u8,
-    start: Stamp,
-    // In the order of their takes, with room for a quorum's.
-    replies: Vec<Taken>,
-    end: Option<Stamp>,
 }
 
 impl Model for Phase {
-    ghost use Rattle.phase.specs.Phase.{Phase as Record, IsRecord};
+    ghost use Rattle.phase.specs.Phase.{Phase as Record, IsRecord, end_of};
     ghost use Rattle.std.specs.Prelude.{◌≤◌, vec_capacity};
 
     ghost Value = { Record };
@@ -70,11 +69,12 @@ impl Model for Phase {
       quorum = p.quorum;
       start = p.start;
       replies = p.replies.items;
-      end = p.end;
+      end = end_of p.quorum p.replies.items;
     } };
 
     ghost invariant = { λ p.
-        IsRecord p.members p.quorum p.replies.items p.end × (p.quorum ≤ vec_capacity p.replies) };
+        IsRecord p.members p.quorum p.replies.items (end_of p.quorum p.replies.items)
+        × (p.quorum ≤ vec_capacity p.replies) };
 }
 
 impl Phase {
@@ -99,11 +99,10 @@ impl Phase {
     {
         Ok(Phase {
             ask,
-            members,
-            quorum,
             start: now,
             replies: Vec::with_capacity(alloc, usize::from(quorum))?,
-            end: None,
+            members,
+            quorum,
         })
     }
 
@@ -112,7 +111,7 @@ impl Phase {
         ensures value { result ≡ is_some self.now.end }
         ensures kept { IsRecord self.now.members self.now.quorum self.now.replies self.now.end }
     {
-        self.end.is_some()
+        self.replies.len() >= usize::from(self.quorum)
     }
 
     /// The replies that were taken, in the order of their takes.
@@ -154,7 +153,20 @@ impl Phase {
     pub fn steps(&self) -> (Stamp, Option<Stamp>)
         ensures { (result.0 ≡ self.now.start) × (result.1 ≡ self.now.end) }
     {
-        (self.start, self.end)
+        (self.start, self.end())
+    }
+
+    // The step at which it had a quorum's replies.
+    fn end(&self) -> Option<Stamp>
+        ensures { result ≡ self.now.end }
+    {
+        if !self.complete() {
+            return None;
+        }
+        match self.replies.last() {
+            Some(taken) => Some(taken.step),
+            None => None,
+        }
     }
 
     /// How many members the position has.
@@ -204,7 +216,7 @@ impl Phase {
     fn is_current(&self, call: u64, number: u32) -> bool
         ensures { result ≡ is_current self.now call number }
     {
-        call == self.ask.call && number == self.ask.number && self.end.is_none()
+        call == self.ask.call && number == self.ask.number && !self.complete()
     }
 
     // Records the first reply of a member.
@@ -214,12 +226,10 @@ impl Phase {
         ensures phase { self.new ≡ with_reply self.old taken.member taken.reply taken.step }
         ensures took { result ≡ if makes_quorum self.old then took.Complete else took.Recorded }
     {
-        let step = taken.step;
         self.replies.push_reserved(taken);
         if self.replies.len() < usize::from(self.quorum) {
             return Took::Recorded;
         }
-        self.end = Some(step);
         Took::Complete
     }
 }

@@ -1,10 +1,12 @@
 -- Lists that a loop over the members makes.
-use Rattle.std.proofs.Common.{◌≡◌, ℕ, zero, suc, ◌+◌, ◌≤◌, ◌==◌, ◌&&◌, ◌||◌, Bool, true, false, cond, List, [], ◌∷◌, ◌++◌, length, drop}
+use Rattle.std.proofs.Common.{◌≡◌, ◌≢◌, ℕ, zero, suc, ◌+◌, ◌≤◌, ◌==◌, ◌&&◌, ◌||◌, Bool, true, false, cond, List, [], ◌∷◌, ◌++◌, length, drop}
 use Rattle.std.proofs.Common.{slice_get, Some, None, sym, ap, ◌∙◌, refl, arith}
+use Rattle.std.proofs.lemmas.Bool.{eqb-true}
 use Rattle.encoder.specs.declared.fragment.Piece.{Piece}
 use Rattle.bank.specs.declared.kind.Kind.{Kind}
 use Rattle.bank.specs.Bank.{Bank, opened_bank}
 use Rattle.layout.specs.Quorum.{has}
+use Rattle.mail.specs.Bounds.{AreOthers}
 use Rattle.mail.specs.declared.message.Message.{Message}
 use Rattle.mail.specs.declared.message.Body.TheVariants as body
 use Rattle.phase.specs.declared.phase.Taken.{Taken}
@@ -166,6 +168,22 @@ waits_here (x ∷ xs) call phase member zero m at = ap (λ (y : Message). is_of 
 waits_here (x ∷ xs) call phase member (suc place) m at =
     let more : suc place + 1 ≡ suc (place + 1) = omega arith in
     waits_here xs call phase member place m at ∙ ap (λ n. is_of call phase member m || waits (drop n (x ∷ xs)) call phase member) (sym more)
+
+not_of : (call phase member : ℕ) (m : Message) → m.call ≢ call → is_of call phase member m ≡ false
+not_of call phase member m other = go (m.call == call) refl
+  where
+    go : (b : Bool) → (m.call == call) ≡ b → (b && (m.phase == phase && m.member == member)) ≡ false
+    go true e = absurd (other (eqb-true m.call call e))
+    go false e = refl
+
+-- none waits among messages of other calls
+pub waits_behind : (call phase member from : ℕ) (mail : List Message) → AreOthers call from mail
+    → waits mail call phase member ≡ waits (drop from mail) call phase member
+waits_behind call phase member zero mail others = refl
+waits_behind call phase member (suc from) [] others = absurd others
+waits_behind call phase member (suc from) (m ∷ mail) others =
+    ap (λ b. b || waits mail call phase member) (not_of call phase member m others.0)
+    ∙ waits_behind call phase member from mail others.1
 
 pub waits_end : (mail : List Message) (call phase member place : ℕ) → length mail ≤ place
     → waits (drop place mail) call phase member ≡ false

@@ -224,10 +224,11 @@ impl Call {
         self.settled = Some(value);
     }
 
-    /// The call is answered at step `now`.
+    /// The call is answered at step `now`. It gives back the room for phases that it has no more use for.
     pub(crate) fn answer(&mut self, now: Stamp)
         ensures { self.new ≡ record { call = record self.old.call { answered = Some now }; stage = self.old.stage } }
     {
         self.answered = Some(now);
+        self.phases.shrink_to_fit();
     }
 }

@@ -94,7 +94,7 @@ fn is_there(ask: Ask, phase: &Phase, mail: &Mail, member: u8) -> bool
 fn waits(mail: &Mail, call: u64, phase: u32, member: u8) -> bool
     ensures { result ≡ waits mail.now call phase member }
 {
-    for place in 0..mail.len() {
+    for place in mail.first_place(call)..mail.len() {
         if is_of(mail.at(place), call, phase, member) {
             return true;
         }

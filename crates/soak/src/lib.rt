@@ -5,6 +5,7 @@
 pub use audit::are_accounted;
 pub use call::{object_of, value_of};
 pub use chooser::Congruential;
+pub use load::{Cost, Load, run_load};
 pub use moves::{layout_after, object_moved};
 pub use plan::Plan;
 pub use progress::Progress;
@@ -18,6 +19,7 @@ mod chooser;
 mod client_thread;
 mod counts;
 mod crew;
+mod load;
 mod moves;
 mod plan;
 mod progress;

@@ -1,7 +1,11 @@
 use Rattle.std.proofs.Common.{◌+◌, ◌||◌, drop, sym, ap, ◌∙◌}
 use Rattle.record.specs.Sending.{waits}
-use Rattle.register.proofs.Asks.{waits_here}
+use Rattle.register.proofs.Asks.{waits_behind, waits_here}
 use Rattle.register.proofs.requests.waits.Goals as goal
+
+pub loop-place-init : goal.loop-place-init
+loop-place-init c =
+    let a = c.args in waits_behind a.call a.phase a.member c.first_place-place.result a.mail.now c.first_place-place.ensures
 
 pub returns-then-is_of : goal.returns-then-is_of
 returns-then-is_of c =

@@ -1,6 +1,5 @@
 use Rattle.std.proofs.Common.{sym, ap, ◌∙◌, subst, refl}
 use Rattle.std.proofs.lemmas.Bool.{false≢true}
-use Rattle.tag.specs.declared.tag.Tag.{Tag}
 use Rattle.bank.specs.Bank.{Bank, pre_written}
 use Rattle.bank.specs.Collect.{collected, IsCollected}
 use Rattle.bank.specs.Window.{found_in, without_piece, freed_by}

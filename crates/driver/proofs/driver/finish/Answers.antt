@@ -1,10 +1,9 @@
 use Rattle.std.proofs.Common.{refl, inl, inr}
 use Rattle.driver.proofs.Finishing.{turned}
-use Rattle.driver.proofs.Others.{behind_turn}
-use Rattle.driver.proofs.driver.finish_from.Goals as goal
+use Rattle.driver.proofs.driver.finish.Goals as goal
 
 pub loop-turn-init : goal.loop-turn-init
-loop-turn-init g c = record { drives = (refl, refl); open_call = inl refl; behind = c.requires }
+loop-turn-init g c = record { drives = (refl, refl); open_call = inl refl }
 
 pub loop-turn-preserved : goal.loop-turn-preserved
 loop-turn-preserved g c =
@@ -16,7 +15,4 @@ loop-turn-preserved g c =
           c.asks_again-again.result
           c.asks_again-again.ensures went.0;
       open_call = inr went.1;
-      behind = behind_turn g.C.Chooser.chooses c.args.name.now c.args.call c.args.from c.asks_again-again.result c.loop-turn.cluster
-          c.loop-turn.chooser
-          c.make_turn.new.cluster c.make_turn.new.chooser went.0 c.loop-turn.invariant.behind;
     }

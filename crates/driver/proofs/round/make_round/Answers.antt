@@ -1,30 +1,30 @@
 use Rattle.std.proofs.Common.{Some, ap, ◌∙◌}
 use Rattle.driver.proofs.Limits.{err_of}
 use Rattle.driver.proofs.Refusing.{advance_refused, answer_refused, value_refused, settle_refused}
-use Rattle.driver.proofs.round.make_round_from.Goals as goal
+use Rattle.driver.proofs.round.make_round.Goals as goal
 
 pub returns-in_err-advance-in-Advance-clause-refused : goal.returns-in_err-advance-in-Advance-clause-refused
 returns-in_err-advance-in-Advance-clause-refused g c =
     err_of _ _ _ c.from_residual-in_err-advance-in-Advance.ensures.1
     (advance_refused g.C.Chooser.chooses c.args.name.now c.args.call c.args.cluster.now c.args.asks_again c.args.chooser.now _
-    (c.requires.wants ∙ ap Some c.in-Advance.is) c.in_err-advance-in-Advance.ensures.cause)
+    (c.requires ∙ ap Some c.in-Advance.is) c.in_err-advance-in-Advance.ensures.cause)
 
 pub returns-in_err-value-in-Supply-clause-refused : goal.returns-in_err-value-in-Supply-clause-refused
 returns-in_err-value-in-Supply-clause-refused g c =
     err_of _ _ _ c.from_residual-in_err-value-in-Supply.ensures.1
     (value_refused g.C.Chooser.chooses c.args.name.now c.args.call c.args.cluster.now c.args.asks_again c.args.chooser.now c.in-Supply.k
     c.in-Supply.n _
-    (c.requires.wants ∙ ap Some c.in-Supply.is) c.in_err-value-in-Supply.ensures.cause)
+    (c.requires ∙ ap Some c.in-Supply.is) c.in_err-value-in-Supply.ensures.cause)
 
 pub returns-in_err-pieces-in-Settle-clause-refused : goal.returns-in_err-pieces-in-Settle-clause-refused
 returns-in_err-pieces-in-Settle-clause-refused g c =
     err_of _ _ _ c.from_residual-in_err-pieces-in-Settle.ensures.1
     (settle_refused g.C.Chooser.chooses c.args.name.now c.args.call c.args.cluster.now c.args.asks_again c.args.chooser.now c.in-Settle.k
     c.in-Settle.len _
-    (c.requires.wants ∙ ap Some c.in-Settle.is) c.in_err-pieces-in-Settle.ensures.given c.in_err-pieces-in-Settle.ensures.cause)
+    (c.requires ∙ ap Some c.in-Settle.is) c.in_err-pieces-in-Settle.ensures.given c.in_err-pieces-in-Settle.ensures.cause)
 
 pub returns-in_err-answer-in-Answer-clause-refused : goal.returns-in_err-answer-in-Answer-clause-refused
 returns-in_err-answer-in-Answer-clause-refused g c =
     err_of _ _ _ c.from_residual-in_err-answer-in-Answer.ensures.1
     (answer_refused g.C.Chooser.chooses c.args.name.now c.args.call c.args.cluster.now c.args.asks_again c.args.chooser.now _
-    (c.requires.wants ∙ ap Some c.in-Answer.is) c.in_err-answer-in-Answer.ensures.cause)
+    (c.requires ∙ ap Some c.in-Answer.is) c.in_err-answer-in-Answer.ensures.cause)

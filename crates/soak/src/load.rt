@@ -1,0 +1,196 @@
+//! A load that is measured: calls through one store, each client's in a thread of its own.
+ghost use Rattle.std.specs.Prelude.{◌≡◌, ◌+◌, ◌*◌, ◌≤◌, IfOk};
+ghost use Rattle.tag.specs.declared.limits.TheConstants.{MOST_SEATS};
+
+use crate::moves::TURNS;
+use bytes::Bytes;
+use client::{First, Seat, Store, StoreName};
+use cluster::Cluster;
+use layout::Layout;
+use std::alloc::Global;
+use std::marker::Brand;
+use std::sync::Wait;
+use std::sync::ledger::Blank;
+use std::thread::{JoinHandle, Scope, Threads};
+use std::time::{Clock, CpuClock, Duration};
+use std::{io, thread};
+use tag::{MOST_SEATS, Refusal};
+
+/// The name of the one object.
+const NAME: &str = "a";
+
+/// So many clients make so many calls each, a write and a read in turn, with values of so many bytes.
+#[derive(Clone, Copy, Debug, PartialEq, Eq)]
+pub struct Load {
+    pub clients: u32,
+    pub calls: u64,
+    pub length: usize,
+    /// How many messages a client handles after each of its calls, whosever they are.
+    pub late: u32,
+}
+
+/// How many calls were made, and the nanoseconds that they took; 0 where the clock told nothing.
+#[derive(Clone, Copy, Debug, PartialEq, Eq)]
+pub struct Cost {
+    pub calls: u64,
+    /// By the clock.
+    pub clock: u128,
+    /// What the processors have worked for the program meanwhile.
+    pub processors: u128,
+}
+
+/// Opens a store of five servers of which any three give a value back, without workers, and times the calls of a load.
+/// It answers only where each call has its receipt once the store is closed, and is else refused: `NotNow` where there
+/// are fewer, or else as a call, or as a thread that can't be started, with `NoMemory`.
+pub fn run_load<R: Threads + Wait + Clock + CpuClock + Sync>(
+    rt: &R,
+    alloc: Global,
+    load: Load,
+) -> Result<Cost, Refusal>
+    ensures { IfOk result (λ cost. cost.calls ≡ load.clients * load.calls) }
+{
+    if load.clients > MOST_SEATS {
+        return Err(Refusal::Full);
+    }
+    let parts = load.clients as u64 + 1;
+    let cost = load_named::<Brand, R>(rt, alloc, Blank::new(parts), load)?;
+    match (load.clients as u64).checked_mul(load.calls) {
+        Some(all) if all == cost.calls => Ok(cost),
+        _ => Err(Refusal::NotNow),
+    }
+}
+
+// The same of the store of this name, with the receipts that its close counts.
+fn load_named<L: StoreName + Send + Sync, R: Threads + Wait + Clock + CpuClock + Sync>(
+    rt: &R,
+    alloc: Global,
+    blank: Blank,
+    load: Load,
+) -> Result<Cost, Refusal>
+    requires name { blank.name ≡ L.name }
+    requires parts { (blank.parts ≡ L.parts) × (blank.parts ≡ L.seats + 1) × (load.clients ≡ L.seats) }
+{
+    let value = value_of(alloc, load.length)?;
+    let (store, seats, _admin) = Store::<L>::open(
+        alloc,
+        blank,
+        five_servers(alloc)?,
+        load.clients,
+        0,
+    )?;
+    let (clock, processors) = times(rt);
+    let seats = call_all(rt, alloc, &store, seats, &value, load)?;
+    let (clock_after, processors_after) = times(rt);
+    match store.close(seats) {
+        Ok(closed) => Ok(Cost {
+            calls: closed.receipts,
+            clock: clock_after.saturating_sub(clock),
+            processors: processors_after.saturating_sub(processors),
+        }),
+        Err(not_closed) => Err(not_closed.refusal),
+    }
+}
+
+// The clock, and what the processors have worked for the program, in nanoseconds.
+fn times<R: Clock + CpuClock>(rt: &R) -> (u128, u128) {
+    (
+        nanoseconds(rt.monotonic()),
+        nanoseconds(rt.process_cpu_time()),
+    )
+}
+
+fn nanoseconds(told: io::Result<Duration>) -> u128 {
+    match told {
+        Ok(duration) => duration.as_nanos(),
+        Err(_) => 0,
+    }
+}
+
+// A value of this length.
+fn value_of(alloc: Global, length: usize) -> Result<Bytes, Refusal> {
+    let mut bytes = Vec::with_capacity(alloc, length)?;
+    for at in 0..length {
+        bytes.push((at % 251) as u8)?;
+    }
+    Ok(Bytes::from_vec(bytes)?)
+}
+
+// Five servers and the object.
+fn five_servers(alloc: Global) -> Result<Cluster, Refusal> {
+    let mut cluster = Cluster::new(alloc, 5);
+    let layout = cluster.add_layout(Layout::new(3, &[0, 1, 2, 3, 4])?)?;
+    cluster.create(alloc, NAME, layout)?;
+    Ok(cluster)
+}
+
+// Lets each seat make its calls in a thread of its own, and gives the seats back.
+fn call_all<L: StoreName + Send + Sync, R: Threads + Wait + Sync>(
+    rt: &R,
+    alloc: Global,
+    store: &Store<L>,
+    seats: Vec<Seat<L>>,
+    value: &Bytes,
+    load: Load,
+) -> Result<Vec<Seat<L>>, Refusal> {
+    thread::scope(
+        thread::scope_env(),
+        rt,
+        |scope| -> Result<Vec<Seat<L>>, Refusal> {
+            call_in(scope, rt, alloc, store, seats, value, load)
+        },
+    )
+}
+
+fn call_in<'s, E, L: StoreName + Send + Sync, R: Threads + Wait + Sync>(
+    scope: &Scope<'s, E>,
+    rt: &'s R,
+    alloc: Global,
+    store: &'s Store<L>,
+    seats: Vec<Seat<L>>,
+    value: &'s Bytes,
+    load: Load,
+) -> Result<Vec<Seat<L>>, Refusal> {
+    let mut started = Vec::with_capacity(alloc, seats.len())?;
+    for seat in seats {
+        started.push(start(scope, rt, store, seat, value, load))?;
+    }
+    let mut ended = Vec::with_capacity(alloc, started.len())?;
+    for thread in started {
+        ended.push(thread?.join(rt)?)?;
+    }
+    Ok(ended)
+}
+
+fn start<'s, E, L: StoreName + Send + Sync, R: Threads + Wait + Sync>(
+    scope: &Scope<'s, E>,
+    rt: &'s R,
+    store: &'s Store<L>,
+    seat: Seat<L>,
+    value: &'s Bytes,
+    load: Load,
+) -> Result<JoinHandle<Result<Seat<L>, Refusal>>, Refusal> {
+    match scope.spawn(move || make_calls(rt, store, seat, value, load)) {
+        Ok(handle) => Ok(handle),
+        Err(_) => Err(Refusal::NoMemory),
+    }
+}
+
+fn make_calls<L: StoreName, R: Threads + Wait + Sync>(
+    rt: &R,
+    store: &Store<L>,
+    mut seat: Seat<L>,
+    value: &Bytes,
+    load: Load,
+) -> Result<Seat<L>, Refusal> {
+    for call in 0..load.calls {
+        if call % 2 == 0 {
+            store.write(rt, &mut seat, NAME, value.clone()?, &mut First, TURNS)?;
+        } else {
+            store.read(rt, &mut seat, NAME, &mut First, TURNS)?;
+        }
+        for _ in 0..load.late {
+            store.stir(rt, NAME, &mut First)?;
+        }
+    }
+    Ok(seat)
+}
