@@ -21,3 +21,7 @@ Leads (suc count) first now = (before : Cluster) × (Leads count first before ×
 -- steps lead from one cluster to another
 abbrev pub HasBecome : (first now : Cluster) → Type 0
 HasBecome first now = (count : ℕ) × Leads count first now
+
+-- whatever the one has become of, the other has too
+abbrev pub GoesOn : (old new : Cluster) → Type 0
+GoesOn old new = (first : Cluster) → HasBecome first old → HasBecome first new
