@@ -17,7 +17,7 @@ pub goes_on_same : (old new : Cluster) → new ≡ old → GoesOn old new
 goes_on_same old new same first h = subst (HasBecome first) (sym same) h
 
 pub goes_on_step : (old new : Cluster) (name : List ℕ) (step : Step) → new ≡ stepped old name step → GoesOn old new
-goes_on_step old new name step made first h = became_next first old new h (inl (name, step, made))
+goes_on_step old new name step made first h = became_next first old new h (inl (name, (step, made)))
 
 -- a step that was made or refused
 pub goes_on_both : {T : Type 0} (answer : Result T Refusal) (old new : Cluster) (name : List ℕ) (step : Step)

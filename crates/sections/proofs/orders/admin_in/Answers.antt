@@ -18,7 +18,7 @@ invariant_of-booked-in-Create g c =
     let name = c.in-Create.name.now in
     let layout = c.in-Create.layout in
     let same = ap client_calls made ∙ calls_created c.booked.inside.cluster name (layout_of c.booked.inside.cluster layout) in
-    (h.0 ∙ sym same, h.1, h.2, h.3, h.4, became_next _ _ _ h.5 (inr (inr (inl (name, layout, made)))))
+    (h.0 ∙ sym same, h.1, h.2, h.3, h.4, became_next _ _ _ h.5 (inr (inr (inl (name, (layout, made))))))
 
 pub invariant_of-booked-in-SetServer : goal.invariant_of-booked-in-SetServer
 invariant_of-booked-in-SetServer g c =
@@ -26,4 +26,4 @@ invariant_of-booked-in-SetServer g c =
     let made = c.in_ok-set_server-in-SetServer.ensures.step in
     let server = c.in-SetServer.server in
     let up = c.in-SetServer.up in
-    (h.0 ∙ sym (ap client_calls made), h.1, h.2, h.3, h.4, became_next _ _ _ h.5 (inr (inr (inr (server, up, made)))))
+    (h.0 ∙ sym (ap client_calls made), h.1, h.2, h.3, h.4, became_next _ _ _ h.5 (inr (inr (inr (server, (up, made))))))
