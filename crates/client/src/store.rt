@@ -3,6 +3,7 @@
 ghost use Rattle.std.specs.Prelude.{◌≡◌, ◌+◌, ◌⊎◌, ◌<◌, None, Some, IfOk, IfErr, MatchResult, if◌then◌else◌};
 ghost use Rattle.tag.specs.Refusal.{IsByCause};
 ghost use Rattle.sections.specs.Closing.{Fit, IsAccounted, all_records, receipts_of};
+ghost use Rattle.sections.specs.Course.{HasBecome};
 ghost use Rattle.sections.specs.Seats.{new_seats};
 ghost use Rattle.client.specs.Locked.{DisturbsNotThen, DisturbsThen, StirsNotThen, StirsThen};
 ghost use Rattle.client.specs.Opening.{open_store_cause};
@@ -45,10 +46,12 @@ impl<L: StoreName> Store<L> {
         seats: u32,
         workers: usize,
     ) -> Result<Opened<L>, Refusal>
+        requires first { cluster ≡ L.first }
         requires name { blank.name ≡ L.name }
         requires parts { (blank.parts ≡ L.parts) × (blank.parts ≡ L.seats + 1) × (seats ≡ L.seats) }
         ensures seats { IfOk result (λ opened. opened.1.items ≡ new_seats seats) }
         ensures admin { IfOk result (λ opened. opened.2 ≡ None) }
+        ensures workers { IfOk result (λ opened. opened.0.workers ≡ workers) }
         ensures cause { IsByCause (open_store_cause cluster seats workers) result }
     {
         if cluster.calls() != 0 {
@@ -105,6 +108,8 @@ impl<L: StoreName> Store<L> {
     /// `Stranger` where the seats are not those of the store, or their records do not fit its history; `NoMemory` may
     /// come before. Both hand the cluster and the seats back.
     pub fn close(self, seats: Vec<Seat<L>>) -> Result<Closed, NotClosed<L>>
+        ensures course { MatchResult result (λ closed. HasBecome L.first closed.cluster)
+            (λ e. HasBecome L.first e.cluster) }
         ensures accounted { IfOk result (λ closed. IsAccounted closed.cluster seats.items) }
         ensures fit { IfOk result (λ closed. Fit L.seats closed.cluster seats.items) }
         ensures receipts { IfOk result (λ closed. closed.receipts ≡ receipts_of (all_records seats.items)) }

@@ -37,7 +37,7 @@ struct Outcome {
 }
 
 fn main(rt: HostRuntime) -> ExitCode {
-    let printed = match write_move_and_read::<Brand, _>(&rt, rt.alloc(), Blank::new(2)) {
+    let printed = match play(&rt, rt.alloc()) {
         Ok(outcome) => {
             let value = Hexadecimal(outcome.value.as_slice());
             println!(rt; "{value} receipts {}", outcome.receipts)
@@ -50,17 +50,23 @@ fn main(rt: HostRuntime) -> ExitCode {
     }
 }
 
+/// Opens the store under a name of its own.
+fn play<R: Threads + Wait + Sync>(rt: &R, alloc: Global) -> Result<Outcome, Refusal> {
+    write_move_and_read::<Brand, R>(rt, alloc, Blank::new(2), four_servers(alloc)?)
+}
+
 /// Writes `hello` to an object of four servers, of which any two give the value back, moves it to three of them, of
 /// which each has it whole, and reads it. Several seats would be lent to several threads.
 fn write_move_and_read<L: StoreName, R: Threads + Wait + Sync>(
     rt: &R,
     alloc: Global,
     blank: Blank,
+    cluster: Cluster,
 ) -> Result<Outcome, Refusal>
+    requires first { cluster ≡ L.first }
     requires name { blank.name ≡ L.name }
     requires parts { (blank.parts ≡ L.parts) × (blank.parts ≡ L.seats + 1) × (1 ≡ L.seats) }
 {
-    let cluster = four_servers(alloc)?;
     let (store, mut seats, mut admin) = Store::<L>::open(alloc, blank, cluster, SEATS, WORKERS)?;
     let mut seat = seats.pop().ok_or(Refusal::Stranger)?;
     let hello = Bytes::from_static(b"hello");

@@ -24,8 +24,12 @@ fn main(rt: HostRuntime) -> ExitCode {
 
 // A store that could not be opened or closed for want of memory is played again from its beginning.
 fn play_twice<R: Threads + Wait + Sync>(rt: &R, alloc: Global) -> Result<u64, Refusal> {
-    match story::play::<Brand, R>(rt, alloc, Blank::new(2)) {
-        Err(Refusal::NoMemory) => story::play::<Brand, R>(rt, alloc, Blank::new(2)),
+    match play_once(rt, alloc) {
+        Err(Refusal::NoMemory) => play_once(rt, alloc),
         answer => answer,
     }
+}
+
+fn play_once<R: Threads + Wait + Sync>(rt: &R, alloc: Global) -> Result<u64, Refusal> {
+    story::play::<Brand, R>(rt, alloc, Blank::new(2), story::four_servers(alloc)?)
 }

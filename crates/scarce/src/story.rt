@@ -17,7 +17,7 @@ const TURNS: u64 = 100_000;
 
 const HELLO: &[u8] = b"hello";
 
-/// Opens a store of one seat and no workers, writes and reads, and closes it. Answers the receipts of the close.
+/// Opens a store of one seat and no workers over a cluster, writes and reads, and closes it. Answers the receipts of the close.
 ///
 /// `NoMemory` where the store could not be opened or closed, or memory was refused twice to one call; `WrongCode` where
 /// what was read is not what was written.
@@ -25,11 +25,13 @@ pub(crate) fn play<L: StoreName, R: Threads + Wait + Sync>(
     rt: &R,
     alloc: Global,
     blank: Blank,
+    cluster: Cluster,
 ) -> Result<u64, Refusal>
+    requires first { cluster ≡ L.first }
     requires name { blank.name ≡ L.name }
     requires parts { (blank.parts ≡ L.parts) × (blank.parts ≡ L.seats + 1) × (1 ≡ L.seats) }
 {
-    let (store, mut seats, _admin) = Store::<L>::open(alloc, blank, four_servers(alloc)?, 1, 0)?;
+    let (store, mut seats, _admin) = Store::<L>::open(alloc, blank, cluster, 1, 0)?;
     let mut seat = seats.pop().ok_or(Refusal::Stranger)?;
     insist(rt, &store, &mut seat, true)?;
     let read = insist(rt, &store, &mut seat, false)?;
@@ -43,8 +45,8 @@ pub(crate) fn play<L: StoreName, R: Threads + Wait + Sync>(
     }
 }
 
-// Four servers, one layout of all with k 2, and the object `a`.
-fn four_servers(alloc: Global) -> Result<Cluster, Refusal> {
+/// Four servers, one layout of all with k 2, and the object `a`.
+pub(crate) fn four_servers(alloc: Global) -> Result<Cluster, Refusal> {
     let mut cluster = Cluster::new(alloc, 4);
     let layout = cluster.add_layout(Layout::new(2, &[0, 1, 2, 3])?)?;
     cluster.create(alloc, "a", layout)?;

@@ -1,4 +1,5 @@
 pub mod Booking
+pub mod Becoming
 pub mod Rising
 pub mod Counted
 pub mod Going

@@ -1,8 +1,9 @@
 //! The cluster with the book of its calls.
 
-ghost use Rattle.std.specs.Prelude.{◌≡◌, ◌+◌, ℕ};
+ghost use Rattle.std.specs.Prelude.{◌≡◌, ◌+◌, ℕ, []};
 ghost use Rattle.sections.specs.Calls.{client_calls};
 ghost use Rattle.cluster.specs.Accounts.{calls};
+ghost use Rattle.cluster.specs.Cluster.{Cluster as Store};
 
 use cluster::Cluster;
 use std::marker::{Brand, Model};
@@ -12,13 +13,19 @@ use std::sync::ledger::{Book, Ledger, Share};
 pub trait StoreName: Ledger {
     /// How many seats the store has.
     ghost seats: { ℕ };
+
+    /// The cluster that the store was opened with.
+    ghost first: { Store };
 }
 
 impl StoreName for Brand {
     ghost seats = { 0 };
+
+    ghost first = { record { servers = []; layouts = []; objects = []; counter = 0 } };
 }
 
-/// A cluster with the book of its calls: the total is the number of its reads and writes.
+/// A cluster with the book of its calls: the total is the number of its reads and writes. It has become what it is, step
+/// by step, of the cluster that the store was opened with.
 #[derive(Drop)]
 pub struct Booked<L: StoreName> {
     pub(crate) cluster: Cluster,
@@ -32,6 +39,7 @@ impl<L: StoreName> Model for Booked<L> {
     ghost use Rattle.cluster.specs.contracts.cluster.Cluster as whole;
     ghost use Rattle.cluster.specs.Cluster.{Cluster as Store};
     ghost use Rattle.sections.specs.Calls.{client_calls};
+    ghost use Rattle.sections.specs.Course.{HasBecome};
 
     ghost Value = { Store };
 
@@ -40,13 +48,14 @@ impl<L: StoreName> Model for Booked<L> {
     ghost view = { λ b. b.cluster };
 
     ghost invariant = { λ b. (b.book.total ≡ client_calls b.cluster) × (b.own.parts ≡ 1) × (b.own.amount ≡ 0)
-        × (b.seats ≡ L.seats) × (L.parts ≡ L.seats + 1) };
+        × (b.seats ≡ L.seats) × (L.parts ≡ L.seats + 1) × HasBecome L.first b.cluster };
 }
 
 impl<L: StoreName> Booked<L> {
     /// A cluster without calls, with an empty book for this many seats.
     pub(crate) fn new(cluster: Cluster, book: Book<L>, own: Share<L>, seats: u32) -> Booked<L>
         requires calls { calls cluster.objects ≡ 0 }
+        requires first { cluster ≡ L.first }
         requires book { book.total ≡ 0 }
         requires own { (own.parts ≡ 1) × (own.amount ≡ 0) }
         requires seats { (seats ≡ L.seats) × (L.parts ≡ L.seats + 1) }

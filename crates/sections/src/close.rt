@@ -1,6 +1,7 @@
 //! The close: the seats' records are compared with the history.
 ghost use Rattle.std.specs.Prelude.{◌≡◌, ◌⊎◌, IfOk, IfErr, MatchResult};
 ghost use Rattle.sections.specs.Closing.{Fit, IsAccounted, all_records, receipts_of};
+ghost use Rattle.sections.specs.Course.{HasBecome};
 
 use crate::booked::{Booked, StoreName};
 use crate::fitting::{account, fit, receipts};
@@ -35,6 +36,8 @@ pub fn close_in<L: StoreName>(
 ) -> Result<Closed, NotClosed<L>>
     ensures cluster { MatchResult result (λ closed. closed.cluster ≡ booked)
         (λ e. (e.cluster ≡ booked) × (e.seats.items ≡ seats.items)) }
+    ensures course { MatchResult result (λ closed. HasBecome L.first closed.cluster)
+        (λ e. HasBecome L.first e.cluster) }
     ensures accounted { IfOk result (λ closed. IsAccounted booked seats.items) }
     ensures fit { IfOk result (λ closed. Fit L.seats booked seats.items) }
     ensures stranger { IfErr result

@@ -2,6 +2,7 @@
 
 ghost use Rattle.std.specs.Prelude.{◌≡◌, IfOk, IfErr, OnErr};
 ghost use Rattle.sections.specs.Calls.{client_calls};
+ghost use Rattle.sections.specs.Course.{GoesOn};
 ghost use Rattle.sections.specs.Sections.{Disturbs, DisturbsNot, Stirs, StirsNot};
 
 use crate::booked::{Booked, StoreName};
@@ -28,6 +29,7 @@ fn stir<C: Chooser>(cluster: &mut Cluster, name: &str, chooser: &mut C) -> Resul
     ensures refused { IfErr result (λ e. StirsNot C.chooses name.entry.now cluster.old chooser.old chooser.new e) }
     ensures unchanged { OnErr result (cluster.new ≡ cluster.old) }
     ensures count { client_calls cluster.new ≡ client_calls cluster.old }
+    ensures course { GoesOn cluster.old cluster.new }
 {
     let register = cluster.register(name)?;
     let Some(place) = choose(cluster, register, Among::Every, 0, chooser) else {
@@ -57,6 +59,7 @@ fn disturb<C: Chooser>(cluster: &mut Cluster, name: &str, chooser: &mut C) -> Re
     ensures refused { IfErr result (λ e. DisturbsNot C.chooses name.entry.now cluster.old chooser.old chooser.new e) }
     ensures unchanged { OnErr result (cluster.new ≡ cluster.old) }
     ensures count { client_calls cluster.new ≡ client_calls cluster.old }
+    ensures course { GoesOn cluster.old cluster.new }
 {
     let count = cluster.register(name)?.mail_view().len();
     if count == 0 {

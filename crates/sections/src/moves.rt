@@ -6,6 +6,7 @@ ghost use Rattle.cluster.specs.Causes.{moving_cause, object_cause};
 ghost use Rattle.cluster.specs.Cluster.{named};
 ghost use Rattle.cluster.specs.Steps.{moved};
 ghost use Rattle.sections.specs.Calls.{client_calls};
+ghost use Rattle.sections.specs.Course.{GoesOn};
 ghost use Rattle.sections.specs.Seats.{call_count};
 ghost use Rattle.sections.specs.Sections.{MoveGoes, MoveGoesNot, MoveLeaves, begin_move_cause, move_begun};
 ghost use Rattle.sections.specs.Sections.{move_cause_of};
@@ -53,6 +54,7 @@ fn call_move(cluster: &mut Cluster, name: &str, layout: LayoutId) -> Result<u64,
     ensures step { OnOk result (cluster.new ≡ moved cluster.old name.entry.now layout) }
     ensures number { IfOk result (λ n. n ≡ suc (call_count (named cluster.old.objects name.entry.now))) }
     ensures count { client_calls cluster.new ≡ client_calls cluster.old }
+    ensures course { GoesOn cluster.old cluster.new }
     ensures cause { IsByCause (object_cause cluster.old name.entry.now (moving_cause cluster.old layout)) result }
     ensures unchanged { OnErr result (cluster.new ≡ cluster.old) }
 {

@@ -27,6 +27,7 @@ pub fn open_in<L: StoreName>(
     seats: u32,
 ) -> Result<Parts<L>, Refusal>
     requires calls { calls cluster.objects ≡ 0 }
+    requires first { cluster ≡ L.first }
     requires name { blank.name ≡ L.name }
     requires parts { (blank.parts ≡ L.parts) × (blank.parts ≡ L.seats + 1) × (seats ≡ L.seats) }
     ensures cluster { IfOk result (λ parts. parts.0 ≡ cluster) }

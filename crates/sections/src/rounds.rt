@@ -9,6 +9,7 @@ ghost use Rattle.register.specs.State.{State};
 ghost use Rattle.register.specs.View.{value_at};
 ghost use Rattle.cluster.specs.Cluster.{if_named, named};
 ghost use Rattle.sections.specs.Calls.{client_calls};
+ghost use Rattle.sections.specs.Course.{GoesOn};
 ghost use Rattle.driver.specs.Driver.{wanted};
 ghost use Rattle.sections.specs.Sections.{Copies, Goes, GoesNot, SeatGoes, SeatGoesNot, SeatLeaves, going_cause};
 ghost use Rattle.sections.specs.Sections.{round_cause, tells};
@@ -112,6 +113,7 @@ fn round_with_copy<C: Chooser>(
 
     ensures unchanged { OnErr result (cluster.new ≡ cluster.old) }
     ensures count { client_calls cluster.new ≡ client_calls cluster.old }
+    ensures course { GoesOn cluster.old cluster.new }
 {
     let want = want_to_go(cluster, name, call, turns)?;
     let copy = copy_to_keep(cluster, name, call, want, &hand)?;
@@ -216,6 +218,7 @@ pub(crate) fn round_with<C: Chooser>(
         (λ e. GoesNot C.chooses name.entry.now call hand asks_again cluster.old chooser.old chooser.new e) }
     ensures unchanged { OnErr result (cluster.new ≡ cluster.old) }
     ensures count { client_calls cluster.new ≡ client_calls cluster.old }
+    ensures course { GoesOn cluster.old cluster.new }
 {
     match hand {
         Hand::Empty => match make_round(cluster, name, call, due, asks_again, chooser) {

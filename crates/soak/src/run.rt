@@ -7,6 +7,7 @@ use crate::plan::Plan;
 use crate::setting::make_setting;
 use crate::summary::Summary;
 use client::{Store, StoreName};
+use cluster::Cluster;
 use std::alloc::Global;
 use std::io::Write;
 use std::marker::Brand;
@@ -37,7 +38,7 @@ pub fn run_plan<R: Threads + Wait + Clock + Sync, E: Write>(
     ensures receipts { IfOk result (λ summary. summary.receipts ≡ plan.clients * plan.calls) }
 {
     let parts = plan.clients as u64 + 1;
-    soak_named::<Brand, R, E>(rt, alloc, Blank::new(parts), plan, screen)
+    soak_named::<Brand, R, E>(rt, alloc, Blank::new(parts), make_setting(alloc)?, plan, screen)
 }
 
 // The same of the store of this name.
@@ -45,20 +46,16 @@ fn soak_named<L: StoreName + Send + Sync, R: Threads + Wait + Clock + Sync, E: W
     rt: &R,
     alloc: Global,
     blank: Blank,
+    cluster: Cluster,
     plan: Plan,
     screen: Option<&mut E>,
 ) -> Result<Summary, Refusal>
+    requires first { cluster ≡ L.first }
     requires name { blank.name ≡ L.name }
     requires parts { (blank.parts ≡ L.parts) × (blank.parts ≡ L.seats + 1) × (plan.clients ≡ L.seats) }
     ensures { IfOk result (λ summary. IsOfClosed plan.clients plan.calls summary) }
 {
-    let (store, seats, admin) = Store::<L>::open(
-        alloc,
-        blank,
-        make_setting(alloc)?,
-        plan.clients,
-        WORKERS,
-    )?;
+    let (store, seats, admin) = Store::<L>::open(alloc, blank, cluster, plan.clients, WORKERS)?;
     let seats = work_all(rt, alloc, &store, seats, admin, plan, screen)?;
     match store.close(seats) {
         Ok(closed) => Summary::of(alloc, &closed.cluster, closed.receipts),

@@ -31,17 +31,18 @@ pub(crate) fn four_servers(alloc: Global) -> Result<Cluster, Refusal> {
     Ok(cluster)
 }
 
-/// A store over them, with its seats.
+/// A store over a cluster, with its seats.
 pub(crate) fn open_store<L: StoreName>(
     alloc: Global,
     blank: Blank,
+    cluster: Cluster,
     seats: u32,
     workers: usize,
 ) -> Result<(Store<L>, Vec<Seat<L>>), Refusal>
+    requires first { cluster ≡ L.first }
     requires name { blank.name ≡ L.name }
     requires parts { (blank.parts ≡ L.parts) × (blank.parts ≡ L.seats + 1) × (seats ≡ L.seats) }
 {
-    let cluster = four_servers(alloc)?;
     let (store, seats, _admin) = Store::<L>::open(alloc, blank, cluster, seats, workers)?;
     Ok((store, seats))
 }

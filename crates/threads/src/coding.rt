@@ -3,10 +3,11 @@
 ghost use Rattle.std.specs.Prelude.{◌≡◌, ◌+◌};
 
 use crate::acts::{
-    Answer, HELLO, TURNS, close, has_value, is_refused, open_store, put_both, read, take_seat,
+    Answer, HELLO, TURNS, close, four_servers, has_value, is_refused, open_store, put_both, read, take_seat,
 };
 use bytes::Bytes;
 use client::{Begin, Seat, Store, StoreName};
+use cluster::Cluster;
 use coding_pool::Gate;
 use driver::First;
 use std::alloc::Global;
@@ -118,13 +119,15 @@ fn leaves_the_lock_free<L: StoreName + Send + Sync, R: Threads + Wait + Abort + 
     rt: &R,
     alloc: Global,
     blank: Blank,
+    cluster: Cluster,
     what: Begin,
     value: &'static [u8],
 ) -> Result<(), Refusal>
+    requires first { cluster ≡ L.first }
     requires name { blank.name ≡ L.name }
     requires parts { (blank.parts ≡ L.parts) × (blank.parts ≡ L.seats + 1) × (2 ≡ L.seats) }
 {
-    let (store, mut seats) = open_store::<L>(alloc, blank, 2, 1)?;
+    let (store, mut seats) = open_store::<L>(alloc, blank, cluster, 2, 1)?;
     let mut idle = take_seat(&mut seats)?;
     let seat = take_seat(&mut seats)?;
     is_refused(rt, read(rt, &store, &mut idle, 0), Refusal::GaveUp);
@@ -137,12 +140,15 @@ fn leaves_the_lock_free<L: StoreName + Send + Sync, R: Threads + Wait + Abort + 
 #[test]
 fn encoding_leaves_the_lock_free(rt: HostRuntime) -> Result<(), Fail> {
     let what = Begin::Write(Bytes::from_static(HELLO));
-    leaves_the_lock_free::<Brand, _>(&rt, rt.alloc(), Blank::new(3), what, HELLO)?;
+    let cluster = four_servers(rt.alloc())?;
+    leaves_the_lock_free::<Brand, _>(&rt, rt.alloc(), Blank::new(3), cluster, what, HELLO)?;
     Ok(())
 }
 
 #[test]
 fn decoding_leaves_the_lock_free(rt: HostRuntime) -> Result<(), Fail> {
-    leaves_the_lock_free::<Brand, _>(&rt, rt.alloc(), Blank::new(3), Begin::Read, b"")?;
+    let what = Begin::Read;
+    let cluster = four_servers(rt.alloc())?;
+    leaves_the_lock_free::<Brand, _>(&rt, rt.alloc(), Blank::new(3), cluster, what, b"")?;
     Ok(())
 }

@@ -2,7 +2,7 @@
 
 ghost use Rattle.std.specs.Prelude.{◌≡◌, ◌+◌};
 
-use crate::acts::{Answer, close, open_store, put_both, take_seat};
+use crate::acts::{Answer, close, four_servers, open_store, put_both, take_seat};
 use crate::tally::{MOST_RESUMES, Tally};
 use crate::varied::Varied;
 use bytes::Bytes;
@@ -209,11 +209,13 @@ fn endures<L: StoreName + Send + Sync, R: Threads + Wait + Abort + Sync>(
     rt: &R,
     alloc: Global,
     blank: Blank,
+    cluster: Cluster,
 ) -> Result<(), Refusal>
+    requires first { cluster ≡ L.first }
     requires name { blank.name ≡ L.name }
     requires parts { (blank.parts ≡ L.parts) × (blank.parts ≡ L.seats + 1) × (2 ≡ L.seats) }
 {
-    let (store, mut seats) = open_store::<L>(alloc, blank, 2, 2)?;
+    let (store, mut seats) = open_store::<L>(alloc, blank, cluster, 2, 2)?;
     works(rt, alloc, &store, &mut seats)?;
     let cluster = close(rt, store, seats, 200, 200)?;
     has_a_sequence(rt, alloc, &cluster)
@@ -221,5 +223,6 @@ fn endures<L: StoreName + Send + Sync, R: Threads + Wait + Abort + Sync>(
 
 #[test]
 fn disturbed_calls_are_answered(rt: HostRuntime) -> Result<(), Fail> {
-    Ok(endures::<Brand, _>(&rt, rt.alloc(), Blank::new(3))?)
+    let cluster = four_servers(rt.alloc())?;
+    Ok(endures::<Brand, _>(&rt, rt.alloc(), Blank::new(3), cluster)?)
 }

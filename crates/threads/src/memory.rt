@@ -3,8 +3,11 @@
 
 ghost use Rattle.std.specs.Prelude.{◌≡◌, ◌+◌};
 
-use crate::acts::{Answer, HELLO, TURNS, has_value, open_store, read, resume, take_seat, write};
+use crate::acts::{
+    Answer, HELLO, TURNS, four_servers, has_value, open_store, read, resume, take_seat, write,
+};
 use client::{Closed, NotClosed, Seat, Store, StoreName};
+use cluster::Cluster;
 use std::alloc::Global;
 use std::marker::Brand;
 use std::process::Abort;
@@ -89,22 +92,28 @@ fn plays<L: StoreName, R: Threads + Wait + Abort + Sync>(
     rt: &R,
     alloc: Global,
     blank: Blank,
+    cluster: Cluster,
 ) -> Result<(), Refusal>
+    requires first { cluster ≡ L.first }
     requires name { blank.name ≡ L.name }
     requires parts { (blank.parts ≡ L.parts) × (blank.parts ≡ L.seats + 1) × (1 ≡ L.seats) }
 {
-    let (store, mut seats) = open_store::<L>(alloc, blank, 1, 0)?;
+    let (store, mut seats) = open_store::<L>(alloc, blank, cluster, 1, 0)?;
     let mut seat = take_seat(&mut seats)?;
     writes_and_reads(rt, &store, &mut seat)?;
     seats.push(seat)?;
     closes(rt, store, seats)
 }
 
+fn plays_once<R: Threads + Wait + Abort + Sync>(rt: &R, alloc: Global) -> Result<(), Refusal> {
+    plays::<Brand, R>(rt, alloc, Blank::new(2), four_servers(alloc)?)
+}
+
 /// A store that could not be opened or closed for want of memory is played again from its beginning.
 #[test]
 fn refused_memory_loses_no_call(rt: HostRuntime) -> Result<(), Fail> {
     for _ in 0..2 {
-        match plays::<Brand, _>(&rt, rt.alloc(), Blank::new(2)) {
+        match plays_once(&rt, rt.alloc()) {
             Err(Refusal::NoMemory) => {}
             answer => return Ok(answer?),
         }

@@ -3,7 +3,7 @@
 ghost use Rattle.std.specs.Prelude.{◌≡◌, ◌+◌};
 
 use crate::acts::{Answer, HELLO, TURNS, close, is_refused, resume, take_seat, write};
-use client::{Admin, Opened, Seat, Store, StoreName};
+use client::{Admin, Seat, Store, StoreName};
 use cluster::{Cluster, LayoutId};
 use driver::First;
 use layout::Layout;
@@ -16,15 +16,6 @@ use std::sync::ledger::Blank;
 use std::test::Fail;
 use std::thread::Threads;
 use tag::Refusal;
-
-fn open_empty<L: StoreName>(alloc: Global, blank: Blank) -> Result<Opened<L>, Refusal>
-    requires name { blank.name ≡ L.name }
-    requires parts { (blank.parts ≡ L.parts) × (blank.parts ≡ L.seats + 1) × (1 ≡ L.seats) }
-{
-    let cluster = Cluster::new(alloc, 4);
-    let (store, seats, admin) = Store::<L>::open(alloc, blank, cluster, 1, 0)?;
-    Ok((store, seats, admin))
-}
 
 // One layout, and the object `a` with it.
 fn creates<L: StoreName, R: Wait>(
@@ -103,11 +94,13 @@ fn administers<L: StoreName, R: Threads + Wait + Abort + Sync>(
     rt: &R,
     alloc: Global,
     blank: Blank,
+    cluster: Cluster,
 ) -> Result<(), Refusal>
+    requires first { cluster ≡ L.first }
     requires name { blank.name ≡ L.name }
     requires parts { (blank.parts ≡ L.parts) × (blank.parts ≡ L.seats + 1) × (1 ≡ L.seats) }
 {
-    let (store, mut seats, mut admin) = open_empty::<L>(alloc, blank)?;
+    let (store, mut seats, mut admin) = Store::<L>::open(alloc, blank, cluster, 1, 0)?;
     let mut seat = take_seat(&mut seats)?;
     moves_in_two(rt, &store, &mut admin)?;
     writes_in_two(rt, &store, &mut seat)?;
@@ -119,5 +112,6 @@ fn administers<L: StoreName, R: Threads + Wait + Abort + Sync>(
 
 #[test]
 fn moves_and_writes_are_resumed(rt: HostRuntime) -> Result<(), Fail> {
-    Ok(administers::<Brand, _>(&rt, rt.alloc(), Blank::new(2))?)
+    let cluster = Cluster::new(rt.alloc(), 4);
+    Ok(administers::<Brand, _>(&rt, rt.alloc(), Blank::new(2), cluster)?)
 }

@@ -3,7 +3,7 @@
 ghost use Rattle.std.specs.Prelude.{◌≡◌, ◌+◌};
 
 use crate::acts::{
-    Answer, HELLO, TURNS, close, has_value, is_refused, open_store, put_both, read, resume,
+    Answer, HELLO, TURNS, close, four_servers, has_value, is_refused, open_store, put_both, read, resume,
     take_seat, write,
 };
 use bytes::Bytes;
@@ -79,11 +79,13 @@ fn learns<L: StoreName + Send + Sync, R: Threads + Wait + Abort + Sync>(
     rt: &R,
     alloc: Global,
     blank: Blank,
+    cluster: Cluster,
 ) -> Result<(), Refusal>
+    requires first { cluster ≡ L.first }
     requires name { blank.name ≡ L.name }
     requires parts { (blank.parts ≡ L.parts) × (blank.parts ≡ L.seats + 1) × (2 ≡ L.seats) }
 {
-    let (store, mut seats) = open_store::<L>(alloc, blank, 2, 2)?;
+    let (store, mut seats) = open_store::<L>(alloc, blank, cluster, 2, 2)?;
     let second = take_seat(&mut seats)?;
     let first = take_seat(&mut seats)?;
     let (first, second) = pass_on(rt, &store, first, second)?;
@@ -94,7 +96,8 @@ fn learns<L: StoreName + Send + Sync, R: Threads + Wait + Abort + Sync>(
 
 #[test]
 fn a_receipt_is_learnt(rt: HostRuntime) -> Result<(), Fail> {
-    Ok(learns::<Brand, _>(&rt, rt.alloc(), Blank::new(3))?)
+    let cluster = four_servers(rt.alloc())?;
+    Ok(learns::<Brand, _>(&rt, rt.alloc(), Blank::new(3), cluster)?)
 }
 
 const LEFT: &[u8] = b"left";
@@ -137,11 +140,13 @@ fn abandons<L: StoreName, R: Threads + Wait + Abort + Sync>(
     rt: &R,
     alloc: Global,
     blank: Blank,
+    cluster: Cluster,
 ) -> Result<(), Refusal>
+    requires first { cluster ≡ L.first }
     requires name { blank.name ≡ L.name }
     requires parts { (blank.parts ≡ L.parts) × (blank.parts ≡ L.seats + 1) × (1 ≡ L.seats) }
 {
-    let (store, mut seats) = open_store::<L>(alloc, blank, 1, 0)?;
+    let (store, mut seats) = open_store::<L>(alloc, blank, cluster, 1, 0)?;
     let mut seat = take_seat(&mut seats)?;
     let made = leaves_and_writes(rt, &store, &mut seat)?;
     seats.push(seat)?;
@@ -151,7 +156,8 @@ fn abandons<L: StoreName, R: Threads + Wait + Abort + Sync>(
 
 #[test]
 fn an_abandoned_call_stays_open(rt: HostRuntime) -> Result<(), Fail> {
-    Ok(abandons::<Brand, _>(&rt, rt.alloc(), Blank::new(2))?)
+    let cluster = four_servers(rt.alloc())?;
+    Ok(abandons::<Brand, _>(&rt, rt.alloc(), Blank::new(2), cluster)?)
 }
 
 // A receipt that no store gave.
@@ -199,11 +205,13 @@ fn strangers<L: StoreName, R: Threads + Wait + Abort + Sync>(
     rt: &R,
     alloc: Global,
     blank: Blank,
+    cluster: Cluster,
 ) -> Result<(), Refusal>
+    requires first { cluster ≡ L.first }
     requires name { blank.name ≡ L.name }
     requires parts { (blank.parts ≡ L.parts) × (blank.parts ≡ L.seats + 1) × (2 ≡ L.seats) }
 {
-    let (store, mut seats) = open_store::<L>(alloc, blank, 2, 0)?;
+    let (store, mut seats) = open_store::<L>(alloc, blank, cluster, 2, 0)?;
     let seat = take_seat(&mut seats)?;
     is_a_stranger(rt, &store, seat);
     is_not_closed(rt, store, seats);
@@ -212,5 +220,6 @@ fn strangers<L: StoreName, R: Threads + Wait + Abort + Sync>(
 
 #[test]
 fn strangers_are_refused(rt: HostRuntime) -> Result<(), Fail> {
-    Ok(strangers::<Brand, _>(&rt, rt.alloc(), Blank::new(3))?)
+    let cluster = four_servers(rt.alloc())?;
+    Ok(strangers::<Brand, _>(&rt, rt.alloc(), Blank::new(3), cluster)?)
 }

@@ -1,4 +1,5 @@
 use Rattle.record.specs.Steps.{Step}
+use Rattle.sections.proofs.Becoming.{goes_on_both}
 use Rattle.sections.proofs.Booking.{counted_ok, numbered_ok}
 use Rattle.sections.proofs.begin.begin_call.Goals as goal
 
@@ -17,3 +18,13 @@ returns-in-Write-clause-count c =
 
 pub returns-in-Write-clause-number : goal.returns-in-Write-clause-number
 returns-in-Write-clause-number c = numbered_ok c.call_write.result c.args.cluster.now c.args.name.now c.call_write.ensures.number
+
+pub returns-in-Read-clause-course : goal.returns-in-Read-clause-course
+returns-in-Read-clause-course c =
+    goes_on_both c.call_read.result c.args.cluster.now c.call_read.new.self c.args.name.now Step.CallRead c.call_read.ensures.step
+    c.call_read.ensures.unchanged
+
+pub returns-in-Write-clause-course : goal.returns-in-Write-clause-course
+returns-in-Write-clause-course c =
+    goes_on_both c.call_write.result c.args.cluster.now c.call_write.new.self c.args.name.now (Step.CallWrite c.in-Write.value)
+    c.call_write.ensures.step c.call_write.ensures.unchanged

@@ -1,6 +1,7 @@
 use Rattle.std.proofs.Common.{◌%◌, length, inl, inr, refl, sym, ap, ◌∙◌}
 use Rattle.record.specs.Steps.{Step}
 use Rattle.cluster.specs.Steps.{stepped}
+use Rattle.sections.proofs.Becoming.{goes_on_step}
 use Rattle.sections.proofs.Going.{kept_step}
 use Rattle.driver.proofs.Limits.{err_of}
 use Rattle.sections.proofs.Stirring.{disturbed, even, odd, lose_is, repeat_is, moved_by}
@@ -72,4 +73,14 @@ returns-in_ok-repeat-clause-step g c =
 pub returns-in_ok-repeat-clause-count : goal.returns-in_ok-repeat-clause-count
 returns-in_ok-repeat-clause-count g c =
     kept_step c.args.cluster.now c.repeat.new.self c.args.name.now (Step.Repeat (c.choose.result % c.len-count.result)) refl
+    c.in_ok-repeat.ensures.step
+
+pub returns-in_ok-lose-clause-course : goal.returns-in_ok-lose-clause-course
+returns-in_ok-lose-clause-course g c =
+    goes_on_step c.args.cluster.now c.lose.new.self c.args.name.now (Step.Lose (c.choose.result % c.len-count.result))
+    c.in_ok-lose.ensures.step
+
+pub returns-in_ok-repeat-clause-course : goal.returns-in_ok-repeat-clause-course
+returns-in_ok-repeat-clause-course g c =
+    goes_on_step c.args.cluster.now c.repeat.new.self c.args.name.now (Step.Repeat (c.choose.result % c.len-count.result))
     c.in_ok-repeat.ensures.step

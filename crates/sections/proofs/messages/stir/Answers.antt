@@ -1,5 +1,6 @@
 use Rattle.std.proofs.Common.{inr, ap, ◌∙◌}
 use Rattle.cluster.specs.Steps.{stepped}
+use Rattle.sections.proofs.Becoming.{goes_on_step}
 use Rattle.sections.proofs.Going.{kept_step, quiet_handling}
 use Rattle.driver.proofs.Limits.{err_of}
 use Rattle.sections.proofs.Stirring.{stirred, handled_step}
@@ -32,3 +33,7 @@ returns-clause-count g c =
     c.in_ok-register.ensures.object c.in-Some.place c.in-Some.ensures s.0 s.1 c.in_ok-handle.field-0 c.in_ok-handle.ensures.handled in
     kept_step c.args.cluster.now c.handle.new.cluster c.args.name.now _ (quiet_handling c.in-Some.place s.0.body)
     (c.in_ok-handle.ensures.step ∙ ap (λ x. stepped c.args.cluster.now c.args.name.now x) is)
+
+pub returns-clause-course : goal.returns-clause-course
+returns-clause-course g c =
+    goes_on_step c.args.cluster.now c.handle.new.cluster c.args.name.now _ c.in_ok-handle.ensures.step

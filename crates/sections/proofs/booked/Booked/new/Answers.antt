@@ -9,4 +9,5 @@ invariant_of-result g c = (
   c.requires.own.1,
   c.requires.seats.0,
   c.requires.seats.1,
+  (0, c.requires.first),
 )
