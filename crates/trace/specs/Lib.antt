@@ -1,0 +1,4 @@
+pub mod Fault
+pub mod Request
+pub mod Played
+pub mod Shown
