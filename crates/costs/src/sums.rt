@@ -4,7 +4,7 @@ ghost use Rattle.record.specs.Accounts.{member_sum};
 ghost use Rattle.costs.specs.Cost.{bytes_for, capped, kept_at, returned_in, sent_in, taken_bytes};
 ghost use Rattle.std.specs.FinMap as map;
 
-use bank::{Bank, Kind};
+use bank::{Bank, Kind, Row};
 use phase::{Phase, Taken};
 use register::Register;
 use tag::Tag;
@@ -98,9 +98,13 @@ fn kept_bytes(bank: &Bank, tag: Tag) -> u64
     let mut total: u64 = 0;
     for i in 0..bank.count() {
         let (kept, row) = bank.kept(i);
-        if kept == tag {
-            total = total.saturating_add(row.bytes());
-        }
+        total = total.saturating_add(bytes_for(tag, kept, row));
     }
     total
+}
+
+fn bytes_for(tag: Tag, kept: Tag, row: &Row) -> u64
+    ensures { result ≡ capped (bytes_for tag (kept, row.now)) }
+{
+    if kept == tag { row.bytes() } else { 0 }
 }

@@ -55,7 +55,7 @@ length-changed [] i x = refl
 length-changed (y ∷ ys) zero x = refl
 length-changed (y ∷ ys) (suc i) x = ap suc (length-changed ys i x)
 
-length-pushed : {X : Type 0} (xs : List X) (x : X) → length (xs ++ x ∷ []) ≡ suc (length xs)
+pub length-pushed : {X : Type 0} (xs : List X) (x : X) → length (xs ++ x ∷ []) ≡ suc (length xs)
 length-pushed [] x = refl
 length-pushed (y ∷ ys) x = ap suc (length-pushed ys x)
 

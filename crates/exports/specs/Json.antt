@@ -1,11 +1,11 @@
 -- The lines of a history as objects of JSON.
-use Rattle.std.specs.Prelude.{ℕ, List, ◌++◌, codes}
+use Rattle.std.specs.Prelude.{ℕ, List, [], ◌∷◌, ◌++◌, codes}
 use Rattle.std.specs.Fmt.{decimal}
 use Rattle.std.specs.List.{enumerate_from, flat_map}
 use Rattle.exports.specs.declared.event.Event.{Event}
 use Rattle.exports.specs.declared.event.Process.{Process}
 use Rattle.exports.specs.declared.event.Process.TheVariants as process
-use Rattle.exports.specs.Words.{quoted_or, word_of_operation, word_of_stage}
+use Rattle.exports.specs.Words.{quoted_or, texts, word_of_operation, word_of_stage}
 
 -- who makes a call
 abbrev pub process_text : Process → List ℕ
@@ -14,11 +14,11 @@ process_text process.Nemesis = codes "\"nemesis\""
 
 -- the object of an event
 abbrev pub object_text : (index : ℕ) → Event → List ℕ
-object_text index event =
-    codes "{\"index\":" ++ decimal index ++ codes ",\"time\":" ++ decimal event.step
-    ++ codes ",\"type\":\"" ++ word_of_stage event.stage ++ codes "\",\"process\":" ++ process_text event.process
-    ++ codes ",\"f\":\"" ++ word_of_operation event.operation
-    ++ codes "\",\"value\":" ++ quoted_or event.value (codes "null") ++ codes "}"
+object_text index event = texts (
+    codes "{\"index\":" ∷ decimal index ∷ codes ",\"time\":" ∷ decimal event.step
+    ∷ codes ",\"type\":\"" ∷ word_of_stage event.stage ∷ codes "\",\"process\":" ∷ process_text event.process
+    ∷ codes ",\"f\":\"" ∷ word_of_operation event.operation
+    ∷ codes "\",\"value\":" ∷ quoted_or event.value (codes "null") ∷ codes "}" ∷ [])
 
 -- the line of an event with its number
 abbrev pub json_line : ℕ × Event → List ℕ

@@ -1,10 +1,15 @@
 -- The words of the lines.
-use Rattle.std.specs.Prelude.{ℕ, List, ◌++◌, Option, Some, None, codes}
+use Rattle.std.specs.Prelude.{ℕ, List, [], ◌∷◌, ◌++◌, Option, Some, None, codes}
 use Rattle.words.specs.Hexadecimal.{hexadecimal_text}
 use Rattle.record.specs.declared.call.Operation.{Operation}
 use Rattle.record.specs.declared.call.Operation.TheVariants as operation
 use Rattle.exports.specs.declared.event.Stage.{Stage}
 use Rattle.exports.specs.declared.event.Stage.TheVariants as stage
+
+-- the texts one behind another
+abbrev pub texts : List (List ℕ) → List ℕ
+texts [] = []
+texts (text ∷ more) = text ++ texts more
 
 -- a value as its word between quotes, or this word for none
 abbrev pub quoted_or : Option (List ℕ) → (none : List ℕ) → List ℕ

@@ -1,73 +1,109 @@
-//! The lanes of the calls.
-use crate::plan::{CALL, Lane, Plan, Px};
-use crate::text::{KindText, Short, kind_letter, kind_word, operation_word};
-use phase::Phase;
-use record::Entry;
-use register::Register;
-use std::fmt;
+//! The names and bars of the calls.
+ghost use Rattle.std.specs.Prelude.{◌≡◌, Some};
+ghost use Rattle.picture.specs.CallLanes.{bar_text, call_lanes_text, class_of, course_text};
+ghost use Rattle.picture.specs.CallLanes.{name_text, path_text, title_text};
 
-/// A lane for each call: a bar from call to answer, and its phases in it.
+use crate::lane::Lane;
+use crate::plan::Plan;
+use crate::text::operation_word;
+use record::Entry;
+use std::fmt;
+use tag::Stamp;
+
+/// A name and a bar for each call: from its call step to its answer, or to the right edge of time where it is open.
 #[derive(Clone, Copy)]
-pub(crate) struct CallLanes<'a> {
-    pub(crate) plan: &'a Plan<'a>,
-    pub(crate) register: &'a Register,
-}
+pub(crate) struct CallLanes<'a>(pub(crate) &'a Plan<'a>);
 
 impl fmt::Display for CallLanes<'_> {
+    ghost output = { λ lanes. Some (call_lanes_text lanes.0.now) };
+
     fn fmt<W: fmt::Write>(&self, f: &mut fmt::Formatter<W>) -> fmt::Result {
-        for lane in &self.plan.lanes {
-            let plan = self.plan;
-            write!(f, "{}", CallLane { plan, lane: *lane })?;
-            for phase in self.register.phases_view(lane.entry.call) {
-                let y = Px(lane.top);
-                write!(f, "{}", Segment { plan, phase, y })?;
-            }
+        let plan = self.0;
+        for lane in &plan.lanes {
+            write!(f, "{}{}", CallName(lane), CallBar { plan, lane })?;
         }
         Ok(())
     }
 }
 
-// The bar of a call, its name and its value.
+// The name of a call, at the left.
 #[derive(Clone, Copy)]
-struct CallLane<'a> {
-    plan: &'a Plan<'a>,
-    lane: Lane<'a>,
+struct CallName<'a>(&'a Lane<'a>);
+
+impl fmt::Display for CallName<'_> {
+    ghost output = { λ name. Some (name_text name.0.now) };
+
+    fn fmt<W: fmt::Write>(&self, f: &mut fmt::Formatter<W>) -> fmt::Result {
+        let lane = self.0;
+        writeln!(
+            f,
+            r#"<text x="8" y="{}">call {} {}</text>"#,
+            lane.base(),
+            lane.entry.call,
+            operation_word(lane.entry.operation)
+        )
+    }
 }
 
-impl fmt::Display for CallLane<'_> {
+// The bar of a call.
+#[derive(Clone, Copy)]
+struct CallBar<'a> {
+    plan: &'a Plan<'a>,
+    lane: &'a Lane<'a>,
+}
+
+impl fmt::Display for CallBar<'_> {
+    ghost output = { λ bar. Some (bar_text bar.plan.now bar.lane.now) };
+
     fn fmt<W: fmt::Write>(&self, f: &mut fmt::Formatter<W>) -> fmt::Result {
-        let entry = self.lane.entry;
-        let from = self.plan.x(entry.called);
-        let to = match entry.answered {
-            Some(step) => self.plan.x(step),
-            None => self.plan.right(),
-        };
-        let middle = Px(self.lane.top).plus(CALL / 2);
-        let base = Px(self.lane.top).plus(CALL / 2 + 40);
-        let word = operation_word(entry.operation);
+        let (plan, lane) = (self.plan, self.lane);
         writeln!(
             f,
-            r#"<text x="8" y="{base}">call {} {word}</text>"#,
-            entry.call
-        )?;
-        writeln!(
-            f,
-            r#"<path class="{}" d="M{from} {middle}H{to}"><title>call {} {word}, {}</title></path>"#,
-            if entry.answered.is_some() {
-                "bar"
-            } else {
-                "bar open"
-            },
-            entry.call,
-            Course(entry)
-        )?;
-        writeln!(
-            f,
-            r#"<path class="bar" d="M{from} {}v10"/>"#,
-            middle.less(50)
-        )?;
-        let end = EndText(entry);
-        writeln!(f, r#"<text x="{}" y="{base}">{end}</text>"#, to.plus(50))
+            r#"<path class="{}" d="{}"><title>{}</title></path>"#,
+            bar_class(lane.entry.answered),
+            BarPath { plan, lane },
+            BarTitle(lane.entry)
+        )
+    }
+}
+
+// Where the bar of a call goes: a mark down, and a line to the right.
+#[derive(Clone, Copy)]
+struct BarPath<'a> {
+    plan: &'a Plan<'a>,
+    lane: &'a Lane<'a>,
+}
+
+impl fmt::Display for BarPath<'_> {
+    ghost output = { λ path. Some (path_text path.plan.now path.lane.now) };
+
+    fn fmt<W: fmt::Write>(&self, f: &mut fmt::Formatter<W>) -> fmt::Result {
+        let from = self.plan.x(self.lane.entry.called);
+        let to = self.plan.end_x(self.lane.entry.answered);
+        let top = self.lane.bar_top();
+        write!(f, "M{from} {top}v10m0 -5H{to}")
+    }
+}
+
+// What the bar of a call stands for.
+#[derive(Clone, Copy)]
+struct BarTitle<'a>(&'a Entry);
+
+impl fmt::Display for BarTitle<'_> {
+    ghost output = { λ title. Some (title_text title.0.now) };
+
+    fn fmt<W: fmt::Write>(&self, f: &mut fmt::Formatter<W>) -> fmt::Result {
+        let word = operation_word(self.0.operation);
+        write!(f, "call {} {word}, {}", self.0.call, Course(self.0))
+    }
+}
+
+fn bar_class(answered: Option<Stamp>) -> &'static str
+    ensures { result.now ≡ class_of answered }
+{
+    match answered {
+        Some(_) => "bar",
+        None => "bar open",
     }
 }
 
@@ -76,90 +112,12 @@ impl fmt::Display for CallLane<'_> {
 struct Course<'a>(&'a Entry);
 
 impl fmt::Display for Course<'_> {
+    ghost output = { λ course. Some (course_text course.0.now.called course.0.now.answered) };
+
     fn fmt<W: fmt::Write>(&self, f: &mut fmt::Formatter<W>) -> fmt::Result {
         match self.0.answered {
             Some(step) => write!(f, "steps {} to {step}", self.0.called),
             None => write!(f, "from step {}, open", self.0.called),
         }
-    }
-}
-
-// What stands at the end of a call.
-#[derive(Clone, Copy)]
-struct EndText<'a>(&'a Entry);
-
-impl fmt::Display for EndText<'_> {
-    fn fmt<W: fmt::Write>(&self, f: &mut fmt::Formatter<W>) -> fmt::Result {
-        if let Some(value) = &self.0.value {
-            let bytes = value.as_slice();
-            write!(f, "{}", Short { bytes, most: 6 })?;
-        }
-        if self.0.answered.is_none() {
-            f.write_str(" open")?;
-        }
-        Ok(())
-    }
-}
-
-// A phase in the bar of its call.
-#[derive(Clone, Copy)]
-struct Segment<'a> {
-    plan: &'a Plan<'a>,
-    phase: &'a Phase,
-    y: Px,
-}
-
-impl fmt::Display for Segment<'_> {
-    fn fmt<W: fmt::Write>(&self, f: &mut fmt::Formatter<W>) -> fmt::Result {
-        let phase = self.phase;
-        let (start, end) = phase.steps();
-        let from = self.plan.x(start);
-        let wide = match end {
-            Some(end) => self.plan.wide(start, end),
-            None => Px(self.plan.right().0.saturating_sub(from.0)),
-        };
-        let word = kind_word(phase.kind());
-        let ending = if end.is_some() { "" } else { " open" };
-        write!(
-            f,
-            r#"<rect class="{word}{ending}" x="{from}" y="{}" width="{wide}" height="12"><title>phase {} {} at position {}, {}</title></rect>"#,
-            self.y.plus(30),
-            phase.number(),
-            KindText(phase.kind()),
-            phase.position(),
-            Replies(phase)
-        )?;
-        let middle = from.plus(wide.0 / 2);
-        let base = self.y.plus(125);
-        if wide.0 >= 380 {
-            write!(
-                f,
-                r#"<text class="in" x="{middle}" y="{base}">{word} {}</text>"#,
-                phase.position()
-            )?;
-        } else if wide.0 >= 70 {
-            write!(
-                f,
-                r#"<text class="in" x="{middle}" y="{base}">{}</text>"#,
-                kind_letter(phase.kind())
-            )?;
-        }
-        writeln!(f)
-    }
-}
-
-// The steps of a phase, and how many replied.
-#[derive(Clone, Copy)]
-struct Replies<'a>(&'a Phase);
-
-impl fmt::Display for Replies<'_> {
-    fn fmt<W: fmt::Write>(&self, f: &mut fmt::Formatter<W>) -> fmt::Result {
-        let phase = self.0;
-        let replied = phase.replies().len();
-        match phase.steps() {
-            (start, Some(end)) => write!(f, "steps {start} to {end}")?,
-            (start, None) => write!(f, "from step {start}, open")?,
-        }
-        write!(f, ", {replied} replies of {}", phase.quorum())
     }
 }

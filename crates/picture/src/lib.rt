@@ -2,15 +2,21 @@
 //! them, with time in steps from left to right.
 #![tactic(auto)]
 
+pub use lane::Lane;
 pub use loss::Loss;
 pub use picture::Picture;
-pub use plan::{Lane, Plan};
+pub use plan::Plan;
 
 mod call_lanes;
 mod frame;
+mod lane;
+mod legend;
 mod loss;
 mod messages;
+mod omitted;
+mod phases;
 mod picture;
 mod plan;
+mod px;
 mod server_lanes;
 mod text;

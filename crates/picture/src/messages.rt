@@ -1,6 +1,7 @@
 //! The messages between calls and servers.
 use crate::loss::Loss;
-use crate::plan::{CALL, Plan, Px};
+use crate::plan::Plan;
+use crate::px::Px;
 use phase::{Phase, Taken};
 use record::Entry;
 use register::Register;
@@ -75,7 +76,7 @@ struct PhaseReplies<'a> {
 
 impl fmt::Display for PhaseReplies<'_> {
     fn fmt<W: fmt::Write>(&self, f: &mut fmt::Formatter<W>) -> fmt::Result {
-        let foot = self.plan.call_y(self.call).plus(CALL - 30);
+        let foot = self.plan.call_foot(self.call);
         for taken in self.phase.replies() {
             let (served, step) = (taken.reply.step, taken.step);
             let y = self.plan.server_y(self.phase.position(), taken.member);
@@ -115,7 +116,7 @@ impl Lost<'_> {
 impl fmt::Display for Lost<'_> {
     fn fmt<W: fmt::Write>(&self, f: &mut fmt::Formatter<W>) -> fmt::Result {
         let (plan, loss) = (self.messages.plan, self.loss);
-        let call = plan.call_y(loss.call).plus(CALL - 30);
+        let call = plan.call_foot(loss.call);
         let server = plan.server_y(loss.position, loss.member);
         let (word, from, begin, end) = match loss.served {
             Some(served) => ("reply", served, server, call),

@@ -1,10 +1,13 @@
 //! The whole picture.
 use crate::call_lanes::CallLanes;
-use crate::frame::{Bands, Legend, Order, STYLE, Steps};
+use crate::frame::{Bands, Order, Steps};
+use crate::legend::{Legend, STYLE};
 use crate::loss::Loss;
 use crate::messages::Messages;
-use crate::plan::{Plan, Px};
-use crate::server_lanes::{MOST_TAGS, ServerLanes};
+use crate::omitted::Omitted;
+use crate::phases::Phases;
+use crate::plan::Plan;
+use crate::server_lanes::ServerLanes;
 use crate::text::Escaped;
 use record::Entry;
 use register::Register;
@@ -30,7 +33,8 @@ pub struct Picture<'a> {
 impl fmt::Display for Picture<'_> {
     fn fmt<W: fmt::Write>(&self, f: &mut fmt::Formatter<W>) -> fmt::Result {
         let (plan, register, entries) = (self.plan, self.register, self.entries);
-        let (width, height) = plan.page();
+        let width = plan.page();
+        let height = plan.legend_y(self.order.len()).plus(460);
         let messages = Messages {
             plan,
             register,
@@ -49,46 +53,37 @@ impl fmt::Display for Picture<'_> {
         )?;
         writeln!(
             f,
-            r#"<text class="head" x="8" y="18">object {}: {} calls, steps {} to {}</text>"#,
+            r#"<text class="head" x="8" y="18">object {}: {} {}, steps {} to {}</text>"#,
             Escaped(self.name),
             entries.len(),
+            if entries.len() == 1 { "call" } else { "calls" },
             plan.first,
             plan.last
         )?;
         write!(f, "{}{}", Bands { plan, entries }, Steps(plan))?;
-        write!(f, "{messages}{}", CallLanes { plan, register })?;
-        write!(f, "{}", ServerLanes { plan, register })?;
-        let y = Px(plan.bottom).plus(200);
+        write!(f, "{messages}{}", CallLanes(plan))?;
+        write!(
+            f,
+            "{}{}",
+            Phases { plan, register },
+            ServerLanes { plan, register }
+        )?;
+        let y = plan.order_y();
+        let order = self.order;
+        let legend = plan.legend_y(order.len());
         write!(
             f,
             "{}{}",
             Order {
+                plan,
                 entries,
-                order: self.order,
+                order,
                 y
             },
-            Legend(y.plus(180))
+            Legend(legend)
         )?;
-        self.left_out(f, messages.shown(), y.plus(200))?;
+        let y = legend.plus(360);
+        write!(f, "{}", Omitted { messages, y })?;
         writeln!(f, "</svg>")
-    }
-}
-
-impl Picture<'_> {
-    // Says what is not drawn.
-    fn left_out<W: fmt::Write>(
-        &self,
-        f: &mut fmt::Formatter<W>,
-        shown: usize,
-        y: Px,
-    ) -> fmt::Result {
-        if shown < self.entries.len() {
-            let rest = self.entries.len().saturating_sub(shown);
-            writeln!(
-                f,
-                r#"<text x="8" y="{y}">left out: the messages of the last {rest} calls</text>"#
-            )?;
-        }
-        Ok(())
     }
 }

@@ -1,44 +1,24 @@
 //! Where things stand in a picture.
-ghost use Rattle.std.specs.Prelude.{◌≡◌, IfOk, map};
+ghost use Rattle.std.specs.Prelude.{◌≡◌, ◌<◌, IfOk, map};
+ghost use Rattle.picture.specs.Plan.{end_of, right_of, x_of};
 
+use crate::lane::{Lane, Place};
+use crate::px::Px;
 use bank::{Bank, Label};
+use phase::Phase;
 use record::Entry;
 use register::Register;
 use std::alloc::{AllocError, Global};
-use std::fmt;
 use tag::{MOST_MEMBERS, MOST_POSITIONS, Stamp};
-
-/// A length in tenths of a pixel.
-#[derive(Clone, Copy, Debug, PartialEq, Eq)]
-pub(crate) struct Px(pub(crate) u64);
-
-impl Px {
-    pub(crate) fn plus(self, more: u64) -> Px {
-        Px(self.0.saturating_add(more))
-    }
-
-    pub(crate) fn less(self, less: u64) -> Px {
-        Px(self.0.saturating_sub(less))
-    }
-}
-
-impl fmt::Display for Px {
-    fn fmt<W: fmt::Write>(&self, f: &mut fmt::Formatter<W>) -> fmt::Result {
-        match self.0 % 10 {
-            0 => write!(f, "{}", self.0 / 10),
-            tenths => write!(f, "{}.{tenths}", self.0 / 10),
-        }
-    }
-}
 
 /// The left edge of time, behind the names of the lanes.
 pub(crate) const LEFT: u64 = 1500;
 
 /// What stands to the right of time, for the values at the ends of calls.
-const RIGHT: u64 = 1600;
+const RIGHT: u64 = 1700;
 
 /// The widest that time gets, and the least.
-const WIDEST: u64 = 11_200;
+const WIDEST: u64 = 11_000;
 
 const NARROWEST: u64 = 6_000;
 
@@ -46,7 +26,7 @@ const NARROWEST: u64 = 6_000;
 const STEP: u64 = 90;
 
 /// The heights of a call's lane, of a server's, and of the line above a position's servers.
-pub(crate) const CALL: u64 = 180;
+pub(crate) const CALL: u64 = 160;
 
 pub(crate) const SERVER: u64 = 140;
 
@@ -55,25 +35,18 @@ const HEAD: u64 = 200;
 /// The upper edge of the calls' lanes.
 const CALLS_TOP: u64 = 520;
 
-/// The room below the servers, for the order and the legend.
-const FOOT: u64 = 620;
+/// How wide a phase has to be for its word, and for its letter.
+pub(crate) const WORD: u64 = 380;
 
-/// Where the servers of a position stand.
-#[derive(Clone, Copy, Debug)]
-pub(crate) struct Place {
-    pub(crate) top: u64,
-    pub(crate) members: u8,
-    /// The step at which its banks were opened.
-    pub(crate) opened: Stamp,
-}
+pub(crate) const LETTER: u64 = 70;
 
-/// Where a call stands.
-#[derive(Clone, Copy, Debug)]
-pub struct Lane<'a> {
-    pub entry: &'a Entry,
-    /// The upper edge of the lane.
-    pub(crate) top: u64,
-}
+/// The width of a call in the order, and how many rows of them are shown.
+pub(crate) const ORDERED: u64 = 1250;
+
+const MOST_ROWS: u64 = 6;
+
+/// The height of such a row.
+pub(crate) const ROW: u64 = 150;
 
 /// Where the lanes of an object's calls and servers stand, and its steps.
 #[derive(Debug, Drop)]
@@ -107,6 +80,7 @@ impl<'a> Plan<'a> {
             let members = members_of(register, position);
             let top = bottom.saturating_add(HEAD);
             positions.push(Place {
+                position,
                 top,
                 members,
                 opened: opened_at(bank),
@@ -134,16 +108,30 @@ impl<'a> Plan<'a> {
         self.last.saturating_sub(self.first).max(1)
     }
 
-    pub(crate) fn x(&self, step: Stamp) -> Px {
+    /// Where a step stands.
+    pub(crate) fn x(&self, step: Stamp) -> Px
+        ensures { result.0 ≡ x_of self.now step }
+    {
         let offset = step.saturating_sub(self.first);
-        Px(LEFT.saturating_add(
-            offset.saturating_mul(self.width) / self.last.saturating_sub(self.first).max(1),
-        ))
+        let span = self.last.saturating_sub(self.first).max(1);
+        Px(LEFT.saturating_add(offset.saturating_mul(self.width) / span))
     }
 
     /// The right edge of time.
-    pub(crate) fn right(&self) -> Px {
+    pub(crate) fn right(&self) -> Px
+        ensures { result.0 ≡ right_of self.now }
+    {
         Px(LEFT.saturating_add(self.width))
+    }
+
+    /// Where a call ends that is answered at this step, or open.
+    pub(crate) fn end_x(&self, answered: Option<Stamp>) -> Px
+        ensures { result.0 ≡ end_of self.now answered }
+    {
+        match answered {
+            Some(step) => self.x(step),
+            None => self.right(),
+        }
     }
 
     /// How wide so many steps are.
@@ -151,9 +139,12 @@ impl<'a> Plan<'a> {
         Px(self.x(to).0.saturating_sub(self.x(from).0))
     }
 
-    /// The upper edge of the lane of a call.
-    pub(crate) fn call_y(&self, call: u64) -> Px {
-        Px(down(CALLS_TOP, call.saturating_sub(1), CALL))
+    /// The lower edge of the bar of a call.
+    pub(crate) fn call_foot(&self, call: u64) -> Px {
+        match self.lanes.get(call.saturating_sub(1) as usize) {
+            Some(lane) => lane.foot(),
+            None => Px(CALLS_TOP),
+        }
     }
 
     /// The middle of the lane of a server.
@@ -164,8 +155,41 @@ impl<'a> Plan<'a> {
         }
     }
 
-    pub(crate) fn page(&self) -> (Px, Px) {
-        (self.right().plus(RIGHT), Px(self.bottom).plus(FOOT))
+    /// The width of the page.
+    pub(crate) fn page(&self) -> Px {
+        self.right().plus(RIGHT)
+    }
+
+    /// The line of the first row of the order.
+    pub(crate) fn order_y(&self) -> Px {
+        Px(self.bottom).plus(200)
+    }
+
+    /// How many calls of so many are shown in the order.
+    pub(crate) fn ordered(&self, calls: usize) -> usize {
+        calls.min(self.columns().saturating_mul(MOST_ROWS) as usize)
+    }
+
+    /// The first line of what the signs mean, below the order of so many calls.
+    pub(crate) fn legend_y(&self, calls: usize) -> Px {
+        let rows = (self.ordered(calls) as u64).div_ceil(self.columns()).max(1);
+        self.order_y()
+            .plus(rows.saturating_mul(ROW).saturating_add(60))
+    }
+
+    /// How wide a phase is: to the right edge of time where it is open.
+    pub(crate) fn phase_width(&self, phase: &Phase) -> Px {
+        match phase.steps() {
+            (start, Some(end)) => self.wide(start, end),
+            (start, None) => self.right().less(self.x(start).0),
+        }
+    }
+
+    /// How many calls of the order have room beside one another.
+    pub(crate) fn columns(&self) -> u64
+        ensures { 0 < result }
+    {
+        (self.page().0.saturating_sub(600) / ORDERED).max(1)
     }
 }
 

@@ -1,5 +1,7 @@
 //! The lanes of the servers.
-use crate::plan::{Place, Plan, Px};
+use crate::lane::Place;
+use crate::plan::Plan;
+use crate::px::Px;
 use bank::{Bank, Label, Pointer, Row};
 use register::Register;
 use std::fmt;
@@ -17,8 +19,8 @@ pub(crate) struct ServerLanes<'a> {
 
 impl fmt::Display for ServerLanes<'_> {
     fn fmt<W: fmt::Write>(&self, f: &mut fmt::Formatter<W>) -> fmt::Result {
-        for (position, place) in self.plan.positions.iter().enumerate() {
-            let y = Px(place.top).less(50);
+        for place in &self.plan.positions {
+            let (y, position) = (Px(place.top).less(50), place.position);
             writeln!(
                 f,
                 r#"<text class="head" x="8" y="{y}">position {position}</text>"#
@@ -28,7 +30,6 @@ impl fmt::Display for ServerLanes<'_> {
                     plan: self.plan,
                     register: self.register,
                     place: *place,
-                    position: position as u32,
                     member,
                 };
                 write!(f, "{lane}")?;
@@ -44,16 +45,15 @@ struct ServerLane<'a> {
     plan: &'a Plan<'a>,
     register: &'a Register,
     place: Place,
-    position: u32,
     member: u8,
 }
 
 impl fmt::Display for ServerLane<'_> {
     fn fmt<W: fmt::Write>(&self, f: &mut fmt::Formatter<W>) -> fmt::Result {
-        let y = self.plan.server_y(self.position, self.member);
+        let y = self.plan.server_y(self.place.position, self.member);
         let from = self.plan.x(self.place.opened);
         let to = self.plan.right();
-        if let Some(server) = self.register.server(self.position, self.member) {
+        if let Some(server) = self.register.server(self.place.position, self.member) {
             writeln!(
                 f,
                 r#"<text x="20" y="{}">server {server}</text>"#,
@@ -66,7 +66,7 @@ impl fmt::Display for ServerLane<'_> {
             y.less(30),
             self.place.opened
         )?;
-        if let Some(bank) = self.register.bank_view(self.position, self.member) {
+        if let Some(bank) = self.register.bank_view(self.place.position, self.member) {
             write!(
                 f,
                 "{}",

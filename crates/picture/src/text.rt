@@ -1,4 +1,7 @@
 //! Texts in a picture.
+ghost use Rattle.std.specs.Prelude.{◌≡◌};
+ghost use Rattle.picture.specs.CallLanes.{word_of_operation};
+
 use bank::{Kind, Status};
 use record::Operation;
 use std::fmt;
@@ -22,21 +25,35 @@ impl fmt::Display for Escaped<'_> {
     }
 }
 
-/// The first bytes of a value.
+/// A value, of which at most so many bytes are shown, from the first on.
 #[derive(Clone, Copy)]
-pub(crate) struct Short<'a> {
+pub(crate) struct Front<'a> {
     pub(crate) bytes: &'a [u8],
     pub(crate) most: usize,
 }
 
-impl fmt::Display for Short<'_> {
+impl fmt::Display for Front<'_> {
     fn fmt<W: fmt::Write>(&self, f: &mut fmt::Formatter<W>) -> fmt::Result {
         match self.bytes.get(..self.most) {
             Some(front) if front.len() < self.bytes.len() => {
-                write!(f, "{}… ({} bytes)", Hexadecimal(front), self.bytes.len())
+                write!(f, "{}…", Hexadecimal(front))
             }
             _ => write!(f, "{}", Hexadecimal(self.bytes)),
         }
+    }
+}
+
+/// A value of few bytes whole, and of another the first bytes and the length.
+#[derive(Clone, Copy)]
+pub(crate) struct Short<'a>(pub(crate) &'a [u8]);
+
+impl fmt::Display for Short<'_> {
+    fn fmt<W: fmt::Write>(&self, f: &mut fmt::Formatter<W>) -> fmt::Result {
+        let bytes = self.0;
+        if bytes.len() <= 6 {
+            return write!(f, "{}", Hexadecimal(bytes));
+        }
+        write!(f, "{} {} B", Front { bytes, most: 4 }, bytes.len())
     }
 }
 
@@ -84,7 +101,9 @@ pub(crate) fn kind_letter(kind: Kind) -> &'static str {
     }
 }
 
-pub(crate) fn operation_word(operation: Operation) -> &'static str {
+pub(crate) fn operation_word(operation: Operation) -> &'static str
+    ensures { result.now ≡ word_of_operation operation }
+{
     match operation {
         Operation::Read => "read",
         Operation::Write => "write",

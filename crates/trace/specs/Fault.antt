@@ -1,6 +1,5 @@
 -- Why the program ends early.
-use Rattle.std.specs.Prelude.{◌≡◌, ◌≢◌, ℕ}
-use Rattle.tag.specs.declared.refusal.Refusal.TheVariants.{NoMemory}
+use Rattle.std.specs.Prelude.{ℕ}
 use Rattle.player.specs.Script.{status_of as status_of_end}
 use Rattle.trace.specs.declared.fault.Fault.{Fault}
 use Rattle.trace.specs.declared.fault.Fault.TheVariants as fault
@@ -12,11 +11,3 @@ status_of fault.Usage = 2
 status_of (fault.Ended end) = status_of_end end
 status_of (fault.Refused refusal) = 1
 status_of fault.OutputLost = 1
-
--- output may have been written before
-abbrev pub MayHaveWritten : Fault → Type 0
-MayHaveWritten fault.NotText = ⊥
-MayHaveWritten fault.Usage = ⊥
-MayHaveWritten (fault.Ended end) = ⊥
-MayHaveWritten (fault.Refused refusal) = refusal ≡ NoMemory
-MayHaveWritten fault.OutputLost = Unit {0}

@@ -4,11 +4,12 @@
 
 mod fault;
 mod play;
+mod program;
 mod request;
 mod show;
 
 use fault::Fault;
-use show::run_words;
+use program::run_words;
 use std::io::BufWriter;
 use std::process::ExitCode;
 use std::rt::Stdout;

@@ -1,6 +1,7 @@
 //! The script, played line by line.
-ghost use Rattle.std.specs.Prelude.{MatchResult};
-ghost use Rattle.trace.specs.Played.{IsUnplayed, LeadsTo};
+ghost use Rattle.std.specs.Prelude.{◌≡◌, ℕ, List, map, MatchResult};
+ghost use Rattle.std.specs.Str.Lines.{lines as lines_of};
+ghost use Rattle.trace.specs.Played.{EndsBefore, IsUnplayed, LeadsTo, LeadsThrough};
 
 use crate::fault::Fault;
 use cluster::Cluster;
@@ -10,6 +11,7 @@ use script::{Command, Line, parse_line, split_lines};
 use std::alloc::Global;
 use std::io;
 use std::io::Read;
+use tag::Refusal;
 
 /// What a script leaves.
 #[derive(Drop)]
@@ -26,22 +28,34 @@ pub fn play_script<R: Read>(alloc: Global, reader: &mut R, name: &str) -> Result
     ensures { MatchResult result (λ played. LeadsTo (R.remaining reader.old) played.cluster)
         (IsUnplayed (R.remaining reader.old)) }
 {
-    let text = read_script(alloc, reader)?;
+    let text = match read_script(alloc, reader) {
+        Ok(text) => text,
+        Err(end) => return Err(Fault::Ended(end)),
+    };
     let Ok(lines) = split_lines(alloc, &text) else {
         return Err(Fault::Ended(End::NoMemory));
     };
-    let mut played = Played {
-        cluster: None,
-        losses: Vec::new(alloc),
-    };
+    play_lines(alloc, &lines, name)
+}
+
+fn play_lines(alloc: Global, lines: &[&[u8]], name: &str) -> Result<Played, Fault>
+    ensures { (script : List ℕ) → map (λ line. line.now) lines.now ≡ lines_of script
+        → MatchResult result (λ played. LeadsThrough script played.cluster) (EndsBefore script) }
+{
+    let mut cluster = None;
+    let mut losses = Vec::new(alloc);
     for (index, line) in lines.iter().enumerate() {
-        let lost = lost_by(alloc, &played.cluster, name, line);
-        play_line(alloc, &mut played.cluster, index + 1, line, &mut io::sink())?;
-        if let Some(lost) = lost {
-            played.losses.push(lost)?;
+        let lost = lost_by(alloc, &cluster, name, line);
+        if let Err(end) = play_line(alloc, &mut cluster, index + 1, line, &mut io::sink()) {
+            return Err(Fault::Ended(end));
+        }
+        if let Some(lost) = lost
+            && losses.push(lost).is_err()
+        {
+            return Err(Fault::Refused(Refusal::NoMemory));
         }
     }
-    Ok(played)
+    Ok(Played { cluster, losses })
 }
 
 // The message of the object that the line loses.
@@ -56,6 +70,6 @@ fn lost_by(alloc: Global, cluster: &Option<Cluster>, name: &str, line: &[u8]) ->
     }
     Some(Loss::of(
         register.mail_view().at(place as usize),
-        cluster.counter() + 1,
+        cluster.counter().saturating_add(1),
     ))
 }

@@ -1,57 +1,27 @@
 //! What is shown of an object.
-ghost use Rattle.trace.specs.Shown.{Shows};
+ghost use Rattle.std.specs.Prelude.{◌≡◌, ℕ, List, Some, IfErr, OnOk, MatchResult};
+ghost use Rattle.std.specs.Io.KnownBytes.{Appends};
+ghost use Rattle.record.specs.Journals.{entries};
+ghost use Rattle.exports.specs.Event.{IsHistory};
+ghost use Rattle.trace.specs.Shown.{IsLoss, IsShown, IsWant, Shows, behind};
 
 use crate::fault::Fault;
-use crate::play::{Played, play_script};
-use crate::request::{Form, Request, parse_request};
+use crate::play::Played;
+use crate::request::{Form, Request};
 use costs::CostLines;
 use exports::{EdnLines, Event, JsonLines, events};
 use history::sequence;
-use picture::{Picture, Plan};
-use player::End;
+use picture::{Loss, Picture, Plan};
+use record::Entry;
 use register::Register;
 use std::alloc::Global;
 use std::fmt::Display;
-use std::fs;
-use std::io::{ErrorKind, Write};
-use std::rt::Files;
+use std::io::Write;
 use tag::Refusal;
 
-/// Carries out the words after the program's name, and answers the exit status: 0 where what they ask for is written, 1
-/// for a refusal or lost output, 2 for words of another form or a script that cannot be read or is bad. A text on `err`
-/// says why, and then nothing is shown.
-pub fn run_words<R: Files + AllocGlobal, O: Write, E: Write>(
-    rt: &R,
-    words: &[String],
-    out: &mut O,
-    err: &mut E,
-) -> u8 {
-    let Some(request) = parse_request(words) else {
-        return Fault::Usage.report("", err);
-    };
-    match carry_out(rt, request, out) {
-        Ok(()) => 0,
-        Err(fault) => fault.report(request.script, err),
-    }
-}
-
-fn carry_out<R: Files + AllocGlobal, O: Write>(
-    rt: &R,
-    request: Request<'_>,
-    out: &mut O,
-) -> Result<(), Fault> {
-    let mut file = match fs::open(rt, request.script) {
-        Ok(file) => file,
-        Err(error) if error.kind() == ErrorKind::OutOfMemory => {
-            return Err(Fault::Ended(End::NoMemory));
-        }
-        Err(_) => return Err(Fault::Ended(End::Unread)),
-    };
-    let played = play_script(rt.alloc(), &mut file, request.name)?;
-    show(rt.alloc(), &played, request, out)
-}
-
-fn show<O: Write>(
+/// Writes what the request asks for of its object, or nothing: there is no object of the name, memory is wanting, or
+/// the output is lost, of which some may be written then.
+pub fn show<O: Write>(
     alloc: Global,
     played: &Played,
     request: Request<'_>,
@@ -63,48 +33,105 @@ fn show<O: Write>(
     let Some(cluster) = &played.cluster else {
         return Err(Fault::Refused(Refusal::NoObject));
     };
-    let register = cluster.register(request.name)?;
-    match request.form {
-        Form::Edn => print(out, EdnLines(&history_of(alloc, register)?)),
-        Form::Json => print(out, JsonLines(&history_of(alloc, register)?)),
-        Form::Costs => {
-            let entries = register.entries()?;
-            print(
-                out,
-                CostLines {
-                    register,
-                    entries: &entries,
-                },
-            )
-        }
-        Form::Picture => {
-            let entries = register.entries()?;
-            let order = sequence(alloc, register)?;
-            let plan = Plan::new(alloc, register, &entries)?;
-            print(
-                out,
-                Picture {
-                    name: request.name,
-                    plan: &plan,
-                    register,
-                    entries: &entries,
-                    order: &order,
-                    losses: &played.losses,
-                },
-            )
-        }
+    match cluster.register(request.name) {
+        Ok(register) => show_object(alloc, register, &played.losses, request, out),
+        Err(refusal) => Err(Fault::Refused(refusal)),
     }
 }
 
-fn history_of(alloc: Global, register: &Register) -> Result<Vec<Event>, Fault> {
-    let entries = register.entries()?;
-    Ok(events(alloc, &entries, register.last().saturating_add(1))?)
+fn show_object<O: Write>(
+    alloc: Global,
+    register: &Register,
+    losses: &[Loss],
+    request: Request<'_>,
+    out: &mut O,
+) -> Result<(), Fault>
+    ensures { MatchResult result
+        (λ _. IsShown request.entry.form register.now (O.contents out.old) (O.contents out.new)) IsLoss }
+{
+    match request.form {
+        Form::Edn => match history_of(alloc, register) {
+            Ok(events) => print(out, EdnLines(&events)),
+            Err(fault) => Err(fault),
+        },
+        Form::Json => match history_of(alloc, register) {
+            Ok(events) => print(out, JsonLines(&events)),
+            Err(fault) => Err(fault),
+        },
+        Form::Costs => show_costs(register, out),
+        Form::Picture => show_picture(alloc, register, losses, request.name, out),
+    }
 }
 
-fn print<W: Write, D: Display + Drop>(out: &mut W, lines: D) -> Result<(), Fault> {
-    let written = match out.write_fmt(lines) {
-        Ok(()) => out.flush(),
-        Err(error) => Err(error),
+// The events of the object's calls, of which the open ones end behind the last step.
+fn history_of(alloc: Global, register: &Register) -> Result<Vec<Event>, Fault>
+    ensures { MatchResult result
+        (λ events. IsHistory (entries register.now.object) (behind register.now) events.items) IsWant }
+{
+    let entries = match register.entries() {
+        Ok(entries) => entries,
+        Err(refusal) => return Err(Fault::Refused(refusal)),
     };
-    written.map_err(Fault::from_output)
+    match events(alloc, &entries, register.last().saturating_add(1)) {
+        Ok(events) => Ok(events),
+        Err(_) => Err(Fault::Refused(Refusal::NoMemory)),
+    }
+}
+
+fn show_costs<O: Write>(register: &Register, out: &mut O) -> Result<(), Fault>
+    ensures { MatchResult result
+        (λ _. IsShown Form.Costs register.now (O.contents out.old) (O.contents out.new)) IsLoss }
+{
+    match register.entries() {
+        Ok(entries) => {
+            let entries: &[Entry] = &entries;
+            print(out, CostLines { register, entries })
+        }
+        Err(refusal) => Err(Fault::Refused(refusal)),
+    }
+}
+
+fn show_picture<O: Write>(
+    alloc: Global,
+    register: &Register,
+    losses: &[Loss],
+    name: &str,
+    out: &mut O,
+) -> Result<(), Fault>
+    ensures { IfErr result IsLoss }
+{
+    let entries = match register.entries() {
+        Ok(entries) => entries,
+        Err(refusal) => return Err(Fault::Refused(refusal)),
+    };
+    let order = match sequence(alloc, register) {
+        Ok(order) => order,
+        Err(refusal) => return Err(Fault::Refused(refusal)),
+    };
+    let Ok(plan) = Plan::new(alloc, register, &entries) else {
+        return Err(Fault::Refused(Refusal::NoMemory));
+    };
+    let picture = Picture {
+        name,
+        plan: &plan,
+        register,
+        entries: &entries,
+        order: &order,
+        losses,
+    };
+    print(out, picture)
+}
+
+fn print<W: Write, D: Display + Drop>(out: &mut W, lines: D) -> Result<(), Fault>
+    ensures shown { (text : List ℕ) → D.output lines ≡ Some text
+        → OnOk result (Appends (W.contents out.old) (W.contents out.new) text) }
+    ensures lost { IfErr result IsLoss }
+{
+    match out.write_fmt(lines) {
+        Ok(()) => match out.flush() {
+            Ok(()) => Ok(()),
+            Err(error) => Err(Fault::from_output(error)),
+        },
+        Err(error) => Err(Fault::from_output(error)),
+    }
 }

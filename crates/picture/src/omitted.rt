@@ -1,0 +1,73 @@
+//! What a picture leaves out.
+use crate::messages::Messages;
+use crate::plan::LETTER;
+use crate::px::Px;
+use crate::server_lanes::MOST_TAGS;
+use std::fmt;
+
+/// A line that says what is not drawn, if anything is not.
+#[derive(Clone, Copy)]
+pub(crate) struct Omitted<'a> {
+    pub(crate) messages: Messages<'a>,
+    pub(crate) y: Px,
+}
+
+impl fmt::Display for Omitted<'_> {
+    fn fmt<W: fmt::Write>(&self, f: &mut fmt::Formatter<W>) -> fmt::Result {
+        let narrow = self.narrow();
+        let calls = self
+            .messages
+            .entries
+            .len()
+            .saturating_sub(self.messages.shown());
+        let tags = self.tags();
+        if narrow == 0 && calls == 0 && tags == 0 {
+            return Ok(());
+        }
+        write!(
+            f,
+            r#"<text x="8" y="{}"><tspan class="head">left out</tspan>"#,
+            self.y
+        )?;
+        if narrow > 0 {
+            write!(f, " the letters of {narrow} narrow phases;")?;
+        }
+        if calls > 0 {
+            write!(f, " the messages of the last {calls} calls;")?;
+        }
+        if tags > 0 {
+            write!(f, " the last {tags} tags of servers;")?;
+        }
+        writeln!(f, " what is drawn has its text on hovering</text>")
+    }
+}
+
+impl Omitted<'_> {
+    // How many phases have no room for a letter.
+    fn narrow(&self) -> usize {
+        let plan = self.messages.plan;
+        let mut count: usize = 0;
+        for entry in self.messages.entries {
+            for phase in self.messages.register.phases_view(entry.call) {
+                if plan.phase_width(phase).0 < LETTER {
+                    count = count.saturating_add(1);
+                }
+            }
+        }
+        count
+    }
+
+    // How many tags are not drawn in the lanes of servers.
+    fn tags(&self) -> usize {
+        let register = self.messages.register;
+        let mut count: usize = 0;
+        for place in &self.messages.plan.positions {
+            for member in 0..place.members {
+                if let Some(bank) = register.bank_view(place.position, member) {
+                    count = count.saturating_add(bank.count().saturating_sub(MOST_TAGS));
+                }
+            }
+        }
+        count
+    }
+}
