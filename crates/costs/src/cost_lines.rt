@@ -8,8 +8,8 @@ use register::Register;
 use std::fmt;
 use tag::Stamp;
 
-/// A line for each of these calls of an object, and one for all of them: `call C KIND phases P requests Q replies R sent
-/// B returned B steps S`, where S is the number of steps from the call to its answer, or `-` for an open call, and
+/// A line for each of these calls of an object, and one for all of them: `call C KIND phases P requests Q replies R
+/// sent B returned B steps S`, where S is the number of steps from the call to its answer, or `-` for an open call, and
 /// `calls N phases P requests Q replies R sent B returned B`.
 #[derive(Clone, Copy)]
 pub struct CostLines<'a> {

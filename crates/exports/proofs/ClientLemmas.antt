@@ -1,5 +1,5 @@
 -- Which clients are free, call by call.
-use Rattle.std.proofs.Common.{◌≡◌, ◌≢◌, ◌+◌, ◌<◌, ◌≤◌, ◌⊎◌, ℕ, zero, suc, max, List, [], ◌∷◌, ◌++◌, length, get_or, set}
+use Rattle.std.proofs.Common.{◌≡◌, ◌≢◌, ◌<◌, ◌≤◌, ◌⊎◌, ℕ, zero, suc, max, List, [], ◌∷◌, ◌++◌, length, get_or, set}
 use Rattle.std.proofs.Common.{Option, Some, None, refl, sym, ap, subst, ◌∙◌, inl, inr, arith}
 use Rattle.std.specs.Prelude.{slice_get, ◌↔◌}
 use Rattle.std.proofs.lemmas.Bool.{cases_lt}
@@ -8,7 +8,7 @@ use Rattle.record.specs.declared.call.Operation.TheVariants as operation
 use Rattle.record.specs.Atomic.{IsAnsweredBefore, no_entry}
 use Rattle.exports.specs.declared.event.Process.{Process}
 use Rattle.exports.specs.declared.event.Process.TheVariants as process
-use Rattle.exports.specs.Clients.{AreProcesses, TakesClient, TakesProcess, later}
+use Rattle.exports.specs.Clients.{AreProcesses, TakesProcess, later}
 
 same_some : {X : Type 0} (x y : X) → Some x ≡ Some y → x ≡ y
 same_some x y e = cc
@@ -109,7 +109,8 @@ module _ (entries : List Entry) (processes : List Process) (old new : List (Opti
     | inr late ↦
         let count = length-pushed processes p in
         let place : length processes ≡ i = omega (arith, count, below, late) in
-        subst (λ (n : ℕ). (slice_get (processes ++ p ∷ []) n ≡ Some process.Nemesis) ↔ ((get_or entries n no_entry).operation ≡ operation.Move))
+        subst (λ (n : ℕ). (slice_get (processes ++ p ∷ []) n ≡ Some process.Nemesis)
+        ↔ ((get_or entries n no_entry).operation ≡ operation.Move))
         place
         ((λ e. is.0 (same_some p process.Nemesis (sym (last processes p) ∙ e))), λ m. last processes p ∙ ap Some (is.1 m))
   ]
@@ -158,7 +159,8 @@ module _ (entries : List Entry) (processes : List Process) (old new : List (Opti
           (before i (was_i ∙ ap (λ (n : ℕ). Some (process.Client n)) (sym one)))
     ]
 
-    module _ (since : ℕ) (at : slice_get old client ≡ Some (Some since)) (before : since < (get_or entries (length processes) no_entry).called)
+    module _ (since : ℕ) (at : slice_get old client ≡ Some (Some since))
+        (before : since < (get_or entries (length processes) no_entry).called)
         (set_is : new ≡ set old client (later since (get_or entries (length processes) no_entry).answered)) where
       abbrev next : Option ℕ
       next = later since (get_or entries (length processes) no_entry).answered
@@ -194,7 +196,8 @@ module _ (entries : List Entry) (processes : List Process) (old new : List (Opti
               (earlier.0, earlier.1, omega (arith, low, most))
           | inr now ↦
               subst (λ (n : ℕ). IsAnsweredBy (get_or entries n no_entry) by) (sym now.0)
-              (answered_by (get_or entries (length processes) no_entry) since by (get_or entries (length processes) no_entry).answered refl this.1)
+              (answered_by (get_or entries (length processes) no_entry) since by
+              (get_or entries (length processes) no_entry).answered refl this.1)
         ]
         | inr that ↦ elim (pushed processes (process.Client client) (process.Client other) i e) [
           | inl was ↦ so_far.free i other by was that.1

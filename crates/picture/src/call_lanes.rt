@@ -37,7 +37,7 @@ impl fmt::Display for CallName<'_> {
         let lane = self.0;
         writeln!(
             f,
-            r#"<text x="8" y="{}">call {} {}</text>"#,
+            "<text x='8' y='{}'>call {} {}</text>",
             lane.base(),
             lane.entry.call,
             operation_word(lane.entry.operation)
@@ -59,7 +59,7 @@ impl fmt::Display for CallBar<'_> {
         let (plan, lane) = (self.plan, self.lane);
         writeln!(
             f,
-            r#"<path class="{}" d="{}"><title>{}</title></path>"#,
+            "<path class='{}' d='{}'><title>{}</title></path>",
             bar_class(lane.entry.answered),
             BarPath { plan, lane },
             BarTitle(lane.entry)

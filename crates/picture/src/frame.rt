@@ -27,7 +27,7 @@ impl fmt::Display for Steps<'_> {
             let height = Px(plan.bottom.saturating_sub(450));
             writeln!(
                 f,
-                r#"<path class="grid" d="M{x} 45v{height}"/><text class="tick" x="{x}" y="40">{step}</text>"#
+                "<path class='grid' d='M{x} 45v{height}'/><text class='tick' x='{x}' y='40'>{step}</text>"
             )?;
         }
         Ok(())
@@ -53,17 +53,15 @@ fn tick(span: u64) -> u64
 
 /// A band from the call of each move to its answer.
 #[derive(Clone, Copy)]
-pub(crate) struct Bands<'a> {
-    pub(crate) plan: &'a Plan<'a>,
-    pub(crate) entries: &'a [Entry],
-}
+pub(crate) struct Bands<'a>(pub(crate) &'a Plan<'a>);
 
 impl fmt::Display for Bands<'_> {
     fn fmt<W: fmt::Write>(&self, f: &mut fmt::Formatter<W>) -> fmt::Result {
-        let plan = self.plan;
+        let plan = self.0;
         let height = Px(plan.bottom.saturating_sub(450));
         let mut position = 0u64;
-        for entry in self.entries {
+        for lane in &plan.lanes {
+            let entry = lane.entry;
             if entry.operation != Operation::Move {
                 continue;
             }
@@ -71,7 +69,8 @@ impl fmt::Display for Bands<'_> {
             let to = entry.answered.unwrap_or(plan.last);
             writeln!(
                 f,
-                r#"<rect class="band" x="{}" y="45" width="{}" height="{height}"><title>call {} moves the object to position {position}</title></rect>"#,
+                "<rect class='band' x='{}' y='45' width='{}' height='{height}'>\
+                <title>call {} moves the object to position {position}</title></rect>",
                 plan.x(entry.called),
                 plan.wide(entry.called, to),
                 entry.call
@@ -85,7 +84,6 @@ impl fmt::Display for Bands<'_> {
 #[derive(Clone, Copy)]
 pub(crate) struct Order<'a> {
     pub(crate) plan: &'a Plan<'a>,
-    pub(crate) entries: &'a [Entry],
     pub(crate) order: &'a [u64],
     /// The line of the first row.
     pub(crate) y: Px,
@@ -95,18 +93,18 @@ impl fmt::Display for Order<'_> {
     fn fmt<W: fmt::Write>(&self, f: &mut fmt::Formatter<W>) -> fmt::Result {
         let (plan, y) = (self.plan, self.y);
         let columns = plan.columns();
-        writeln!(f, r#"<text class="head" x="8" y="{y}">order</text>"#)?;
+        writeln!(f, "<text class='head' x='8' y='{y}'>order</text>")?;
         for (index, call) in self
             .order
             .iter()
             .take(plan.ordered(self.order.len()))
             .enumerate()
         {
-            if let Some(entry) = self.entries.get(call.saturating_sub(1) as usize) {
+            if let Some(lane) = plan.lanes.get(call.saturating_sub(1) as usize) {
                 let (row, column) = (index as u64 / columns, index as u64 % columns);
                 let x = Px(500).plus(column.saturating_mul(ORDERED));
                 let base = y.plus(row.saturating_mul(ROW));
-                writeln!(f, r#"<text x="{x}" y="{base}">{}</text>"#, Ordered(entry))?;
+                writeln!(f, "<text x='{x}' y='{base}'>{}</text>", Ordered(lane.entry))?;
             }
         }
         Ok(())

@@ -12,7 +12,7 @@ rect{stroke:#000;stroke-width:.7}.next{fill:#fff}.spread{fill:#f6e6c4}.query{fil
 .lane{stroke:#999;fill:none}.msg{stroke:#888;stroke-width:.5;fill:none}\
 .lost{stroke:#000;stroke-width:1.2;stroke-dasharray:none;fill:none}\
 path.fin{stroke:#000;stroke-width:.7}.pending{fill:#fff;stroke:#000}.final{fill:#000;stroke:#000}\
-</style>\n";
+</style>";
 
 /// What the signs mean, in two lines.
 #[derive(Clone, Copy)]
@@ -50,7 +50,8 @@ impl fmt::Display for KindSigns {
         ] {
             writeln!(
                 f,
-                r#"<rect class="{word}" x="{x}" y="{top}" width="12" height="11"/><text class="in" x="{}" y="{base}">{letter}</text><text x="{}" y="{y}">{word}</text>"#,
+                "<rect class='{word}' x='{x}' y='{top}' width='12' height='11'/>\
+                <text class='in' x='{}' y='{base}'>{letter}</text><text x='{}' y='{y}'>{word}</text>",
                 x.plus(60),
                 x.plus(150)
             )?;
@@ -70,16 +71,16 @@ impl fmt::Display for MarkSigns {
         let (top, middle) = (y.less(90), y.less(40));
         writeln!(
             f,
-            r#"<circle cx="396" cy="{middle}" r="3"/><text x="403" y="{y}">a piece came</text>"#
+            "<circle cx='396' cy='{middle}' r='3'/><text x='403' y='{y}'>a piece came</text>"
         )?;
         writeln!(
             f,
-            r#"<path class="fin" d="M498 {}l4 4l-4 4l-4 -4z"/><text x="507" y="{y}">tag finalized</text>"#,
+            "<path class='fin' d='M498 {}l4 4l-4 4l-4 -4z'/><text x='507' y='{y}'>tag finalized</text>",
             y.less(80)
         )?;
         writeln!(
             f,
-            r#"<rect class="band" x="604" y="{top}" width="20" height="11"/><text x="629" y="{y}">a move</text>"#
+            "<rect class='band' x='604' y='{top}' width='20' height='11'/><text x='629' y='{y}'>a move</text>"
         )
     }
 }
@@ -94,19 +95,21 @@ impl fmt::Display for LineSigns {
         let middle = y.less(40);
         writeln!(
             f,
-            r#"<path class="pending" d="M12 {y}l-4 -8h8z"/><path class="final" d="M23 {y}l-4 -8h8z"/><text x="31" y="{y}">the next position is pending, is final</text>"#
+            "<path class='pending' d='M12 {y}l-4 -8h8z'/><path class='final' d='M23 {y}l-4 -8h8z'/>\
+            <text x='31' y='{y}'>the next position is pending, is final</text>"
         )?;
         writeln!(
             f,
-            r#"<path class="msg" d="M270 {middle}h20"/><text x="295" y="{y}">from a request's serving to the take of its reply</text>"#
+            "<path class='msg' d='M270 {middle}h20'/>\
+            <text x='295' y='{y}'>from a request's serving to the take of its reply</text>"
         )?;
         writeln!(
             f,
-            r#"<path class="lost" d="M590 {middle}h20m-4 -4l8 8m0 -8l-8 8"/><text x="620" y="{y}">lost</text>"#
+            "<path class='lost' d='M590 {middle}h20m-4 -4l8 8m0 -8l-8 8'/><text x='620' y='{y}'>lost</text>"
         )?;
         writeln!(
             f,
-            r#"<path class="bar open" d="M670 {middle}h20"/><text x="696" y="{y}">still open</text>"#
+            "<path class='bar open' d='M670 {middle}h20'/><text x='696' y='{y}'>still open</text>"
         )
     }
 }

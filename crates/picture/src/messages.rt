@@ -3,7 +3,6 @@ use crate::loss::Loss;
 use crate::plan::Plan;
 use crate::px::Px;
 use phase::{Phase, Taken};
-use record::Entry;
 use register::Register;
 use std::fmt;
 use tag::Stamp;
@@ -16,7 +15,6 @@ pub(crate) const MOST_REPLIES: usize = 4000;
 pub(crate) struct Messages<'a> {
     pub(crate) plan: &'a Plan<'a>,
     pub(crate) register: &'a Register,
-    pub(crate) entries: &'a [Entry],
     pub(crate) losses: &'a [Loss],
 }
 
@@ -24,23 +22,23 @@ impl Messages<'_> {
     /// How many calls come first in whose phases so many replies were taken as can be shown.
     pub(crate) fn shown(&self) -> usize {
         let mut replies: usize = 0;
-        for (index, entry) in self.entries.iter().enumerate() {
-            for phase in self.register.phases_view(entry.call) {
+        for (index, lane) in self.plan.lanes.iter().enumerate() {
+            for phase in self.register.phases_view(lane.entry.call) {
                 replies = replies.saturating_add(phase.replies().len());
             }
             if replies > MOST_REPLIES {
                 return index;
             }
         }
-        self.entries.len()
+        self.plan.lanes.len()
     }
 }
 
 impl fmt::Display for Messages<'_> {
     fn fmt<W: fmt::Write>(&self, f: &mut fmt::Formatter<W>) -> fmt::Result {
-        for entry in self.entries.iter().take(self.shown()) {
-            for phase in self.register.phases_view(entry.call) {
-                let call = entry.call;
+        for lane in self.plan.lanes.iter().take(self.shown()) {
+            let call = lane.entry.call;
+            for phase in self.register.phases_view(call) {
                 write!(
                     f,
                     "{}",
@@ -82,7 +80,8 @@ impl fmt::Display for PhaseReplies<'_> {
             let y = self.plan.server_y(self.phase.position(), taken.member);
             writeln!(
                 f,
-                r#"<path class="msg" d="M{} {y}L{} {foot}"><title>call {} phase {}, member {}: served at step {served}, taken at step {step}</title></path>"#,
+                "<path class='msg' d='M{} {y}L{} {foot}'><title>call {} phase {}, member {}: \
+                served at step {served}, taken at step {step}</title></path>",
                 self.plan.x(served),
                 self.plan.x(step),
                 self.call,
@@ -125,7 +124,8 @@ impl fmt::Display for Lost<'_> {
         let x = plan.x(loss.step);
         writeln!(
             f,
-            r#"<path class="lost" d="M{} {begin}L{x} {end}m-4 -4l8 8m0 -8l-8 8"><title>the {word} of call {} phase {} and member {} was lost at step {}</title></path>"#,
+            "<path class='lost' d='M{} {begin}L{x} {end}m-4 -4l8 8m0 -8l-8 8'>\
+            <title>the {word} of call {} phase {} and member {} was lost at step {}</title></path>",
             plan.x(from),
             loss.call,
             loss.phase,

@@ -9,25 +9,25 @@ use std::fmt;
 #[derive(Clone, Copy)]
 pub(crate) struct Omitted<'a> {
     pub(crate) messages: Messages<'a>,
+    /// How many calls the order has.
+    pub(crate) ordered: usize,
     pub(crate) y: Px,
 }
 
 impl fmt::Display for Omitted<'_> {
     fn fmt<W: fmt::Write>(&self, f: &mut fmt::Formatter<W>) -> fmt::Result {
+        let plan = self.messages.plan;
         let narrow = self.narrow();
-        let calls = self
-            .messages
-            .entries
-            .len()
-            .saturating_sub(self.messages.shown());
+        let calls = plan.lanes.len().saturating_sub(self.messages.shown());
         let tags = self.tags();
-        if narrow == 0 && calls == 0 && tags == 0 {
+        let ordered = self.ordered.saturating_sub(plan.ordered(self.ordered));
+        if narrow == 0 && calls == 0 && tags == 0 && ordered == 0 {
             return Ok(());
         }
+        let y = self.y;
         write!(
             f,
-            r#"<text x="8" y="{}"><tspan class="head">left out</tspan>"#,
-            self.y
+            "<text x='8' y='{y}'><tspan class='head'>left out</tspan>"
         )?;
         if narrow > 0 {
             write!(f, " the letters of {narrow} narrow phases;")?;
@@ -38,6 +38,9 @@ impl fmt::Display for Omitted<'_> {
         if tags > 0 {
             write!(f, " the last {tags} tags of servers;")?;
         }
+        if ordered > 0 {
+            write!(f, " the last {ordered} calls of the order;")?;
+        }
         writeln!(f, " what is drawn has its text on hovering</text>")
     }
 }
@@ -47,8 +50,8 @@ impl Omitted<'_> {
     fn narrow(&self) -> usize {
         let plan = self.messages.plan;
         let mut count: usize = 0;
-        for entry in self.messages.entries {
-            for phase in self.messages.register.phases_view(entry.call) {
+        for lane in &plan.lanes {
+            for phase in self.messages.register.phases_view(lane.entry.call) {
                 if plan.phase_width(phase).0 < LETTER {
                     count = count.saturating_add(1);
                 }

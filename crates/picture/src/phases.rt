@@ -24,7 +24,7 @@ impl fmt::Display for Phases<'_> {
             }
             let x = plan.end_x(lane.entry.answered).plus(50);
             let (base, end) = (lane.base(), EndText(lane.entry));
-            writeln!(f, r#"<text x="{x}" y="{base}">{end}</text>"#)?;
+            writeln!(f, "<text x='{x}' y='{base}'>{end}</text>")?;
         }
         Ok(())
     }
@@ -64,7 +64,8 @@ impl fmt::Display for Segment<'_> {
         let ending = if end.is_some() { "" } else { " open" };
         write!(
             f,
-            r#"<rect class="{word}{ending}" x="{from}" y="{}" width="{wide}" height="12"><title>phase {} {} at position {}, {}</title></rect>"#,
+            "<rect class='{word}{ending}' x='{from}' y='{}' width='{wide}' height='12'>\
+            <title>phase {} {} at position {}, {}</title></rect>",
             Px(self.lane.top).plus(20),
             phase.number(),
             KindText(phase.kind()),
@@ -76,13 +77,13 @@ impl fmt::Display for Segment<'_> {
         if wide.0 >= WORD {
             write!(
                 f,
-                r#"<text class="in" x="{middle}" y="{base}">{word} {}</text>"#,
+                "<text class='in' x='{middle}' y='{base}'>{word} {}</text>",
                 phase.position()
             )?;
         } else if wide.0 >= LETTER {
             write!(
                 f,
-                r#"<text class="in" x="{middle}" y="{base}">{}</text>"#,
+                "<text class='in' x='{middle}' y='{base}'>{}</text>",
                 kind_letter(phase.kind())
             )?;
         }

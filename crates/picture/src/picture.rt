@@ -9,7 +9,6 @@ use crate::phases::Phases;
 use crate::plan::Plan;
 use crate::server_lanes::ServerLanes;
 use crate::text::Escaped;
-use record::Entry;
 use register::Register;
 use std::fmt;
 
@@ -19,11 +18,8 @@ use std::fmt;
 pub struct Picture<'a> {
     /// The object's name.
     pub name: &'a str,
-    /// The plan of the same entries.
     pub plan: &'a Plan<'a>,
     pub register: &'a Register,
-    /// The entries of all its calls, in order.
-    pub entries: &'a [Entry],
     /// The calls in the order in which they follow one register.
     pub order: &'a [u64],
     /// The messages that were lost.
@@ -32,58 +28,78 @@ pub struct Picture<'a> {
 
 impl fmt::Display for Picture<'_> {
     fn fmt<W: fmt::Write>(&self, f: &mut fmt::Formatter<W>) -> fmt::Result {
-        let (plan, register, entries) = (self.plan, self.register, self.entries);
-        let width = plan.page();
-        let height = plan.legend_y(self.order.len()).plus(460);
+        let (plan, register, order) = (self.plan, self.register, self.order);
         let messages = Messages {
             plan,
             register,
-            entries,
             losses: self.losses,
         };
-        writeln!(
-            f,
-            r#"<svg xmlns="http://www.w3.org/2000/svg" width="{width}" height="{height}" viewBox="0 0 {width} {height}">"#
-        )?;
-        writeln!(f, "<title>object {}</title>", Escaped(self.name))?;
-        f.write_str(STYLE)?;
-        writeln!(
-            f,
-            r##"<rect width="{width}" height="{height}" style="fill:#fff;stroke:none"/>"##
-        )?;
-        writeln!(
-            f,
-            r#"<text class="head" x="8" y="18">object {}: {} {}, steps {} to {}</text>"#,
-            Escaped(self.name),
-            entries.len(),
-            if entries.len() == 1 { "call" } else { "calls" },
-            plan.first,
-            plan.last
-        )?;
-        write!(f, "{}{}", Bands { plan, entries }, Steps(plan))?;
+        let name = self.name;
+        write!(f, "{}", Head { name, plan, order })?;
+        write!(f, "{}{}", Bands(plan), Steps(plan))?;
         write!(f, "{messages}{}", CallLanes(plan))?;
-        write!(
+        write!(f, "{}", Phases { plan, register })?;
+        write!(f, "{}", ServerLanes { plan, register })?;
+        writeln!(f, "{}</svg>", Foot { messages, order })
+    }
+}
+
+// The size of the page, its styles, and its first line.
+#[derive(Clone, Copy)]
+struct Head<'a> {
+    name: &'a str,
+    plan: &'a Plan<'a>,
+    order: &'a [u64],
+}
+
+impl fmt::Display for Head<'_> {
+    fn fmt<W: fmt::Write>(&self, f: &mut fmt::Formatter<W>) -> fmt::Result {
+        let (plan, name) = (self.plan, Escaped(self.name));
+        let (width, height) = (plan.page(), plan.legend_y(self.order.len()).plus(460));
+        writeln!(
             f,
-            "{}{}",
-            Phases { plan, register },
-            ServerLanes { plan, register }
+            "<svg xmlns='http://www.w3.org/2000/svg' width='{width}' height='{height}' \
+            viewBox='0 0 {width} {height}'>"
         )?;
+        writeln!(f, "<title>object {name}</title>{STYLE}")?;
+        writeln!(
+            f,
+            "<rect width='{width}' height='{height}' style='fill:#fff;stroke:none'/>"
+        )?;
+        let calls = plan.lanes.len();
+        let word = if calls == 1 { "call" } else { "calls" };
+        writeln!(
+            f,
+            "<text class='head' x='8' y='18'>object {name}: {calls} {word}, steps {} to {}</text>",
+            plan.first, plan.last
+        )
+    }
+}
+
+// The order of the calls, what the signs mean, and what is left out.
+#[derive(Clone, Copy)]
+struct Foot<'a> {
+    messages: Messages<'a>,
+    order: &'a [u64],
+}
+
+impl fmt::Display for Foot<'_> {
+    fn fmt<W: fmt::Write>(&self, f: &mut fmt::Formatter<W>) -> fmt::Result {
+        let (messages, order) = (self.messages, self.order);
+        let plan = messages.plan;
         let y = plan.order_y();
-        let order = self.order;
-        let legend = plan.legend_y(order.len());
+        write!(f, "{}", Order { plan, order, y })?;
+        let y = plan.legend_y(order.len());
+        write!(f, "{}", Legend(y))?;
+        let (ordered, y) = (order.len(), y.plus(360));
         write!(
             f,
-            "{}{}",
-            Order {
-                plan,
-                entries,
-                order,
+            "{}",
+            Omitted {
+                messages,
+                ordered,
                 y
-            },
-            Legend(legend)
-        )?;
-        let y = legend.plus(360);
-        write!(f, "{}", Omitted { messages, y })?;
-        writeln!(f, "</svg>")
+            }
+        )
     }
 }

@@ -23,7 +23,7 @@ impl fmt::Display for ServerLanes<'_> {
             let (y, position) = (Px(place.top).less(50), place.position);
             writeln!(
                 f,
-                r#"<text class="head" x="8" y="{y}">position {position}</text>"#
+                "<text class='head' x='8' y='{y}'>position {position}</text>"
             )?;
             for member in 0..place.members {
                 let lane = ServerLane {
@@ -54,15 +54,11 @@ impl fmt::Display for ServerLane<'_> {
         let from = self.plan.x(self.place.opened);
         let to = self.plan.right();
         if let Some(server) = self.register.server(self.place.position, self.member) {
-            writeln!(
-                f,
-                r#"<text x="20" y="{}">server {server}</text>"#,
-                y.plus(40)
-            )?;
+            writeln!(f, "<text x='20' y='{}'>server {server}</text>", y.plus(40))?;
         }
         writeln!(
             f,
-            r#"<path class="lane" d="M{from} {}v6M{from} {y}H{to}"><title>opened at step {}</title></path>"#,
+            "<path class='lane' d='M{from} {}v6M{from} {y}H{to}'><title>opened at step {}</title></path>",
             y.less(30),
             self.place.opened
         )?;
@@ -129,7 +125,8 @@ impl Marks<'_> {
         let y = self.y.plus(40);
         writeln!(
             f,
-            r#"<path class="{word}" d="M{x} {y}l-4 -8h8z"><title>the next position is {word} from step {since} on</title></path>"#
+            "<path class='{word}' d='M{x} {y}l-4 -8h8z'>\
+            <title>the next position is {word} from step {since} on</title></path>"
         )
     }
 }
@@ -151,7 +148,7 @@ impl fmt::Display for TagMarks<'_> {
             let bytes = arrival.piece.bytes.len();
             writeln!(
                 f,
-                r#"<circle cx="{x}" cy="{y}" r="3"><title>tag {tag} came at step {}, {bytes} bytes</title></circle>"#,
+                "<circle cx='{x}' cy='{y}' r='3'><title>tag {tag} came at step {}, {bytes} bytes</title></circle>",
                 arrival.step
             )?;
         }
@@ -159,7 +156,8 @@ impl fmt::Display for TagMarks<'_> {
             let x = self.plan.x(since);
             writeln!(
                 f,
-                r#"<path class="fin" d="M{x} {}l4 4l-4 4l-4 -4z"><title>tag {tag} was finalized at step {since}</title></path>"#,
+                "<path class='fin' d='M{x} {}l4 4l-4 4l-4 -4z'>\
+                <title>tag {tag} was finalized at step {since}</title></path>",
                 y.less(40)
             )?;
         }

@@ -126,8 +126,8 @@ fn play_lines<O: Write>(alloc: Global, lines: &[&[u8]], out: &mut O) -> Result<(
     Ok(())
 }
 
-/// Plays the line of this number, counted from 1, over the cluster that the lines before it made, of which there is none
-/// before the first command. So a caller sees the cluster between two lines. A bad line leaves it as it was.
+/// Plays the line of this number, counted from 1, over the cluster that the lines before it made, of which there is
+/// none before the first command. So a caller sees the cluster between two lines. A bad line leaves it as it was.
 pub fn play_line<O: Write>(
     alloc: Global,
     cluster: &mut Option<Cluster>,

@@ -6,7 +6,7 @@ ghost use Rattle.trace.specs.Fault.{status_of};
 ghost use Rattle.trace.specs.declared.fault.Fault.TheVariants as fault;
 
 use player::{End, report_end};
-use std::alloc::AllocError;
+use std::alloc::{AllocError, AllocFailed};
 use std::io;
 use std::io::{ErrorKind, Write};
 use tag::Refusal;
@@ -83,6 +83,18 @@ impl From<AllocError> for Fault {
     ghost from_gives = { λ _ fault. fault ≡ Refused NoMemory };
 
     fn from(_error: AllocError) -> Fault {
+        Fault::Refused(Refusal::NoMemory)
+    }
+}
+
+impl<T: Drop> From<AllocFailed<T>> for Fault {
+    ghost use Rattle.std.specs.Prelude.{◌≡◌};
+    ghost use Rattle.tag.specs.declared.refusal.Refusal.TheVariants.{NoMemory};
+    ghost use Rattle.trace.specs.declared.fault.Fault.TheVariants.{Refused};
+
+    ghost from_gives = { λ _ fault. fault ≡ Refused NoMemory };
+
+    fn from(_error: AllocFailed<T>) -> Fault {
         Fault::Refused(Refusal::NoMemory)
     }
 }

@@ -1,7 +1,10 @@
 //! The script, played line by line.
-ghost use Rattle.std.specs.Prelude.{◌≡◌, ℕ, List, map, MatchResult};
+ghost use Rattle.std.specs.Prelude.{◌≡◌, ℕ, List, None, map, IfErr, MatchResult};
 ghost use Rattle.std.specs.Str.Lines.{lines as lines_of};
-ghost use Rattle.trace.specs.Played.{EndsBefore, IsUnplayed, LeadsTo, LeadsThrough};
+ghost use Rattle.tag.specs.declared.refusal.Refusal.TheVariants.{NoMemory};
+ghost use Rattle.player.specs.Script.{IsPlayedFrom};
+ghost use Rattle.trace.specs.Played.{EndsAtLine, EndsBefore, IsUnplayed, LeadsTo, LeadsThrough};
+ghost use Rattle.trace.specs.declared.fault.Fault.TheVariants.{Refused};
 
 use crate::fault::Fault;
 use cluster::Cluster;
@@ -11,7 +14,6 @@ use script::{Command, Line, parse_line, split_lines};
 use std::alloc::Global;
 use std::io;
 use std::io::Read;
-use tag::Refusal;
 
 /// What a script leaves.
 #[derive(Drop)]
@@ -46,16 +48,40 @@ fn play_lines(alloc: Global, lines: &[&[u8]], name: &str) -> Result<Played, Faul
     let mut losses = Vec::new(alloc);
     for (index, line) in lines.iter().enumerate() {
         let lost = lost_by(alloc, &cluster, name, line);
-        if let Err(end) = play_line(alloc, &mut cluster, index + 1, line, &mut io::sink()) {
-            return Err(Fault::Ended(end));
+        match play_numbered(alloc, &mut cluster, index + 1, line) {
+            Ok(()) => {}
+            Err(fault) => return Err(fault),
         }
-        if let Some(lost) = lost
-            && losses.push(lost).is_err()
-        {
-            return Err(Fault::Refused(Refusal::NoMemory));
+        match note(&mut losses, lost) {
+            Ok(()) => {}
+            Err(fault) => return Err(fault),
         }
     }
     Ok(Played { cluster, losses })
+}
+
+fn play_numbered(
+    alloc: Global,
+    cluster: &mut Option<Cluster>,
+    number: usize,
+    line: &[u8],
+) -> Result<(), Fault>
+    ensures { MatchResult result (λ _. IsPlayedFrom cluster.old line.now cluster.new None None)
+        (EndsAtLine number cluster.old line.now) }
+{
+    match play_line(alloc, cluster, number, line, &mut io::sink()) {
+        Ok(()) => Ok(()),
+        Err(end) => Err(Fault::Ended(end)),
+    }
+}
+
+fn note(losses: &mut Vec<Loss>, lost: Option<Loss>) -> Result<(), Fault>
+    ensures { IfErr result (λ why. why ≡ Refused NoMemory) }
+{
+    if let Some(lost) = lost {
+        losses.push(lost)?;
+    }
+    Ok(())
 }
 
 // The message of the object that the line loses.

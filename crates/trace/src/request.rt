@@ -1,5 +1,5 @@
 //! What the words of the command line ask for.
-ghost use Rattle.std.specs.Prelude.{◌≡◌, ◌∷◌, [], map, string_bytes, codes};
+ghost use Rattle.std.specs.Prelude.{◌∷◌, [], map, string_bytes};
 ghost use Rattle.trace.specs.Request.{IsReading};
 
 /// What is shown of an object.
@@ -27,19 +27,19 @@ pub fn parse_request(words: &[String]) -> Option<Request<'_>>
 {
     match words {
         [first, script, name] => three(first.as_str(), script.as_str(), name.as_str()),
-        [first, script, name, last] => {
-            let form = history_form(first.as_str(), last.as_str())?;
-            Some(Request {
-                form,
-                script: script.as_str(),
-                name: name.as_str(),
-            })
-        }
+        [first, script, name, last] => four(
+            first.as_str(),
+            script.as_str(),
+            name.as_str(),
+            last.as_str(),
+        ),
         _ => None,
     }
 }
 
-fn three<'a>(first: &str, script: &'a str, name: &'a str) -> Option<Request<'a>> {
+fn three<'a>(first: &str, script: &'a str, name: &'a str) -> Option<Request<'a>>
+    ensures { IsReading (first.now ∷ script.entry.now ∷ name.entry.now ∷ []) result }
+{
     let form = match first {
         "picture" => Form::Picture,
         "costs" => Form::Costs,
@@ -48,10 +48,16 @@ fn three<'a>(first: &str, script: &'a str, name: &'a str) -> Option<Request<'a>>
     Some(Request { form, script, name })
 }
 
-fn history_form(first: &str, last: &str) -> Option<Form> {
-    match (first, last) {
-        ("history", "edn") => Some(Form::Edn),
-        ("history", "json") => Some(Form::Json),
-        _ => None,
-    }
+fn four<'a>(first: &str, script: &'a str, name: &'a str, last: &str) -> Option<Request<'a>>
+    ensures { IsReading (first.now ∷ script.entry.now ∷ name.entry.now ∷ last.now ∷ []) result }
+{
+    let "history" = first else {
+        return None;
+    };
+    let form = match last {
+        "edn" => Form::Edn,
+        "json" => Form::Json,
+        _ => return None,
+    };
+    Some(Request { form, script, name })
 }

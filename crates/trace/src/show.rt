@@ -27,8 +27,8 @@ pub fn show<O: Write>(
     request: Request<'_>,
     out: &mut O,
 ) -> Result<(), Fault>
-    ensures { Shows request.entry.form played.now.cluster request.entry.name.now (O.contents out.old) (O.contents out.new)
-        result }
+    ensures { Shows request.entry.form played.now.cluster request.entry.name.now (O.contents out.old)
+        (O.contents out.new) result }
 {
     let Some(cluster) = &played.cluster else {
         return Err(Fault::Refused(Refusal::NoObject));
@@ -111,12 +111,24 @@ fn show_picture<O: Write>(
     let Ok(plan) = Plan::new(alloc, register, &entries) else {
         return Err(Fault::Refused(Refusal::NoMemory));
     };
+    draw(register, &plan, &order, losses, name, out)
+}
+
+fn draw<'a, O: Write>(
+    register: &'a Register,
+    plan: &'a Plan<'a>,
+    order: &'a [u64],
+    losses: &'a [Loss],
+    name: &'a str,
+    out: &mut O,
+) -> Result<(), Fault>
+    ensures { IfErr result IsLoss }
+{
     let picture = Picture {
         name,
-        plan: &plan,
+        plan,
         register,
-        entries: &entries,
-        order: &order,
+        order,
         losses,
     };
     print(out, picture)

@@ -1,4 +1,4 @@
-use Rattle.std.proofs.Common.{◌≡◌, ℕ, ◌≤◌, List, length, sum_by, take, ap, ◌∙◌, arith}
+use Rattle.std.proofs.Common.{◌≤◌, List, length, sum_by, take, ap, ◌∙◌, arith}
 use Rattle.std.specs.FinMap as map
 use Rattle.std.proofs.lemmas.List.{take_all}
 use Rattle.tag.specs.declared.tag.Tag.{Tag}
