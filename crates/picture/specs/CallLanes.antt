@@ -35,14 +35,14 @@ course_text called (Some step) = codes "steps " ++ decimal called ++ (codes " to
 -- the name of a call
 abbrev pub name_text : Lane → List ℕ
 name_text lane = texts (
-    codes "<text x='8' y='" ∷ px_text (base_of lane) ∷ codes "'>call " ∷ decimal lane.entry.now.call
-    ∷ codes " " ∷ word_of_operation lane.entry.now.operation ∷ codes "</text>\n" ∷ [])
+    codes "<text x='8' y='" ∷ px_text (base_of lane) ∷ codes "'>call " ∷ decimal lane.entry.call
+    ∷ codes " " ∷ word_of_operation lane.entry.operation ∷ codes "</text>\n" ∷ [])
 
 -- a mark down at the call step, and a line to the answer, or to the right edge of time
 abbrev pub path_text : Plan → Lane → List ℕ
-path_text plan lane = codes "M" ++ (px_text (x_of plan lane.entry.now.called)
+path_text plan lane = codes "M" ++ (px_text (x_of plan lane.entry.called)
     ++ (codes " " ++ (px_text (bar_top_of lane)
-    ++ (codes "v10m0 -5H" ++ px_text (end_of plan lane.entry.now.answered)))))
+    ++ (codes "v10m0 -5H" ++ px_text (end_of plan lane.entry.answered)))))
 
 -- what a bar stands for
 abbrev pub title_text : Entry → List ℕ
@@ -52,8 +52,8 @@ title_text entry = codes "call " ++ (decimal entry.call ++ (codes " " ++ (word_o
 -- the bar of a call
 abbrev pub bar_text : Plan → Lane → List ℕ
 bar_text plan lane = texts (
-    codes "<path class='" ∷ class_of lane.entry.now.answered ∷ codes "' d='" ∷ path_text plan lane
-    ∷ codes "'><title>" ∷ title_text lane.entry.now ∷ codes "</title></path>\n" ∷ [])
+    codes "<path class='" ∷ class_of lane.entry.answered ∷ codes "' d='" ∷ path_text plan lane
+    ∷ codes "'><title>" ∷ title_text lane.entry ∷ codes "</title></path>\n" ∷ [])
 
 -- the lane of a call
 abbrev pub lane_text : Plan → Lane → List ℕ

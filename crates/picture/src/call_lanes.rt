@@ -12,7 +12,7 @@ use tag::Stamp;
 
 /// A name and a bar for each call: from its call step to its answer, or to the right edge of time where it is open.
 #[derive(Clone, Copy)]
-pub(crate) struct CallLanes<'a>(pub(crate) &'a Plan<'a>);
+pub(crate) struct CallLanes<'a>(pub(crate) &'a Plan);
 
 impl fmt::Display for CallLanes<'_> {
     ghost output = { λ lanes. Some (call_lanes_text lanes.0.now) };
@@ -28,7 +28,7 @@ impl fmt::Display for CallLanes<'_> {
 
 // The name of a call, at the left.
 #[derive(Clone, Copy)]
-struct CallName<'a>(&'a Lane<'a>);
+struct CallName<'a>(&'a Lane);
 
 impl fmt::Display for CallName<'_> {
     ghost output = { λ name. Some (name_text name.0.now) };
@@ -48,8 +48,8 @@ impl fmt::Display for CallName<'_> {
 // The bar of a call.
 #[derive(Clone, Copy)]
 struct CallBar<'a> {
-    plan: &'a Plan<'a>,
-    lane: &'a Lane<'a>,
+    plan: &'a Plan,
+    lane: &'a Lane,
 }
 
 impl fmt::Display for CallBar<'_> {
@@ -62,7 +62,7 @@ impl fmt::Display for CallBar<'_> {
             "<path class='{}' d='{}'><title>{}</title></path>",
             bar_class(lane.entry.answered),
             BarPath { plan, lane },
-            BarTitle(lane.entry)
+            BarTitle(&lane.entry)
         )
     }
 }
@@ -70,8 +70,8 @@ impl fmt::Display for CallBar<'_> {
 // Where the bar of a call goes: a mark down, and a line to the right.
 #[derive(Clone, Copy)]
 struct BarPath<'a> {
-    plan: &'a Plan<'a>,
-    lane: &'a Lane<'a>,
+    plan: &'a Plan,
+    lane: &'a Lane,
 }
 
 impl fmt::Display for BarPath<'_> {

@@ -9,7 +9,7 @@ use std::fmt;
 
 /// The numbers of steps, with a thin line down from each.
 #[derive(Clone, Copy)]
-pub(crate) struct Steps<'a>(pub(crate) &'a Plan<'a>);
+pub(crate) struct Steps<'a>(pub(crate) &'a Plan);
 
 impl fmt::Display for Steps<'_> {
     fn fmt<W: fmt::Write>(&self, f: &mut fmt::Formatter<W>) -> fmt::Result {
@@ -53,7 +53,7 @@ fn tick(span: u64) -> u64
 
 /// A band from the call of each move to its answer.
 #[derive(Clone, Copy)]
-pub(crate) struct Bands<'a>(pub(crate) &'a Plan<'a>);
+pub(crate) struct Bands<'a>(pub(crate) &'a Plan);
 
 impl fmt::Display for Bands<'_> {
     fn fmt<W: fmt::Write>(&self, f: &mut fmt::Formatter<W>) -> fmt::Result {
@@ -61,7 +61,7 @@ impl fmt::Display for Bands<'_> {
         let height = Px(plan.bottom.saturating_sub(450));
         let mut position = 0u64;
         for lane in &plan.lanes {
-            let entry = lane.entry;
+            let entry = &lane.entry;
             if entry.operation != Operation::Move {
                 continue;
             }
@@ -83,7 +83,7 @@ impl fmt::Display for Bands<'_> {
 /// The order of the calls as one register, in rows.
 #[derive(Clone, Copy)]
 pub(crate) struct Order<'a> {
-    pub(crate) plan: &'a Plan<'a>,
+    pub(crate) plan: &'a Plan,
     pub(crate) order: &'a [u64],
     /// The line of the first row.
     pub(crate) y: Px,
@@ -104,7 +104,11 @@ impl fmt::Display for Order<'_> {
                 let (row, column) = (index as u64 / columns, index as u64 % columns);
                 let x = Px(500).plus(column.saturating_mul(ORDERED));
                 let base = y.plus(row.saturating_mul(ROW));
-                writeln!(f, "<text x='{x}' y='{base}'>{}</text>", Ordered(lane.entry))?;
+                writeln!(
+                    f,
+                    "<text x='{x}' y='{base}'>{}</text>",
+                    Ordered(&lane.entry)
+                )?;
             }
         }
         Ok(())

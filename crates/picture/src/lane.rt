@@ -17,14 +17,14 @@ pub(crate) struct Place {
 }
 
 /// Where a call stands.
-#[derive(Clone, Copy, Debug)]
-pub struct Lane<'a> {
-    pub entry: &'a Entry,
+#[derive(Debug, Drop)]
+pub struct Lane {
+    pub entry: Entry,
     /// The upper edge of the lane.
     pub(crate) top: u64,
 }
 
-impl Lane<'_> {
+impl Lane {
     /// The line of the lane's texts.
     pub(crate) fn base(&self) -> Px
         ensures { result.0 ≡ base_of self.now }

@@ -13,7 +13,7 @@ pub(crate) const MOST_REPLIES: usize = 4000;
 /// A thin line for each reply that was taken, from where its request was served, and one for each lost message.
 #[derive(Clone, Copy)]
 pub(crate) struct Messages<'a> {
-    pub(crate) plan: &'a Plan<'a>,
+    pub(crate) plan: &'a Plan,
     pub(crate) register: &'a Register,
     pub(crate) losses: &'a [Loss],
 }
@@ -67,7 +67,7 @@ impl fmt::Display for Messages<'_> {
 // The replies that a phase took.
 #[derive(Clone, Copy)]
 struct PhaseReplies<'a> {
-    plan: &'a Plan<'a>,
+    plan: &'a Plan,
     call: u64,
     phase: &'a Phase,
 }

@@ -30,16 +30,16 @@ impl fmt::Display for Omitted<'_> {
             "<text x='8' y='{y}'><tspan class='head'>left out</tspan>"
         )?;
         if narrow > 0 {
-            write!(f, " the letters of {narrow} narrow phases;")?;
+            write!(f, " letters of narrow phases ({narrow});")?;
         }
         if calls > 0 {
-            write!(f, " the messages of the last {calls} calls;")?;
+            write!(f, " messages of the last calls ({calls});")?;
         }
         if tags > 0 {
-            write!(f, " the last {tags} tags of servers;")?;
+            write!(f, " the last tags of servers ({tags});")?;
         }
         if ordered > 0 {
-            write!(f, " the last {ordered} calls of the order;")?;
+            write!(f, " the last calls of the order ({ordered});")?;
         }
         writeln!(f, " what is drawn has its text on hovering</text>")
     }

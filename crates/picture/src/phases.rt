@@ -11,7 +11,7 @@ use std::fmt;
 /// The phases of each call, by their kinds and positions, and the call's value at its end.
 #[derive(Clone, Copy)]
 pub(crate) struct Phases<'a> {
-    pub(crate) plan: &'a Plan<'a>,
+    pub(crate) plan: &'a Plan,
     pub(crate) register: &'a Register,
 }
 
@@ -23,7 +23,7 @@ impl fmt::Display for Phases<'_> {
                 write!(f, "{}", Segment { plan, lane, phase })?;
             }
             let x = plan.end_x(lane.entry.answered).plus(50);
-            let (base, end) = (lane.base(), EndText(lane.entry));
+            let (base, end) = (lane.base(), EndText(&lane.entry));
             writeln!(f, "<text x='{x}' y='{base}'>{end}</text>")?;
         }
         Ok(())
@@ -49,8 +49,8 @@ impl fmt::Display for EndText<'_> {
 // A phase in the bar of its call.
 #[derive(Clone, Copy)]
 struct Segment<'a> {
-    plan: &'a Plan<'a>,
-    lane: &'a Lane<'a>,
+    plan: &'a Plan,
+    lane: &'a Lane,
     phase: &'a Phase,
 }
 

@@ -18,7 +18,7 @@ use std::fmt;
 pub struct Picture<'a> {
     /// The object's name.
     pub name: &'a str,
-    pub plan: &'a Plan<'a>,
+    pub plan: &'a Plan,
     pub register: &'a Register,
     /// The calls in the order in which they follow one register.
     pub order: &'a [u64],
@@ -48,7 +48,7 @@ impl fmt::Display for Picture<'_> {
 #[derive(Clone, Copy)]
 struct Head<'a> {
     name: &'a str,
-    plan: &'a Plan<'a>,
+    plan: &'a Plan,
     order: &'a [u64],
 }
 

@@ -50,9 +50,9 @@ pub(crate) const ROW: u64 = 150;
 
 /// Where the lanes of an object's calls and servers stand, and its steps.
 #[derive(Debug, Drop)]
-pub struct Plan<'a> {
+pub struct Plan {
     /// The lanes of the calls, from above.
-    pub lanes: Vec<Lane<'a>>,
+    pub lanes: Vec<Lane>,
     pub(crate) first: Stamp,
     pub(crate) last: Stamp,
     pub(crate) width: u64,
@@ -61,14 +61,10 @@ pub struct Plan<'a> {
     pub(crate) bottom: u64,
 }
 
-impl<'a> Plan<'a> {
+impl Plan {
     /// The plan of an object with these entries, each of which has a lane. Want of memory is the only failure.
-    pub fn new(
-        alloc: Global,
-        register: &Register,
-        entries: &'a [Entry],
-    ) -> Result<Plan<'a>, AllocError>
-        ensures { IfOk result (λ plan. map (λ lane. lane.entry.now) plan.lanes.items ≡ entries.entry.now) }
+    pub fn new(alloc: Global, register: &Register, entries: &[Entry]) -> Result<Plan, AllocError>
+        ensures { IfOk result (λ plan. map (λ lane. lane.entry) plan.lanes.items ≡ entries.now) }
     {
         let lanes = lanes_of(alloc, entries)?;
         let mut positions = Vec::new(alloc);
@@ -194,16 +190,34 @@ impl<'a> Plan<'a> {
 }
 
 // A lane for each entry.
-fn lanes_of<'a>(alloc: Global, entries: &'a [Entry]) -> Result<Vec<Lane<'a>>, AllocError>
-    ensures { IfOk result (λ lanes. map (λ lane. lane.entry.now) lanes.items ≡ entries.entry.now) }
+fn lanes_of(alloc: Global, entries: &[Entry]) -> Result<Vec<Lane>, AllocError>
+    ensures { IfOk result (λ lanes. map (λ lane. lane.entry) lanes.items ≡ entries.now) }
 {
     let mut lanes = Vec::new(alloc);
     let mut top = CALLS_TOP;
     for entry in entries {
+        let entry = copy_of(entry)?;
         lanes.push(Lane { entry, top })?;
         top = top.saturating_add(CALL);
     }
     Ok(lanes)
+}
+
+// An entry that shares its value's bytes.
+fn copy_of(entry: &Entry) -> Result<Entry, AllocError>
+    ensures { IfOk result (λ copy. copy ≡ entry.now) }
+{
+    let value = match &entry.value {
+        Some(value) => Some(value.clone()?),
+        None => None,
+    };
+    Ok(Entry {
+        call: entry.call,
+        operation: entry.operation,
+        called: entry.called,
+        answered: entry.answered,
+        value,
+    })
 }
 
 // The upper edge behind so many lanes.

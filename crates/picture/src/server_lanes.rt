@@ -13,7 +13,7 @@ pub(crate) const MOST_TAGS: usize = 400;
 /// A lane for each server of each position: when each tag came and was finalized, and when the pointer changed.
 #[derive(Clone, Copy)]
 pub(crate) struct ServerLanes<'a> {
-    pub(crate) plan: &'a Plan<'a>,
+    pub(crate) plan: &'a Plan,
     pub(crate) register: &'a Register,
 }
 
@@ -42,7 +42,7 @@ impl fmt::Display for ServerLanes<'_> {
 // The lane of a member of a position.
 #[derive(Clone, Copy)]
 struct ServerLane<'a> {
-    plan: &'a Plan<'a>,
+    plan: &'a Plan,
     register: &'a Register,
     place: Place,
     member: u8,
@@ -80,7 +80,7 @@ impl fmt::Display for ServerLane<'_> {
 // What happened to a bank.
 #[derive(Clone, Copy)]
 struct Marks<'a> {
-    plan: &'a Plan<'a>,
+    plan: &'a Plan,
     bank: &'a Bank,
     y: Px,
 }
@@ -134,7 +134,7 @@ impl Marks<'_> {
 // When a tag came to a bank, and was finalized.
 #[derive(Clone, Copy)]
 struct TagMarks<'a> {
-    plan: &'a Plan<'a>,
+    plan: &'a Plan,
     y: Px,
     tag: Tag,
     row: &'a Row,

@@ -50,16 +50,30 @@ fn show_object<O: Write>(
         (λ _. IsShown request.entry.form register.now (O.contents out.old) (O.contents out.new)) IsLoss }
 {
     match request.form {
-        Form::Edn => match history_of(alloc, register) {
-            Ok(events) => print(out, EdnLines(&events)),
-            Err(fault) => Err(fault),
-        },
-        Form::Json => match history_of(alloc, register) {
-            Ok(events) => print(out, JsonLines(&events)),
-            Err(fault) => Err(fault),
-        },
+        Form::Edn => show_edn(alloc, register, out),
+        Form::Json => show_json(alloc, register, out),
         Form::Costs => show_costs(register, out),
         Form::Picture => show_picture(alloc, register, losses, request.name, out),
+    }
+}
+
+fn show_edn<O: Write>(alloc: Global, register: &Register, out: &mut O) -> Result<(), Fault>
+    ensures { MatchResult result
+        (λ _. IsShown Form.Edn register.now (O.contents out.old) (O.contents out.new)) IsLoss }
+{
+    match history_of(alloc, register) {
+        Ok(events) => print(out, EdnLines(&events)),
+        Err(fault) => Err(fault),
+    }
+}
+
+fn show_json<O: Write>(alloc: Global, register: &Register, out: &mut O) -> Result<(), Fault>
+    ensures { MatchResult result
+        (λ _. IsShown Form.Json register.now (O.contents out.old) (O.contents out.new)) IsLoss }
+{
+    match history_of(alloc, register) {
+        Ok(events) => print(out, JsonLines(&events)),
+        Err(fault) => Err(fault),
     }
 }
 
@@ -108,15 +122,13 @@ fn show_picture<O: Write>(
         Ok(order) => order,
         Err(refusal) => return Err(Fault::Refused(refusal)),
     };
-    let Ok(plan) = Plan::new(alloc, register, &entries) else {
-        return Err(Fault::Refused(Refusal::NoMemory));
-    };
-    draw(register, &plan, &order, losses, name, out)
+    draw(alloc, register, &entries, &order, losses, name, out)
 }
 
 fn draw<'a, O: Write>(
+    alloc: Global,
     register: &'a Register,
-    plan: &'a Plan<'a>,
+    entries: &'a [Entry],
     order: &'a [u64],
     losses: &'a [Loss],
     name: &'a str,
@@ -124,9 +136,12 @@ fn draw<'a, O: Write>(
 ) -> Result<(), Fault>
     ensures { IfErr result IsLoss }
 {
+    let Ok(plan) = Plan::new(alloc, register, entries) else {
+        return Err(Fault::Refused(Refusal::NoMemory));
+    };
     let picture = Picture {
         name,
-        plan,
+        plan: &plan,
         register,
         order,
         losses,

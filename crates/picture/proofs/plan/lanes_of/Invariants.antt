@@ -3,4 +3,4 @@ use Rattle.picture.specs.declared.lane.Lane.{Lane}
 use Rattle.picture.proofs.plan.lanes_of.Given as goal
 
 abbrev pub invariant-loop-entry : goal.invariant-loop-entry
-invariant-loop-entry l = map (λ (lane : Lane). lane.entry.now) l.lanes.items ≡ take l.entry-index l.entries
+invariant-loop-entry l = map (λ (lane : Lane). lane.entry) l.lanes.items ≡ take l.entry-index l.entries
