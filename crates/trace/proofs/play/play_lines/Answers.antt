@@ -1,4 +1,4 @@
-use Rattle.std.proofs.Common.{ℕ, ◌≡◌, ◌<◌, ◌≤◌, List, None, map, Bor, length, inr, arith}
+use Rattle.std.proofs.Common.{ℕ, ◌<◌, List, None, map, Bor, length, arith}
 use Rattle.std.proofs.lemmas.List.{length-map}
 use Rattle.player.proofs.Running.{nothing_played, one_more, line_at}
 use Rattle.trace.proofs.PlayedLemmas.{ends_before, leads_through}
