@@ -6,7 +6,7 @@ ghost use Rattle.dot_kernel.specs.Dot.{bytes_of};
 ghost use Rattle.encoder.specs.Fragment.{fragment_len};
 ghost use Rattle.decoder.specs.Parts.{AreLawfulParts, pieces_at};
 ghost use Rattle.decoder.specs.Pieces.{AreOfBytes, HaveNoValue, IsInterpolated};
-ghost use Rattle.decoder.specs.Rows.{AreBlockBytes, HasRows};
+ghost use Rattle.decoder.specs.Rows.{AreBlockBytes, HasRows, HaveColumnSums};
 
 use crate::padding::is_padding_zero;
 use crate::rows::fill_rows;
@@ -54,6 +54,7 @@ fn made_blocks(
 ) -> Result<Vec<u8>, AllocError>
     requires some { 1 ≤ length fragments.now }
     requires table { length table.now ≡ length fragments.now * length fragments.now }
+    requires sums { HaveColumnSums table.now (length fragments.now) }
     requires room { length fragments.now ≤ length tables.old }
     requires within { len ≤ length fragments.now * size }
     requires most { length fragments.now ≤ MOST_MEMBERS }
@@ -101,6 +102,7 @@ fn have_value(table: &mut [u8], k: u8, len: usize, points: &[u8], fragments: &[&
     requires coefficients { length table.old ≡ k * k }
     requires lawful { AreLawfulParts k len points.now (bytes_of fragments.now) }
     requires bytes { AreOfBytes (pieces_at len points.now (bytes_of fragments.now)) }
+    ensures sums { HaveColumnSums table.new k }
     ensures value { IsTrue result → (value : List ℕ) → length value ≡ len
         → AreBlockBytes value (fragment_len k len) table.new (bytes_of fragments.now)
         → IsInterpolated k len (pieces_at len points.now (bytes_of fragments.now)) value }
