@@ -1,6 +1,6 @@
 //! The value of lawful pieces: first whether there is one, then its bytes.
 
-ghost use Rattle.std.specs.Prelude.{◌≡◌, ◌*◌, ◌<◌, ◌≤◌, ◌⊎◌, ℕ, List, [], length, slice_index_or};
+ghost use Rattle.std.specs.Prelude.{◌≡◌, ◌*◌, ◌^◌, ◌<◌, ◌≤◌, ◌⊎◌, ℕ, List, [], length, slice_index_or};
 ghost use Rattle.std.specs.Prelude.{IfErr, IfOk, IsFalse, IsTrue, OnErr, OnOk};
 ghost use Rattle.dot_kernel.specs.Dot.{bytes_of};
 ghost use Rattle.encoder.specs.Fragment.{fragment_len};
@@ -43,7 +43,7 @@ pub(crate) fn make_with(
     Ok(made_blocks(alloc, tables, table, fragments, len, block_len)?)
 }
 
-/// The first `len` bytes of the blocks, of `size` bytes each.
+/// The first `len` bytes of the blocks, of `size` bytes each. All blocks are made whole, in as few passes, and then cut.
 fn made_blocks(
     alloc: Global,
     tables: &mut [Tables],
@@ -57,14 +57,16 @@ fn made_blocks(
     requires sums { HaveColumnSums table.now (length fragments.now) }
     requires room { length fragments.now ≤ length tables.old }
     requires within { len ≤ length fragments.now * size }
+    requires fits { length fragments.now * size < 2 ^ 64 }
     requires most { length fragments.now ≤ MOST_MEMBERS }
     requires lens { (j : ℕ) → j < length fragments.now
         → length (slice_index_or (bytes_of fragments.now) j []) ≡ size }
     ensures len { IfOk result (λ out. length out.items ≡ len) }
     ensures bytes { IfOk result (λ out. AreBlockBytes out.items size table.now (bytes_of fragments.now)) }
 {
-    let mut out = vec![in alloc; 0u8; len]?;
+    let mut out = vec![in alloc; 0u8; fragments.len() * size]?;
     write_blocks(&mut out, tables, table, fragments, size);
+    out.truncate(len);
     Ok(out)
 }
 

@@ -3,7 +3,7 @@ use Rattle.dot_kernel.specs.Dot.{bytes_of}
 use Rattle.dot_kernel.proofs.LaneSums.{length-bytes_of}
 use Rattle.decoder.specs.Rows.{AreBlockBytes, HaveColumnSums}
 use Rattle.decoder.proofs.Parts.{fragment_at-len, other_count}
-use Rattle.decoder.proofs.Summed.{whole_holds}
+use Rattle.decoder.proofs.Summed.{whole_fits, whole_holds}
 use Rattle.decoder.proofs.value.make_with.Goals as goal
 
 pub made_blocks-requires-clause-some : goal.made_blocks-requires-clause-some
@@ -42,6 +42,14 @@ made_blocks-requires-clause-within c =
     let is_k = sym (length-bytes_of fragments)
     ∙ other_count c.args.k c.args.len c.args.points.now (bytes_of fragments) c.requires.lawful in
     whole_holds c.args.k c.args.len c.args.points.now (bytes_of fragments) c.requires.lawful c.requires.bytes
+    (length fragments) c.div_ceil-block_len.result is_k c.div_ceil-block_len.ensures
+
+pub made_blocks-requires-clause-fits : goal.made_blocks-requires-clause-fits
+made_blocks-requires-clause-fits c =
+    let fragments = c.args.fragments.now in
+    let is_k = sym (length-bytes_of fragments)
+    ∙ other_count c.args.k c.args.len c.args.points.now (bytes_of fragments) c.requires.lawful in
+    whole_fits c.args.k c.args.len c.args.points.now (bytes_of fragments) c.requires.lawful c.requires.bytes
     (length fragments) c.div_ceil-block_len.result is_k c.div_ceil-block_len.ensures
 
 pub made_blocks-requires-clause-most : goal.made_blocks-requires-clause-most
