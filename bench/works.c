@@ -51,8 +51,11 @@ void isal_encode_tables(const struct task *t) {
   ec_init_tables(t->k, t->n, rows, tables);
 }
 
+/* ISA-L's loop over the blocks: it chooses one as it runs, and each is there by its own name. */
+typedef void coder(int len, int sources, int targets, unsigned char *tables, unsigned char **from, unsigned char **to);
+
 /* All n fragments to the place. Blocks that end past the value are copied to `padded` and padded there. */
-static void isal_encode_to(const struct task *t, uint8_t *padded, uint8_t *place) {
+static void isal_encode_to(const struct task *t, coder *code, uint8_t *padded, uint8_t *place) {
   for (int j = 0; j < t->k; j++) {
     size_t start = j * t->fragment_len;
     if (start + t->fragment_len <= t->len) {
@@ -67,23 +70,28 @@ static void isal_encode_to(const struct task *t, uint8_t *padded, uint8_t *place
   }
   for (int i = 0; i < t->n; i++)
     targets[i] = place + i * t->fragment_len;
-  ec_encode_data((int)t->fragment_len, t->k, t->n, tables, sources, targets);
+  code((int)t->fragment_len, t->k, t->n, tables, sources, targets);
 }
 
-void isal_encode_blocks(const struct task *t) { isal_encode_to(t, padding, room); }
+void isal_encode_blocks(const struct task *t) { isal_encode_to(t, ec_encode_data, padding, room); }
 
 void isal_encode(const struct task *t) {
   isal_encode_tables(t);
   isal_encode_blocks(t);
 }
 
-void isal_encode_fresh(const struct task *t) {
+void isal_encode_level(const struct task *t) {
+  isal_encode_tables(t);
+  isal_encode_to(t, ISAL_LEVEL, padding, room);
+}
+
+static void isal_encode_fresh(const struct task *t) {
   size_t whole = t->len / t->fragment_len;
   uint8_t *place = malloc(t->n * t->fragment_len), *padded = malloc((t->k - whole) * t->fragment_len + 1);
   if (place == NULL || padded == NULL)
     refuse_bytes(t, "no memory", 0);
   isal_encode_tables(t);
-  isal_encode_to(t, padded, place);
+  isal_encode_to(t, ec_encode_data, padded, place);
   free(padded);
   free(place);
 }
@@ -98,27 +106,32 @@ void isal_decode_tables(const struct task *t) {
 }
 
 /* The k blocks to the place. */
-static void isal_decode_to(const struct task *t, uint8_t *place) {
+static void isal_decode_to(const struct task *t, coder *code, uint8_t *place) {
   for (int i = 0; i < t->k; i++) {
     sources[i] = (uint8_t *)t->pieces[i].bytes;
     targets[i] = place + i * t->fragment_len;
   }
-  ec_encode_data((int)t->fragment_len, t->k, t->k, tables, sources, targets);
+  code((int)t->fragment_len, t->k, t->k, tables, sources, targets);
 }
 
-void isal_decode_blocks(const struct task *t) { isal_decode_to(t, room); }
+void isal_decode_blocks(const struct task *t) { isal_decode_to(t, ec_encode_data, room); }
 
 void isal_decode(const struct task *t) {
   isal_decode_tables(t);
   isal_decode_blocks(t);
 }
 
-void isal_decode_fresh(const struct task *t) {
+void isal_decode_level(const struct task *t) {
+  isal_decode_tables(t);
+  isal_decode_to(t, ISAL_LEVEL, room);
+}
+
+static void isal_decode_fresh(const struct task *t) {
   uint8_t *place = malloc(t->k * t->fragment_len);
   if (place == NULL)
     refuse_bytes(t, "no memory", 0);
   isal_decode_tables(t);
-  isal_decode_to(t, place);
+  isal_decode_to(t, ec_encode_data, place);
   free(place);
 }
 
@@ -164,6 +177,34 @@ void own_encode_fresh(const struct task *t, long calls) { encode_fresh(t, calls,
 
 void own_decode_fresh(const struct task *t, long calls) { decode_fresh(t, calls, 0); }
 
+/* A copy that is there while the calls take memory, as ours has one: both then take it from the same place. */
+static uint8_t *copy_of(const struct task *t, const uint8_t *bytes, size_t len) {
+  uint8_t *copy = malloc(len);
+  if (copy == NULL)
+    refuse_bytes(t, "no memory", 0);
+  return memcpy(copy, bytes, len);
+}
+
+void isal_encode_fresh_calls(const struct task *t, long calls) {
+  uint8_t *value = copy_of(t, t->value, t->len);
+  struct task copied = *t;
+  copied.value = value;
+  for (long call = 0; call < calls; call++)
+    isal_encode_fresh(&copied);
+  free(value);
+}
+
+void isal_decode_fresh_calls(const struct task *t, long calls) {
+  uint8_t *copies[MOST];
+  struct task copied = *t;
+  for (int i = 0; i < t->k; i++)
+    copied.pieces[i].bytes = copies[i] = copy_of(t, t->pieces[i].bytes, t->fragment_len);
+  for (long call = 0; call < calls; call++)
+    isal_decode_fresh(&copied);
+  for (int i = 0; i < t->k; i++)
+    free(copies[i]);
+}
+
 /* Each call anew, as often as is said. */
 #define REPEATED(name)                                                                                                 \
   void name##_calls(const struct task *t, long calls) {                                                                \
@@ -175,7 +216,7 @@ REPEATED(own_encode)
 REPEATED(own_decode)
 REPEATED(isal_encode)
 REPEATED(isal_decode)
-REPEATED(isal_encode_fresh)
-REPEATED(isal_decode_fresh)
+REPEATED(isal_encode_level)
+REPEATED(isal_decode_level)
 REPEATED(isal_encode_blocks)
 REPEATED(isal_decode_blocks)

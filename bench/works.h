@@ -23,12 +23,12 @@ void *memory(size_t size);
 void refuse_bytes(const struct task *t, const char *what, int place);
 void prepare_works(size_t most_bytes);
 
-/* ISA-L with its matrix, inverse and tables made in each call, into the room; then the same into memory that is taken
-   and given back in each call; then with the tables kept, which the first of two calls makes. */
+/* ISA-L with its matrix, inverse and tables made in each call, into the room; then the same with the instructions of the
+   level that our library is built for; then with the tables kept, which the first of two calls makes. */
 void isal_encode(const struct task *t);
 void isal_decode(const struct task *t);
-void isal_encode_fresh(const struct task *t);
-void isal_decode_fresh(const struct task *t);
+void isal_encode_level(const struct task *t);
+void isal_decode_level(const struct task *t);
 void isal_encode_tables(const struct task *t);
 void isal_decode_tables(const struct task *t);
 void isal_encode_blocks(const struct task *t);
@@ -42,13 +42,17 @@ void own_decode(const struct task *t);
 void own_encode_fresh(const struct task *t, long calls);
 void own_decode_fresh(const struct task *t, long calls);
 
+/* ISA-L in memory that is taken and given back in each call, so many calls, over one copy of the input. */
+void isal_encode_fresh_calls(const struct task *t, long calls);
+void isal_decode_fresh_calls(const struct task *t, long calls);
+
 /* So many calls of the works above. */
 void own_encode_calls(const struct task *t, long calls);
 void own_decode_calls(const struct task *t, long calls);
 void isal_encode_calls(const struct task *t, long calls);
 void isal_decode_calls(const struct task *t, long calls);
-void isal_encode_fresh_calls(const struct task *t, long calls);
-void isal_decode_fresh_calls(const struct task *t, long calls);
+void isal_encode_level_calls(const struct task *t, long calls);
+void isal_decode_level_calls(const struct task *t, long calls);
 void isal_encode_blocks_calls(const struct task *t, long calls);
 void isal_decode_blocks_calls(const struct task *t, long calls);
 

@@ -1,4 +1,5 @@
 pub mod Beyond
+mod ColumnSums
 pub mod Cut
 pub mod Determined
 pub mod Interpolated

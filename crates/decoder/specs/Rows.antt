@@ -1,8 +1,10 @@
 -- Tables of Lagrange's rows, and the sums of fragments by their columns.
-use Rattle.std.specs.Prelude.{◌≡◌, ℕ, ◌+◌, ◌*◌, ◌<◌, List, length, slice_index, map, take, drop}
+use Rattle.std.specs.Prelude.{◌≡◌, ℕ, ◌+◌, ◌*◌, ◌<◌, List, length, slice_index, map, take, drop, true}
 use Rattle.std.specs.List.{range_with_len}
 use Rattle.gf256.specs.Polynomial.{IsBasisRow}
+use Rattle.gf256.specs.Field.{field_sum}
 use Rattle.dot_kernel.specs.Dot.{dot_byte, row}
+use Rattle.dot_kernel.specs.Level.{level}
 
 -- in line i of the table stands row i of Lagrange's basis of the points
 pub record HasRow (table points : List ℕ) (i : ℕ) : Type 0 where
@@ -13,6 +15,10 @@ pub record HasRow (table points : List ℕ) (i : ℕ) : Type 0 where
 -- in each line stands its row
 abbrev pub HasRows : List ℕ → List ℕ → Type 0
 HasRows table points = (i : ℕ) → i < length points → HasRow table points i
+
+-- each of k columns of a table of k lines sums up to 0, and the first one to 1
+abbrev pub HaveColumnSums : List ℕ → ℕ → Type 0
+HaveColumnSums table k = (j : ℕ) → j < k → field_sum k (row table k j) ≡ level true j
 
 -- byte b of block j: the sum over the fragments of coefficient j of each one's row times its byte b
 abbrev pub block_byte : List ℕ → List (List ℕ) → ℕ → ℕ → ℕ

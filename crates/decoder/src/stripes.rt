@@ -3,7 +3,7 @@
 
 ghost use Rattle.std.specs.Prelude.{◌≡◌, ℕ, ◌+◌, ◌*◌, ◌<◌, ◌≤◌, [], length, slice_index, slice_index_or};
 ghost use Rattle.dot_kernel.specs.Dot.{bytes_of};
-ghost use Rattle.decoder.specs.Rows.{AreBlockRows, AreBlockRowsUntil, cut};
+ghost use Rattle.decoder.specs.Rows.{AreBlockRows, AreBlockRowsUntil, HaveColumnSums, cut};
 
 use crate::sums::write_whole;
 use dot_kernel::Tables;
@@ -26,6 +26,7 @@ pub(crate) fn write_stripes(
     requires some { 1 ≤ length fragments.now }
     requires most { length fragments.now ≤ MOST_MEMBERS }
     requires table { length table.now ≡ length fragments.now * length fragments.now }
+    requires sums { HaveColumnSums table.now (length fragments.now) }
     requires room { length fragments.now ≤ length room.old }
     requires few { n ≤ length fragments.now }
     requires within { n * size ≤ length out.old }
@@ -84,6 +85,7 @@ fn write_stripe(
     requires some { 1 ≤ length fragments.now }
     requires most { length fragments.now ≤ MOST_MEMBERS }
     requires table { length table.now ≡ length fragments.now * length fragments.now }
+    requires sums { HaveColumnSums table.now (length fragments.now) }
     requires room { length fragments.now ≤ length room.old }
     requires few { n ≤ length fragments.now }
     requires within { n * size ≤ length out.old }
@@ -113,6 +115,7 @@ fn sum_stripe(
     requires some { 1 ≤ k }
     requires most { k ≤ MOST_MEMBERS }
     requires table { length table.now ≡ k * k }
+    requires sums { HaveColumnSums table.now k }
     requires room { k ≤ length room.old }
     requires few { n ≤ k }
     requires bytes { length bytes.now ≡ k * width }
@@ -136,6 +139,7 @@ fn sum_cut<'a>(
     requires some { 1 ≤ length fragments.old }
     requires most { length fragments.old ≤ MOST_MEMBERS }
     requires table { length table.now ≡ length fragments.old * length fragments.old }
+    requires sums { HaveColumnSums table.now (length fragments.old) }
     requires room { length fragments.old ≤ length room.old }
     requires few { n ≤ length fragments.old }
     requires bytes { length bytes.now ≡ length fragments.old * width }

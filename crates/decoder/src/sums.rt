@@ -2,17 +2,20 @@
 
 ghost use Rattle.std.specs.Prelude.{◌≡◌, ◌≢◌, ℕ, ◌+◌, ◌*◌, ◌<◌, ◌≤◌, [], length, slice_index, slice_index_or};
 ghost use Rattle.dot_kernel.specs.Dot.{bytes_of};
-ghost use Rattle.decoder.specs.Rows.{AreBlockBytes, AreBlockRows, block_byte};
+ghost use Rattle.decoder.specs.Rows.{AreBlockBytes, AreBlockRows, HaveColumnSums, block_byte};
 
 use crate::stripes::write_stripes;
-use dot_kernel::{Tables, dots_of};
+use dot_kernel::{Tables, differences_of};
 use tag::MOST_MEMBERS;
 
 /// The most blocks of one pass, whose sums fit the registers.
 const MOST_BLOCKS: usize = 6;
 
+/// As many fragments as passes over all of them read well where they stand.
+const FEW: usize = 16;
+
 /// The most bytes of a value whose fragments stay in the cache between passes.
-const LONG: usize = 262_144;
+const LONG: usize = 1_048_576;
 
 /// Makes `out` be the first bytes of the blocks, of `size` bytes each. A pass takes as many blocks as `room` has tables
 /// for.
@@ -25,6 +28,7 @@ pub(crate) fn write_blocks(
 )
     requires some { 1 ≤ length fragments.now }
     requires table { length table.now ≡ length fragments.now * length fragments.now }
+    requires sums { HaveColumnSums table.now (length fragments.now) }
     requires room { length fragments.now ≤ length room.old }
     requires within { length out.old ≤ length fragments.now * size }
     requires most { length fragments.now ≤ MOST_MEMBERS }
@@ -56,6 +60,7 @@ fn write_all(
     requires some { 1 ≤ length fragments.now }
     requires most { length fragments.now ≤ MOST_MEMBERS }
     requires table { length table.now ≡ length fragments.now * length fragments.now }
+    requires sums { HaveColumnSums table.now (length fragments.now) }
     requires room { length fragments.now ≤ length room.old }
     requires few { n ≤ length fragments.now }
     requires within { n * size ≤ length out.old }
@@ -63,7 +68,7 @@ fn write_all(
         → length (slice_index_or (bytes_of fragments.now) j []) ≡ size }
     ensures { AreBlockRows out.new n size table.now (bytes_of fragments.now) 0 }
 {
-    if n > MOST_BLOCKS && out.len() > LONG {
+    if fragments.len() > FEW && out.len() > LONG {
         write_stripes(out, room, table, fragments, size, n);
     } else {
         write_whole(out, room, table, fragments, size, n);
@@ -81,6 +86,7 @@ pub(crate) fn write_whole(
 )
     requires some { 1 ≤ length fragments.now }
     requires table { length table.now ≡ length fragments.now * length fragments.now }
+    requires sums { HaveColumnSums table.now (length fragments.now) }
     requires room { length fragments.now ≤ length room.old }
     requires few { n ≤ length fragments.now }
     requires within { n * size ≤ length out.old }
@@ -106,8 +112,10 @@ fn write_rows(
     first: usize,
     rows: usize,
 )
+    requires some { 1 ≤ length fragments.now }
     requires most { rows ≤ MOST_BLOCKS }
     requires table { length table.now ≡ length fragments.now * length fragments.now }
+    requires sums { HaveColumnSums table.now (length fragments.now) }
     requires room { length fragments.now * rows ≤ length room.old }
     requires few { first + rows ≤ length fragments.now }
     requires within { start + rows * size ≤ length out.old }
@@ -136,8 +144,10 @@ fn write_some(
     first: usize,
     rows: usize,
 )
+    requires some { 1 ≤ length fragments.now }
     requires most { rows ≤ MOST_BLOCKS }
     requires table { length table.now ≡ length fragments.now * length fragments.now }
+    requires sums { HaveColumnSums table.now (length fragments.now) }
     requires room { length fragments.now * rows ≤ length room.old }
     requires few { first + rows ≤ length fragments.now }
     requires within { length out.old ≡ rows * size }
@@ -163,8 +173,10 @@ fn write_pass<const R: usize>(
     size: usize,
     first: usize,
 )
+    requires some { 1 ≤ length fragments.now }
     requires most { R ≤ MOST_BLOCKS }
     requires table { length table.now ≡ length fragments.now * length fragments.now }
+    requires sums { HaveColumnSums table.now (length fragments.now) }
     requires room { length fragments.now * R ≤ length room.old }
     requires few { first + R ≤ length fragments.now }
     requires within { length out.old ≡ R * size }
@@ -172,7 +184,7 @@ fn write_pass<const R: usize>(
 {
     let tables = &mut room[..fragments.len() * R];
     fill_columns(tables, table, fragments.len(), first, R);
-    dots_of::<R>(out, tables, fragments, size);
+    differences_of::<R>(out, tables, fragments, size, first == 0);
 }
 
 /// Fills in the tables of the columns from `first` on, those of one line side by side.

@@ -1,12 +1,12 @@
 //! The value of lawful pieces: first whether there is one, then its bytes.
 
-ghost use Rattle.std.specs.Prelude.{◌≡◌, ◌*◌, ◌<◌, ◌≤◌, ◌⊎◌, ℕ, List, [], length, slice_index_or};
+ghost use Rattle.std.specs.Prelude.{◌≡◌, ◌*◌, ◌^◌, ◌<◌, ◌≤◌, ◌⊎◌, ℕ, List, [], length, slice_index_or};
 ghost use Rattle.std.specs.Prelude.{IfErr, IfOk, IsFalse, IsTrue, OnErr, OnOk};
 ghost use Rattle.dot_kernel.specs.Dot.{bytes_of};
 ghost use Rattle.encoder.specs.Fragment.{fragment_len};
 ghost use Rattle.decoder.specs.Parts.{AreLawfulParts, pieces_at};
 ghost use Rattle.decoder.specs.Pieces.{AreOfBytes, HaveNoValue, IsInterpolated};
-ghost use Rattle.decoder.specs.Rows.{AreBlockBytes, HasRows};
+ghost use Rattle.decoder.specs.Rows.{AreBlockBytes, HasRows, HaveColumnSums};
 
 use crate::padding::is_padding_zero;
 use crate::rows::fill_rows;
@@ -43,7 +43,7 @@ pub(crate) fn make_with(
     Ok(made_blocks(alloc, tables, table, fragments, len, block_len)?)
 }
 
-/// The first `len` bytes of the blocks, of `size` bytes each.
+/// The first `len` bytes of the blocks, of `size` bytes each. All blocks are made whole, in as few passes, and then cut.
 fn made_blocks(
     alloc: Global,
     tables: &mut [Tables],
@@ -54,16 +54,19 @@ fn made_blocks(
 ) -> Result<Vec<u8>, AllocError>
     requires some { 1 ≤ length fragments.now }
     requires table { length table.now ≡ length fragments.now * length fragments.now }
+    requires sums { HaveColumnSums table.now (length fragments.now) }
     requires room { length fragments.now ≤ length tables.old }
     requires within { len ≤ length fragments.now * size }
+    requires fits { length fragments.now * size < 2 ^ 64 }
     requires most { length fragments.now ≤ MOST_MEMBERS }
     requires lens { (j : ℕ) → j < length fragments.now
         → length (slice_index_or (bytes_of fragments.now) j []) ≡ size }
     ensures len { IfOk result (λ out. length out.items ≡ len) }
     ensures bytes { IfOk result (λ out. AreBlockBytes out.items size table.now (bytes_of fragments.now)) }
 {
-    let mut out = vec![in alloc; 0u8; len]?;
+    let mut out = vec![in alloc; 0u8; fragments.len() * size]?;
     write_blocks(&mut out, tables, table, fragments, size);
+    out.truncate(len);
     Ok(out)
 }
 
@@ -101,6 +104,7 @@ fn have_value(table: &mut [u8], k: u8, len: usize, points: &[u8], fragments: &[&
     requires coefficients { length table.old ≡ k * k }
     requires lawful { AreLawfulParts k len points.now (bytes_of fragments.now) }
     requires bytes { AreOfBytes (pieces_at len points.now (bytes_of fragments.now)) }
+    ensures sums { HaveColumnSums table.new k }
     ensures value { IsTrue result → (value : List ℕ) → length value ≡ len
         → AreBlockBytes value (fragment_len k len) table.new (bytes_of fragments.now)
         → IsInterpolated k len (pieces_at len points.now (bytes_of fragments.now)) value }

@@ -29,15 +29,33 @@ pub fn dots_of<const R: usize>(out: &mut [u8], tables: &[Tables], sources: &[&[u
     requires rows { length out.old ≡ R * size }
     ensures { AreDots out.new tables.now R (bytes_of sources.now) size size }
 {
-    if size < BLOCK {
-        write_block::<R>(out, tables, sources, size, 0, size);
-        return;
-    }
     let whole = shortest(sources, size) / BLOCK;
     for two in 0..whole / 2 {
         write_two_blocks::<R>(out, tables, sources, size, two * 2 * BLOCK);
     }
-    for block in whole / 2 * 2..size / BLOCK {
+    write_rest::<R>(out, tables, sources, size, whole / 2 * 2);
+}
+
+/// Makes the rows, of which the first `blocks` blocks are made, go on to their end.
+pub(crate) fn write_rest<const R: usize>(
+    out: &mut [u8],
+    tables: &[Tables],
+    sources: &[&[u8]],
+    size: usize,
+    blocks: usize,
+)
+    requires few { R ≤ MOST_ROWS }
+    requires coefficients { length tables.now ≡ length sources.now * R }
+    requires rows { length out.old ≡ R * size }
+    requires within { blocks * BLOCK ≤ size }
+    ensures { AreDots out.old tables.now R (bytes_of sources.now) size (blocks * BLOCK)
+        → AreDots out.new tables.now R (bytes_of sources.now) size size }
+{
+    if size < BLOCK {
+        write_block::<R>(out, tables, sources, size, 0, size);
+        return;
+    }
+    for block in blocks..size / BLOCK {
         write_block::<R>(out, tables, sources, size, block * BLOCK, BLOCK);
     }
     if size % BLOCK > 0 {

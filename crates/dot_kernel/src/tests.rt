@@ -26,6 +26,20 @@ fn sums_by_hand(rt: HostRuntime) {
     assert_eq!(rt; out, [0x1E]);
 }
 
+// By hand: 3 times 0x80 is 0x9D, 2 times 0x01 is 0x02, and the sum of both is 0x9F, as that of 0x80 and 2 times 0x81.
+#[test]
+fn sums_differences_by_hand(rt: HostRuntime) {
+    let mut out = [0xFF; 100];
+    differences_of::<1>(
+        &mut out,
+        &[Tables::new(3), Tables::new(2)],
+        &[&[0x80; 100], &[0x01; 100]],
+        100,
+        true,
+    );
+    assert_eq!(rt; out, [0x9F; 100]);
+}
+
 #[test]
 fn multiplies_all_bytes(rt: HostRuntime) {
     let value = bytes(0);

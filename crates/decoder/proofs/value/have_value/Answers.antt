@@ -1,7 +1,9 @@
-use Rattle.std.proofs.Common.{◌≡◌, ℕ, ◌*◌, length, sym, ap, ◌∙◌, arith, true≢false}
+use Rattle.std.proofs.Common.{◌≡◌, ℕ, ◌*◌, ◌<◌, List, length, All, sym, ap, subst, ◌∙◌, arith, true≢false}
 use Rattle.dot_kernel.specs.Dot.{bytes_of}
 use Rattle.dot_kernel.proofs.LaneSums.{length-bytes_of}
-use Rattle.decoder.proofs.Parts.{count, other_count, distinct_points, fragment_at-len}
+use Rattle.decoder.specs.Rows.{HaveColumnSums}
+use Rattle.decoder.proofs.ColumnSums.{HaveColumnSums-rows}
+use Rattle.decoder.proofs.Parts.{count, other_count, distinct_points, fragment_at-len, points-pieces_at}
 use Rattle.decoder.proofs.Summed.{whole_fits, zeros_read, zeros_told, zeros_of_value, some_value, IsInterpolated-sums}
 use Rattle.decoder.proofs.value.have_value.Goals as goal
 
@@ -38,6 +40,20 @@ is_padding_zero-requires-clause-lens c i hi =
     let fragments = c.args.fragments.now in
     let same = length-bytes_of fragments in
     fragment_at-len c.args.k c.args.len c.args.points.now (bytes_of fragments) c.requires.lawful i (omega arith) ∙ sym c.div_ceil.ensures
+
+pub returns-clause-sums : goal.returns-clause-sums
+returns-clause-sums c =
+    let k = c.args.k in
+    let len = c.args.len in
+    let points = c.args.points.now in
+    let bytes = bytes_of c.args.fragments.now in
+    let lawful = c.requires.lawful in
+    let is_k = count k len points bytes lawful in
+    let some = lawful.lawful.some in
+    subst (HaveColumnSums c.fill_rows.new.table) is_k
+    (HaveColumnSums-rows c.fill_rows.new.table points
+    (subst (λ (xs : List ℕ). All (λ x. x < 256) xs) (points-pieces_at len points bytes) c.requires.bytes.points)
+    (distinct_points k len points bytes lawful) (omega (arith, is_k, some)) c.fill_rows.ensures)
 
 pub returns-clause-value : goal.returns-clause-value
 returns-clause-value c all_zero value long sums =

@@ -1,9 +1,9 @@
 use Rattle.std.proofs.Common.{◌≡◌, ℕ, ◌*◌, length, sym, ap, subst, ◌∙◌, arith}
 use Rattle.dot_kernel.specs.Dot.{bytes_of}
 use Rattle.dot_kernel.proofs.LaneSums.{length-bytes_of}
-use Rattle.decoder.specs.Rows.{AreBlockBytes}
+use Rattle.decoder.specs.Rows.{AreBlockBytes, HaveColumnSums}
 use Rattle.decoder.proofs.Parts.{fragment_at-len, other_count}
-use Rattle.decoder.proofs.Summed.{whole_holds}
+use Rattle.decoder.proofs.Summed.{whole_fits, whole_holds}
 use Rattle.decoder.proofs.value.make_with.Goals as goal
 
 pub made_blocks-requires-clause-some : goal.made_blocks-requires-clause-some
@@ -22,6 +22,13 @@ made_blocks-requires-clause-table c =
     let same : length c.have_value.new.table ≡ length c.args.table.now = omega arith in
     same ∙ c.requires.coefficients ∙ ap (λ (n : ℕ). n * n) (sym is_k)
 
+pub made_blocks-requires-clause-sums : goal.made_blocks-requires-clause-sums
+made_blocks-requires-clause-sums c =
+    let fragments = c.args.fragments.now in
+    let is_k = sym (length-bytes_of fragments)
+    ∙ other_count c.args.k c.args.len c.args.points.now (bytes_of fragments) c.requires.lawful in
+    subst (HaveColumnSums c.have_value.new.table) (sym is_k) c.have_value.ensures.sums
+
 pub made_blocks-requires-clause-room : goal.made_blocks-requires-clause-room
 made_blocks-requires-clause-room c =
     let fragments = c.args.fragments.now in
@@ -35,6 +42,14 @@ made_blocks-requires-clause-within c =
     let is_k = sym (length-bytes_of fragments)
     ∙ other_count c.args.k c.args.len c.args.points.now (bytes_of fragments) c.requires.lawful in
     whole_holds c.args.k c.args.len c.args.points.now (bytes_of fragments) c.requires.lawful c.requires.bytes
+    (length fragments) c.div_ceil-block_len.result is_k c.div_ceil-block_len.ensures
+
+pub made_blocks-requires-clause-fits : goal.made_blocks-requires-clause-fits
+made_blocks-requires-clause-fits c =
+    let fragments = c.args.fragments.now in
+    let is_k = sym (length-bytes_of fragments)
+    ∙ other_count c.args.k c.args.len c.args.points.now (bytes_of fragments) c.requires.lawful in
+    whole_fits c.args.k c.args.len c.args.points.now (bytes_of fragments) c.requires.lawful c.requires.bytes
     (length fragments) c.div_ceil-block_len.result is_k c.div_ceil-block_len.ensures
 
 pub made_blocks-requires-clause-most : goal.made_blocks-requires-clause-most

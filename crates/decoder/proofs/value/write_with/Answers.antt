@@ -1,7 +1,7 @@
 use Rattle.std.proofs.Common.{◌≡◌, ℕ, ◌*◌, length, sym, ap, subst, ◌∙◌, arith}
 use Rattle.dot_kernel.specs.Dot.{bytes_of}
 use Rattle.dot_kernel.proofs.LaneSums.{length-bytes_of}
-use Rattle.decoder.specs.Rows.{AreBlockBytes}
+use Rattle.decoder.specs.Rows.{AreBlockBytes, HaveColumnSums}
 use Rattle.decoder.proofs.Parts.{fragment_at-len, other_count}
 use Rattle.decoder.proofs.Summed.{whole_holds}
 use Rattle.decoder.proofs.value.write_with.Goals as goal
@@ -21,6 +21,13 @@ write_blocks-requires-clause-table c =
     ∙ other_count c.args.k (length c.args.out.now) c.args.points.now (bytes_of fragments) c.requires.lawful in
     let same : length c.have_value.new.table ≡ length c.args.table.now = omega arith in
     same ∙ c.requires.coefficients ∙ ap (λ (n : ℕ). n * n) (sym is_k)
+
+pub write_blocks-requires-clause-sums : goal.write_blocks-requires-clause-sums
+write_blocks-requires-clause-sums c =
+    let fragments = c.args.fragments.now in
+    let is_k = sym (length-bytes_of fragments)
+    ∙ other_count c.args.k (length c.args.out.now) c.args.points.now (bytes_of fragments) c.requires.lawful in
+    subst (HaveColumnSums c.have_value.new.table) (sym is_k) c.have_value.ensures.sums
 
 pub write_blocks-requires-clause-room : goal.write_blocks-requires-clause-room
 write_blocks-requires-clause-room c =
