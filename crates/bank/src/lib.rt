@@ -29,8 +29,6 @@ mod row;
 mod rows;
 mod serve;
 mod status;
-#[cfg(test)]
-mod tests;
 
 /// Of each step before `now`, a bank says the same after any request at `now`.
 pub fn serving_keeps_the_past()

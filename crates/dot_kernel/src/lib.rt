@@ -13,5 +13,3 @@ mod line;
 mod powers;
 mod products;
 mod tables;
-#[cfg(test)]
-mod tests;

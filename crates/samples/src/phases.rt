@@ -1,6 +1,7 @@
-use super::*;
+//! A phase that records each member until a quorum.
 use bank::{Answer, Kind, Reply, Request, Status};
 use mail::{Body, Message};
+use phase::{Ask, Phase, Took};
 use std::alloc::Global;
 use std::test::Fail;
 use tag::Refusal;

@@ -1,7 +1,8 @@
-use super::*;
+//! Messages that wait, in their places, and the bytes that they carry.
 use bank::{Answer, HeldPiece, Reply, Request, Status};
 use bytes::Bytes;
 use encoder::Piece;
+use mail::{Body, Mail, Message};
 use std::alloc::{AllocError, Global};
 use std::process::Abort;
 use std::test::Fail;

@@ -1,7 +1,6 @@
 //! Words that are on the edge of being numbers or bytes.
-use crate::hexadecimal::{Hexadecimal, parse_bytes};
-use crate::number::parse_number;
 use std::test::Fail;
+use words::{Hexadecimal, parse_bytes, parse_number};
 
 #[test]
 fn numbers(rt: HostRuntime) -> Result<(), Fail> {

@@ -1,4 +1,5 @@
-use super::*;
+//! One server's bank: the table of requests and replies, and the tags in rising order.
+use bank::{Answer, Bank, HeldPiece, Label, Pointer, Reply, Request, Status};
 use bytes::Bytes;
 use encoder::Piece;
 use std::alloc::{AllocError, Global};

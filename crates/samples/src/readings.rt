@@ -1,7 +1,8 @@
-use super::*;
+//! A reading over three positions, and what replies show.
 use bank::{Answer, Kind, Reply, Status};
 use phase::Taken;
 use std::test::Fail;
+use successor::{Reading, greatest_status, greatest_tag};
 use tag::Tag;
 
 fn reply(member: u8, answer: Answer) -> Taken {

@@ -1,4 +1,5 @@
-use super::*;
+//! Sums of rows, by hand and beside the same byte by byte.
+use dot_kernel::{Tables, dot, dots_of, powers_of};
 use gf256::mul;
 
 const LENGTHS: [usize; 8] = [0, 1, 31, 32, 33, 64, 65, 100];

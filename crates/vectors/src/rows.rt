@@ -1,4 +1,5 @@
-use super::*;
+//! The rows of interpolation.
+use poly::Rows;
 
 #[test]
 fn gives_the_rows_of_lagrange(rt: HostRuntime) {

@@ -1,7 +1,9 @@
+//! Fragments of values, by hand, beside Intel's ISA-L, and as they are defined.
+
 ghost use Rattle.std.specs.Prelude.{◌≤◌, length};
 
-use super::*;
 use bytes::Bytes;
+use encoder::{assemble, encode, encode_into, fragment_into, piece};
 use gf256::mul;
 use std::alloc::Global;
 use std::fmt::Write;

@@ -1,5 +1,6 @@
-use super::*;
+//! What loops over lanes make, beside the same byte by byte.
 use gf256::mul;
+use lane_kernel::{add_scaled, same, scale_add};
 
 const LENGTHS: [usize; 6] = [0, 1, 31, 32, 33, 64];
 

@@ -1,5 +1,6 @@
-use super::*;
+//! Values that fragments give back, and fragments that give none.
 use bytes::Bytes;
+use decoder::decode;
 use encoder::Piece;
 use std::alloc::{AllocError, Global};
 use std::test::Fail;

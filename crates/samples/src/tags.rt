@@ -1,5 +1,6 @@
-use super::*;
+//! Tags in their order, and refusals as they are printed.
 use std::test::Fail;
+use tag::{Refusal, Tag};
 
 #[test]
 fn orders_tags_by_number_and_then_by_call(rt: HostRuntime) -> Result<(), Fail> {

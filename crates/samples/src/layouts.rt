@@ -1,4 +1,5 @@
-use super::*;
+//! Layouts, with quorums counted by hand, and members of layouts.
+use layout::{Layout, MemberSet};
 use std::test::Fail;
 use tag::Refusal;
 

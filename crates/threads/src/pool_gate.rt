@@ -1,7 +1,6 @@
-//! What a gate is told, job by job.
-
-use super::*;
+//! What a gate of coding workers is told, job by job.
 use bytes::Bytes;
+use coding_pool::{Gate, encode_all};
 use encoder::encode;
 use std::alloc::{AllocError, Global};
 use std::marker::Sync;

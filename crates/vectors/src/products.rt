@@ -1,4 +1,5 @@
-use super::*;
+//! Products, inverses and powers of the field.
+use gf256::{div, inv, mul, pow};
 
 // The values are printed by `gf_mul` of Intel's library ISA-L 2.30, which multiplies modulo the same polynomial.
 #[test]

@@ -1,12 +1,11 @@
-//! Tests of `decode_into`.
-
-use super::*;
+//! The same, into the caller's bytes.
+use crate::decoded::{Fragment, ISA_L, ONE, SMALL, TWO, ZERO};
 use bytes::Bytes;
+use decoder::{Decoded, decode, decode_into};
 use encoder::encode;
 use std::alloc::{AllocError, Global};
 use std::test::Fail;
 use tag::Refusal;
-use tests::{Fragment, ISA_L, ONE, SMALL, TWO, ZERO};
 
 /// What `decode_into` answers for these fragments, and what it leaves in `len` bytes that were all AA.
 fn decoded_into(

@@ -2,92 +2,62 @@
 
 use bytes::Bytes;
 use cluster::Cluster;
-use decoder::decode;
-use encoder::encode;
+use driver::{Chooser, First};
 use layout::Layout;
-use record::Want;
 use register::Receipt;
 use std::alloc::Global;
 use std::process::Abort;
 use std::test::Fail;
 use tag::Refusal;
 
-// So many servers, one layout of these members, and the objects a and b.
+// More turns than any call here takes.
+const TURNS: u64 = 100_000;
+
+// So many servers, one layout of these members, and the object a.
+pub(crate) fn one_object(
+    alloc: Global,
+    servers: u8,
+    k: u8,
+    members: &[u8],
+) -> Result<Cluster, Refusal> {
+    let layout = Layout::new(k, members)?;
+    let mut cluster = Cluster::new(alloc, servers);
+    let id = cluster.add_layout(layout)?;
+    cluster.create(alloc, "a", id)?;
+    Ok(cluster)
+}
+
+// The same with the object b too.
 pub(crate) fn two_objects(
     alloc: Global,
     servers: u8,
     k: u8,
     members: &[u8],
-) -> Result<Cluster, Fail> {
-    let mut cluster = Cluster::new(alloc, servers);
-    let layout = cluster.add_layout(Layout::new(k, members)?)?;
-    cluster.create(alloc, "a", layout)?;
-    cluster.create(alloc, "b", layout)?;
+) -> Result<Cluster, Refusal> {
+    let mut cluster = one_object(alloc, servers, k, members)?;
+    cluster.create(alloc, "b", 0)?;
     Ok(cluster)
 }
 
-// The place of the first message that can be handled.
-fn first_handled(cluster: &Cluster, name: &str) -> Result<usize, Refusal> {
-    for place in 0..64 {
-        match cluster.can_handle(name, place) {
-            Ok(true) => return Ok(place),
-            Ok(false) => {}
-            Err(Refusal::NoMessage) => return Err(Refusal::Stuck),
-            Err(refusal) => return Err(refusal),
-        }
-    }
-    Err(Refusal::Stuck)
-}
-
-// Serves or takes the first message that can be handled.
-fn handle_first(cluster: &mut Cluster, name: &str) -> Result<(), Refusal> {
-    let place = first_handled(cluster, name)?;
-    match cluster.serve(name, place) {
-        Err(Refusal::NotNow) => {
-            cluster.take(name, place)?;
-            Ok(())
-        }
-        served => served,
-    }
-}
-
-// One step of a call, which answers the receipt where it is the last.
-fn go_on(
+// The steps of a call, up to its answer, by its messages as they are chosen.
+pub(crate) fn finish_by(
     alloc: Global,
     cluster: &mut Cluster,
     name: &str,
     call: u64,
-) -> Result<Option<Receipt>, Refusal> {
-    match cluster.want(name, call)? {
-        Want::Replies => handle_first(cluster, name)?,
-        Want::Advance => cluster.advance(name, call)?,
-        Want::Supply { k: _, n: _ } => {
-            let (value, k, n) = cluster.value_to_code(name, call)?;
-            cluster.supply(name, call, encode(alloc, k, n, value)?)?;
-        }
-        Want::Settle { k, len } => {
-            let decoded = decode(alloc, k, len, cluster.pieces(name, call)?)?;
-            cluster.settle(name, call, decoded)?;
-        }
-        Want::Answer => return Ok(Some(cluster.answer(name, call)?)),
-        Want::Done => return Err(Refusal::NotNow),
-    }
-    Ok(None)
+    chooser: &mut impl Chooser,
+) -> Result<Receipt, Refusal> {
+    driver::finish(alloc, cluster, name, call, false, chooser, TURNS)
 }
 
-// The steps of a call, up to its answer.
+// The same, by its messages in their order.
 pub(crate) fn finish(
     alloc: Global,
     cluster: &mut Cluster,
     name: &str,
     call: u64,
 ) -> Result<Receipt, Refusal> {
-    for _ in 0..1000 {
-        if let Some(receipt) = go_on(alloc, cluster, name, call)? {
-            return Ok(receipt);
-        }
-    }
-    Err(Refusal::GaveUp)
+    finish_by(alloc, cluster, name, call, &mut First)
 }
 
 // A whole write.

@@ -1,5 +1,6 @@
-use super::*;
+//! Values that many workers code.
 use bytes::Bytes;
+use coding_pool::{Gate, NoGate, encode_all};
 use encoder::{Coded, encode};
 use std::alloc::Global;
 use std::fmt::Write;

@@ -1,4 +1,4 @@
-use super::*;
+//! The phases of a move, of a write with the next tag, and of a read that goes on.
 use bank::{Answer, Kind, Reply, Status};
 use bytes::Bytes;
 use mail::{Body, Message};
@@ -8,6 +8,7 @@ use std::alloc::Global;
 use std::test::Fail;
 use successor::greatest_tag;
 use tag::{Refusal, Tag};
+use transfer::{due, first_stage, next_phase, passed, stage_tag};
 
 const FIRST: Tag = Tag { number: 1, call: 1 };
 
