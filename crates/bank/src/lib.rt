@@ -31,8 +31,6 @@ mod row;
 mod rows;
 mod serve;
 mod status;
-#[cfg(test)]
-mod tests;
 mod window;
 
 /// Of each step before `now`, a bank says the same after any request at `now`, and after it is retired.

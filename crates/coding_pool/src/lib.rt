@@ -6,10 +6,6 @@ pub use pool::encode_all;
 
 mod crew;
 mod gate;
-#[cfg(test)]
-mod gate_tests;
 mod jobs;
 mod pool;
-#[cfg(test)]
-mod tests;
 mod worker;

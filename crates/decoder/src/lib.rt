@@ -9,8 +9,6 @@ pub use past::bad_pieces_give_a_byte_past_the_length;
 mod code;
 mod decoded;
 mod into;
-#[cfg(test)]
-mod into_tests;
 mod lawful;
 mod padding;
 mod past;
@@ -18,6 +16,4 @@ mod rooms;
 mod rows;
 mod stripes;
 mod sums;
-#[cfg(test)]
-mod tests;
 mod value;

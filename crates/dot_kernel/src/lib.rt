@@ -15,5 +15,3 @@ mod line;
 mod powers;
 mod products;
 mod tables;
-#[cfg(test)]
-mod tests;

@@ -9,5 +9,3 @@ mod block;
 mod coded;
 mod fragment;
 mod points;
-#[cfg(test)]
-mod tests;

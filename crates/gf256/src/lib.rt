@@ -9,8 +9,6 @@ pub use arithmetic::{REDUCED_X8, div, inv, mul, pow};
 
 mod arithmetic;
 mod logarithms;
-#[cfg(test)]
-mod tests;
 
 /// A product in the field is what is left of the polynomials' product when a multiple of the modulus is taken away.
 pub fn product_is_the_remainder()

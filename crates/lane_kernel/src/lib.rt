@@ -6,8 +6,6 @@ pub use sums::{add_scaled, scale_add};
 
 mod equality;
 mod sums;
-#[cfg(test)]
-mod tests;
 
 /// Bytes in a block, which one vector holds.
 const BLOCK: usize = 32;

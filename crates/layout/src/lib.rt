@@ -6,5 +6,3 @@ pub use member_set::MemberSet;
 
 mod layout;
 mod member_set;
-#[cfg(test)]
-mod tests;

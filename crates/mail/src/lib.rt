@@ -13,8 +13,6 @@ pub use message::{Body, Message};
 
 mod mail;
 mod message;
-#[cfg(test)]
-mod tests;
 
 /// Where no piece is longer than a value, a mail has room for one more.
 pub fn pieces_have_room()

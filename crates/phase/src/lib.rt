@@ -4,5 +4,3 @@
 pub use phase::{Ask, Phase, Taken, Took, complete_means_quorum};
 
 mod phase;
-#[cfg(test)]
-mod tests;

@@ -6,5 +6,3 @@ pub use rows::Rows;
 mod product;
 mod quotient;
 mod rows;
-#[cfg(test)]
-mod tests;

@@ -40,16 +40,12 @@ fn read(called: Stamp, answered: Stamp, value: &'static [u8]) -> Seen {
 fn entries_of(alloc: Global, calls: &[Seen]) -> Result<Vec<Entry>, AllocError> {
     let mut entries = Vec::new(alloc);
     for (place, seen) in calls.iter().enumerate() {
-        let value = match seen.value {
-            Some(value) => Some(Bytes::copy_from_slice(alloc, value)?),
-            None => None,
-        };
         entries.push(Entry {
             call: place as u64 + 1,
             operation: seen.operation,
             called: seen.called,
             answered: seen.answered,
-            value,
+            value: seen.value.map(Bytes::from_static),
         })?;
     }
     Ok(entries)

@@ -1,9 +1,9 @@
 //! Written limits from both sides: the last that is taken, and one more.
+use crate::acts::{finish, one_object, read};
 use bytes::Bytes;
 use cluster::Cluster;
-use driver::{First, finish};
 use layout::Layout;
-use register::{Receipt, Register};
+use register::Register;
 use std::alloc::Global;
 use std::process::Abort;
 use std::test::Fail;
@@ -11,47 +11,51 @@ use tag::{Refusal, Stamp};
 
 /// One server, one layout, and the object `a`.
 fn one_server(alloc: Global) -> Result<Cluster, Refusal> {
-    let mut cluster = Cluster::new(alloc, 1);
-    let layout = cluster.add_layout(Layout::new(1, &[0])?)?;
-    cluster.create(alloc, "a", layout)?;
-    Ok(cluster)
-}
-
-/// Brings a call of the object `a` to its answer.
-fn answer(alloc: Global, cluster: &mut Cluster, call: u64) -> Result<Receipt, Refusal> {
-    finish(alloc, cluster, "a", call, false, &mut First, 100)
+    one_object(alloc, 1, 1, &[0])
 }
 
 /// How many bytes a read of the object `a` gives.
 fn read_len(alloc: Global, cluster: &mut Cluster) -> Result<usize, Refusal> {
-    let call = cluster.call_read("a")?;
-    let read = answer(alloc, cluster, call)?;
+    let read = read(alloc, cluster, "a")?;
     Ok(read.value.map_or(0, |value| value.len()))
+}
+
+/// A whole write of a value of so many bytes.
+fn write_len(alloc: Global, cluster: &mut Cluster, len: usize) -> Result<(), Refusal> {
+    let value = Bytes::from_vec(vec![in alloc; 7; len]?)?;
+    let call = cluster.call_write("a", value)?;
+    finish(alloc, cluster, "a", call)?;
+    Ok(())
 }
 
 #[test]
 fn a_value_of_16_mebibytes(rt: HostRuntime) -> Result<(), Fail> {
     let alloc = rt.alloc();
     let mut cluster = one_server(alloc)?;
-    let longer = Bytes::from_vec(vec![in alloc; 7; 16_777_217]?)?;
-    assert!(rt; cluster.call_write("a", longer) == Err(Refusal::TooLong));
-    let longest = Bytes::from_vec(vec![in alloc; 7; 16_777_216]?)?;
-    let call = cluster.call_write("a", longest)?;
-    answer(alloc, &mut cluster, call)?;
+    assert!(rt; write_len(alloc, &mut cluster, 16_777_217) == Err(Refusal::TooLong));
+    assert!(rt; cluster.calls() == 0);
+    assert!(rt; write_len(alloc, &mut cluster, 16_777_216) == Ok(()));
     assert!(rt; cluster.stored_all() == 16_777_216);
     assert!(rt; read_len(alloc, &mut cluster) == Ok(16_777_216));
     Ok(())
+}
+
+/// Creates an object whose name is so many times the letter `c`, and begins a read of it.
+fn read_named(alloc: Global, cluster: &mut Cluster, len: usize) -> Result<u64, Refusal> {
+    let mut name = String::new(alloc);
+    for _ in 0..len {
+        name.push_str("c")?;
+    }
+    cluster.create(alloc, &name, 0)?;
+    cluster.call_read(&name)
 }
 
 #[test]
 fn a_name_of_255_bytes(rt: HostRuntime) -> Result<(), Fail> {
     let alloc = rt.alloc();
     let mut cluster = one_server(alloc)?;
-    let longer = String::from_utf8(vec![in alloc; b'c'; 256]?)?;
-    assert!(rt; cluster.create(alloc, &longer, 0) == Err(Refusal::TooLong));
-    let longest = String::from_utf8(vec![in alloc; b'c'; 255]?)?;
-    assert!(rt; cluster.create(alloc, &longest, 0).is_ok());
-    assert!(rt; cluster.call_read(&longest) == Ok(1));
+    assert!(rt; read_named(alloc, &mut cluster, 256) == Err(Refusal::TooLong));
+    assert!(rt; read_named(alloc, &mut cluster, 255) == Ok(1));
     Ok(())
 }
 

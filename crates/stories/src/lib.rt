@@ -1,7 +1,9 @@
-//! Objects and clusters played by hand, histories made by hand, and scripts whose readers and writers fail: tests
+//! Objects played by hand, clusters, histories made by hand, and scripts whose readers and writers fail: tests
 //! alone. They stand in a crate of their own, so that the crates which they play are proved once and not twice.
 #![tactic(auto)]
 
+#[cfg(test)]
+mod acts;
 #[cfg(test)]
 mod certificates;
 #[cfg(test)]

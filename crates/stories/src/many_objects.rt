@@ -1,4 +1,6 @@
-use acts::{add_layouts, assert_stored, create_objects, finish, move_on, read, two_objects, write};
+use crate::acts::{
+    add_layouts, assert_stored, create_objects, finish, move_on, read, two_objects, write,
+};
 use bytes::Bytes;
 use cluster::Cluster;
 use layout::Layout;
@@ -6,8 +8,6 @@ use register::Receipt;
 use std::alloc::Global;
 use std::test::Fail;
 use tag::{LONGEST_NAME, LONGEST_VALUE, MOST_LAYOUTS, MOST_OBJECTS, MOST_POSITIONS, Refusal};
-
-mod acts;
 
 /// A value written to each of two objects, and the receipt of the second write.
 fn two_written(alloc: Global) -> Result<(Cluster, Receipt), Fail> {

@@ -9,8 +9,6 @@ pub use replies::{greatest_status, greatest_tag};
 
 mod reading;
 mod replies;
-#[cfg(test)]
-mod tests;
 
 /// Phases are a reading of the record from a position, up to a last one, exactly where each is the phase that was next
 /// in a `Reading` from there, and what was found ends it at that last position, with that last finalized one.

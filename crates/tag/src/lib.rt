@@ -14,5 +14,3 @@ mod limits;
 mod refusal;
 mod stamp;
 mod tag;
-#[cfg(test)]
-mod tests;

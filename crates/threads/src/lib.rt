@@ -1,5 +1,5 @@
-//! Stores of one object over four servers, used by threads of the tests' own: tests alone. They stand in a crate of
-//! their own, so that the store is proved once and not twice.
+//! Stores of one object over four servers, used by threads of the tests' own, and the pool of coding workers: tests
+//! alone. They stand in a crate of their own, so that the store and the pool are proved once less.
 #![tactic(auto)]
 
 #[cfg(test)]
@@ -14,6 +14,10 @@ mod disturbed;
 mod limits;
 #[cfg(test)]
 mod memory;
+#[cfg(test)]
+mod pool;
+#[cfg(test)]
+mod pool_gate;
 #[cfg(test)]
 mod resumed;
 #[cfg(test)]

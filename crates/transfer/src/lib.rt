@@ -9,8 +9,6 @@ pub use order::next_phase;
 mod course;
 mod order;
 mod replies;
-#[cfg(test)]
-mod tests;
 
 /// A move that may be answered has made six phases: it spread that the next position is pending, asked for the greatest
 /// tag, fetched it, pre-wrote and finalized it at the next position, and spread that this is final.

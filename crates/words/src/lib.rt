@@ -6,5 +6,3 @@ pub use number::parse_number;
 
 mod hexadecimal;
 mod number;
-#[cfg(test)]
-mod tests;

@@ -1,0 +1,99 @@
+//! The phases of a move, of a write with the next tag, and of a read that goes on.
+use bank::{Answer, Kind, Reply, Status};
+use bytes::Bytes;
+use mail::{Body, Message};
+use phase::{Ask, Phase};
+use record::{CallKind, Stage};
+use std::alloc::Global;
+use std::test::Fail;
+use successor::greatest_tag;
+use tag::{Refusal, Tag};
+use transfer::{due, first_stage, next_phase, passed, stage_tag};
+
+const FIRST: Tag = Tag { number: 1, call: 1 };
+
+// A phase that one member's reply completes.
+fn complete(alloc: Global, kind: Kind, position: u32, answer: Answer) -> Result<Phase, Refusal> {
+    let ask = Ask {
+        call: 2,
+        number: 1,
+        kind,
+        position,
+    };
+    let mut phase = Phase::new(alloc, ask, 1, 1, 5)?;
+    let reply = Message {
+        call: 2,
+        phase: 1,
+        position,
+        member: 0,
+        body: Body::Reply {
+            kind,
+            reply: Reply { step: 6, answer },
+        },
+    };
+    phase.take(reply, 7);
+    Ok(phase)
+}
+
+#[test]
+fn moves_in_six_phases(rt: HostRuntime) -> Result<(), Fail> {
+    let alloc = rt.alloc();
+    let mut done = Vec::new(alloc);
+    let table = [
+        (Kind::Spread(Status::Pending), 4, Answer::Done),
+        (Kind::Query, 4, Answer::Greatest(FIRST)),
+        (Kind::Fetch(FIRST), 4, Answer::Piece(None)),
+        (Kind::PreWrite(FIRST), 5, Answer::Done),
+        (Kind::Finalize(FIRST), 5, Answer::Done),
+        (Kind::Spread(Status::Final), 4, Answer::Done),
+    ];
+    for (kind, position, answer) in table {
+        assert_eq!(rt; next_phase(4, &done), Some((kind, position)));
+        done.push(complete(alloc, kind, position, answer)?)?;
+    }
+    assert_eq!(rt; next_phase(4, &done), None);
+    Ok(())
+}
+
+#[test]
+fn writes_with_the_next_tag(rt: HostRuntime) -> Result<(), Fail> {
+    let alloc = rt.alloc();
+    let write = CallKind::Write(Bytes::new());
+    let query = complete(alloc, Kind::Query, 0, Answer::Greatest(FIRST))?;
+    assert!(rt; greatest_tag(query.replies()).number < 9);
+    let stage = Stage::QueryFrom {
+        position: 0,
+        last: 0,
+        greatest: Tag::OPENING,
+        shown_at: 0,
+    };
+    let stage = passed(&write, 2, stage, &query);
+    let tag = Tag { number: 2, call: 2 };
+    assert_eq!(rt; stage, Stage::PreWriteAt { last: 0, tag });
+    assert_eq!(rt; due(stage), Some((Kind::PreWrite(tag), 0)));
+    assert_eq!(rt; stage_tag(stage), Some(tag));
+    Ok(())
+}
+
+#[test]
+fn reads_on_where_a_pointer_was_found(rt: HostRuntime) -> Result<(), Fail> {
+    let alloc = rt.alloc();
+    let stage = first_stage(&CallKind::Read, 0);
+    assert_eq!(rt; due(stage), Some((Kind::Next, 0)));
+    let next = complete(alloc, Kind::Next, 0, Answer::Pointer(Status::Final))?;
+    let stage = passed(&CallKind::Read, 2, stage, &next);
+    let spread = Stage::ReadSpread {
+        position: 0,
+        finalized: 0,
+        status: Status::Final,
+    };
+    assert_eq!(rt; stage, spread);
+    let told = complete(alloc, Kind::Spread(Status::Final), 0, Answer::Done)?;
+    let stage = passed(&CallKind::Read, 2, spread, &told);
+    let next = Stage::ReadNext {
+        position: 1,
+        finalized: 1,
+    };
+    assert_eq!(rt; stage, next);
+    Ok(())
+}

@@ -1,0 +1,18 @@
+//! The coding crates, each called with values that were worked out by hand or by Intel's ISA-L: tests alone. They stand
+//! in a crate of their own, so that the crates which they call are proved once less.
+#![tactic(auto)]
+
+#[cfg(test)]
+mod decoded;
+#[cfg(test)]
+mod decoded_into;
+#[cfg(test)]
+mod dots;
+#[cfg(test)]
+mod encoded;
+#[cfg(test)]
+mod lanes;
+#[cfg(test)]
+mod products;
+#[cfg(test)]
+mod rows;
