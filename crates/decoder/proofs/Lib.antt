@@ -3,6 +3,7 @@ mod ColumnSums
 pub mod Cut
 pub mod Determined
 pub mod Interpolated
+mod NextBytes
 pub mod Parts
 mod Striped
 pub mod Summed

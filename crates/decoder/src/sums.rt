@@ -165,7 +165,7 @@ fn write_some(
 }
 
 /// `write_some` of `R` rows.
-fn write_pass<const R: usize>(
+pub(crate) fn write_pass<const R: usize>(
     out: &mut [u8],
     room: &mut [Tables],
     table: &[u8],
