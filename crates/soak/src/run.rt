@@ -38,7 +38,14 @@ pub fn run_plan<R: Threads + Wait + Clock + Sync, E: Write>(
     ensures receipts { IfOk result (λ summary. summary.receipts ≡ plan.clients * plan.calls) }
 {
     let parts = plan.clients as u64 + 1;
-    soak_named::<Brand, R, E>(rt, alloc, Blank::new(parts), make_setting(alloc)?, plan, screen)
+    soak_named::<Brand, R, E>(
+        rt,
+        alloc,
+        Blank::new(parts),
+        make_setting(alloc)?,
+        plan,
+        screen,
+    )
 }
 
 // The same of the store of this name.

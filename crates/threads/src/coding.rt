@@ -3,7 +3,8 @@
 ghost use Rattle.std.specs.Prelude.{◌≡◌, ◌+◌};
 
 use crate::acts::{
-    Answer, HELLO, TURNS, close, four_servers, has_value, is_refused, open_store, put_both, read, take_seat,
+    Answer, HELLO, TURNS, close, four_servers, has_value, is_refused, open_store, put_both, read,
+    take_seat,
 };
 use bytes::Bytes;
 use client::{Begin, Seat, Store, StoreName};

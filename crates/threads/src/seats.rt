@@ -3,8 +3,8 @@
 ghost use Rattle.std.specs.Prelude.{◌≡◌, ◌+◌};
 
 use crate::acts::{
-    Answer, HELLO, TURNS, close, four_servers, has_value, is_refused, open_store, put_both, read, resume,
-    take_seat, write,
+    Answer, HELLO, TURNS, close, four_servers, has_value, is_refused, open_store, put_both, read,
+    resume, take_seat, write,
 };
 use bytes::Bytes;
 use client::{NotClosed, Seat, Store, StoreName};
