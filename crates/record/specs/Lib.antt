@@ -15,3 +15,4 @@ pub mod Sound
 pub mod Grammar
 pub mod Examples
 pub mod Origins
+pub mod Lacking

@@ -1,5 +1,5 @@
 //! Worked examples as theorems.
-ghost use Rattle.std.specs.Prelude.{◌≡◌};
+ghost use Rattle.std.specs.Prelude.{◌≡◌, None};
 ghost use Rattle.record.specs.Atomic.{IsAtomic};
 ghost use Rattle.record.specs.Examples.{move_entries, move_script, one_member};
 ghost use Rattle.record.specs.Examples.{script, script_entries, stale_entries, whole};
@@ -9,14 +9,14 @@ ghost use Rattle.record.specs.Steps.{opened_object, run};
 
 /// One whole write and read with one member: each step may be made, and the calls have the steps 3 to 18 and 19 to 32.
 pub fn a_write_and_a_read()
-    ensures may { MayRun whole script 3 (opened_object one_member 2) }
-    ensures gives { entries (run whole script 3 (opened_object one_member 2)) ≡ script_entries }
+    ensures may { MayRun whole script 3 (opened_object one_member None 2) }
+    ensures gives { entries (run whole script 3 (opened_object one_member None 2)) ≡ script_entries }
 {}
 
 /// A write, a move to another server, and a read that finds the value there.
 pub fn a_write_a_move_and_a_read()
-    ensures may { MayRun whole move_script 3 (opened_object one_member 2) }
-    ensures gives { entries (run whole move_script 3 (opened_object one_member 2)) ≡ move_entries }
+    ensures may { MayRun whole move_script 3 (opened_object one_member None 2) }
+    ensures gives { entries (run whole move_script 3 (opened_object one_member None 2)) ≡ move_entries }
 {}
 
 /// A history in which a read misses a write that was answered before it was called is not atomic.

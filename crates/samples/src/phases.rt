@@ -14,7 +14,7 @@ fn begin(alloc: Global) -> Result<Phase, Refusal> {
         kind: Kind::Next,
         position: 7,
     };
-    Phase::new(alloc, ask, 4, 3, 9)
+    Phase::new(alloc, ask, 4, 3, 2, 9)
 }
 
 fn message(call: u64, phase: u32, member: u8, body: Body) -> Message {
