@@ -9,7 +9,7 @@
    refusal and then it has changed nothing. A pointer is never null, also where the number is 0. What a call writes to
    overlaps nothing else that it is given. No call takes memory or keeps what it was given, and threads may call at
    once. A call takes about 16 KiB of stack, to decode or repair with k above 64 about 80 KiB, and
-   132 KiB more for a value of over 256 KiB from more than six fragments.
+   132 KiB more for a value of over 1 MiB from more than 16 fragments.
 
    The library is built for the processor that CODING_PROCESSOR names, and does not look which one it runs on. */
 #ifndef CODING_H

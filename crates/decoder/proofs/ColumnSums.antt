@@ -1,11 +1,11 @@
 -- The rows of Lagrange's basis sum up to the polynomial 1: so does each column of their table, to 0 or 1.
-use Rattle.std.proofs.Common.{◌≡◌, ℕ, zero, suc, ◌+◌, ◌-◌, ◌*◌, ◌<◌, ◌≤◌, List, [], ◌∷◌, length, get_or, replicate, true, bit_xor}
+use Rattle.std.proofs.Common.{◌≡◌, ℕ, zero, suc, ◌+◌, ◌-◌, ◌*◌, ◌<◌, ◌≤◌, List, ◌∷◌, length, get_or, replicate, true, bit_xor}
 use Rattle.std.proofs.Common.{refl, sym, ap, ◌∙◌, subst, arith, lit<, ⊎_elim}
 use Rattle.std.proofs.lemmas.Bool.{cases_lt, ne_eqb}
 use Rattle.std.proofs.Math.Dec.{eqb}
 use Rattle.std.proofs.lemmas.List.{get_or-replicate, length-replicate}
 use Rattle.std.proofs.lemmas.List.Elements.{All-cons, All-from_get_or}
-use Rattle.gf256.specs.Field.{field_product, field_sum}
+use Rattle.gf256.specs.Field.{field_product}
 use Rattle.gf256.specs.Polynomial.{AreBytes, AreDistinct, evaluate, Interpolates}
 use Rattle.gf256.proofs.Basis.{basis_row, AreBytes-basis_row, IsBasisRow-unique, IsBasisRow-basis_row}
 use Rattle.gf256.proofs.FieldLaws.{product-one_left, product-zero_right}

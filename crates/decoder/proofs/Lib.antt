@@ -3,7 +3,6 @@ mod ColumnSums
 pub mod Cut
 pub mod Determined
 pub mod Interpolated
-mod NextBytes
 pub mod Parts
 mod Striped
 pub mod Summed

@@ -6,7 +6,6 @@ pub use decoded::{Decoded, decode};
 pub use into::decode_into;
 pub use past::bad_pieces_give_a_byte_past_the_length;
 
-mod appended;
 mod code;
 mod decoded;
 mod into;

@@ -165,7 +165,7 @@ fn write_some(
 }
 
 /// `write_some` of `R` rows.
-pub(crate) fn write_pass<const R: usize>(
+fn write_pass<const R: usize>(
     out: &mut [u8],
     room: &mut [Tables],
     table: &[u8],

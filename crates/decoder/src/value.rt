@@ -6,18 +6,14 @@ ghost use Rattle.dot_kernel.specs.Dot.{bytes_of};
 ghost use Rattle.encoder.specs.Fragment.{fragment_len};
 ghost use Rattle.decoder.specs.Parts.{AreLawfulParts, pieces_at};
 ghost use Rattle.decoder.specs.Pieces.{AreOfBytes, HaveNoValue, IsInterpolated};
-ghost use Rattle.decoder.specs.Rows.{AreBlockBytes, HasRows, HaveColumnSums};
+ghost use Rattle.decoder.specs.Rows.{AreBlockBytes, HaveColumnSums};
 
-use crate::appended::appended_blocks;
 use crate::padding::is_padding_zero;
 use crate::rows::fill_rows;
 use crate::sums::write_blocks;
 use dot_kernel::Tables;
 use std::alloc::{AllocError, Global};
 use tag::{MOST_MEMBERS, Refusal};
-
-/// The most bytes of a value of which both blocks are made at once, where there are two.
-const SHORT: usize = 32_768;
 
 /// Makes the value of `len` bytes of which these are lawful pieces. Memory is asked for only where there is such a
 /// value, so that bad pieces are always told.
@@ -47,36 +43,8 @@ pub(crate) fn make_with(
     Ok(made_blocks(alloc, tables, table, fragments, len, block_len)?)
 }
 
-/// The first `len` bytes of the blocks, of `size` bytes each.
+/// The first `len` bytes of the blocks, of `size` bytes each. All are made whole, in as few passes, and then cut.
 fn made_blocks(
-    alloc: Global,
-    tables: &mut [Tables],
-    table: &[u8],
-    fragments: &[&[u8]],
-    len: usize,
-    size: usize,
-) -> Result<Vec<u8>, AllocError>
-    requires some { 1 ≤ length fragments.now }
-    requires table { length table.now ≡ length fragments.now * length fragments.now }
-    requires sums { HaveColumnSums table.now (length fragments.now) }
-    requires room { length fragments.now ≤ length tables.old }
-    requires within { len ≤ length fragments.now * size }
-    requires fits { length fragments.now * size < 2 ^ 64 }
-    requires most { length fragments.now ≤ MOST_MEMBERS }
-    requires lens { (j : ℕ) → j < length fragments.now
-        → length (slice_index_or (bytes_of fragments.now) j []) ≡ size }
-    ensures len { IfOk result (λ out. length out.items ≡ len) }
-    ensures bytes { IfOk result (λ out. AreBlockBytes out.items size table.now (bytes_of fragments.now)) }
-{
-    if fragments.len() == 2 && len > SHORT {
-        appended_blocks(alloc, tables, table, fragments, len, size)
-    } else {
-        cut_blocks(alloc, tables, table, fragments, len, size)
-    }
-}
-
-/// `made_blocks`, where all blocks are made whole, in as few passes, and then cut.
-fn cut_blocks(
     alloc: Global,
     tables: &mut [Tables],
     table: &[u8],

@@ -1,5 +1,5 @@
 -- So is the handling of a message that was chosen.
-use Rattle.std.proofs.Common.{◌≡◌, ℕ, zero, suc, ◌+◌, ◌%◌, ◌⊎◌, ◌&&◌, nat_le, Bool, true, false, cond, List, []}
+use Rattle.std.proofs.Common.{◌≡◌, ℕ, zero, suc, ◌+◌, ◌<◌, ◌%◌, ◌⊎◌, ◌&&◌, nat_le, Bool, true, false, cond, List, []}
 use Rattle.std.proofs.Common.{◌∷◌, length, Option, Some, None, slice_get, inl, inr, refl, sym}
 use Rattle.std.proofs.Common.{ap, ◌∙◌, arith}
 use Rattle.tag.specs.declared.limits.TheConstants.{MOST_STEPS, MOST_BYTES}
@@ -11,6 +11,7 @@ use Rattle.mail.specs.declared.message.Body.TheVariants as body
 use Rattle.mail.specs.Message.{request_bytes}
 use Rattle.record.specs.Records.{Object}
 use Rattle.record.specs.declared.stage.Want.TheVariants as want
+use Rattle.register.proofs.Lists.{found_within}
 use Rattle.register.specs.Causes.{if_step, if_message, unless}
 use Rattle.register.specs.State.{State}
 use Rattle.register.specs.View.{want_at}
@@ -46,6 +47,16 @@ passes_of test base (m ∷ messages) i place e = go (λ i e. passes_of test (suc
         record { off = 0; is = (let same : base ≡ place = cc in omega (arith, same)); message = m; at = refl; passes = is }
     go rest true is (suc i) e = later (rest i e)
     go rest false is i e = later (rest i e)
+
+-- a place that is picked is one of the mail
+pub picked_within : {C : Type 0} (chooses : C → ℕ → ℕ → C → Type 0) (test : Message → Bool) (mail : List Message) (before after : C)
+    (place : ℕ)
+    → Picks chooses (places test 0 mail) before after place → place < length mail
+picked_within chooses test mail before after place picks =
+    let p = passes_of test 0 mail (picks.0 % length (places test 0 mail)) place picks.2 in
+    let is = p.is in
+    let within = found_within mail p.off p.message p.at in
+    omega arith
 
 right_true : (a b : Bool) → (a && b) ≡ true → b ≡ true
 right_true true b e = e

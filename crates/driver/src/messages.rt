@@ -1,5 +1,5 @@
 //! The messages of a call: which one is handled next, and how.
-ghost use Rattle.std.specs.Prelude.{◌≡◌, [], Some, IfOk, IfErr, OnErr, OnOk, MatchOption, false};
+ghost use Rattle.std.specs.Prelude.{◌≡◌, ◌<◌, [], length, Some, IfOk, IfErr, OnErr, OnOk, MatchOption, false};
 ghost use Rattle.tag.specs.Refusal.{IsByCause, IsExactlyByCause};
 ghost use Rattle.record.specs.declared.stage.Want.TheVariants as want;
 ghost use Rattle.cluster.specs.Cluster.{if_named};
@@ -35,7 +35,24 @@ pub fn handle(cluster: &mut Cluster, name: &str, place: usize) -> Result<Handled
     ensures cause { IsByCause (object_cause cluster.old name.entry.now (handling_cause cluster.old place)) result }
     ensures unchanged { OnErr result (cluster.new ≡ cluster.old) }
 {
-    if is_request(cluster, name, place)? {
+    let is_request = is_request(cluster, name, place)?;
+    handle_as(cluster, name, place, is_request)
+}
+
+// The same of a message of which it is known whether it is a request.
+fn handle_as(
+    cluster: &mut Cluster,
+    name: &str,
+    place: usize,
+    is_request: bool,
+) -> Result<Handled, Refusal>
+    requires { if_named cluster.old name.now (request_at place) ≡ Some is_request }
+    ensures step { IfOk result (λ h. cluster.new ≡ stepped cluster.old name.entry.now (step_of place h)) }
+    ensures handled { IfOk result (λ h. if_named cluster.old name.entry.now (handled_at place) ≡ Some h) }
+    ensures cause { IsByCause (object_cause cluster.old name.entry.now (handling_cause cluster.old place)) result }
+    ensures unchanged { OnErr result (cluster.new ≡ cluster.old) }
+{
+    if is_request {
         cluster.serve(name, place)?;
         return Ok(Handled::Served);
     }
@@ -60,7 +77,8 @@ pub(crate) fn handle_chosen<C: Chooser>(
     let Some(place) = chosen(cluster, register, call, chooser) else {
         return Err(Refusal::Stuck);
     };
-    handle(cluster, name, place)?;
+    let is_request = is_request_at(register, place);
+    handle_as(cluster, name, place, is_request)?;
     Ok(())
 }
 
@@ -69,13 +87,21 @@ fn is_request(cluster: &Cluster, name: &str, place: usize) -> Result<bool, Refus
     ensures value { IfOk result (λ b. if_named cluster.now name.now (request_at place) ≡ Some b) }
     ensures cause { IsExactlyByCause (object_cause cluster.now name.now (place_cause place)) result }
 {
-    let mail = cluster.register(name)?.mail_view();
-    if mail.len() <= place {
+    let register = cluster.register(name)?;
+    if register.mail_view().len() <= place {
         return Err(Refusal::NoMessage);
     }
-    match &mail.at(place).body {
-        Body::Request(_) => Ok(true),
-        Body::Reply { kind: _, reply: _ } => Ok(false),
+    Ok(is_request_at(register, place))
+}
+
+// Whether the message at a place of an object's mail is a request.
+fn is_request_at(register: &Register, place: usize) -> bool
+    requires { place < length register.now.object.mail }
+    ensures { request_at place register.now.object ≡ Some result }
+{
+    match &register.mail_view().at(place).body {
+        Body::Request(_) => true,
+        Body::Reply { kind: _, reply: _ } => false,
     }
 }
 

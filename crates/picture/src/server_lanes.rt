@@ -131,7 +131,7 @@ impl Marks<'_> {
     }
 }
 
-// When a tag came to a bank, and was finalized.
+// When a tag came to a bank, whether its piece is there still, and when it was finalized.
 #[derive(Clone, Copy)]
 struct TagMarks<'a> {
     plan: &'a Plan,
@@ -145,12 +145,23 @@ impl fmt::Display for TagMarks<'_> {
         let (y, tag) = (self.y, self.tag);
         if let Some(arrival) = &self.row.arrival {
             let x = self.plan.x(arrival.step);
-            let bytes = arrival.piece.bytes.len();
-            writeln!(
-                f,
-                "<circle cx='{x}' cy='{y}' r='3'><title>tag {tag} came at step {}, {bytes} bytes</title></circle>",
-                arrival.step
-            )?;
+            write!(f, "<circle cx='{x}' cy='{y}' r='3'")?;
+            match &arrival.piece {
+                Some(piece) => {
+                    let bytes = piece.bytes.len();
+                    write!(
+                        f,
+                        "><title>tag {tag} came at step {}, {bytes} bytes",
+                        arrival.step
+                    )?;
+                }
+                None => write!(
+                    f,
+                    " fill='none' stroke='#000'><title>tag {tag} came at step {}, dropped since",
+                    arrival.step
+                )?,
+            }
+            writeln!(f, "</title></circle>")?;
         }
         if let Label::Finalized { since } = self.row.label {
             let x = self.plan.x(since);

@@ -157,14 +157,15 @@ module _ {C : Type 0} (chooses : C → ℕ → ℕ → C → Type 0) (name : Lis
   pub copies : (h : Hand) (r : Round) (w : Want) (copy : Option (List ℕ)) → Goes chooses name call h again old before new after r
       → wanted old name call ≡ Some w
       → (w ≡ want.Answer → h ≡ hand.Empty → old.counter < MOST_STEPS → copy ≡ if_named old name (λ object. value_at object call))
-      → ArePast old name
+      → (w ≡ want.Answer → ArePast old name)
       → new.counter ≤ MOST_STEPS → Copies old call r (if tells r then copy else None)
   copies h round.Stepped w copy goes is value past few = tt
   copies h (round.Encode v k n) w copy goes is value past few = tt
   copies h (round.Decode pieces k len) w copy goes is value past few = tt
   copies h round.Late w copy goes is value past few = tt
   copies hand.Empty (round.Answered receipt) w copy goes is value past few =
-      told old name call receipt copy goes.handed (value (same_want w want.Answer (sym is ∙ goes.wants)) refl (room goes.turn few)) past
+      let wants : w ≡ want.Answer = same_want w want.Answer (sym is ∙ goes.wants) in
+      told old name call receipt copy goes.handed (value wants refl (room goes.turn few)) (past wants)
   copies (hand.Coded coded) (round.Answered receipt) w copy goes is value past few = absurd goes
   copies (hand.Decoded decoded) (round.Answered receipt) w copy goes is value past few = absurd goes
 

@@ -117,7 +117,7 @@ fn round_with_copy<C: Chooser>(
 {
     let want = want_to_go(cluster, name, call, turns)?;
     let copy = copy_to_keep(cluster, name, call, want, &hand)?;
-    past_calls(cluster, name);
+    past_calls_at_end(cluster, name, want);
     let round = round_with(cluster, name, call, want, hand, asks_again, chooser)?;
     cluster.keeping();
     let copy = kept_value(&round, copy);
@@ -167,6 +167,16 @@ pub(crate) fn past_calls(cluster: &Cluster, name: &str)
     match cluster.register(name) {
         Ok(register) => register.soundness(),
         Err(_) => {}
+    }
+}
+
+// The same for a call that wants to be answered. It looks up nothing for another.
+fn past_calls_at_end(cluster: &Cluster, name: &str, due: Want)
+    ensures { due ≡ want.Answer → (state : State) → named cluster.now.objects name.now ≡ Some state
+        → AllByRecursion (λ call. call.called ≤ cluster.now.counter) state.object.calls }
+{
+    if due == Want::Answer {
+        past_calls(cluster, name);
     }
 }
 

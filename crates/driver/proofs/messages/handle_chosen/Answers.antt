@@ -1,10 +1,23 @@
 use Rattle.driver.proofs.Limits.{err_of}
-use Rattle.driver.proofs.Choosing.{chosen_refused}
+use Rattle.std.proofs.Common.{◌∙◌}
+use Rattle.driver.specs.Choices.{is_choice, request_at}
+use Rattle.driver.proofs.Choosing.{chosen_refused, picked_within}
+use Rattle.driver.proofs.Named.{read_there}
 use Rattle.driver.proofs.messages.handle_chosen.Goals as goal
 
-pub returns-in_err-handle-clause-refused : goal.returns-in_err-handle-clause-refused
-returns-in_err-handle-clause-refused g c =
-    err_of _ _ _ c.from_residual-in_err-handle.ensures.1
+pub returns-in_err-handle_as-clause-refused : goal.returns-in_err-handle_as-clause-refused
+returns-in_err-handle_as-clause-refused g c =
+    err_of _ _ _ c.from_residual-in_err-handle_as.ensures.1
     (chosen_refused g.C.Chooser.chooses c.args.name.now c.args.call c.args.cluster.now c.args.chooser.now c.chosen.new.chooser
     c.in_ok-register.register.now c.in-Some.place _
-    c.in_ok-register.ensures.object c.requires c.in-Some.ensures c.in_err-handle.ensures.cause)
+    c.in_ok-register.ensures.object c.requires c.in-Some.ensures c.in_err-handle_as.ensures.cause)
+
+pub is_request_at-is_request-requires : goal.is_request_at-is_request-requires
+is_request_at-is_request-requires g c =
+    picked_within g.C.Chooser.chooses (is_choice c.args.cluster.now c.args.call c.in_ok-register.register.now.object)
+    c.in_ok-register.register.now.object.mail c.args.chooser.now c.chosen.new.chooser c.in-Some.place c.in-Some.ensures
+
+pub handle_as-requires : goal.handle_as-requires
+handle_as-requires g c =
+    read_there c.args.cluster.now c.args.name.now c.in_ok-register.register.now (request_at c.in-Some.place) c.in_ok-register.ensures.object
+    ∙ c.is_request_at-is_request.ensures

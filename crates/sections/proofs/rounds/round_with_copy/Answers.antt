@@ -23,5 +23,5 @@ returns-clause-copy g c =
     (copies g.C.Chooser.chooses c.args.name.now c.args.call c.args.asks_again c.args.cluster.now c.args.chooser.now c.round_with.new.cluster
     c.round_with.new.chooser c.args.hand
     c.in_ok-round.round c.in_ok-want.want c.in_ok-copy.copy c.in_ok-round.ensures.steps c.in_ok-want.ensures.want c.in_ok-copy.ensures.value
-    c.past_calls.ensures
+    c.past_calls_at_end.ensures
     c.keeping.ensures.1.1.few_steps)
