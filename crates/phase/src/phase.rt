@@ -48,13 +48,13 @@ pub enum Took {
 #[derive(Debug, Drop)]
 pub struct Phase {
     ask: Ask,
-    // How many pieces a fetch needs.
-    needed: u8,
     start: Stamp,
     // In the order of their takes, with room for a quorum's. The phase ended with the last of a quorum.
     replies: Vec<Taken>,
     members: u8,
     quorum: u8,
+    // How many pieces a fetch needs.
+    needed: u8,
 }
 
 impl Model for Phase {
@@ -100,7 +100,8 @@ impl Phase {
     ) -> Result<Phase, Refusal>
         requires some { 1 ≤ quorum }
         requires within { quorum ≤ members }
-        ensures phase { IfOk result (λ p. p ≡ begun ask.call ask.number ask.kind ask.position members quorum needed now) }
+        ensures phase { IfOk result (λ p. p
+            ≡ begun ask.call ask.number ask.kind ask.position members quorum needed now) }
         ensures refused { IfErr result (λ e. e ≡ NoMemory) }
     {
         Ok(Phase {
