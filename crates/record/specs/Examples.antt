@@ -69,8 +69,8 @@ stale_entries =
     record { call = 1; operation = operation.Write; called = 3; answered = Some 18; value = Some (65 ∷ []) }
     ∷ record { call = 2; operation = operation.Read; called = 19; answered = Some 32; value = Some [] } ∷ []
 
--- a read has found the opening tag when a write of the byte 65 is made and answered, then it fetches; the banks keep the
--- piece of the newest finalized tag alone
+-- a read has found the opening tag when a write of the byte 65 is made and answered, then it fetches; the banks keep
+-- the piece of the newest finalized tag alone
 abbrev pub lacking_script : List Step
 lacking_script =
     CallRead ∷ Serve 0 ∷ Take 0 ∷ Advance 0 ∷ Serve 0 ∷ Take 0

@@ -20,8 +20,8 @@ pub fn a_write_a_move_and_a_read()
     ensures gives { entries (run whole move_script 3 (opened_object one_member None 2)) ≡ move_entries }
 {}
 
-/// A read that begins anew, with delta 0: a write comes between its queries and its fetch, which lacks pieces. Each step
-/// may be made, and the calls have the steps 3 to 41 and 9 to 24.
+/// A read that begins anew, with delta 0: a write comes between its queries and its fetch, which lacks pieces. Each
+/// step may be made, and the calls have the steps 3 to 41 and 9 to 24.
 pub fn a_read_that_begins_anew()
     ensures may { MayRun whole (lacking_script ++ anew_script) 3 (opened_object one_member (Some 0) 2) }
     ensures gives { entries (run whole (lacking_script ++ anew_script) 3 (opened_object one_member (Some 0) 2))

@@ -63,6 +63,7 @@ fn tells_what_it_asks(rt: HostRuntime) -> Result<(), Fail> {
     let request = message(5, 2, 0, Body::Request(Request::Next));
     assert_eq!(rt; phase.take(request, 10), Took::Stale);
     assert!(rt; !phase.complete());
+    assert!(rt; phase.lacks_pieces());
     assert_eq!(rt;
         (phase.number(), phase.kind(), phase.position()),
         (2, Kind::Next, 7)

@@ -22,7 +22,8 @@ use Rattle.record.specs.Steps.{with_bank, handled_object, served_by}
 use Rattle.record.specs.May.{IsRequestAt}
 use Rattle.mail.specs.declared.message.Body.TheVariants as body
 use Rattle.record.proofs.Lists.{all_weaker, all_pairs, all_get, all_set}
-use Rattle.record.proofs.Sound.Banks.{served-delta, served-retired, BankCoded, served_past, served_next, served_opened_at, served_true, served_coded, answer_coded}
+use Rattle.record.proofs.Sound.Banks.{served-delta, served-retired, BankCoded, served_past, served_next, served_opened_at}
+use Rattle.record.proofs.Sound.Banks.{served_true, served_coded, answer_coded}
 use Rattle.record.proofs.Sound.Changing.{same_call}
 use Rattle.record.proofs.Sound.Due.{spread_there}
 use Rattle.record.proofs.Sound.Keeping.{agree_same, served_agrees}
