@@ -194,7 +194,11 @@ impl Phase {
     pub fn lacks_pieces(&self) -> bool
         ensures { result ≡ lacks_pieces self.now }
     {
-        self.replies.iter().filter(|taken| brings_piece(&taken.reply)).count() < usize::from(self.needed)
+        self.replies
+            .iter()
+            .filter(|taken| brings_piece(&taken.reply))
+            .count()
+            < usize::from(self.needed)
     }
 
     /// Takes a message at step `now`, and records it where it is the first reply of its member to this phase and a

@@ -23,8 +23,8 @@ pub use shape::{
     finished_calls_are_whole, readings_come_before_tags,
 };
 pub use soundness::{
-    opened_objects_are_sound, runs_are_sound, runs_keep_soundness,
-    sent_values_are_there, steps_keep_soundness, tags_are_past, wanted_pieces_fit_the_layout,
+    opened_objects_are_sound, runs_are_sound, runs_keep_soundness, sent_values_are_there,
+    steps_keep_soundness, tags_are_past, wanted_pieces_fit_the_layout,
 };
 pub use stage::{Stage, Want};
 pub use worked::{a_stale_read_is_not_atomic, a_write_a_move_and_a_read, a_write_and_a_read};

@@ -13,7 +13,7 @@ use Rattle.record.specs.Wants.{current_phase}
 use Rattle.record.specs.Sound.{IsPosted, IsSound}
 use Rattle.record.specs.Knowledge.{IsTruePhase}
 use Rattle.mail.specs.declared.message.Body.TheVariants as body
-use Rattle.record.proofs.Accounting.Stored.{none_freed, stored-handled, stored-begun, stored-asked_again, stored-supplied, stored-taken, stored-moving}
+use Rattle.record.proofs.Accounting.Stored.{stored-handled, stored-begun, stored-asked_again, stored-supplied, stored-taken, stored-moving}
 use Rattle.record.proofs.Lists.{all_get}
 
 -- Each step, by its name
@@ -45,6 +45,9 @@ stored-changed fragment object step now (Step.CallMove layout) server sound =
     same_more (stored (moving_object object layout now) server) (stored object server)
     (stored-moving object server layout now sound.shape.banks)
 stored-changed fragment object step now (Step.Advance index) server sound =
+    stored-on_call object server (slice_get object.calls index) (λ call. advanced_object fragment object index call now)
+    (λ call. stored-begun object server fragment index call (due (stage_of object index call)) now)
+stored-changed fragment object step now (Step.Again index) server sound =
     stored-on_call object server (slice_get object.calls index) (λ call. advanced_object fragment object index call now)
     (λ call. stored-begun object server fragment index call (due (stage_of object index call)) now)
 stored-changed fragment object step now (Step.Supply index) server sound =

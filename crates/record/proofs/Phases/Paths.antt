@@ -15,7 +15,7 @@ use Rattle.record.specs.declared.stage.Stage.TheVariants.{ReadNext, ReadSpread, 
 use Rattle.record.specs.Courses.{due, after, after_next, after_spread, passed, stage_after, IsCourse, greatest_status}
 use Rattle.record.specs.Journals.{stage_tag}
 use Rattle.record.specs.Grammar.{Asks, finalized_after, IsReading}
-use Rattle.record.proofs.Atomic.Values.Coded.{tag_passed}
+use Rattle.record.proofs.Sound.Late.{IsLateWith, late_after}
 
 -- paths
 
@@ -75,12 +75,13 @@ path-append kind number [] ys stage middle end p q = subst (λ s. IsPath kind nu
 path-append kind number (x ∷ xs) ys stage middle end p q =
     (p.0, path-append kind number xs ys (after kind number stage x.replies (lacks_pieces x)) middle end p.1 q)
 
-pub path_tag : (kind : CallKind) (number : ℕ) (phases : List Phase) (stage end : Stage) (tag : Tag) → stage_tag stage ≡ Some tag →
+-- a call that has what it needs keeps its tag
+pub path_tag : (kind : CallKind) (number : ℕ) (phases : List Phase) (stage end : Stage) (tag : Tag) → IsLateWith tag stage →
     IsPath kind number stage phases end → stage_tag end ≡ Some tag
-path_tag kind number [] stage end tag e path = subst (λ s. stage_tag s ≡ Some tag) path e
-path_tag kind number (phase ∷ phases) stage end tag e path =
+path_tag kind number [] stage end tag late path = subst (λ s. stage_tag s ≡ Some tag) path late.1
+path_tag kind number (phase ∷ phases) stage end tag late path =
     path_tag kind number phases (after kind number stage phase.replies (lacks_pieces phase)) end tag
-    (tag_passed kind number stage (Some 0) phase.replies (lacks_pieces phase) tag e) path.1
+    (late_after kind number stage phase.replies (lacks_pieces phase) tag late) path.1
 
 pub asks_of : (k : Kind) (p : ℕ) (phase : Phase) →
     ◌≡◌ {A = Option (Kind × ℕ)} (Some (k, p)) (Some (phase.kind, phase.position)) → Asks phase k p

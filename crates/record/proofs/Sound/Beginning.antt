@@ -1,6 +1,6 @@
 -- Beginning the phase that is due, and asking again, keep a record sound.
 use Rattle.std.proofs.Common.{◌≡◌, ℕ, zero, suc, ◌<◌, ◌⊎◌, List, [], ◌∷◌, ◌++◌, length}
-use Rattle.std.proofs.Common.{Some, None, IsSome, refl, sym, subst, ap, ◌∙◌, inl, inr, arith, le_refl, slice_get}
+use Rattle.std.proofs.Common.{Some, None, IsSome, true, refl, sym, subst, ap, ◌∙◌, inl, inr, arith, le_refl, slice_get}
 use Rattle.std.proofs.lemmas.Option.{same_Some, slice_get_within}
 use Rattle.std.specs.List.{AllByRecursion}
 use Rattle.tag.specs.Tag.{opening_tag}
@@ -18,9 +18,11 @@ use Rattle.record.specs.Fragments.{Code, Determines, IsFetch, IsSettled, request
 use Rattle.record.specs.Sound.{IsPhasePast, IsCallPast, IsSound}
 use Rattle.record.specs.Sending.{request_to, requests}
 use Rattle.record.specs.Steps.{new_phase, with_phase}
+use Rattle.record.specs.Wants.{current_phase}
+use Rattle.record.specs.Knowledge.{IsTruePhase}
 use Rattle.record.proofs.Atomic.Values.Numbered.{coded_tag_past}
 use Rattle.record.proofs.Atomic.Values.Sent.{Sends, request_coded}
-use Rattle.record.proofs.Lists.{all_push, get_push, set_here}
+use Rattle.record.proofs.Lists.{all_push, all_get, get_push, set_here}
 use Rattle.record.proofs.Sound.Calling.{TagStays, WithCall, call_grown, call_step, old_mail, old_call}
 use Rattle.record.proofs.Sound.Calls.{begun_keeps}
 use Rattle.record.proofs.Sound.Changing.{Changed, begun_call}
@@ -29,7 +31,8 @@ use Rattle.record.proofs.Sound.Fetching.{FetchDue, late_due, course_late}
 use Rattle.record.proofs.Sound.Later.{if_coded_grows}
 use Rattle.record.proofs.Sound.Mailing.{request_message, kind_of-request_to, all_requests, all_append}
 use Rattle.record.proofs.Sound.Parts.{ReplyCoded, CallRest, MessageRest, call_rest, mail_rest}
-use Rattle.record.proofs.Sound.Waiting.{LastAt, last_at, Ready}
+use Rattle.record.proofs.Sound.Enough.Counting.{pieces_not_lacking}
+use Rattle.record.proofs.Sound.Waiting.{LastAt, last_at, Ready, Unsettled}
 use Rattle.record.proofs.Sound.Wanting.{ended_before}
 
 pub get_pushed : {A : Type 0} (xs : List A) (y x : A) (i : ℕ) → slice_get (xs ++ y ∷ []) i ≡ Some x →
@@ -71,10 +74,39 @@ settled_pushed fragment object call next value other s = record {
     go later p after fetch (inl there) = s.latest later p there after fetch
     go later p after fetch (inr here) = other (subst (λ (q : Phase). IsFetch q.kind) (sym here.1) fetch)
 
+-- a call that may begin its next phase: its current one is complete, and if it is a fetch, settled or lacking pieces
+pub record MayGoOn (call : Call) : Type 0 where
+  pub open_call : call.answered ≡ None
+  pub phase : Phase
+  pub current : current_phase call.phases ≡ Some phase
+  pub end : ℕ
+  pub ended : phase.end ≡ Some end
+  pub settled : IsFetch phase.kind → IsSome call.settled ⊎ (lacks_pieces phase ≡ true)
+
+pub ready_on : (call : Call) → Ready call → MayGoOn call
+ready_on call ready = record {
+  open_call = ready.open_call;
+  phase = ready.phase;
+  current = ready.current;
+  end = ready.end;
+  ended = ready.ended;
+  settled = λ fetch. inl (ready.settled fetch);
+}
+
+pub lacking_on : (call : Call) → Unsettled call true → MayGoOn call
+lacking_on call wanting = record {
+  open_call = wanting.open_call;
+  phase = wanting.phase;
+  current = wanting.current;
+  end = wanting.end;
+  ended = wanting.ended;
+  settled = λ fetch. inr wanting.lacking;
+}
+
 -- the phase that is due begins
 pub begun_sound : (fragment : Code) (object : Object) (step now : ℕ) → step < now →
     Determines fragment → IsSound fragment object step → (index : ℕ) (call : Call) →
-    slice_get object.calls index ≡ Some call → (kind : Kind) (position : ℕ) (piece : ℕ → Piece) → Ready call →
+    slice_get object.calls index ≡ Some call → (kind : Kind) (position : ℕ) (piece : ℕ → Piece) → MayGoOn call →
     due (stage_of object index call) ≡ Some (kind, position) → Sends fragment (layout_at object position) call kind piece →
     IsSound fragment (with_phase object index call kind position now piece) now
 begun_sound fragment object step now less determines sound index call at kind position piece ready e sends =
@@ -138,7 +170,7 @@ begun_sound fragment object step now less determines sound index call at kind po
     }
 
     stays : TagStays object index call new
-    stays = λ tag t. ap stage_tag (stage_push call.kind (suc index) call.phases (first_stage call.kind (source_of object index)) next refl)
+    stays = λ value k tag t. ap stage_tag (stage_push call.kind (suc index) call.phases (first_stage call.kind (source_of object index)) next refl)
         ∙ t
 
     was : CallRest fragment object' now call
@@ -168,9 +200,12 @@ begun_sound fragment object step now less determines sound index call at kind po
     once : (value : List ℕ) → call.settled ≡ Some value → IsFetch kind → ⊥
     once value s fetch =
         let has = sound.settled.settled index call value at s in
+        let c = sound.legal.calls index call at in
         late_due (stage_of object index call)
-        (course_late call.kind (suc index) call.phases (first_stage call.kind (source_of object index))
-        (sound.legal.calls index call at).course now ends has.place has.phase has.within has.fetch)
+        ((course_late call.kind (suc index) call.phases (first_stage call.kind (source_of object index))
+        c.course now ends has.place has.phase has.fetch.0 has.within has.fetch.1
+        (pieces_not_lacking fragment object has.phase value
+        (all_get (IsTruePhase object) call.phases has.place has.phase c.phases has.within) has.pieces)).0)
         (subst FetchDue (sym e) fetch)
 
     there : LastAt call.phases ready.phase
@@ -179,14 +214,15 @@ begun_sound fragment object step now less determines sound index call at kind po
     before : (place : ℕ) (phase after : Phase) →
         (slice_get call.phases place ≡ Some phase) ⊎ ((place ≡ length call.phases) × (next ≡ phase)) →
         (slice_get call.phases (suc place) ≡ Some after) ⊎ ((suc place ≡ length call.phases) × (next ≡ after)) →
-        IsFetch phase.kind → IsSome call.settled
+        IsFetch phase.kind → IsSome call.settled ⊎ (lacks_pieces phase ≡ true)
     before place phase after (inl a) (inl b) fetch = was.before_next place phase after a fetch b
     before place phase after (inl a) (inr b) fetch =
         let last = there.last in
         let here : place ≡ there.place = (let c = b.0 in omega arith) in
         let same : phase ≡ ready.phase = same_Some phase ready.phase
         (sym a ∙ ap (λ i. slice_get call.phases i) here ∙ there.within) in
-        ready.settled (subst (λ (p : Phase). IsFetch p.kind) same fetch)
+        subst (λ (p : Phase). IsSome call.settled ⊎ (lacks_pieces p ≡ true)) (sym same)
+        (ready.settled (subst (λ (p : Phase). IsFetch p.kind) same fetch))
     before place phase after (inr a) (inl b) fetch =
         absurd (let c = a.0 in let w = slice_get_within call.phases (suc place) after b in omega arith)
     before place phase after (inr a) (inr b) fetch = absurd (let c = a.0 in let d = b.0 in omega arith)

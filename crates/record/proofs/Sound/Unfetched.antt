@@ -77,19 +77,21 @@ unfetched_query kind fetches number found p l greatest q = go (eqb p l)
     go false = tt
 
 unfetched_after : (kind : CallKind) → Fetches kind → (number : ℕ) (stage : Stage) (replies : List Taken) (lacks : Bool) → IsUnfetched stage →
-    IsFetchDue stage ⊎ IsUnfetched (after kind number stage replies lacks)
+    (IsFetchDue stage × (lacks ≡ false)) ⊎ IsUnfetched (after kind number stage replies lacks)
 unfetched_after kind fetches number (ReadNext p m) replies lacks none = inr (unfetched_next p m (greatest_status replies))
 unfetched_after kind fetches number (ReadSpread p m s) replies lacks none = inr (unfetched_spread p m s)
 unfetched_after kind fetches number (QueryFrom p l t q) replies lacks none =
     inr (unfetched_query kind fetches number (greatest_tag replies) p l t q)
-unfetched_after kind fetches number (FetchAt q l t) replies lacks none = inl (t, q, refl)
+unfetched_after kind fetches number (FetchAt q l t) replies true none = inr tt
+unfetched_after kind fetches number (FetchAt q l t) replies false none = inl ((t, q, refl), refl)
 unfetched_after kind fetches number (MoveSpread p) replies lacks none = inr tt
 unfetched_after kind fetches number (MoveQuery p) replies lacks none = inr tt
-unfetched_after kind fetches number (MoveFetch p t) replies lacks none = inl (t, p, refl)
+unfetched_after kind fetches number (MoveFetch p t) replies true none = inr tt
+unfetched_after kind fetches number (MoveFetch p t) replies false none = inl ((t, p, refl), refl)
 unfetched_after kind fetches number stage replies lacks none = absurd none
 
 unfetched_passed : (kind : CallKind) → Fetches kind → (number : ℕ) (stage : Stage) (end : Option ℕ) (replies : List Taken) (lacks : Bool) →
-    IsUnfetched stage → IsFetchDue stage ⊎ IsUnfetched (passed kind number stage end replies lacks)
+    IsUnfetched stage → (IsFetchDue stage × (lacks ≡ false)) ⊎ IsUnfetched (passed kind number stage end replies lacks)
 unfetched_passed kind fetches number stage None replies lacks none = inr none
 unfetched_passed kind fetches number stage (Some end) replies lacks none = unfetched_after kind fetches number stage replies lacks none
 
@@ -118,20 +120,28 @@ pub record Fetched (phases : List Phase) : Type 0 where
   pub phase : Phase
   pub within : slice_get phases place ≡ Some phase
   pub fetch : IsFetch phase.kind
+  pub enough : lacks_pieces phase ≡ false
 
 fetched_here : (phase : Phase) (phases : List Phase) (stage : Stage) → due stage ≡ Some (phase.kind, phase.position) →
-    IsFetchDue stage → Fetched (phase ∷ phases)
-fetched_here phase phases stage is (tag, position, e) =
+    IsFetchDue stage → lacks_pieces phase ≡ false → Fetched (phase ∷ phases)
+fetched_here phase phases stage is (tag, position, e) enough =
     let same : (phase.kind, phase.position)
     ≡ (Fetch tag, position) = same_Some (phase.kind, phase.position) (Fetch tag, position) (sym is ∙ e) in
-    record { place = 0; phase = phase; within = refl; fetch = (tag, ap (λ (next : Kind × ℕ). next.0) same) }
+    record { place = 0; phase = phase; within = refl; fetch = (tag, ap (λ (next : Kind × ℕ). next.0) same); enough = enough }
 
 fetched_from : {Still : Type 0} (phase : Phase) (phases : List Phase) (stage : Stage) →
-    due stage ≡ Some (phase.kind, phase.position) → IsFetchDue stage ⊎ Still → (Still → Fetched phases) →
+    due stage ≡ Some (phase.kind, phase.position) → (IsFetchDue stage × (lacks_pieces phase ≡ false)) ⊎ Still →
+    (Still → Fetched phases) →
     Fetched (phase ∷ phases)
-fetched_from phase phases stage is (inl fetch) later = fetched_here phase phases stage is fetch
+fetched_from phase phases stage is (inl fetch) later = fetched_here phase phases stage is fetch.0 fetch.1
 fetched_from phase phases stage is (inr still) later =
-    let found = later still in record { place = suc found.place; phase = found.phase; within = found.within; fetch = found.fetch }
+    let found = later still in record {
+      place = suc found.place;
+      phase = found.phase;
+      within = found.within;
+      fetch = found.fetch;
+      enough = found.enough;
+    }
 
 -- a read or a move that is to send pieces has fetched
 pub fetched_before_due : (kind : CallKind) → Fetches kind → (number : ℕ) (phases : List Phase) (stage : Stage) →

@@ -26,7 +26,7 @@ pub record AtPhase (object : Object) (kind : CallKind) (from number called : ℕ
   pub facts : Facts object kind from number called now stage
 
 -- one complete phase
-one_phase : (object : Object) (kind : CallKind) (from number called now end : ℕ) (stage : Stage) (phase : Phase) →
+pub one_phase : (object : Object) (kind : CallKind) (from number called now end : ℕ) (stage : Stage) (phase : Phase) →
     AllByRecursion IsLawful object.layouts → due stage ≡ Some (phase.kind, phase.position) → IsTruePhase object phase →
     phase.end ≡ Some end → called ≤ now → now ≤ phase.start → Facts object kind from number called now stage →
     Facts object kind from number called end (passed kind number stage phase.end phase.replies (lacks_pieces phase))
@@ -101,13 +101,13 @@ at_end object kind from number called lawful (first ∷ next ∷ later) now stag
     (one_phase object kind from number called now end stage first lawful course.0 truth.0 ended since starts facts) in
     record { now = rest.now; since = rest.since; until = rest.until; facts = rest.facts }
 
-first_facts : (object : Object) (kind : CallKind) (from number called : ℕ) →
+pub first_facts : (object : Object) (kind : CallKind) (from number called : ℕ) →
     Facts object kind from number called called (first_stage kind from)
 first_facts object Read from number called = (λ j below. absurd (omega arith), le_refl 0, inl refl, refl)
 first_facts object (Write value) from number called = (λ j below. absurd (omega arith), le_refl 0, inl refl, refl)
 first_facts object Move from number called = (refl, refl)
 
-starts_from : (phases : List Phase) (called : ℕ) → BeginsAt phases called → StartsFrom called phases
+pub starts_from : (phases : List Phase) (called : ℕ) → BeginsAt phases called → StartsFrom called phases
 starts_from [] called begins = tt
 starts_from (phase ∷ phases) called begins = omega (arith, begins)
 
