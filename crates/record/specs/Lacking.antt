@@ -43,6 +43,11 @@ pub record AreOverlapping (object : Object) (tag : Tag) (since until count : ℕ
   pub enough : count ≤ length writes
   pub each : AllByRecursion (IsOverlapping object tag since until) writes
 
+-- and no more than this many
+abbrev pub AreNoMore : Object → Tag → (since until count : ℕ) → Type 0
+AreNoMore object tag since until count = (writes : List ℕ) → IsDistinct nat_eq writes →
+    AllByRecursion (IsOverlapping object tag since until) writes → length writes ≤ count
+
 -- a read's complete fetch, at a place of the call's phases, that lacks pieces
 pub record IsLackingFetch (object : Object) (index place : ℕ) (call : Call) (phase : Phase) (tag : Tag)
     (end : ℕ) : Type 0 where

@@ -27,7 +27,10 @@ pub use soundness::{
     steps_keep_soundness, tags_are_past, wanted_pieces_fit_the_layout,
 };
 pub use stage::{Stage, Want};
-pub use worked::{a_stale_read_is_not_atomic, a_write_a_move_and_a_read, a_write_and_a_read};
+pub use worked::{
+    a_read_that_begins_anew, a_stale_read_is_not_atomic, a_write_a_move_and_a_read,
+    a_write_and_a_read, the_bound_is_met_exactly,
+};
 
 mod accounts;
 mod atomicity;
