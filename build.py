@@ -1,10 +1,11 @@
 #!/usr/bin/env python3
 """Proves the crates that a program stands on, side by side where none stands on another, and builds the program.
 
-    build.py PROGRAM CPU    does so; what the prover says of a crate goes to out/proving/CRATE.log
-    build.py PROGRAM        prints the folders of the crates, the program's too, a line each
+    build.py PROGRAM CPU CALLER    does so; what the prover says of a crate goes to out/proving/CRATE.log
+    build.py PROGRAM               prints the folders of the crates, the program's too, a line each
 
-It is `./cas` that calls this, and holds the lock meanwhile. A crate that is proved already is only compared, by `rt`.
+It is `./cas` or `./trace` that calls this, and holds the lock meanwhile; its name begins each line that is said. A crate
+that is proved already is only compared, by `rt`.
 """
 import os
 import pathlib
@@ -16,6 +17,11 @@ import time
 ROOT = pathlib.Path(__file__).resolve().parent
 LOGS = ROOT / "out" / "proving"
 MEMORY = 3 << 30  # what has to be free for one more crate beside another
+FIRST = {  # the words that a program is run on once it is built
+    "cas": ["fragments", "1", "1", "."],
+    "cas_coding": ["fragments", "1", "1", "."],
+    "trace": ["costs", str(ROOT / "examples" / "a_write_and_a_read.cas"), "a"],
+}
 
 
 def crates_below(program):
@@ -57,8 +63,8 @@ def has_memory():
 
 
 class Build:
-    def __init__(self, program, cpu):
-        self.program, self.cpu = program, cpu
+    def __init__(self, program, cpu, caller):
+        self.program, self.cpu, self.caller = program, cpu, caller
         self.crates = crates_below(program)
         self.heights = heights(self.crates)
         self.processors = len(os.sched_getaffinity(0))
@@ -78,7 +84,7 @@ class Build:
     def start(self, name, jobs):
         words = ["rt", "lib", "--jobs", str(jobs)]
         if name == self.program:
-            words = ["rt", "run", "--jobs", str(jobs), f"--cpu={self.cpu}", "--", "fragments", "1", "1", "."]
+            words = ["rt", "run", "--jobs", str(jobs), f"--cpu={self.cpu}", "--", *FIRST[name]]
         with open(LOGS / f"{name}.log", "wb") as log:
             # The lock of `./cas` stays open in each of these, so that no second build begins beside what is left of one.
             self.running[name] = subprocess.Popen(
@@ -100,7 +106,7 @@ class Build:
             self.start(name, max(1, min(4, free // (len(ready) - at))))
 
     def say(self, text):
-        print(f"cas: {text}", file=sys.stderr, flush=True)
+        print(f"{self.caller}: {text}", file=sys.stderr, flush=True)
 
     def show(self, name=None):
         """The line that moves on a terminal; elsewhere a line for each crate that is done."""
@@ -108,7 +114,7 @@ class Build:
         clock = f"{seconds // 60}:{seconds % 60:02}"
         count = f"{len(self.done)} of {len(self.crates)}"
         if self.on_terminal:
-            line = f"cas: proved {count}; proving {', '.join(self.running)}, {clock}"
+            line = f"{self.caller}: proved {count}; proving {', '.join(self.running)}, {clock}"
             print(f"\r{line[:100]:100}", end="", file=sys.stderr, flush=True)
         elif name:
             self.say(f"proved {count}: {name}, {clock}")
@@ -166,4 +172,4 @@ for number in (signal.SIGINT, signal.SIGTERM, signal.SIGHUP):
 if len(sys.argv) == 2:
     print("\n".join(f"crates/{name}" for name in sorted(crates_below(sys.argv[1]))))
 else:
-    sys.exit(Build(sys.argv[1], sys.argv[2]).run())
+    sys.exit(Build(*sys.argv[1:]).run())

@@ -6,4 +6,4 @@ mod Checking
 mod Delivering
 mod Reading
 mod Playing
-mod Running
+pub mod Running

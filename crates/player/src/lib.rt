@@ -1,7 +1,7 @@
 //! Plays the commands of a script over a cluster, and prints what each prints.
 #![tactic(auto)]
 
-pub use run::{report_unread, run_script};
+pub use run::{End, play_line, read_script, report_end, report_unread, run_script};
 
 mod call_commands;
 mod cluster_commands;

@@ -1,8 +1,9 @@
 //! A whole script, over any reader and two writers.
-ghost use Rattle.std.specs.Prelude.{◌≡◌, ℕ, List, map, MatchResult};
+ghost use Rattle.std.specs.Prelude.{◌≡◌, ℕ, List, map, IfErr, MatchResult};
 ghost use Rattle.std.specs.Str.Lines.{lines as lines_of};
 ghost use Rattle.std.specs.IoError.{error_kind};
 ghost use Rattle.player.specs.Script.{Runs, PlaysScript, EndsBy, EndsAt, EndsLine, IsScriptOf, IsUnread};
+ghost use Rattle.player.specs.declared.run.End.TheVariants.{BadLine};
 ghost use Rattle.player.specs.Script.{IsPlayedFrom, IsPlayedThrough, status_of, unread_status};
 
 use crate::player::{Stop, play};
@@ -42,7 +43,7 @@ pub fn run_script<R: Read, O: Write, E: Write>(
 {
     match play_script(alloc, reader, out) {
         Ok(()) => 0,
-        Err(end) => report(end, name, err),
+        Err(end) => report_end(end, name, err),
     }
 }
 
@@ -52,13 +53,14 @@ pub fn report_unread<E: Write>(error: &io::Error, name: &str, err: &mut E) -> u8
     ensures { result ≡ unread_status (error_kind error.now) }
 {
     match error.kind() {
-        ErrorKind::OutOfMemory => report(End::NoMemory, name, err),
-        _ => report(End::Unread, name, err),
+        ErrorKind::OutOfMemory => report_end(End::NoMemory, name, err),
+        _ => report_end(End::Unread, name, err),
     }
 }
 
-// A failed write of the text is passed over.
-fn report<E: Write>(end: End, name: &str, err: &mut E) -> u8
+/// Says on `err` why the run of the script of this name ended, and answers the exit status: 2 where the script cannot
+/// be read or a line is bad, else 1. A failed write of the text is passed over.
+pub fn report_end<E: Write>(end: End, name: &str, err: &mut E) -> u8
     ensures { result ≡ status_of end }
 {
     let _ = err.writeln(EndText { end, name });
@@ -100,7 +102,8 @@ fn play_script<R: Read, O: Write>(alloc: Global, reader: &mut R, out: &mut O) ->
     play_lines(alloc, &lines, out)
 }
 
-fn read_script<R: Read>(alloc: Global, reader: &mut R) -> Result<Vec<u8>, End>
+/// The bytes that the reader gives, up to its end. It fails with `NoMemory` where they find none, else with `Unread`.
+pub fn read_script<R: Read>(alloc: Global, reader: &mut R) -> Result<Vec<u8>, End>
     ensures { MatchResult result (λ text. IsScriptOf (R.remaining reader.old) text.items) IsUnread }
 {
     let mut text = Vec::new(alloc);
@@ -123,17 +126,19 @@ fn play_lines<O: Write>(alloc: Global, lines: &[&[u8]], out: &mut O) -> Result<(
     Ok(())
 }
 
-// The line of this number.
-fn play_line<O: Write>(
+/// Plays the line of this number, counted from 1, over the cluster that the lines before it made, of which there is
+/// none before the first command. So a caller sees the cluster between two lines. A bad line leaves it as it was.
+pub fn play_line<O: Write>(
     alloc: Global,
     cluster: &mut Option<Cluster>,
     number: usize,
     line: &[u8],
     out: &mut O,
 ) -> Result<(), End>
-    ensures { MatchResult result
+    ensures played { MatchResult result
         (λ _. IsPlayedFrom cluster.old line.now cluster.new (O.contents out.old) (O.contents out.new))
         (EndsLine number cluster.old line.now (O.contents out.old) (O.contents out.new)) }
+    ensures unchanged { IfErr result (λ end. end ≡ BadLine number → cluster.new ≡ cluster.old) }
 {
     let command = match parse_line(alloc, line) {
         Ok(Line::Skipped) => return Ok(()),

@@ -1,0 +1,55 @@
+-- The lines of what calls cost.
+use Rattle.std.specs.Prelude.{ℕ, ◌-◌, List, [], ◌∷◌, ◌++◌, length, fold, Option, Some, None, codes}
+use Rattle.std.specs.Fmt.{decimal}
+use Rattle.std.specs.List.{flat_map, join_with_byte}
+use Rattle.record.specs.declared.call.Entry.{Entry}
+use Rattle.record.specs.declared.call.Operation.{Operation}
+use Rattle.record.specs.declared.call.Operation.TheVariants as operation
+use Rattle.record.specs.Records.{Object}
+use Rattle.costs.specs.declared.cost.Cost.{Cost}
+use Rattle.costs.specs.Cost.{cost_of, no_cost, plus}
+
+-- the word for what a call does
+abbrev pub word_of_operation : Operation → List ℕ
+word_of_operation operation.Read = codes "read"
+word_of_operation operation.Write = codes "write"
+word_of_operation operation.Move = codes "move"
+
+-- words, parted by one space
+abbrev pub in_words : List (List ℕ) → List ℕ
+in_words words = join_with_byte 32 words
+
+-- the sums
+abbrev pub cost_text : Cost → List ℕ
+cost_text cost = in_words (
+    codes "phases" ∷ decimal cost.phases ∷ codes "requests" ∷ decimal cost.requests
+    ∷ codes "replies" ∷ decimal cost.replies ∷ codes "sent" ∷ decimal cost.sent
+    ∷ codes "returned" ∷ decimal cost.returned ∷ [])
+
+-- the steps from a call to its answer, or a dash where it has none
+abbrev pub steps_text : (called : ℕ) → (answered : Option ℕ) → List ℕ
+steps_text called None = codes "-"
+steps_text called (Some answered) = decimal (answered - called)
+
+-- the line of a call
+abbrev pub line_text : Entry → Cost → List ℕ
+line_text entry cost = in_words (
+    codes "call" ∷ decimal entry.call ∷ word_of_operation entry.operation ∷ cost_text cost
+    ∷ codes "steps" ∷ steps_text entry.called entry.answered ∷ [])
+
+-- the line of all calls
+abbrev pub total_text : (calls : ℕ) → Cost → List ℕ
+total_text calls cost = in_words (codes "calls" ∷ decimal calls ∷ cost_text cost ∷ [])
+
+-- the line of a call of an object, with its end
+abbrev pub cost_line : Object → Entry → List ℕ
+cost_line object entry = line_text entry (cost_of object entry.call) ++ codes "\n"
+
+-- what all these calls cost
+abbrev pub total_of : Object → List Entry → Cost
+total_of object entries = fold (λ total entry. plus total (cost_of object entry.call)) no_cost entries
+
+-- a line for each call, and one for all
+abbrev pub costs_text : Object → List Entry → List ℕ
+costs_text object entries =
+    flat_map (cost_line object) entries ++ (total_text (length entries) (total_of object entries) ++ codes "\n")

@@ -1,0 +1,59 @@
+//! The cost of a call.
+ghost use Rattle.std.specs.Prelude.{◌≡◌};
+ghost use Rattle.costs.specs.Cost.{capped, cost_of, plus};
+
+use crate::sums;
+use register::Register;
+
+/// What calls cost. A sum that is past 64 bits is the greatest number of 64 bits.
+#[derive(Clone, Copy, Debug, PartialEq, Eq)]
+pub struct Cost {
+    /// The phases that were begun.
+    pub phases: u64,
+    /// The requests of these phases: one to each member that a phase asks, and none that went out again.
+    pub requests: u64,
+    /// The replies that these phases took.
+    pub replies: u64,
+    /// The bytes of the fragments that pre-writes send: of the phase's tag, what the members of its position keep.
+    pub sent: u64,
+    /// The bytes of the fragments in the replies that were taken.
+    pub returned: u64,
+}
+
+impl Cost {
+    /// The cost of no call.
+    pub const NONE: Cost = Cost {
+        phases: 0,
+        requests: 0,
+        replies: 0,
+        sent: 0,
+        returned: 0,
+    };
+
+    /// The cost of these calls and those.
+    pub fn plus(self, other: Cost) -> Cost
+        ensures { result ≡ plus self other }
+    {
+        Cost {
+            phases: self.phases.saturating_add(other.phases),
+            requests: self.requests.saturating_add(other.requests),
+            replies: self.replies.saturating_add(other.replies),
+            sent: self.sent.saturating_add(other.sent),
+            returned: self.returned.saturating_add(other.returned),
+        }
+    }
+}
+
+/// What the call of this number cost so far. Where there is no such call, nothing.
+pub fn cost_of(register: &Register, call: u64) -> Cost
+    ensures { result ≡ cost_of register.now.object call }
+{
+    let phases = register.phases_view(call);
+    Cost {
+        phases: phases.len() as u64,
+        requests: sums::requests(phases),
+        replies: sums::replies(phases),
+        sent: sums::sent(register, phases),
+        returned: sums::returned(phases),
+    }
+}

@@ -1,0 +1,278 @@
+-- Which clients are free, call by call.
+use Rattle.std.proofs.Common.{◌≡◌, ◌≢◌, ◌<◌, ◌≤◌, ◌⊎◌, ℕ, zero, suc, max, List, [], ◌∷◌, ◌++◌, length, get_or, set}
+use Rattle.std.proofs.Common.{Option, Some, None, refl, sym, ap, subst, ◌∙◌, inl, inr, arith}
+use Rattle.std.specs.Prelude.{slice_get, ◌↔◌}
+use Rattle.std.proofs.lemmas.Bool.{cases_lt}
+use Rattle.record.specs.declared.call.Entry.{Entry}
+use Rattle.record.specs.declared.call.Operation.TheVariants as operation
+use Rattle.record.specs.Atomic.{IsAnsweredBefore, no_entry}
+use Rattle.exports.specs.declared.event.Process.{Process}
+use Rattle.exports.specs.declared.event.Process.TheVariants as process
+use Rattle.exports.specs.Clients.{AreProcesses, TakesProcess, later}
+
+same_some : {X : Type 0} (x y : X) → Some x ≡ Some y → x ≡ y
+same_some x y e = cc
+
+-- What stands in a list with one element more, or another one
+
+front : {X : Type 0} (xs : List X) (x : X) (i : ℕ) → i < length xs → slice_get (xs ++ x ∷ []) i ≡ slice_get xs i
+front [] x i within = absurd (omega (arith, within))
+front (y ∷ ys) x zero within = refl
+front (y ∷ ys) x (suc i) within = front ys x i (omega (arith, within))
+
+last : {X : Type 0} (xs : List X) (x : X) → slice_get (xs ++ x ∷ []) (length xs) ≡ Some x
+last [] x = refl
+last (y ∷ ys) x = last ys x
+
+pushed : {X : Type 0} (xs : List X) (x y : X) (i : ℕ) → slice_get (xs ++ x ∷ []) i ≡ Some y
+    → (slice_get xs i ≡ Some y) ⊎ ((i ≡ length xs) × (x ≡ y))
+pushed [] x y zero e = inr (refl, same_some x y e)
+pushed [] x y (suc i) e = absurd (cc)
+pushed (z ∷ zs) x y zero e = inl e
+pushed (z ∷ zs) x y (suc i) e = elim (pushed zs x y i e) [
+  | inl old ↦ inl old
+  | inr new ↦ inr (ap suc new.0, new.1)
+]
+
+within : {X : Type 0} (xs : List X) (i : ℕ) (x : X) → slice_get xs i ≡ Some x → i < length xs
+within [] i x e = absurd (cc)
+within (y ∷ ys) zero x e = omega arith
+within (y ∷ ys) (suc i) x e = let rest = within ys i x e in omega (arith, rest)
+
+changed : {X : Type 0} (xs : List X) (i j : ℕ) (new x : X) → slice_get (set xs i new) j ≡ Some x
+    → ((j ≡ i) × (new ≡ x)) ⊎ ((j ≢ i) × (slice_get xs j ≡ Some x))
+changed [] i j new x e = absurd (cc)
+changed (y ∷ ys) zero zero new x e = inl (refl, same_some new x e)
+changed (y ∷ ys) zero (suc j) new x e = inr ((λ same. absurd (omega (arith, same))), e)
+changed (y ∷ ys) (suc i) zero new x e = inr ((λ same. absurd (omega (arith, same))), e)
+changed (y ∷ ys) (suc i) (suc j) new x e = elim (changed ys i j new x e) [
+  | inl here ↦ inl (ap suc here.0, here.1)
+  | inr there ↦ inr ((λ same. there.0 (omega (arith, same))), there.1)
+]
+
+length-changed : {X : Type 0} (xs : List X) (i : ℕ) (x : X) → length (set xs i x) ≡ length xs
+length-changed [] i x = refl
+length-changed (y ∷ ys) zero x = refl
+length-changed (y ∷ ys) (suc i) x = ap suc (length-changed ys i x)
+
+pub length-pushed : {X : Type 0} (xs : List X) (x : X) → length (xs ++ x ∷ []) ≡ suc (length xs)
+length-pushed [] x = refl
+length-pushed (y ∷ ys) x = ap suc (length-pushed ys x)
+
+-- What is known once some calls have their processes
+
+-- the call was answered by a step
+abbrev pub IsAnsweredBy : Entry → (step : ℕ) → Type 0
+IsAnsweredBy entry by = (step : ℕ) × (entry.answered ≡ Some step) × (step ≤ by)
+
+-- the first calls have these processes, and each client's calls are answered by the step that is kept of it
+pub record Follows (entries : List Entry) (processes : List Process) (clients : List (Option ℕ)) : Type 0 where
+  pub moves : (i : ℕ) → i < length processes
+      → (slice_get processes i ≡ Some process.Nemesis) ↔ ((get_or entries i no_entry).operation ≡ operation.Move)
+  pub known : (i client : ℕ) → slice_get processes i ≡ Some (process.Client client) → client < length clients
+  pub free : (i client since : ℕ) → slice_get processes i ≡ Some (process.Client client)
+      → slice_get clients client ≡ Some (Some since) → IsAnsweredBy (get_or entries i no_entry) since
+  pub apart : (i j client : ℕ) → i < j → slice_get processes i ≡ Some (process.Client client)
+      → slice_get processes j ≡ Some (process.Client client)
+      → IsAnsweredBefore (get_or entries i no_entry) (get_or entries j no_entry)
+
+pub none_yet : (entries : List Entry) → Follows entries [] []
+none_yet entries = record {
+  moves = λ i below. absurd (omega (arith, below));
+  known = λ i client e. absurd (cc);
+  free = λ i client since e. absurd (cc);
+  apart = λ i j client below e. absurd (cc);
+}
+
+later_than : (since by : ℕ) (answered : Option ℕ) → later since answered ≡ Some by → since ≤ by
+later_than since by None e = absurd (cc)
+later_than since by (Some step) e = let is = same_some (max step since) by e in omega (arith, is)
+
+answered_by : (entry : Entry) (since by : ℕ) (answered : Option ℕ) → entry.answered ≡ answered → later since answered ≡ Some by
+    → IsAnsweredBy entry by
+answered_by entry since by None is e = absurd (cc)
+answered_by entry since by (Some step) is e =
+    let most = same_some (max step since) by e in (step, is, omega (arith, most))
+
+module _ (entries : List Entry) (processes : List Process) (old new : List (Option ℕ)) (so_far : Follows entries processes old) where
+  here : Entry
+  here = get_or entries (length processes) no_entry
+
+  moves_too : (p : Process) → ((p ≡ process.Nemesis) ↔ ((get_or entries (length processes) no_entry).operation ≡ operation.Move))
+      → (i : ℕ) → i < length (processes ++ p ∷ [])
+      → (slice_get (processes ++ p ∷ []) i ≡ Some process.Nemesis) ↔ ((get_or entries i no_entry).operation ≡ operation.Move)
+  moves_too p is i below = elim (cases_lt i (length processes)) [
+    | inl early ↦ (
+      (λ e. (so_far.moves i early).0 (sym (front processes p i early) ∙ e)),
+      (λ m. front processes p i early ∙ (so_far.moves i early).1 m),
+    )
+    | inr late ↦
+        let count = length-pushed processes p in
+        let place : length processes ≡ i = omega (arith, count, below, late) in
+        subst (λ (n : ℕ). (slice_get (processes ++ p ∷ []) n ≡ Some process.Nemesis)
+        ↔ ((get_or entries n no_entry).operation ≡ operation.Move))
+        place
+        ((λ e. is.0 (same_some p process.Nemesis (sym (last processes p) ∙ e))), λ m. last processes p ∙ ap Some (is.1 m))
+  ]
+
+  pub to_nemesis : (get_or entries (length processes) no_entry).operation ≡ operation.Move → new ≡ old
+      → Follows entries (processes ++ process.Nemesis ∷ []) new
+  to_nemesis is same = subst (Follows entries (processes ++ process.Nemesis ∷ [])) (sym same) (record {
+    moves = moves_too process.Nemesis ((λ _. is), λ _. refl);
+    known = λ i client e. so_far.known i client (earlier i client e);
+    free = λ i client since e. so_far.free i client since (earlier i client e);
+    apart = λ i j client below e f. so_far.apart i j client below (earlier i client e) (earlier j client f);
+  })
+    where
+      earlier : (i client : ℕ) → slice_get (processes ++ process.Nemesis ∷ []) i ≡ Some (process.Client client)
+          → slice_get processes i ≡ Some (process.Client client)
+      earlier i client e = elim (pushed processes process.Nemesis (process.Client client) i e) [
+        | inl was ↦ was
+        | inr now ↦ absurd (let clash = now.1 in cc)
+      ]
+
+  module _ (client : ℕ) (is : (get_or entries (length processes) no_entry).operation ≢ operation.Move) where
+    abbrev all : List Process
+    all = processes ++ process.Client client ∷ []
+
+    same_client : (other : ℕ) → process.Client client ≡ process.Client other → client ≡ other
+    same_client other e = cc
+
+    moves_not : (i : ℕ) → i < length all
+        → (slice_get all i ≡ Some process.Nemesis) ↔ ((get_or entries i no_entry).operation ≡ operation.Move)
+    moves_not = moves_too (process.Client client) ((λ e. absurd (cc)), λ m. absurd (is m))
+
+    -- of two calls of one client, the later one is the last, or both are earlier
+    apart_if : ((i : ℕ) → slice_get processes i ≡ Some (process.Client client)
+        → IsAnsweredBefore (get_or entries i no_entry) (get_or entries (length processes) no_entry))
+        → (i j other : ℕ) → i < j → slice_get all i ≡ Some (process.Client other)
+        → slice_get all j ≡ Some (process.Client other) → IsAnsweredBefore (get_or entries i no_entry) (get_or entries j no_entry)
+    apart_if before i j other below e f = elim (pushed processes (process.Client client) (process.Client other) j f) [
+      | inl was_j ↦
+          let low = within processes j (process.Client other) was_j in
+          so_far.apart i j other below (sym (front processes (process.Client client) i (omega (arith, low, below))) ∙ e) was_j
+      | inr now_j ↦
+          let at_end = now_j.0 in
+          let one : client ≡ other = same_client other now_j.1 in
+          let was_i = sym (front processes (process.Client client) i (omega (arith, at_end, below))) ∙ e in
+          subst (λ (n : ℕ). IsAnsweredBefore (get_or entries i no_entry) (get_or entries n no_entry)) (sym at_end)
+          (before i (was_i ∙ ap (λ (n : ℕ). Some (process.Client n)) (sym one)))
+    ]
+
+    module _ (since : ℕ) (at : slice_get old client ≡ Some (Some since))
+        (before : since < (get_or entries (length processes) no_entry).called)
+        (set_is : new ≡ set old client (later since (get_or entries (length processes) no_entry).answered)) where
+      abbrev next : Option ℕ
+      next = later since (get_or entries (length processes) no_entry).answered
+
+      answered_before : (i : ℕ) → slice_get processes i ≡ Some (process.Client client)
+          → IsAnsweredBefore (get_or entries i no_entry) (get_or entries (length processes) no_entry)
+      answered_before i e =
+          let was = so_far.free i client since e at in
+          let low = was.2 in
+          (was.0, was.1, omega (arith, low, before))
+
+      known_again : (i other : ℕ) → slice_get all i ≡ Some (process.Client other) → other < length (set old client next)
+      known_again i other e = elim (pushed processes (process.Client client) (process.Client other) i e) [
+        | inl was ↦
+            let low = so_far.known i other was in
+            let same = length-changed old client next in
+            omega (arith, low, same)
+        | inr now ↦
+            let one : client ≡ other = same_client other now.1 in
+            let low = within old client (Some since) at in
+            let same = length-changed old client next in
+            omega (arith, low, same, one)
+      ]
+
+      free_again : (i other by : ℕ) → slice_get all i ≡ Some (process.Client other)
+          → slice_get (set old client next) other ≡ Some (Some by) → IsAnsweredBy (get_or entries i no_entry) by
+      free_again i other by e f = elim (changed old client other next (Some by) f) [
+        | inl this ↦ elim (pushed processes (process.Client client) (process.Client other) i e) [
+          | inl was ↦
+              let earlier = so_far.free i client since (was ∙ ap (λ (n : ℕ). Some (process.Client n)) this.0) at in
+              let low = earlier.2 in
+              let most = later_than since by (get_or entries (length processes) no_entry).answered this.1 in
+              (earlier.0, earlier.1, omega (arith, low, most))
+          | inr now ↦
+              subst (λ (n : ℕ). IsAnsweredBy (get_or entries n no_entry) by) (sym now.0)
+              (answered_by (get_or entries (length processes) no_entry) since by
+              (get_or entries (length processes) no_entry).answered refl this.1)
+        ]
+        | inr that ↦ elim (pushed processes (process.Client client) (process.Client other) i e) [
+          | inl was ↦ so_far.free i other by was that.1
+          | inr now ↦ absurd (that.0 (sym (same_client other now.1)))
+        ]
+      ]
+
+      pub to_free : Follows entries (processes ++ process.Client client ∷ []) new
+      to_free = subst (Follows entries all) (sym set_is) (record {
+        moves = moves_not;
+        known = known_again;
+        free = free_again;
+        apart = apart_if answered_before;
+      })
+
+    module _ (fresh : client ≡ length old) (push_is : new ≡ old ++ (get_or entries (length processes) no_entry).answered ∷ []) where
+      abbrev answer : Option ℕ
+      answer = (get_or entries (length processes) no_entry).answered
+
+      never : (i other : ℕ) → slice_get processes i ≡ Some (process.Client other) → client ≡ other → ⊥
+      never i other e one = let low = so_far.known i other e in omega (arith, low, one, fresh)
+
+      known_more : (i other : ℕ) → slice_get all i ≡ Some (process.Client other) → other < length (old ++ answer ∷ [])
+      known_more i other e = elim (pushed processes (process.Client client) (process.Client other) i e) [
+        | inl was ↦
+            let low = so_far.known i other was in
+            let more = length-pushed old answer in
+            omega (arith, low, more)
+        | inr now ↦
+            let one : client ≡ other = same_client other now.1 in
+            let more = length-pushed old answer in
+            omega (arith, more, one, fresh)
+      ]
+
+      free_more : (i other by : ℕ) → slice_get all i ≡ Some (process.Client other)
+          → slice_get (old ++ answer ∷ []) other ≡ Some (Some by) → IsAnsweredBy (get_or entries i no_entry) by
+      free_more i other by e f = elim (pushed old answer (Some by) other f) [
+        | inl that ↦ elim (pushed processes (process.Client client) (process.Client other) i e) [
+          | inl was ↦ so_far.free i other by was that
+          | inr now ↦
+              let one : client ≡ other = same_client other now.1 in
+              let low = within old other (Some by) that in
+              absurd (omega (arith, low, one, fresh))
+        ]
+        | inr this ↦ elim (pushed processes (process.Client client) (process.Client other) i e) [
+          | inl was ↦ let place = this.0 in absurd (never i other was (let e : client ≡ other = omega (arith, fresh, place) in e))
+          | inr now ↦
+              subst (λ (n : ℕ). IsAnsweredBy (get_or entries n no_entry) by) (sym now.0)
+              (by, this.1, omega arith)
+        ]
+      ]
+
+      pub to_new : Follows entries (processes ++ process.Client client ∷ []) new
+      to_new = subst (Follows entries all) (sym push_is) (record {
+        moves = moves_not;
+        known = known_more;
+        free = free_more;
+        apart = apart_if (λ i e. absurd (never i client e refl));
+      })
+
+-- one more call has its process
+pub one_more : (entries : List Entry) (processes : List Process) (old new : List (Option ℕ)) (p : Process)
+    → Follows entries processes old → TakesProcess old (get_or entries (length processes) no_entry) new p
+    → Follows entries (processes ++ p ∷ []) new
+one_more entries processes old new process.Nemesis so_far takes = to_nemesis entries processes old new so_far takes.0 takes.1
+one_more entries processes old new (process.Client client) so_far (is, inl free) =
+    to_free entries processes old new so_far client is free.0 free.1 free.2 free.3
+one_more entries processes old new (process.Client client) so_far (is, inr fresh) =
+    to_new entries processes old new so_far client is fresh.0 fresh.1
+
+-- all calls have theirs
+pub all_have : (entries : List Entry) (processes : List Process) (clients : List (Option ℕ)) → length processes ≡ length entries
+    → Follows entries processes clients → AreProcesses entries processes
+all_have entries processes clients same follows = record {
+  one_each = same;
+  moves = λ i below. follows.moves i (omega (arith, same, below));
+  apart = follows.apart;
+}

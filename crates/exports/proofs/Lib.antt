@@ -1,0 +1,2 @@
+pub mod ClientLemmas
+pub mod TextLemmas

@@ -1,0 +1,64 @@
+-- Lists that grow by what one more element gives.
+use Rattle.std.proofs.Common.{◌≡◌, ℕ, ◌+◌, ◌<◌, ◌≤◌, List, [], ◌∷◌, ◌++◌, length, take}
+use Rattle.std.proofs.Common.{get_or, sym, ap, subst, ◌∙◌, zero-add, append_assoc, arith}
+use Rattle.std.specs.List.{enumerate_from, flat_map, zip}
+use Rattle.std.proofs.lemmas.List.{flat_map_more, take_all, take_more}
+use Rattle.std.proofs.lemmas.Slice.Zip.{get_or-zip, length-zip}
+use Rattle.std.proofs.lemmas.List.FromFn.{get_or-enumerate_from, length-enumerate_from}
+
+-- the first elements and one more
+pub flat_map-take_more : {X Y : Type 0} (f : X → List Y) (xs : List X) (i : ℕ) (d : X) → i < length xs
+    → flat_map f (take (i + 1) xs) ≡ flat_map f (take i xs) ++ f (get_or xs i d)
+flat_map-take_more {X} f xs i d below =
+    ap (λ (ys : List X). flat_map f ys) (take_more xs i d below) ∙ sym (flat_map_more f [] (take i xs) (get_or xs i d))
+
+-- the first elements and one more, each with its place
+pub flat_map-numbered_more : {X : Type 0} (f : ℕ × X → List ℕ) (xs : List X) (i : ℕ) (d : X) → i < length xs
+    → flat_map f (take (i + 1) (enumerate_from 0 xs)) ≡ flat_map f (take i (enumerate_from 0 xs)) ++ f (i, get_or xs i d)
+flat_map-numbered_more {X} f xs i d below =
+    let P : ℕ → Type 0 = λ n. i < n in
+    flat_map-take_more f (enumerate_from 0 xs) i (0, d) (subst P (sym (length-enumerate_from 0 xs)) below)
+    ∙ ap (λ (p : ℕ × X). flat_map f (take i (enumerate_from 0 xs)) ++ f p)
+    (get_or-enumerate_from 0 xs i (0, d) below ∙ ap (λ (j : ℕ). (j, get_or xs i d)) (zero-add i))
+
+pub flat_map-numbered_item : {X : Type 0} (f : ℕ × X → List ℕ) (xs : List X) (i : ℕ) (x : X) → i < length xs → x ≡ get_or xs i x
+    → flat_map f (take (i + 1) (enumerate_from 0 xs)) ≡ flat_map f (take i (enumerate_from 0 xs)) ++ f (i, x)
+flat_map-numbered_item {X} f xs i x below is =
+    flat_map-numbered_more f xs i x below ∙ ap (λ (y : X). flat_map f (take i (enumerate_from 0 xs)) ++ f (i, y)) (sym is)
+
+-- all elements
+pub flat_map-numbered_all : {X : Type 0} (f : ℕ × X → List ℕ) (xs : List X) (n : ℕ) → length xs ≤ n
+    → flat_map f (take n (enumerate_from 0 xs)) ≡ flat_map f (enumerate_from 0 xs)
+flat_map-numbered_all {X} f xs n all =
+    let P : ℕ → Type 0 = λ k. k ≤ n in
+    ap (λ (ys : List (ℕ × X)). flat_map f ys) (take_all n (enumerate_from 0 xs) (subst P (sym (length-enumerate_from 0 xs)) all))
+
+-- the first pairs and one more
+pub flat_map-zip_more : {A B Y : Type 0} (f : A × B → List Y) (xs : List A) (ys : List B) (i : ℕ) (d : A × B)
+    → i < length xs → i < length ys
+    → flat_map f (take (i + 1) (zip xs ys)) ≡ flat_map f (take i (zip xs ys)) ++ f (get_or xs i d.0, get_or ys i d.1)
+flat_map-zip_more {A} {B} f xs ys i d below beside =
+    let both = length-zip xs ys in
+    flat_map-take_more f (zip xs ys) i d (omega (arith, both, below, beside))
+    ∙ ap (λ (p : A × B). flat_map f (take i (zip xs ys)) ++ f p) (get_or-zip xs ys i d below beside)
+
+-- two elements more, which the next pair gives
+pub both_more : {A B Y : Type 0} (f : A × B → List Y) (xs : List A) (ys : List B) (i : ℕ) (x : A) (d : B) (one two : Y)
+    (old middle new : List Y) → i < length xs → i < length ys → x ≡ get_or xs i x
+    → f (x, get_or ys i d) ≡ one ∷ two ∷ [] → old ≡ flat_map f (take i (zip xs ys)) → middle ≡ old ++ one ∷ []
+    → new ≡ middle ++ two ∷ [] → new ≡ flat_map f (take (i + 1) (zip xs ys))
+both_more {A} {B} {Y} f xs ys i x d one two old middle new below beside here gives so_far first second =
+    second
+    ∙ (ap (λ (l : List Y). l ++ two ∷ []) first
+    ∙ (append_assoc old (one ∷ []) (two ∷ [])
+    ∙ (ap (λ (l : List Y). l ++ one ∷ two ∷ []) so_far
+    ∙ (ap (λ (l : List Y). flat_map f (take i (zip xs ys)) ++ l) (sym gives)
+    ∙ (ap (λ (a : A). flat_map f (take i (zip xs ys)) ++ f (a, get_or ys i d)) here
+    ∙ sym (flat_map-zip_more f xs ys i (x, d) below beside))))))
+
+-- all pairs
+pub flat_map-zip_all : {A B Y : Type 0} (f : A × B → List Y) (xs : List A) (ys : List B) (i : ℕ) (made : List Y)
+    → made ≡ flat_map f (take i (zip xs ys)) → length ys ≡ length xs → length xs ≤ i → made ≡ flat_map f (zip xs ys)
+flat_map-zip_all {A} {B} f xs ys i made is same all =
+    let both = length-zip xs ys in
+    is ∙ ap (λ (l : List (A × B)). flat_map f l) (take_all i (zip xs ys) (omega (arith, both, same, all)))

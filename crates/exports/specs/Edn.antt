@@ -1,0 +1,29 @@
+-- The lines of a history as maps of EDN.
+use Rattle.std.specs.Prelude.{ℕ, List, [], ◌∷◌, ◌++◌, codes}
+use Rattle.std.specs.Fmt.{decimal}
+use Rattle.std.specs.List.{enumerate_from, flat_map}
+use Rattle.exports.specs.declared.event.Event.{Event}
+use Rattle.exports.specs.declared.event.Process.{Process}
+use Rattle.exports.specs.declared.event.Process.TheVariants as process
+use Rattle.exports.specs.Words.{quoted_or, texts, word_of_operation, word_of_stage}
+
+-- who makes a call
+abbrev pub process_text : Process → List ℕ
+process_text (process.Client client) = decimal client
+process_text process.Nemesis = codes ":nemesis"
+
+-- the map of an event
+abbrev pub map_text : (index : ℕ) → Event → List ℕ
+map_text index event = texts (
+    codes "{:index " ∷ decimal index ∷ codes ", :time " ∷ decimal event.step
+    ∷ codes ", :type :" ∷ word_of_stage event.stage ∷ codes ", :process " ∷ process_text event.process
+    ∷ codes ", :f :" ∷ word_of_operation event.operation
+    ∷ codes ", :value " ∷ quoted_or event.value (codes "nil") ∷ codes "}" ∷ [])
+
+-- the line of an event with its number
+abbrev pub edn_line : ℕ × Event → List ℕ
+edn_line numbered = map_text numbered.0 numbered.1 ++ codes "\n"
+
+-- the lines of the events
+abbrev pub edn_text : List Event → List ℕ
+edn_text events = flat_map edn_line (enumerate_from 0 events)

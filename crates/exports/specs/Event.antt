@@ -1,0 +1,73 @@
+-- The events of a history.
+use Rattle.std.specs.Prelude.{ℕ, List, [], ◌∷◌, Option, Some, None}
+use Rattle.std.specs.List.{flat_map, zip}
+use Rattle.std.specs.List.Sorted.{IsNonDecreasingBy, IsPermutation}
+use Rattle.record.specs.declared.call.Entry.{Entry}
+use Rattle.record.specs.declared.call.Operation.{Operation}
+use Rattle.record.specs.declared.call.Operation.TheVariants as operation
+use Rattle.exports.specs.declared.event.Event.{Event}
+use Rattle.exports.specs.declared.event.Process.{Process}
+use Rattle.exports.specs.declared.event.Stage.{Stage}
+use Rattle.exports.specs.declared.event.Stage.TheVariants as stage
+use Rattle.exports.specs.Clients.{AreProcesses}
+
+-- what the begin of a call is
+abbrev pub stage_of_begin : Operation → Stage
+stage_of_begin operation.Read = stage.Invoke
+stage_of_begin operation.Write = stage.Invoke
+stage_of_begin operation.Move = stage.Info
+
+-- the value that a call has as it begins
+abbrev pub value_of_begin : Operation → Option (List ℕ) → Option (List ℕ)
+value_of_begin operation.Read value = None
+value_of_begin operation.Write value = value
+value_of_begin operation.Move value = value
+
+abbrev pub stage_of_answer : Option ℕ → Stage
+stage_of_answer None = stage.Info
+stage_of_answer (Some step) = stage.Complete
+
+-- what the end of a call is
+abbrev pub stage_of_end : Operation → Option ℕ → Stage
+stage_of_end operation.Read answered = stage_of_answer answered
+stage_of_end operation.Write answered = stage_of_answer answered
+stage_of_end operation.Move answered = stage.Info
+
+-- the step of an answer, or this one where there is none
+abbrev pub step_of_end : (end : ℕ) → Option ℕ → ℕ
+step_of_end end None = end
+step_of_end end (Some step) = step
+
+-- the call of this entry begins
+abbrev pub begin_of : Entry → Process → Event
+begin_of entry process = record {
+  step = entry.called;
+  process = process;
+  call = entry.call;
+  operation = entry.operation;
+  stage = stage_of_begin entry.operation;
+  value = value_of_begin entry.operation entry.value;
+}
+
+-- the call of this entry is answered, or stays open, which shows at the step `end`
+abbrev pub end_of : (end : ℕ) → Entry → Process → Event
+end_of end entry process = record {
+  step = step_of_end end entry.answered;
+  process = process;
+  call = entry.call;
+  operation = entry.operation;
+  stage = stage_of_end entry.operation entry.answered;
+  value = entry.value;
+}
+
+-- both events of an entry
+abbrev pub ends_of : (end : ℕ) → Entry × Process → List Event
+ends_of end made = begin_of made.0 made.1 ∷ end_of end made.0 made.1 ∷ []
+
+-- the events are those of the entries, two of each, with its own value, in the order of their steps, and no process
+-- has two calls at once
+pub record IsHistory (entries : List Entry) (end : ℕ) (events : List Event) : Type 0 where
+  pub processes : List Process
+  pub apart : AreProcesses entries processes
+  pub each_once : IsPermutation (flat_map (ends_of end) (zip entries processes)) events
+  pub in_order : IsNonDecreasingBy (λ event. event.step) events

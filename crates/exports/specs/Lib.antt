@@ -1,0 +1,5 @@
+pub mod Event
+pub mod Clients
+pub mod Words
+pub mod Edn
+pub mod Json

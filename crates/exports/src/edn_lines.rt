@@ -1,0 +1,64 @@
+//! A history as Jepsen and Knossos have it.
+ghost use Rattle.std.specs.Prelude.{Some};
+ghost use Rattle.exports.specs.Edn.{edn_text, map_text, process_text};
+
+use crate::event::{Event, Process};
+use crate::value::{QuotedOr, operation_word, stage_word};
+use std::fmt;
+
+/// A line for each event, in order, which is a map of EDN: `{:index 0, :time 3, :type :invoke, :process 0, :f :write,
+/// :value "68"}`. The time is the step, a value its hexadecimal word, as in scripts.
+#[derive(Clone, Copy)]
+pub struct EdnLines<'a>(pub &'a [Event]);
+
+impl fmt::Display for EdnLines<'_> {
+    ghost output = { λ lines. Some (edn_text lines.0.now) };
+
+    fn fmt<W: fmt::Write>(&self, f: &mut fmt::Formatter<W>) -> fmt::Result {
+        for (index, event) in self.0.iter().enumerate() {
+            writeln!(f, "{}", EdnMap { index, event })?;
+        }
+        Ok(())
+    }
+}
+
+#[derive(Clone, Copy)]
+struct EdnMap<'a> {
+    index: usize,
+    event: &'a Event,
+}
+
+impl fmt::Display for EdnMap<'_> {
+    ghost output = { λ line. Some (map_text line.index line.event.now) };
+
+    fn fmt<W: fmt::Write>(&self, f: &mut fmt::Formatter<W>) -> fmt::Result {
+        let event = self.event;
+        write!(
+            f,
+            "{{:index {}, :time {}, :type :{}, :process {}, :f :{}, :value {}}}",
+            self.index,
+            event.step,
+            stage_word(event.stage),
+            EdnProcess(event.process),
+            operation_word(event.operation),
+            QuotedOr {
+                value: &event.value,
+                none: "nil",
+            }
+        )
+    }
+}
+
+#[derive(Clone, Copy)]
+struct EdnProcess(Process);
+
+impl fmt::Display for EdnProcess {
+    ghost output = { λ process. Some (process_text process.0) };
+
+    fn fmt<W: fmt::Write>(&self, f: &mut fmt::Formatter<W>) -> fmt::Result {
+        match self.0 {
+            Process::Client(client) => write!(f, "{client}"),
+            Process::Nemesis => f.write_str(":nemesis"),
+        }
+    }
+}

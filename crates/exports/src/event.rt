@@ -1,0 +1,120 @@
+//! The events of a history.
+ghost use Rattle.std.specs.Prelude.{◌≡◌, IfOk, List, length};
+ghost use Rattle.std.specs.List.{flat_map, zip};
+ghost use Rattle.exports.specs.Event.{IsHistory, begin_of, end_of, ends_of};
+
+use crate::clients::assign;
+use bytes::Bytes;
+use record::{Entry, Operation};
+use std::alloc::{AllocError, Global};
+use tag::Stamp;
+
+/// Who makes a call. No process has two calls at once.
+#[derive(Clone, Copy, Debug, PartialEq, Eq)]
+pub enum Process {
+    /// A client that reads and writes, from 0.
+    Client(u64),
+    /// Who moves the object.
+    Nemesis,
+}
+
+/// What an event is.
+#[derive(Clone, Copy, Debug, PartialEq, Eq)]
+pub enum Stage {
+    /// A read or a write begins.
+    Invoke,
+    /// It is answered.
+    Complete,
+    /// It stays open, or a move begins or ends.
+    Info,
+}
+
+/// A call begins or ends.
+#[derive(Debug, PartialEq, Eq, Drop)]
+pub struct Event {
+    /// The step at which it does.
+    pub step: Stamp,
+    pub process: Process,
+    /// The call's number in its object, from 1.
+    pub call: u64,
+    pub operation: Operation,
+    pub stage: Stage,
+    /// What the call writes, or an answered read returned.
+    pub value: Option<Bytes>,
+}
+
+/// The two events of each entry, in the order of their steps. A call that stays open ends at the step `end`.
+pub fn events(alloc: Global, entries: &[Entry], end: Stamp) -> Result<Vec<Event>, AllocError>
+    ensures { IfOk result (λ events. IsHistory entries.now end events.items) }
+{
+    let processes = assign(alloc, entries)?;
+    let mut events = both_ends(alloc, entries, &processes, end)?;
+    events.sort_by_key(|event| event.step)?;
+    Ok(events)
+}
+
+// The two events of each entry, one entry after another.
+fn both_ends(
+    alloc: Global,
+    entries: &[Entry],
+    processes: &[Process],
+    end: Stamp,
+) -> Result<Vec<Event>, AllocError>
+    requires { length processes.now ≡ length entries.now }
+    ensures { IfOk result (λ events. events.items ≡ flat_map (ends_of end) (zip entries.now processes.now)) }
+{
+    let mut events = Vec::new(alloc);
+    for (index, entry) in entries.iter().enumerate() {
+        let process = processes[index];
+        events.push(begin_of(entry, process)?)?;
+        events.push(end_of(entry, process, end)?)?;
+    }
+    Ok(events)
+}
+
+fn begin_of(entry: &Entry, process: Process) -> Result<Event, AllocError>
+    ensures { IfOk result (λ event. event ≡ begin_of entry.now process) }
+{
+    let stage = match entry.operation {
+        Operation::Move => Stage::Info,
+        _ => Stage::Invoke,
+    };
+    let value = match entry.operation {
+        Operation::Read => None,
+        _ => value_of(entry)?,
+    };
+    Ok(Event {
+        step: entry.called,
+        process,
+        call: entry.call,
+        operation: entry.operation,
+        stage,
+        value,
+    })
+}
+
+fn end_of(entry: &Entry, process: Process, end: Stamp) -> Result<Event, AllocError>
+    ensures { IfOk result (λ event. event ≡ end_of end entry.now process) }
+{
+    let stage = match (entry.operation, entry.answered) {
+        (Operation::Move, _) | (_, None) => Stage::Info,
+        _ => Stage::Complete,
+    };
+    Ok(Event {
+        step: entry.answered.unwrap_or(end),
+        process,
+        call: entry.call,
+        operation: entry.operation,
+        stage,
+        value: value_of(entry)?,
+    })
+}
+
+fn value_of(entry: &Entry) -> Result<Option<Bytes>, AllocError>
+    ensures { IfOk result (λ value. value ≡ entry.now.value) }
+{
+    match &entry.value {
+        Some(value) => Ok(Some(value.clone()?)),
+        None => Ok(None),
+    }
+}

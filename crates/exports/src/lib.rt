@@ -1,0 +1,12 @@
+//! The history of an object as other checkers read it: Jepsen's and Knossos' maps, and the same as lines of JSON.
+#![tactic(auto)]
+
+pub use edn_lines::EdnLines;
+pub use event::{Event, Process, Stage, events};
+pub use json_lines::JsonLines;
+
+mod clients;
+mod edn_lines;
+mod event;
+mod json_lines;
+mod value;

@@ -1,0 +1,47 @@
+//! What a line has for a value and for its words.
+ghost use Rattle.std.specs.Prelude.{◌≡◌, Some};
+ghost use Rattle.exports.specs.Words.{quoted_or, word_of_operation, word_of_stage};
+
+use crate::event::Stage;
+use bytes::Bytes;
+use record::Operation;
+use std::fmt;
+use words::Hexadecimal;
+
+/// A value as its hexadecimal word between quotes, or a word for none.
+#[derive(Clone, Copy)]
+pub(crate) struct QuotedOr<'a> {
+    pub(crate) value: &'a Option<Bytes>,
+    pub(crate) none: &'static str,
+}
+
+impl fmt::Display for QuotedOr<'_> {
+    ghost output = { λ quoted. Some (quoted_or quoted.value.now quoted.none.now) };
+
+    fn fmt<W: fmt::Write>(&self, f: &mut fmt::Formatter<W>) -> fmt::Result {
+        match self.value {
+            Some(value) => write!(f, "\"{}\"", Hexadecimal(value.as_slice())),
+            None => f.write_str(self.none),
+        }
+    }
+}
+
+pub(crate) fn stage_word(stage: Stage) -> &'static str
+    ensures { result.now ≡ word_of_stage stage }
+{
+    match stage {
+        Stage::Invoke => "invoke",
+        Stage::Complete => "ok",
+        Stage::Info => "info",
+    }
+}
+
+pub(crate) fn operation_word(operation: Operation) -> &'static str
+    ensures { result.now ≡ word_of_operation operation }
+{
+    match operation {
+        Operation::Read => "read",
+        Operation::Write => "write",
+        Operation::Move => "move",
+    }
+}

@@ -1,0 +1,64 @@
+-- The names and bars of the calls.
+use Rattle.std.specs.Prelude.{ℕ, List, [], ◌∷◌, ◌++◌, Option, Some, None, codes}
+use Rattle.std.specs.Fmt.{decimal}
+use Rattle.std.specs.List.{flat_map}
+use Rattle.record.specs.declared.call.Entry.{Entry}
+use Rattle.record.specs.declared.call.Operation.{Operation}
+use Rattle.record.specs.declared.call.Operation.TheVariants as operation
+use Rattle.picture.specs.declared.lane.Lane.{Lane}
+use Rattle.picture.specs.declared.plan.Plan.{Plan}
+use Rattle.picture.specs.Lane.{bar_top_of, base_of}
+use Rattle.picture.specs.Plan.{end_of, x_of}
+use Rattle.picture.specs.Px.{px_text}
+
+-- the word for what a call does
+abbrev pub word_of_operation : Operation → List ℕ
+word_of_operation operation.Read = codes "read"
+word_of_operation operation.Write = codes "write"
+word_of_operation operation.Move = codes "move"
+
+-- the texts one behind another
+abbrev pub texts : List (List ℕ) → List ℕ
+texts [] = []
+texts (text ∷ more) = text ++ texts more
+
+-- how a bar looks
+abbrev pub class_of : (answered : Option ℕ) → List ℕ
+class_of None = codes "bar open"
+class_of (Some step) = codes "bar"
+
+-- the steps of a call
+abbrev pub course_text : (called : ℕ) → (answered : Option ℕ) → List ℕ
+course_text called None = texts (codes "from step " ∷ decimal called ∷ codes ", open" ∷ [])
+course_text called (Some step) = codes "steps " ++ decimal called ++ (codes " to " ++ decimal step)
+
+-- the name of a call
+abbrev pub name_text : Lane → List ℕ
+name_text lane = texts (
+    codes "<text x='8' y='" ∷ px_text (base_of lane) ∷ codes "'>call " ∷ decimal lane.entry.call
+    ∷ codes " " ∷ word_of_operation lane.entry.operation ∷ codes "</text>\n" ∷ [])
+
+-- a mark down at the call step, and a line to the answer, or to the right edge of time
+abbrev pub path_text : Plan → Lane → List ℕ
+path_text plan lane = codes "M" ++ (px_text (x_of plan lane.entry.called)
+    ++ (codes " " ++ (px_text (bar_top_of lane)
+    ++ (codes "v10m0 -5H" ++ px_text (end_of plan lane.entry.answered)))))
+
+-- what a bar stands for
+abbrev pub title_text : Entry → List ℕ
+title_text entry = codes "call " ++ (decimal entry.call ++ (codes " " ++ (word_of_operation entry.operation
+    ++ (codes ", " ++ course_text entry.called entry.answered))))
+
+-- the bar of a call
+abbrev pub bar_text : Plan → Lane → List ℕ
+bar_text plan lane = texts (
+    codes "<path class='" ∷ class_of lane.entry.answered ∷ codes "' d='" ∷ path_text plan lane
+    ∷ codes "'><title>" ∷ title_text lane.entry ∷ codes "</title></path>\n" ∷ [])
+
+-- the lane of a call
+abbrev pub lane_text : Plan → Lane → List ℕ
+lane_text plan lane = name_text lane ++ bar_text plan lane
+
+-- a name and a bar for each call
+abbrev pub call_lanes_text : Plan → List ℕ
+call_lanes_text plan = flat_map (lane_text plan) plan.lanes.items

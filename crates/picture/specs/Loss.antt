@@ -1,0 +1,22 @@
+-- A message that a script loses.
+use Rattle.std.specs.Prelude.{ℕ, Option, Some, None}
+use Rattle.mail.specs.declared.message.Body.{Body}
+use Rattle.mail.specs.declared.message.Body.TheVariants as body
+use Rattle.mail.specs.declared.message.Message.{Message}
+use Rattle.picture.specs.declared.loss.Loss.{Loss}
+
+-- the step at which a request was served, where this is its reply
+abbrev pub served_at : Body → Option ℕ
+served_at (body.Request asked) = None
+served_at (body.Reply kind reply) = Some reply.step
+
+-- this message is lost at a step
+abbrev pub loss_of : Message → (step : ℕ) → Loss
+loss_of message step = record {
+  call = message.call;
+  phase = message.phase;
+  position = message.position;
+  member = message.member;
+  served = served_at message.body;
+  step = step;
+}

@@ -1,0 +1,46 @@
+//! The lanes of calls and of servers.
+ghost use Rattle.std.specs.Prelude.{◌≡◌};
+ghost use Rattle.picture.specs.Lane.{bar_top_of, base_of};
+
+use crate::px::Px;
+use record::Entry;
+use tag::Stamp;
+
+/// Where the servers of a position stand.
+#[derive(Clone, Copy, Debug)]
+pub(crate) struct Place {
+    pub(crate) position: u32,
+    pub(crate) top: u64,
+    pub(crate) members: u8,
+    /// The step at which its banks were opened.
+    pub(crate) opened: Stamp,
+}
+
+/// Where a call stands.
+#[derive(Debug, Drop)]
+pub struct Lane {
+    pub entry: Entry,
+    /// The upper edge of the lane.
+    pub(crate) top: u64,
+}
+
+impl Lane {
+    /// The line of the lane's texts.
+    pub(crate) fn base(&self) -> Px
+        ensures { result.0 ≡ base_of self.now }
+    {
+        Px(self.top).plus(120)
+    }
+
+    /// The upper end of the mark at which the bar begins.
+    pub(crate) fn bar_top(&self) -> Px
+        ensures { result.0 ≡ bar_top_of self.now }
+    {
+        Px(self.top).plus(30)
+    }
+
+    /// The lower edge of the bar.
+    pub(crate) fn foot(&self) -> Px {
+        Px(self.top).plus(140)
+    }
+}

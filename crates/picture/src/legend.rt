@@ -1,0 +1,115 @@
+//! What the signs of a picture mean, and how they look.
+use crate::px::Px;
+use std::fmt;
+
+/// The styles of all things. Each kind of phase has a shade of its own, and each text can be selected.
+pub(crate) const STYLE: &str = "<style>\
+text{font:11px sans-serif}.in{font-size:9px;text-anchor:middle}.head{font-weight:bold}\
+.tick{font-size:9px;text-anchor:middle;fill:#555}.grid{stroke:#e4e4e4;fill:none}\
+.bar{stroke:#000;stroke-width:1.5;fill:none}.open{stroke-dasharray:4 3}\
+rect{stroke:#000;stroke-width:.7}.next{fill:#fff}.spread{fill:#f6e6c4}.query{fill:#dfe9f6}\
+.fetch{fill:#bdd0ea}.pre{fill:#c4dfb6}.fin{fill:#8fbb84}.band{fill:#f1f1f1;stroke:#bbb;stroke-dasharray:2 2}\
+.lane{stroke:#999;fill:none}.msg{stroke:#888;stroke-width:.5;fill:none}\
+.lost{stroke:#000;stroke-width:1.2;stroke-dasharray:none;fill:none}\
+path.fin{stroke:#000;stroke-width:.7}.pending{fill:#fff;stroke:#000}.final{fill:#000;stroke:#000}\
+</style>";
+
+/// What the signs mean, in two lines.
+#[derive(Clone, Copy)]
+pub(crate) struct Legend(pub(crate) Px);
+
+impl fmt::Display for Legend {
+    fn fmt<W: fmt::Write>(&self, f: &mut fmt::Formatter<W>) -> fmt::Result {
+        let y = self.0;
+        write!(
+            f,
+            "{}{}{}",
+            KindSigns(y),
+            MarkSigns(y),
+            LineSigns(y.plus(180))
+        )
+    }
+}
+
+// The kinds of phases, with the letter that stands where a word has no room.
+#[derive(Clone, Copy)]
+struct KindSigns(Px);
+
+impl fmt::Display for KindSigns {
+    fn fmt<W: fmt::Write>(&self, f: &mut fmt::Formatter<W>) -> fmt::Result {
+        let y = self.0;
+        let (top, base) = (y.less(90), y.less(10));
+        let mut x = Px(80);
+        for (word, letter) in [
+            ("next", "n"),
+            ("spread", "s"),
+            ("query", "q"),
+            ("fetch", "g"),
+            ("pre", "p"),
+            ("fin", "f"),
+        ] {
+            writeln!(
+                f,
+                "<rect class='{word}' x='{x}' y='{top}' width='12' height='11'/>\
+                <text class='in' x='{}' y='{base}'>{letter}</text><text x='{}' y='{y}'>{word}</text>",
+                x.plus(60),
+                x.plus(150)
+            )?;
+            x = x.plus(640);
+        }
+        Ok(())
+    }
+}
+
+// The marks of servers, and a move.
+#[derive(Clone, Copy)]
+struct MarkSigns(Px);
+
+impl fmt::Display for MarkSigns {
+    fn fmt<W: fmt::Write>(&self, f: &mut fmt::Formatter<W>) -> fmt::Result {
+        let y = self.0;
+        let (top, middle) = (y.less(90), y.less(40));
+        writeln!(
+            f,
+            "<circle cx='396' cy='{middle}' r='3'/><text x='403' y='{y}'>a piece came</text>"
+        )?;
+        writeln!(
+            f,
+            "<path class='fin' d='M498 {}l4 4l-4 4l-4 -4z'/><text x='507' y='{y}'>tag finalized</text>",
+            y.less(80)
+        )?;
+        writeln!(
+            f,
+            "<rect class='band' x='604' y='{top}' width='20' height='11'/><text x='629' y='{y}'>a move</text>"
+        )
+    }
+}
+
+// The signs of pointers, and the lines.
+#[derive(Clone, Copy)]
+struct LineSigns(Px);
+
+impl fmt::Display for LineSigns {
+    fn fmt<W: fmt::Write>(&self, f: &mut fmt::Formatter<W>) -> fmt::Result {
+        let y = self.0;
+        let middle = y.less(40);
+        writeln!(
+            f,
+            "<path class='pending' d='M12 {y}l-4 -8h8z'/><path class='final' d='M23 {y}l-4 -8h8z'/>\
+            <text x='31' y='{y}'>the next position is pending, is final</text>"
+        )?;
+        writeln!(
+            f,
+            "<path class='msg' d='M270 {middle}h20'/>\
+            <text x='295' y='{y}'>from a request's serving to the take of its reply</text>"
+        )?;
+        writeln!(
+            f,
+            "<path class='lost' d='M590 {middle}h20m-4 -4l8 8m0 -8l-8 8'/><text x='620' y='{y}'>lost</text>"
+        )?;
+        writeln!(
+            f,
+            "<path class='bar open' d='M670 {middle}h20'/><text x='696' y='{y}'>still open</text>"
+        )
+    }
+}

@@ -1,0 +1,22 @@
+//! A picture of what happened to an object, as SVG: its calls with their phases, its servers, and the messages between
+//! them, with time in steps from left to right.
+#![tactic(auto)]
+
+pub use lane::Lane;
+pub use loss::Loss;
+pub use picture::Picture;
+pub use plan::Plan;
+
+mod call_lanes;
+mod frame;
+mod lane;
+mod legend;
+mod loss;
+mod messages;
+mod omitted;
+mod phases;
+mod picture;
+mod plan;
+mod px;
+mod server_lanes;
+mod text;

@@ -1,0 +1,41 @@
+//! A message that a script loses.
+ghost use Rattle.std.specs.Prelude.{◌≡◌};
+ghost use Rattle.picture.specs.Loss.{loss_of};
+
+use mail::{Body, Message};
+use tag::Stamp;
+
+/// A message of an object that was lost.
+#[derive(Clone, Copy, Debug, PartialEq, Eq)]
+pub struct Loss {
+    /// The call's number in its object, from 1.
+    pub call: u64,
+    /// The phase's number in its call, from 1.
+    pub phase: u32,
+    /// The position that the phase asks, and the member's place in its layout.
+    pub position: u32,
+    pub member: u8,
+    /// The step at which the request was served, if it was: then its reply is what was lost.
+    pub served: Option<Stamp>,
+    /// The step at which the message was lost.
+    pub step: Stamp,
+}
+
+impl Loss {
+    /// That of a message at a step.
+    pub fn of(message: &Message, step: Stamp) -> Loss
+        ensures { result ≡ loss_of message.now step }
+    {
+        Loss {
+            call: message.call,
+            phase: message.phase,
+            position: message.position,
+            member: message.member,
+            served: match &message.body {
+                Body::Request(_) => None,
+                Body::Reply { kind: _, reply } => Some(reply.step),
+            },
+            step,
+        }
+    }
+}

@@ -1,0 +1,245 @@
+//! Where things stand in a picture.
+ghost use Rattle.std.specs.Prelude.{◌≡◌, ◌<◌, IfOk, map};
+ghost use Rattle.picture.specs.Plan.{end_of, right_of, x_of};
+
+use crate::lane::{Lane, Place};
+use crate::px::Px;
+use bank::{Bank, Label};
+use phase::Phase;
+use record::Entry;
+use register::Register;
+use std::alloc::{AllocError, Global};
+use tag::{MOST_MEMBERS, MOST_POSITIONS, Stamp};
+
+/// The left edge of time, behind the names of the lanes.
+pub(crate) const LEFT: u64 = 1500;
+
+/// What stands to the right of time, for the values at the ends of calls.
+const RIGHT: u64 = 1700;
+
+/// The widest that time gets, and the least.
+const WIDEST: u64 = 11_000;
+
+const NARROWEST: u64 = 6_000;
+
+/// The width of a step where there is room.
+const STEP: u64 = 90;
+
+/// The heights of a call's lane, of a server's, and of the line above a position's servers.
+pub(crate) const CALL: u64 = 160;
+
+pub(crate) const SERVER: u64 = 140;
+
+const HEAD: u64 = 200;
+
+/// The upper edge of the calls' lanes.
+const CALLS_TOP: u64 = 520;
+
+/// How wide a phase has to be for its word, and for its letter.
+pub(crate) const WORD: u64 = 380;
+
+pub(crate) const LETTER: u64 = 70;
+
+/// The width of a call in the order, and how many rows of them are shown.
+pub(crate) const ORDERED: u64 = 1250;
+
+const MOST_ROWS: u64 = 6;
+
+/// The height of such a row.
+pub(crate) const ROW: u64 = 150;
+
+/// Where the lanes of an object's calls and servers stand, and its steps.
+#[derive(Debug, Drop)]
+pub struct Plan {
+    /// The lanes of the calls, from above.
+    pub lanes: Vec<Lane>,
+    pub(crate) first: Stamp,
+    pub(crate) last: Stamp,
+    pub(crate) width: u64,
+    pub(crate) positions: Vec<Place>,
+    /// The lower edge of the servers' lanes.
+    pub(crate) bottom: u64,
+}
+
+impl Plan {
+    /// The plan of an object with these entries, each of which has a lane. Want of memory is the only failure.
+    pub fn new(alloc: Global, register: &Register, entries: &[Entry]) -> Result<Plan, AllocError>
+        ensures { IfOk result (λ plan. map (λ lane. lane.entry) plan.lanes.items ≡ entries.now) }
+    {
+        let lanes = lanes_of(alloc, entries)?;
+        let mut positions = Vec::new(alloc);
+        let mut bottom = down(CALLS_TOP, lanes.len() as u64, CALL);
+        for position in 0..MOST_POSITIONS as u32 {
+            let Some(bank) = register.bank_view(position, 0) else {
+                break;
+            };
+            let members = members_of(register, position);
+            let top = bottom.saturating_add(HEAD);
+            positions.push(Place {
+                position,
+                top,
+                members,
+                opened: opened_at(bank),
+            })?;
+            bottom = down(top, u64::from(members), SERVER);
+        }
+        let first = match positions.first() {
+            Some(place) => place.opened,
+            None => 0,
+        };
+        let last = register.last();
+        let width = last.saturating_sub(first).saturating_mul(STEP);
+        Ok(Plan {
+            lanes,
+            first,
+            last,
+            width: width.max(NARROWEST).min(WIDEST),
+            positions,
+            bottom,
+        })
+    }
+
+    /// How many steps there are from the first to the last, and one at least.
+    pub(crate) fn span(&self) -> u64 {
+        self.last.saturating_sub(self.first).max(1)
+    }
+
+    /// Where a step stands.
+    pub(crate) fn x(&self, step: Stamp) -> Px
+        ensures { result.0 ≡ x_of self.now step }
+    {
+        let offset = step.saturating_sub(self.first);
+        let span = self.last.saturating_sub(self.first).max(1);
+        Px(LEFT.saturating_add(offset.saturating_mul(self.width) / span))
+    }
+
+    /// The right edge of time.
+    pub(crate) fn right(&self) -> Px
+        ensures { result.0 ≡ right_of self.now }
+    {
+        Px(LEFT.saturating_add(self.width))
+    }
+
+    /// Where a call ends that is answered at this step, or open.
+    pub(crate) fn end_x(&self, answered: Option<Stamp>) -> Px
+        ensures { result.0 ≡ end_of self.now answered }
+    {
+        match answered {
+            Some(step) => self.x(step),
+            None => self.right(),
+        }
+    }
+
+    /// How wide so many steps are.
+    pub(crate) fn wide(&self, from: Stamp, to: Stamp) -> Px {
+        Px(self.x(to).0.saturating_sub(self.x(from).0))
+    }
+
+    /// The lower edge of the bar of a call.
+    pub(crate) fn call_foot(&self, call: u64) -> Px {
+        match self.lanes.get(call.saturating_sub(1) as usize) {
+            Some(lane) => lane.foot(),
+            None => Px(CALLS_TOP),
+        }
+    }
+
+    /// The middle of the lane of a server.
+    pub(crate) fn server_y(&self, position: u32, member: u8) -> Px {
+        match self.positions.get(position as usize) {
+            Some(place) => Px(down(place.top, u64::from(member), SERVER)).plus(SERVER / 2),
+            None => Px(self.bottom),
+        }
+    }
+
+    /// The width of the page.
+    pub(crate) fn page(&self) -> Px {
+        self.right().plus(RIGHT)
+    }
+
+    /// The line of the first row of the order.
+    pub(crate) fn order_y(&self) -> Px {
+        Px(self.bottom).plus(200)
+    }
+
+    /// How many calls of so many are shown in the order.
+    pub(crate) fn ordered(&self, calls: usize) -> usize {
+        calls.min(self.columns().saturating_mul(MOST_ROWS) as usize)
+    }
+
+    /// The first line of what the signs mean, below the order of so many calls.
+    pub(crate) fn legend_y(&self, calls: usize) -> Px {
+        let rows = (self.ordered(calls) as u64).div_ceil(self.columns()).max(1);
+        self.order_y()
+            .plus(rows.saturating_mul(ROW).saturating_add(60))
+    }
+
+    /// How wide a phase is: to the right edge of time where it is open.
+    pub(crate) fn phase_width(&self, phase: &Phase) -> Px {
+        match phase.steps() {
+            (start, Some(end)) => self.wide(start, end),
+            (start, None) => self.right().less(self.x(start).0),
+        }
+    }
+
+    /// How many calls of the order have room beside one another.
+    pub(crate) fn columns(&self) -> u64
+        ensures { 0 < result }
+    {
+        (self.page().0.saturating_sub(600) / ORDERED).max(1)
+    }
+}
+
+// A lane for each entry.
+fn lanes_of(alloc: Global, entries: &[Entry]) -> Result<Vec<Lane>, AllocError>
+    ensures { IfOk result (λ lanes. map (λ lane. lane.entry) lanes.items ≡ entries.now) }
+{
+    let mut lanes = Vec::new(alloc);
+    let mut top = CALLS_TOP;
+    for entry in entries {
+        let entry = copy_of(entry)?;
+        lanes.push(Lane { entry, top })?;
+        top = top.saturating_add(CALL);
+    }
+    Ok(lanes)
+}
+
+// An entry that shares its value's bytes.
+fn copy_of(entry: &Entry) -> Result<Entry, AllocError>
+    ensures { IfOk result (λ copy. copy ≡ entry.now) }
+{
+    let value = match &entry.value {
+        Some(value) => Some(value.clone()?),
+        None => None,
+    };
+    Ok(Entry {
+        call: entry.call,
+        operation: entry.operation,
+        called: entry.called,
+        answered: entry.answered,
+        value,
+    })
+}
+
+// The upper edge behind so many lanes.
+fn down(top: u64, count: u64, height: u64) -> u64 {
+    top.saturating_add(count.saturating_mul(height))
+}
+
+fn members_of(register: &Register, position: u32) -> u8 {
+    for member in 0..MOST_MEMBERS as u8 {
+        if register.server(position, member).is_none() {
+            return member;
+        }
+    }
+    MOST_MEMBERS as u8
+}
+
+// The step of the opening tag, which is the least one.
+fn opened_at(bank: &Bank) -> Stamp {
+    if bank.count() == 0 {
+        return 0;
+    }
+    match bank.kept(0).1.label {
+        Label::PreWritten { since } | Label::Finalized { since } => since,
+    }
+}

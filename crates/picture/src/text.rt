@@ -1,0 +1,112 @@
+//! Texts in a picture.
+ghost use Rattle.std.specs.Prelude.{◌≡◌};
+ghost use Rattle.picture.specs.CallLanes.{word_of_operation};
+
+use bank::{Kind, Status};
+use record::Operation;
+use std::fmt;
+use words::Hexadecimal;
+
+/// A text in which nothing is read as markup.
+#[derive(Clone, Copy)]
+pub(crate) struct Escaped<'a>(pub(crate) &'a str);
+
+impl fmt::Display for Escaped<'_> {
+    fn fmt<W: fmt::Write>(&self, f: &mut fmt::Formatter<W>) -> fmt::Result {
+        for letter in self.0.chars() {
+            match letter {
+                '<' => f.write_str("&lt;")?,
+                '&' => f.write_str("&amp;")?,
+                ' '..='~' => write!(f, "{letter}")?,
+                _ => f.write_str("?")?,
+            }
+        }
+        Ok(())
+    }
+}
+
+/// A value, of which at most so many bytes are shown, from the first on.
+#[derive(Clone, Copy)]
+pub(crate) struct Front<'a> {
+    pub(crate) bytes: &'a [u8],
+    pub(crate) most: usize,
+}
+
+impl fmt::Display for Front<'_> {
+    fn fmt<W: fmt::Write>(&self, f: &mut fmt::Formatter<W>) -> fmt::Result {
+        match self.bytes.get(..self.most) {
+            Some(front) if front.len() < self.bytes.len() => {
+                write!(f, "{}…", Hexadecimal(front))
+            }
+            _ => write!(f, "{}", Hexadecimal(self.bytes)),
+        }
+    }
+}
+
+/// A value of few bytes whole, and of another the first bytes and the length.
+#[derive(Clone, Copy)]
+pub(crate) struct Short<'a>(pub(crate) &'a [u8]);
+
+impl fmt::Display for Short<'_> {
+    fn fmt<W: fmt::Write>(&self, f: &mut fmt::Formatter<W>) -> fmt::Result {
+        let bytes = self.0;
+        if bytes.len() <= 6 {
+            return write!(f, "{}", Hexadecimal(bytes));
+        }
+        write!(f, "{} {} B", Front { bytes, most: 4 }, bytes.len())
+    }
+}
+
+/// What a phase asks.
+#[derive(Clone, Copy)]
+pub(crate) struct KindText(pub(crate) Kind);
+
+impl fmt::Display for KindText {
+    fn fmt<W: fmt::Write>(&self, f: &mut fmt::Formatter<W>) -> fmt::Result {
+        match self.0 {
+            Kind::Next => f.write_str("asks for the next position"),
+            Kind::Spread(Status::Unset) => f.write_str("spreads that there is no next position"),
+            Kind::Spread(Status::Pending) => f.write_str(
+                "spreads that the next position is pending",
+            ),
+            Kind::Spread(Status::Final) => f.write_str("spreads that the next position is final"),
+            Kind::Query => f.write_str("asks for the greatest tag"),
+            Kind::PreWrite(tag) => write!(f, "pre-writes tag {tag}"),
+            Kind::Finalize(tag) => write!(f, "finalizes tag {tag}"),
+            Kind::Fetch(tag) => write!(f, "fetches tag {tag}"),
+        }
+    }
+}
+
+pub(crate) fn kind_word(kind: Kind) -> &'static str {
+    match kind {
+        Kind::Next => "next",
+        Kind::Spread(_) => "spread",
+        Kind::Query => "query",
+        Kind::PreWrite(_) => "pre",
+        Kind::Finalize(_) => "fin",
+        Kind::Fetch(_) => "fetch",
+    }
+}
+
+/// One letter for each kind, where there is no room for its word.
+pub(crate) fn kind_letter(kind: Kind) -> &'static str {
+    match kind {
+        Kind::Next => "n",
+        Kind::Spread(_) => "s",
+        Kind::Query => "q",
+        Kind::PreWrite(_) => "p",
+        Kind::Finalize(_) => "f",
+        Kind::Fetch(_) => "g",
+    }
+}
+
+pub(crate) fn operation_word(operation: Operation) -> &'static str
+    ensures { result.now ≡ word_of_operation operation }
+{
+    match operation {
+        Operation::Read => "read",
+        Operation::Write => "write",
+        Operation::Move => "move",
+    }
+}

@@ -1,0 +1,2 @@
+pub mod PlayedLemmas
+pub mod ShownLemmas

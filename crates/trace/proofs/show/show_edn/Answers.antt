@@ -1,0 +1,9 @@
+use Rattle.std.proofs.Common.{refl}
+use Rattle.exports.specs.Edn.{edn_text}
+use Rattle.trace.proofs.ShownLemmas.{events_shown}
+use Rattle.trace.proofs.show.show_edn.Goals as goal
+
+pub returns-in-Ok : goal.returns-in-Ok
+returns-in-Ok g c =
+    events_shown edn_text c.args.register.now _ _ c.print.result _ _ c.deref.ensures.value c.in-Ok.ensures
+    (c.print.ensures.shown _ refl) c.print.ensures.lost

@@ -1,0 +1,13 @@
+-- Why the program ends early.
+use Rattle.std.specs.Prelude.{ℕ}
+use Rattle.player.specs.Script.{status_of as status_of_end}
+use Rattle.trace.specs.declared.fault.Fault.{Fault}
+use Rattle.trace.specs.declared.fault.Fault.TheVariants as fault
+
+-- the exit status
+abbrev pub status_of : Fault → ℕ
+status_of fault.NotText = 2
+status_of fault.Usage = 2
+status_of (fault.Ended end) = status_of_end end
+status_of (fault.Refused refusal) = 1
+status_of fault.OutputLost = 1

@@ -1,0 +1,5 @@
+pub mod Fault
+pub mod Request
+pub mod Played
+pub mod Shown
+pub mod Program

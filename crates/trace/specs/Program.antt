@@ -1,0 +1,41 @@
+-- What a run of the program does.
+use Rattle.std.specs.Prelude.{◌≡◌, ◌⊎◌, ℕ, List, Option, None, Result, Ok, Err}
+use Rattle.std.specs.Io.KnownBytes.{Keeps}
+use Rattle.cluster.specs.Cluster.{Cluster}
+use Rattle.player.specs.declared.run.End.TheVariants.{NoMemory, Unread}
+use Rattle.trace.specs.declared.fault.Fault.{Fault}
+use Rattle.trace.specs.declared.fault.Fault.TheVariants as fault
+use Rattle.trace.specs.declared.request.Form.{Form}
+use Rattle.trace.specs.Fault.{status_of}
+use Rattle.trace.specs.Played.{IsUnplayed, LeadsTo}
+use Rattle.trace.specs.Request.{IsReading, Word, words_of}
+use Rattle.trace.specs.Shown.{Shows}
+
+-- the file could not be opened, and nothing is written
+abbrev pub IsUnopened : (old new : Option (List ℕ)) → Result Unit Fault → Type 0
+IsUnopened old new result =
+    ((result ≡ Err (fault.Ended NoMemory)) ⊎ (result ≡ Err (fault.Ended Unread))) × Keeps old new
+
+-- the script that is given ends early, and nothing is written; or it is played, and the object shown, or not
+abbrev pub Carries : (given : Option (List ℕ)) → Form → (name : Word) → (old new : Option (List ℕ))
+    → Result Unit Fault → Type 0
+Carries given asked name old new result =
+    ((why : Fault) × IsUnplayed given why × (result ≡ Err why) × Keeps old new)
+    ⊎ ((cluster : Option Cluster) × LeadsTo given cluster × Shows asked cluster name old new result)
+
+-- what a file holds, no clause can say: it could not be opened, or gave some script
+abbrev pub ShowsOfFile : Form → (name : Word) → (old new : Option (List ℕ)) → Result Unit Fault → Type 0
+ShowsOfFile asked name old new result =
+    IsUnopened old new result ⊎ ((given : Option (List ℕ)) × Carries given asked name old new result)
+
+-- this exit status is that of such a result
+abbrev pub IsStatusOf : (Result Unit Fault → Type 0) → (status : ℕ) → Type 0
+IsStatusOf Is status =
+    ((status ≡ 0) × (Is (Ok tt))) ⊎ ((why : Fault) × (status ≡ status_of why) × Is (Err why))
+
+-- the words spell no request, and nothing is written; or they spell one, and the status is that of its result
+abbrev pub EndsBy : List Word → (old new : Option (List ℕ)) → (status : ℕ) → Type 0
+EndsBy words old new status =
+    (IsReading words None × (status ≡ 2) × Keeps old new)
+    ⊎ ((asked : Form) × (script : Word) × (name : Word) × (words ≡ words_of asked script name)
+    × IsStatusOf (ShowsOfFile asked name old new) status)

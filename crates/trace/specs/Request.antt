@@ -1,0 +1,21 @@
+-- What the words of a command line ask for.
+use Rattle.std.specs.Prelude.{◌≡◌, ℕ, List, [], ◌∷◌, Option, Some, None, codes}
+use Rattle.trace.specs.declared.request.Form.{Form}
+use Rattle.trace.specs.declared.request.Form.TheVariants as form
+use Rattle.trace.specs.declared.request.Request.{Request}
+
+-- a word, by its bytes
+abbrev pub Word : Type 0
+Word = List ℕ
+
+-- the words that ask for this form of an object
+abbrev pub words_of : Form → (script name : Word) → List Word
+words_of form.Picture script name = codes "picture" ∷ script ∷ name ∷ []
+words_of form.Edn script name = codes "history" ∷ script ∷ name ∷ codes "edn" ∷ []
+words_of form.Json script name = codes "history" ∷ script ∷ name ∷ codes "json" ∷ []
+words_of form.Costs script name = codes "costs" ∷ script ∷ name ∷ []
+
+-- the request that the words spell, or none where they spell none
+abbrev pub IsReading : List Word → Option Request → Type 0
+IsReading words None = (asked : Form) (script name : Word) → ¬ (words ≡ words_of asked script name)
+IsReading words (Some request) = words ≡ words_of request.form request.script.now request.name.now

@@ -1,0 +1,100 @@
+//! Why the program ends with a status other than 0.
+ghost use Rattle.std.specs.Prelude.{◌≡◌, ◌≢◌};
+ghost use Rattle.std.specs.IoError.{error_kind};
+ghost use Rattle.tag.specs.declared.refusal.Refusal.TheVariants.{NoMemory};
+ghost use Rattle.trace.specs.Fault.{status_of};
+ghost use Rattle.trace.specs.declared.fault.Fault.TheVariants as fault;
+
+use player::{End, report_end};
+use std::alloc::{AllocError, AllocFailed};
+use std::io;
+use std::io::{ErrorKind, Write};
+use tag::Refusal;
+
+/// Why the program ended early. Nothing is shown.
+#[derive(Clone, Copy, Debug, PartialEq, Eq)]
+pub enum Fault {
+    /// A word of the command line is not UTF-8.
+    NotText,
+    /// The command line has another form.
+    Usage,
+    /// The script was not played to its end.
+    Ended(End),
+    /// There is no object of the name, or memory is wanting.
+    Refused(Refusal),
+    /// A write of output failed, and not for want of memory.
+    OutputLost,
+}
+
+const USAGE: &str = "usage: trace picture SCRIPT NAME\n       \
+    trace history SCRIPT NAME edn\n       \
+    trace history SCRIPT NAME json\n       \
+    trace costs SCRIPT NAME";
+
+impl Fault {
+    /// Why the program's arguments cannot be had: they are not text, or find no memory.
+    pub fn from_arguments(error: io::Error) -> Fault
+        ensures memory { error_kind error ≡ ErrorKind.OutOfMemory → result ≡ fault.Refused NoMemory }
+        ensures text { error_kind error ≢ ErrorKind.OutOfMemory → result ≡ fault.NotText }
+    {
+        match error.kind() {
+            ErrorKind::OutOfMemory => Fault::Refused(Refusal::NoMemory),
+            _ => Fault::NotText,
+        }
+    }
+
+    /// Why output is lost: its write found no memory, or failed otherwise.
+    pub fn from_output(error: io::Error) -> Fault
+        ensures memory { error_kind error ≡ ErrorKind.OutOfMemory → result ≡ fault.Refused NoMemory }
+        ensures other { error_kind error ≢ ErrorKind.OutOfMemory → result ≡ fault.OutputLost }
+    {
+        match error.kind() {
+            ErrorKind::OutOfMemory => Fault::Refused(Refusal::NoMemory),
+            _ => Fault::OutputLost,
+        }
+    }
+
+    /// Prints why on `err`, for a script of this name, and answers the exit status: 1 for a refusal or lost output, 2
+    /// for the command line or the script. A failed write is passed over.
+    pub fn report<W: Write>(self, script: &str, err: &mut W) -> u8
+        ensures { result ≡ status_of self }
+    {
+        match self {
+            Fault::NotText => 2,
+            Fault::Usage => {
+                let _ = err.writeln(USAGE);
+                2
+            }
+            Fault::Ended(end) => report_end(end, script, err),
+            Fault::Refused(refusal) => {
+                let _ = err.writeln(format_args!("refused {refusal}"));
+                1
+            }
+            Fault::OutputLost => report_end(End::OutputLost, script, err),
+        }
+    }
+}
+
+impl From<AllocError> for Fault {
+    ghost use Rattle.std.specs.Prelude.{◌≡◌};
+    ghost use Rattle.tag.specs.declared.refusal.Refusal.TheVariants.{NoMemory};
+    ghost use Rattle.trace.specs.declared.fault.Fault.TheVariants.{Refused};
+
+    ghost from_gives = { λ _ fault. fault ≡ Refused NoMemory };
+
+    fn from(_error: AllocError) -> Fault {
+        Fault::Refused(Refusal::NoMemory)
+    }
+}
+
+impl<T: Drop> From<AllocFailed<T>> for Fault {
+    ghost use Rattle.std.specs.Prelude.{◌≡◌};
+    ghost use Rattle.tag.specs.declared.refusal.Refusal.TheVariants.{NoMemory};
+    ghost use Rattle.trace.specs.declared.fault.Fault.TheVariants.{Refused};
+
+    ghost from_gives = { λ _ fault. fault ≡ Refused NoMemory };
+
+    fn from(_error: AllocFailed<T>) -> Fault {
+        Fault::Refused(Refusal::NoMemory)
+    }
+}

@@ -1,0 +1,34 @@
+//! The program `trace`: plays a script, and then shows one object: its picture, its history as other checkers read it,
+//! or what its calls cost.
+#![tactic(auto)]
+
+mod fault;
+mod play;
+mod program;
+mod request;
+mod show;
+
+use fault::Fault;
+use program::run_words;
+use std::io::BufWriter;
+use std::process::ExitCode;
+use std::rt::Stdout;
+use std::{env, io};
+
+fn main(rt: HostRuntime) -> ExitCode {
+    let mut err = rt.stderr();
+    let status = match begun(&rt) {
+        Ok((words, mut out)) => run_words(&rt, words.as_slice(), &mut out, &mut err),
+        Err(fault) => fault.report("", &mut err),
+    };
+    ExitCode::from(status)
+}
+
+/// The words after the program's name, and standard output behind a buffer.
+fn begun(rt: &HostRuntime) -> Result<(Vec<String>, BufWriter<Stdout>), Fault> {
+    let mut arguments = env::args(rt).map_err(Fault::from_arguments)?;
+    let _program = arguments.next();
+    let words = arguments.collect(rt.alloc())?;
+    let out = BufWriter::new(rt.alloc(), rt.stdout()).map_err(Fault::from_output)?;
+    Ok((words, out))
+}

@@ -1,0 +1,63 @@
+//! What the words of the command line ask for.
+ghost use Rattle.std.specs.Prelude.{◌∷◌, [], map, string_bytes};
+ghost use Rattle.trace.specs.Request.{IsReading};
+
+/// What is shown of an object.
+#[derive(Clone, Copy, Debug, PartialEq, Eq)]
+pub enum Form {
+    Picture,
+    Edn,
+    Json,
+    Costs,
+}
+
+/// A form of an object, after a script.
+#[derive(Clone, Copy, Debug, PartialEq, Eq)]
+pub struct Request<'a> {
+    pub form: Form,
+    /// The name of the script's file.
+    pub script: &'a str,
+    /// The name of the object.
+    pub name: &'a str,
+}
+
+/// The request that the words after the program's name spell.
+pub fn parse_request(words: &[String]) -> Option<Request<'_>>
+    ensures { IsReading (map string_bytes words.entry.now) result }
+{
+    match words {
+        [first, script, name] => three(first.as_str(), script.as_str(), name.as_str()),
+        [first, script, name, last] => four(
+            first.as_str(),
+            script.as_str(),
+            name.as_str(),
+            last.as_str(),
+        ),
+        _ => None,
+    }
+}
+
+fn three<'a>(first: &str, script: &'a str, name: &'a str) -> Option<Request<'a>>
+    ensures { IsReading (first.now ∷ script.entry.now ∷ name.entry.now ∷ []) result }
+{
+    let form = match first {
+        "picture" => Form::Picture,
+        "costs" => Form::Costs,
+        _ => return None,
+    };
+    Some(Request { form, script, name })
+}
+
+fn four<'a>(first: &str, script: &'a str, name: &'a str, last: &str) -> Option<Request<'a>>
+    ensures { IsReading (first.now ∷ script.entry.now ∷ name.entry.now ∷ last.now ∷ []) result }
+{
+    let "history" = first else {
+        return None;
+    };
+    let form = match last {
+        "edn" => Form::Edn,
+        "json" => Form::Json,
+        _ => return None,
+    };
+    Some(Request { form, script, name })
+}
