@@ -100,7 +100,8 @@ impl Phase {
     ) -> Result<Phase, Refusal>
         requires some { 1 ≤ quorum }
         requires within { quorum ≤ members }
-        ensures phase { IfOk result (λ p. p ≡ begun ask.call ask.number ask.kind ask.position members quorum needed now) }
+        ensures phase { IfOk result (λ p. p
+            ≡ begun ask.call ask.number ask.kind ask.position members quorum needed now) }
         ensures refused { IfErr result (λ e. e ≡ NoMemory) }
     {
         Ok(Phase {

@@ -1,6 +1,7 @@
 -- The order of phases, as a table of stages and as a shape.
 pub mod Again
 pub mod Attempts
+pub mod Backward
 pub mod Begun
 pub mod Finishes
 pub mod Moves

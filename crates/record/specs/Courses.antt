@@ -101,8 +101,8 @@ after_again Unset last position tag = if position == last then Ended last tag el
 after_again Pending last position tag = AgainSpread last position tag Pending
 after_again Final last position tag = AgainSpread last position tag Final
 
--- where the replies of a complete phase lead call number `number`: a fetch that lacks pieces leads back, a read's to its
--- first reading and a move's to its query
+-- where the replies of a complete phase lead call number `number`: a fetch that lacks pieces leads back, a read to its
+-- first reading and a move to its query
 abbrev pub after : CallKind → (number : ℕ) → Stage → List Taken → (lacks : Bool) → Stage
 after kind number (ReadNext position finalized) replies lacks = after_next (greatest_status replies) position finalized
 after kind number (ReadSpread position finalized status) replies lacks = after_spread status position finalized

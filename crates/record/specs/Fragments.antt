@@ -149,8 +149,8 @@ pub record IsSettled (fragment : Code) (object : Object) (call : Call) (value : 
       IsFetch other.kind → ⊥
   pub pieces : HasPieces fragment object phase value
 
--- what a call settled; a phase after a fetch begins once it has, or where the fetch lacks pieces, and a read is answered
--- once it has
+-- what a call settled; a phase after a fetch begins once it has, or where the fetch lacks pieces;
+-- a read is answered once it has
 pub record AreSettled (fragment : Code) (object : Object) : Type 0 where
   pub settled : (index : ℕ) (call : Call) (value : List ℕ) → slice_get object.calls index ≡ Some call →
       call.settled ≡ Some value → IsSettled fragment object call value

@@ -47,7 +47,7 @@ abbrev pub want_for : Object → Option (Kind × ℕ) → Want
 want_for object None = want.Answer
 want_for object (Some next) = want_to_begin next.0 (layout_at object next.1)
 
--- what is wanted after a complete fetch that nothing is settled of: the value, or to begin anew where pieces are lacking
+-- what is wanted after a complete fetch of which nothing is settled: the value, or a new beginning where pieces lack
 abbrev pub want_of_fetch : Object → Phase → Want
 want_of_fetch object phase =
     if lacks_pieces phase then want.Again

@@ -1,6 +1,6 @@
 //! Layouts, objects and servers.
 
-ghost use Rattle.std.specs.Prelude.{◌≡◌, nat_lt, length, IfOk, OnOk, OnErr};
+ghost use Rattle.std.specs.Prelude.{◌≡◌, nat_lt, length, None, IfOk, OnOk, OnErr};
 ghost use Rattle.std.specs.List.{list_all};
 ghost use Rattle.tag.specs.Refusal.{IsByCause, IsExactlyByCause};
 ghost use Rattle.cluster.specs.Steps.{with_layout, with_server, created};
@@ -34,12 +34,30 @@ impl Cluster {
         Ok(id)
     }
 
-    /// One more object, with one position of this layout and no calls.
+    /// One more object, with one position of this layout and no calls, whose banks keep every piece.
+    ///
+    /// It is refused as `create_with` is.
+    pub fn create(&mut self, alloc: Global, name: &str, id: LayoutId) -> Result<(), Refusal>
+        ensures step { OnOk result (self.new ≡ created self.old name.now id None) }
+        ensures cause { IsByCause (create_cause self.old name.now id) result }
+        ensures unchanged { OnErr result (self.new ≡ self.old) }
+    {
+        self.create_with(alloc, name, id, None)
+    }
+
+    /// One more object, with one position of this layout and no calls. The banks of all its positions keep the pieces of
+    /// the newest finalized version and of `delta` others; all where there is no `delta`.
     ///
     /// `ObjectExists` where an object has this name, `BadLayout` where there is no such layout, `TooLong` where the
     /// name is longer than `LONGEST_NAME` bytes, and `Full` where the limit of steps or of objects is met.
-    pub fn create(&mut self, alloc: Global, name: &str, id: LayoutId) -> Result<(), Refusal>
-        ensures step { OnOk result (self.new ≡ created self.old name.now id) }
+    pub fn create_with(
+        &mut self,
+        alloc: Global,
+        name: &str,
+        id: LayoutId,
+        delta: Option<u32>,
+    ) -> Result<(), Refusal>
+        ensures step { OnOk result (self.new ≡ created self.old name.now id delta) }
         ensures cause { IsByCause (create_cause self.old name.now id) result }
         ensures unchanged { OnErr result (self.new ≡ self.old) }
     {
@@ -56,7 +74,7 @@ impl Cluster {
             return Err(Refusal::Full);
         }
         let now = self.counter + 1;
-        let register = Register::new(alloc, layout.clone()?, now)?;
+        let register = Register::new(alloc, layout.clone()?, delta, now)?;
         let name = String::from_str(alloc, name)?;
         self.objects.insert(name, register)?;
         self.counter = now;

@@ -118,7 +118,8 @@ position-opened server [] servers member delta now = refl
 position-opened server (x ∷ members) [] member delta now = refl
 position-opened server (x ∷ members) (y ∷ servers) member delta now =
     let rest = position-opened server members servers (suc member) delta now in
-    let first : for_server server x (bank_bytes (opened_bank member delta now)) ≡ 0 = ap (for_server server x) (opened_bytes member delta now)
+    let first : for_server server x (bank_bytes (opened_bank member delta now)) ≡ 0 = ap (for_server server x)
+    (opened_bytes member delta now)
     ∙ none (x == server) 0 in
     sum_none (for_server server x (bank_bytes (opened_bank member delta now)))
     (position_bytes server members (opened_banks servers (suc member) delta now)) first rest

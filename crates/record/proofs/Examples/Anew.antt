@@ -1,5 +1,5 @@
 -- A read whose fetch lacks pieces, and that begins anew.
-use Rattle.std.proofs.Common.{◌≡◌, ℕ, inl, List, [], ◌∷◌, ◌++◌, Option, Some, None, refl, sym, ap, ◌∙◌, arith, le_refl}
+use Rattle.std.proofs.Common.{◌≡◌, inl, List, [], ◌∷◌, ◌++◌, Some, None, refl, ap, arith, le_refl}
 use Rattle.std.specs.FinMap as finmap
 use Rattle.tag.specs.declared.tag.Tag.{Tag}
 use Rattle.tag.specs.Tag.{opening_tag}
@@ -10,9 +10,8 @@ use Rattle.bank.specs.declared.kind.Kind.TheVariants.{Query, Fetch}
 use Rattle.bank.specs.declared.reply.Answer.TheVariants as answer
 use Rattle.bank.proofs.Entries.{Rows}
 use Rattle.record.specs.Records.{Object}
-use Rattle.record.specs.Journals.{entries}
 use Rattle.record.specs.Examples.{whole, one_member, anew_entries}
-use Rattle.record.specs.May.{MaySettle, MayRun}
+use Rattle.record.specs.May.{MaySettle}
 use Rattle.record.specs.Steps.{Step, run, opened_object}
 use Rattle.record.specs.Steps.Step.{CallRead, CallWrite, Advance, Again, Supply, Settle, AnswerCall, Serve, Take}
 use Rattle.record.proofs.Examples.Rows.{opened_entries, after_pre_write, pre_written_entries, after_finalize, finalized_entries}

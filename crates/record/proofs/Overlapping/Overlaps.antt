@@ -1,6 +1,6 @@
 -- A read's complete fetch that lacks pieces has enough writes beside it.
-use Rattle.std.proofs.Common.{nat_eq, ◌≡◌, ℕ, zero, suc, ◌+◌, ◌<◌, ◌≤◌, ◌⊎◌, ◌&&◌, ◌||◌, Bool, true, false, cond, List, [], ◌∷◌}
-use Rattle.std.proofs.Common.{length, get_or, Option, Some, None, nat_le, refl, sym, subst, ap, ◌∙◌, inl, inr, arith, slice_get, leb-true}
+use Rattle.std.proofs.Common.{nat_eq, ◌≡◌, ℕ, suc, ◌+◌, ◌<◌, ◌≤◌, ◌⊎◌, ◌&&◌, ◌||◌, Bool, true, false, List, [], ◌∷◌}
+use Rattle.std.proofs.Common.{length, get_or, Option, Some, None, refl, sym, subst, ap, ◌∙◌, inl, inr, arith, slice_get, leb-true}
 use Rattle.std.proofs.lemmas.Bool.{and_parts, cases_lt}
 use Rattle.std.proofs.lemmas.Bool.Decides.{nat_tests}
 use Rattle.std.proofs.lemmas.Option.{same_Some}
@@ -19,16 +19,15 @@ use Rattle.bank.specs.Knowledge.{came_by, final_step, row_finalized, finalized_a
 use Rattle.bank.specs.Knowledge.{is_dropped_at, HasFinalized}
 use Rattle.bank.proofs.Counting.{one_if}
 use Rattle.bank.proofs.Entries.{Rows, find_sorted, t_true, is_lt-tag}
-use Rattle.phase.specs.Phase.{Phase, lacks_pieces}
-use Rattle.record.specs.declared.call.CallKind.{CallKind}
-use Rattle.record.specs.declared.call.CallKind.TheVariants.{Read, Write}
-use Rattle.record.specs.Records.{Call, Object, layout_at, bank_at}
+use Rattle.phase.specs.Phase.{Phase}
+use Rattle.record.specs.declared.call.CallKind.TheVariants.{Read}
+use Rattle.record.specs.Records.{Call, Object, bank_at}
 use Rattle.record.specs.Knowledge.{IsTrueReply, IsTruePhase}
 use Rattle.record.specs.Fragments.{Code, HasEnough, HasDropped}
 use Rattle.record.specs.Journals.{tag_of}
-use Rattle.record.specs.Legal.{is_move, stage_of}
+use Rattle.record.specs.Legal.{is_move}
 use Rattle.record.specs.Sound.{IsSound}
-use Rattle.record.specs.Lacking.{last_beginning, IsOverlapping, AreOverlapping, IsLackingFetch, IsOverlapped}
+use Rattle.record.specs.Lacking.{last_beginning, IsOverlapping, IsLackingFetch, IsOverlapped}
 use Rattle.record.proofs.Atomic.Sequences.Answered.{answered_facts, tag_order}
 use Rattle.record.proofs.Atomic.Stages.Facts.{HasTag}
 use Rattle.record.proofs.Overlapping.Attempts.{fetched_since}

@@ -1,5 +1,6 @@
 -- A tag that was finalized anywhere is that of a write that was called before.
-use Rattle.std.proofs.Common.{◌≡◌, ℕ, zero, suc, ◌<◌, ◌≤◌, ◌⊎◌, List, [], ◌∷◌, Some, None, refl, sym, subst, ap, ◌∙◌, inl, inr, arith, slice_get}
+use Rattle.std.proofs.Common.{◌≡◌, ℕ, zero, suc, ◌<◌, ◌≤◌, ◌⊎◌, List, [], ◌∷◌}
+use Rattle.std.proofs.Common.{Some, refl, sym, subst, ap, ◌∙◌, inl, inr, arith, slice_get}
 use Rattle.std.proofs.lemmas.Option.{same_Some}
 use Rattle.std.specs.List.{AllByRecursion}
 use Rattle.tag.specs.declared.tag.Tag.{Tag}
@@ -130,7 +131,8 @@ module _ (fragment : Code) (object : Object) (last : ℕ) (sound : IsSound fragm
       let shown : Tag → Type 0 = ShownBy object phase.start in
       let there = known_at shown (inl refl) call.kind (suc index) call.phases first plain c.course place phase within
       (λ before other less w.
-      let ended = ended_earlier object sound.legal.layouts call.kind (suc index) call.phases first c.course c.phases before place other phase
+      let ended = ended_earlier object sound.legal.layouts call.kind
+      (suc index) call.phases first c.course c.phases before place other phase
       less w within in
       phase_shows object other ended.end phase.start (all_get (IsTruePhase object) call.phases before other c.phases w) ended.ended
       (let b = ended.before in omega arith))

@@ -10,7 +10,8 @@ use Rattle.record.specs.declared.stage.Stage.TheVariants.{Ended, Moved}
 use Rattle.record.specs.Courses.{due, after, tagged, passed, IsCourse, IsEndedBefore}
 use Rattle.record.specs.Legal.{first_stage}
 use Rattle.record.specs.Journals.{stage_tag}
-use Rattle.record.specs.Grammar.{IsSentence, AreBegun, SameReplies, Begin, IsBeginning, CoursesAreBeginnings}
+use Rattle.record.specs.Grammar.{IsSentence}
+use Rattle.record.specs.Shape.{AreBegun, SameReplies, Begin, IsBeginning, CoursesAreBeginnings}
 use Rattle.record.proofs.Phases.Finishes.{Finish, finish}
 use Rattle.record.proofs.Phases.Orderly.{IsOrderly, orderly_after, orderly_first}
 use Rattle.record.proofs.Phases.Paths.{IsPath, asks_of, due_of}
@@ -71,18 +72,22 @@ begun_of kind number (phase ∷ []) stage orderly course = by_end phase.end refl
         begun_on kind number stage phase [] course.0 tt
         (record {
           in_turn = tt;
-          finish = finish kind number (after kind number stage phase.replies (lacks_pieces phase)) (orderly_after kind number stage phase.replies (lacks_pieces phase) orderly);
+          finish =
+              finish kind number (after kind number stage phase.replies (lacks_pieces phase))
+              (orderly_after kind number stage phase.replies (lacks_pieces phase) orderly);
           begin = tt;
         })
 begun_of kind number (phase ∷ next ∷ later) stage orderly course =
     begun_on kind number stage phase (next ∷ later) course.0 course.1
-    (begun_of kind number (next ∷ later) (after kind number stage phase.replies (lacks_pieces phase)) (orderly_after kind number stage phase.replies (lacks_pieces phase) orderly)
+    (begun_of kind number (next ∷ later) (after kind number stage phase.replies (lacks_pieces phase))
+    (orderly_after kind number stage phase.replies (lacks_pieces phase) orderly)
     (subst (λ o. IsCourse kind number (passed kind number stage o phase.replies (lacks_pieces phase)) (next ∷ later)) course.1.1 course.2))
 
 -- and back
 
 course_step : (kind : CallKind) (number : ℕ) (stage : Stage) (phase : Phase) (later : List Phase) → IsEndedBefore phase later →
-    (IsSome phase.end → IsCourse kind number (after kind number stage phase.replies (lacks_pieces phase)) later) → (o : Option ℕ) → phase.end ≡ o →
+    (IsSome phase.end → IsCourse kind number (after kind number stage phase.replies (lacks_pieces phase)) later) → (o : Option ℕ) →
+    phase.end ≡ o →
     IsCourse kind number (passed kind number stage o phase.replies (lacks_pieces phase)) later
 course_step kind number stage phase [] ended rest None h = tt
 course_step kind number stage phase (next ∷ later) ended rest None h =

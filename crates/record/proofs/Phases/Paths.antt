@@ -23,7 +23,8 @@ use Rattle.record.proofs.Sound.Late.{IsLateWith, late_after}
 abbrev pub IsPath : CallKind → (number : ℕ) → Stage → List Phase → Stage → Type 0
 IsPath kind number stage [] end = stage ≡ end
 IsPath kind number stage (phase ∷ phases) end =
-    (due stage ≡ Some (phase.kind, phase.position)) × IsPath kind number (after kind number stage phase.replies (lacks_pieces phase)) phases end
+    (due stage ≡ Some (phase.kind, phase.position)) × IsPath kind number
+    (after kind number stage phase.replies (lacks_pieces phase)) phases end
 
 -- the call has its tag at this stage
 abbrev pub HasTag : Stage → Type 0
@@ -48,7 +49,12 @@ closed_of kind number (phase ∷ []) stage course = by_end phase.end refl
   where
     by_end : (o : Option ℕ) → phase.end ≡ o → Closed kind number stage (phase ∷ []) (stage_after kind number stage (phase ∷ []))
     by_end None h =
-        record { done = []; open_phase = phase ∷ []; split = refl; path = ap (λ o. passed kind number stage o phase.replies (lacks_pieces phase)) (sym h) }
+        record {
+          done = [];
+          open_phase = phase ∷ [];
+          split = refl;
+          path = ap (λ o. passed kind number stage o phase.replies (lacks_pieces phase)) (sym h);
+        }
     by_end (Some end) h = record {
       done = phase ∷ [];
       open_phase = [];

@@ -1,6 +1,6 @@
 -- The phases of a finished call have the shape of a whole one, and a call whose phases have that shape is finished.
 use Rattle.std.proofs.Common.{◌≡◌, ◌≢◌, ℕ, suc, ◌≤◌, List, [], ◌∷◌, ◌++◌, length}
-use Rattle.std.proofs.Common.{Some, is_some, refl, sym, subst, ap, ◌∙◌, arith, le_refl}
+use Rattle.std.proofs.Common.{Some, is_some, refl, sym, subst, ap, arith, le_refl}
 use Rattle.tag.specs.declared.tag.Tag.{Tag}
 use Rattle.tag.specs.Tag.{opening_tag}
 use Rattle.phase.specs.Phase.{Phase}
@@ -14,9 +14,10 @@ use Rattle.record.specs.Courses.{tagged, stage_after}
 use Rattle.record.specs.Legal.{source_of, stage_of}
 use Rattle.record.specs.Journals.{stage_tag}
 use Rattle.record.specs.Grammar.{AreQueries, greatest_shown, TakesTag, place_shown, IsRest, ArePhasesOfCall, attempt_phases}
-use Rattle.record.specs.Grammar.{AreInTurn, IsFinished, FinishedAreWhole, AnsweredAreWhole}
+use Rattle.record.specs.Shape.{AreInTurn, IsFinished, FinishedAreWhole, AnsweredAreWhole}
 use Rattle.record.proofs.Phases.Again.{queries_path}
-use Rattle.record.proofs.Phases.Attempts.{place_same, attempt_split, attempts_path}
+use Rattle.record.proofs.Phases.Attempts.{place_same, attempt_split}
+use Rattle.record.proofs.Phases.Backward.{attempts_path}
 use Rattle.record.proofs.Phases.Moves.{move_of_path, path_of_move}
 use Rattle.record.proofs.Phases.Paths.{IsPath, path-append, reading_path}
 use Rattle.record.proofs.Phases.Queries.{place_after, takes_of}

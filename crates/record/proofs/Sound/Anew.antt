@@ -1,5 +1,5 @@
 -- A call whose complete fetch lacks pieces begins anew: a read reads the sequence from the first position, a move asks again.
-use Rattle.std.proofs.Common.{◌≡◌, ℕ, suc, true, List, [], ◌∷◌, Option, Some, None, refl, sym, subst, ap, ◌∙◌, slice_get}
+use Rattle.std.proofs.Common.{◌≡◌, ℕ, suc, true, List, [], ◌∷◌, Some, refl, sym, subst, ap, ◌∙◌, slice_get}
 use Rattle.std.proofs.lemmas.Option.{same_Some, some_pair_parts}
 use Rattle.tag.specs.declared.tag.Tag.{Tag}
 use Rattle.bank.specs.declared.kind.Kind.{Kind}
@@ -16,7 +16,6 @@ use Rattle.record.specs.declared.stage.Stage.TheVariants.{FinalizeAt, AgainNext,
 use Rattle.record.specs.declared.stage.Stage.TheVariants.{MoveFetch, MovePreWrite, MoveFinalize, MoveFinal, Ended, Moved}
 use Rattle.record.specs.Legal.{first_stage, source_of, stage_of, IsLegal}
 use Rattle.record.specs.Wants.{current_phase}
-use Rattle.record.proofs.Sound.Late.{fetch_due}
 use Rattle.record.proofs.Sound.Waiting.{Unsettled}
 use Rattle.record.proofs.Sound.Wanting.{Plain}
 

@@ -32,7 +32,8 @@ current_due kind number (first ∷ []) stage phase course current none =
     subst (λ o. due (passed kind number stage o first.replies (lacks_pieces first)) ≡ Some (phase.kind, phase.position)) (sym end_is)
     (subst (λ (p : Phase). due stage ≡ Some (p.kind, p.position)) same course.0)
 current_due kind number (first ∷ next ∷ later) stage phase course current none =
-    current_due kind number (next ∷ later) (passed kind number stage first.end first.replies (lacks_pieces first)) phase course.2 current none
+    current_due kind number (next ∷ later)
+    (passed kind number stage first.end first.replies (lacks_pieces first)) phase course.2 current none
 
 -- the current phase asks again
 pub asked_sound : (fragment : Code) (object : Object) (step now : ℕ) → step < now → Determines fragment →

@@ -18,7 +18,6 @@ use Rattle.record.specs.Fragments.{Code, Determines, IsFetch, IsSettled, request
 use Rattle.record.specs.Sound.{IsPhasePast, IsCallPast, IsSound}
 use Rattle.record.specs.Sending.{request_to, requests}
 use Rattle.record.specs.Steps.{new_phase, with_phase}
-use Rattle.record.specs.Wants.{current_phase}
 use Rattle.record.specs.Knowledge.{IsTruePhase}
 use Rattle.record.proofs.Atomic.Values.Numbered.{coded_tag_past}
 use Rattle.record.proofs.Atomic.Values.Sent.{Sends, request_coded}
@@ -32,8 +31,8 @@ use Rattle.record.proofs.Sound.Later.{if_coded_grows}
 use Rattle.record.proofs.Sound.Mailing.{request_message, kind_of-request_to, all_requests, all_append}
 use Rattle.record.proofs.Sound.Parts.{ReplyCoded, CallRest, MessageRest, call_rest, mail_rest}
 use Rattle.record.proofs.Sound.Enough.Counting.{pieces_not_lacking}
-use Rattle.record.proofs.Sound.Waiting.{LastAt, last_at, Ready, Unsettled}
-use Rattle.record.proofs.Sound.Wanting.{ended_before}
+use Rattle.record.proofs.Sound.Waiting.{LastAt, last_at}
+use Rattle.record.proofs.Sound.Wanting.{MayGoOn, ended_before}
 
 pub get_pushed : {A : Type 0} (xs : List A) (y x : A) (i : ℕ) → slice_get (xs ++ y ∷ []) i ≡ Some x →
     (slice_get xs i ≡ Some x) ⊎ ((i ≡ length xs) × (y ≡ x))
@@ -73,35 +72,6 @@ settled_pushed fragment object call next value other s = record {
         (slice_get call.phases later ≡ Some p) ⊎ ((later ≡ length call.phases) × (next ≡ p)) → ⊥
     go later p after fetch (inl there) = s.latest later p there after fetch
     go later p after fetch (inr here) = other (subst (λ (q : Phase). IsFetch q.kind) (sym here.1) fetch)
-
--- a call that may begin its next phase: its current one is complete, and if it is a fetch, settled or lacking pieces
-pub record MayGoOn (call : Call) : Type 0 where
-  pub open_call : call.answered ≡ None
-  pub phase : Phase
-  pub current : current_phase call.phases ≡ Some phase
-  pub end : ℕ
-  pub ended : phase.end ≡ Some end
-  pub settled : IsFetch phase.kind → IsSome call.settled ⊎ (lacks_pieces phase ≡ true)
-
-pub ready_on : (call : Call) → Ready call → MayGoOn call
-ready_on call ready = record {
-  open_call = ready.open_call;
-  phase = ready.phase;
-  current = ready.current;
-  end = ready.end;
-  ended = ready.ended;
-  settled = λ fetch. inl (ready.settled fetch);
-}
-
-pub lacking_on : (call : Call) → Unsettled call true → MayGoOn call
-lacking_on call wanting = record {
-  open_call = wanting.open_call;
-  phase = wanting.phase;
-  current = wanting.current;
-  end = wanting.end;
-  ended = wanting.ended;
-  settled = λ fetch. inr wanting.lacking;
-}
 
 -- the phase that is due begins
 pub begun_sound : (fragment : Code) (object : Object) (step now : ℕ) → step < now →
@@ -170,7 +140,9 @@ begun_sound fragment object step now less determines sound index call at kind po
     }
 
     stays : TagStays object index call new
-    stays = λ value k tag t. ap stage_tag (stage_push call.kind (suc index) call.phases (first_stage call.kind (source_of object index)) next refl)
+    stays =
+        λ value k tag t. ap stage_tag (stage_push call.kind (suc index) call.phases
+        (first_stage call.kind (source_of object index)) next refl)
         ∙ t
 
     was : CallRest fragment object' now call

@@ -30,7 +30,8 @@ moves_same (call ∷ calls) (suc index) old new at e = ap (λ m. cond (is_move c
 -- a tag that the call had, it has still where it is a write
 abbrev pub TagStays : Object → (index : ℕ) → (old new : Call) → Type 0
 TagStays object index old new =
-    (value : List ℕ) → old.kind ≡ Write value → (tag : Tag) → stage_tag (stage_after old.kind (suc index) (first_stage old.kind (source_of object index)) old.phases) ≡ Some tag →
+    (value : List ℕ) → old.kind ≡ Write value → (tag : Tag) →
+    stage_tag (stage_after old.kind (suc index) (first_stage old.kind (source_of object index)) old.phases) ≡ Some tag →
     stage_tag (stage_after new.kind (suc index) (first_stage new.kind (source_of object index)) new.phases) ≡ Some tag
 
 abbrev pub WithCall : Object → List Message → (index : ℕ) → Call → Object
@@ -55,7 +56,8 @@ call_grown now object index old new mail at changed stays = record {
           at = set_here object.calls index old new at;
           changed = changed;
           tagged =
-              λ value k tag t. subst (λ from. stage_tag (stage_after new.kind (suc index) (first_stage new.kind from) new.phases) ≡ Some tag)
+              λ value k tag t. subst (λ from. stage_tag
+              (stage_after new.kind (suc index) (first_stage new.kind from) new.phases) ≡ Some tag)
               (sym (moves_set object.calls index index old new at changed.same_kind)) (stays value k tag t);
         })
     go i c e (inr other) = record {

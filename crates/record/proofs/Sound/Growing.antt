@@ -16,7 +16,8 @@ course_push kind number (phase ∷ []) stage next course ends is_due = (course.0
 course_push kind number (phase ∷ other ∷ phases) stage next course ends is_due = (
   course.0,
   course.1,
-  course_push kind number (other ∷ phases) (passed kind number stage phase.end phase.replies (lacks_pieces phase)) next course.2 ends is_due,
+  course_push kind number (other ∷ phases)
+      (passed kind number stage phase.end phase.replies (lacks_pieces phase)) next course.2 ends is_due,
 )
 
 pub numbered_push : (call number : ℕ) (phases : List Phase) (next : Phase) → AreNumbered call number phases → next.call ≡ call →

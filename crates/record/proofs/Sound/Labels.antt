@@ -172,7 +172,8 @@ module _ (fragment : Code) (object : Object) (last now position member : ℕ) (t
           Comes (Step.CallMove layout)
       at_position (inl old) = inl (sym (ap (λ banks. label_at (get_or banks member no_bank) tag) old) ∙ e)
       at_position (inr new) =
-          here new.0 (opened_get layout.members 0 object.delta now member) (sym (ap (λ banks. label_at (get_or banks member no_bank) tag) new.1) ∙ e)
+          here new.0 (opened_get layout.members 0 object.delta now member)
+          (sym (ap (λ banks. label_at (get_or banks member no_bank) tag) new.1) ∙ e)
 
   pub labels_stepped : (step : Step) → ComesWithIts fragment object step now position member tag label
   labels_stepped Step.CallRead e = inl e

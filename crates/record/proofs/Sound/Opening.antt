@@ -29,7 +29,8 @@ get-opened member delta now tag =
     get-with_row map.empty opening_tag (λ o. opening_row member now) tag
     ∙ ap (λ o. cond (tag_eq tag opening_tag) (Some (opening_row member now)) o) (map.get-empty tag_cmp tag)
 
-get-opened_here : (member : ℕ) (delta : Option ℕ) (now : ℕ) → map.get (opened_bank member delta now).rows opening_tag ≡ Some (opening_row member now)
+get-opened_here : (member : ℕ) (delta : Option ℕ) (now : ℕ) →
+    map.get (opened_bank member delta now).rows opening_tag ≡ Some (opening_row member now)
 get-opened_here member delta now =
     get-opened member delta now opening_tag ∙ ap (λ b. cond b (Some (opening_row member now)) None) (tag_eq-same opening_tag)
 
@@ -50,7 +51,8 @@ opened_at member delta now = record {
   arrived = ap row_arrived (get-opened_here member delta now);
 }
 
-pub opened_known : (member : ℕ) (delta : Option ℕ) (now : ℕ) (tag : Tag) → knows (opened_bank member delta now) tag ≡ true → tag ≡ opening_tag
+pub opened_known : (member : ℕ) (delta : Option ℕ) (now : ℕ) (tag : Tag) → knows (opened_bank member delta now) tag ≡ true →
+    tag ≡ opening_tag
 opened_known member delta now tag known = go (tag_eq tag opening_tag) refl (sym (ap is_some (get-opened member delta now tag)) ∙ known)
   where
     go : (b : Bool) → tag_eq tag opening_tag ≡ b →
@@ -68,10 +70,12 @@ no_bank_gives g tag x none e = let no : None ≡ Some x = sym (ap g (none_there 
 
 -- the banks of an opened position
 
-pub opened_get : (servers : List ℕ) (member : ℕ) (delta : Option ℕ) (now i : ℕ) → (get_or (opened_banks servers member delta now) i no_bank ≡ no_bank)
+pub opened_get : (servers : List ℕ) (member : ℕ) (delta : Option ℕ) (now i : ℕ) →
+    (get_or (opened_banks servers member delta now) i no_bank ≡ no_bank)
     ⊎ (get_or (opened_banks servers member delta now) i no_bank ≡ opened_bank (member + i) delta now)
 opened_get [] member delta now i = inl refl
-opened_get (server ∷ servers) member delta now zero = let same : member ≡ member + 0 = omega arith in inr (ap (λ m. opened_bank m delta now) same)
+opened_get (server ∷ servers) member delta now zero =
+    let same : member ≡ member + 0 = omega arith in inr (ap (λ m. opened_bank m delta now) same)
 opened_get (server ∷ servers) member delta now (suc i) = go (opened_get servers (suc member) delta now i)
   where
     go : (get_or (opened_banks servers (suc member) delta now) i no_bank ≡ no_bank)
@@ -84,12 +88,15 @@ opened_get (server ∷ servers) member delta now (suc i) = go (opened_get server
 pub opened_there : (servers : List ℕ) (member : ℕ) (delta : Option ℕ) (now i : ℕ) → i < length servers →
     get_or (opened_banks servers member delta now) i no_bank ≡ opened_bank (member + i) delta now
 opened_there [] member delta now i h = absurd (omega arith)
-opened_there (server ∷ servers) member delta now zero h = let same : member ≡ member + 0 = omega arith in ap (λ m. opened_bank m delta now) same
+opened_there (server ∷ servers) member delta now zero h =
+    let same : member ≡ member + 0 = omega arith in ap (λ m. opened_bank m delta now) same
 opened_there (server ∷ servers) member delta now (suc i) h =
     let same : suc member + i ≡ member + suc i = omega arith in
-    let below : i < length servers = omega arith in opened_there servers (suc member) delta now i below ∙ ap (λ m. opened_bank m delta now) same
+    let below : i < length servers = omega arith in opened_there servers (suc member) delta now i below ∙ ap
+    (λ m. opened_bank m delta now) same
 
-pub opened_length : (servers : List ℕ) (member : ℕ) (delta : Option ℕ) (now : ℕ) → length (opened_banks servers member delta now) ≡ length servers
+pub opened_length : (servers : List ℕ) (member : ℕ) (delta : Option ℕ) (now : ℕ) →
+    length (opened_banks servers member delta now) ≡ length servers
 opened_length [] member delta now = refl
 opened_length (server ∷ servers) member delta now = ap suc (opened_length servers (suc member) delta now)
 
@@ -103,7 +110,8 @@ no_bank_caused object position = record {
   final = λ step e. absurd (cc);
 }
 
-pub opened_caused : (object : Object) (position member : ℕ) (delta : Option ℕ) (now : ℕ) → IsCaused object position (opened_bank member delta now)
+pub opened_caused : (object : Object) (position member : ℕ) (delta : Option ℕ) (now : ℕ) →
+    IsCaused object position (opened_bank member delta now)
 opened_caused object position member delta now = record {
   finalized = λ tag step e. inl ((opened_cases row_finalized member delta now tag step refl e).0);
   arrived = λ tag step e. inl ((opened_cases row_arrived member delta now tag step refl e).0);
@@ -113,7 +121,8 @@ opened_caused object position member delta now = record {
 
 pub either_caused : (object : Object) (delta : Option ℕ) (now position member : ℕ) (bank : Bank) →
     (bank ≡ no_bank) ⊎ (bank ≡ opened_bank (0 + member) delta now) → IsCaused object position bank
-either_caused object delta now position member bank (inl none) = subst (IsCaused object position) (sym none) (no_bank_caused object position)
+either_caused object delta now position member bank (inl none) =
+    subst (IsCaused object position) (sym none) (no_bank_caused object position)
 either_caused object delta now position member bank (inr new) =
     subst (IsCaused object position) (sym new) (opened_caused object position (0 + member) delta now)
 
@@ -212,7 +221,8 @@ opening_sound fragment code layout delta now lawful =
     members (suc p) h = absurd (omega arith)
 
     opened : (p i : ℕ) → p < 1 → i < length (layout_at object p).members → (step : ℕ) × IsOpenedAt (bank_at object p i) step
-    opened zero i h k = (now, subst (λ bank. IsOpenedAt bank now) (sym (opened_there layout.members 0 delta now i k)) (opened_at (0 + i) delta now))
+    opened zero i h k =
+        (now, subst (λ bank. IsOpenedAt bank now) (sym (opened_there layout.members 0 delta now i k)) (opened_at (0 + i) delta now))
     opened (suc p) i h k = absurd (omega arith)
 
     deltas : (p i : ℕ) → p < 1 → i < length (layout_at object p).members → (bank_at object p i).delta ≡ delta

@@ -147,7 +147,8 @@ placed_after count kind number (Moved p t) replies lacks finds placed = tt
 placed_passed : (count : ℕ) (kind : CallKind) (number : ℕ) (stage : Stage) (end : Option ℕ) (replies : List Taken) (lacks : Bool) →
     DueFinds count (due stage) replies → Placed count stage → Placed count (passed kind number stage end replies lacks)
 placed_passed count kind number stage None replies lacks finds placed = placed
-placed_passed count kind number stage (Some end) replies lacks finds placed = placed_after count kind number stage replies lacks finds placed
+placed_passed count kind number stage (Some end) replies lacks finds placed =
+    placed_after count kind number stage replies lacks finds placed
 
 abbrev pub PhaseFinds : (count : ℕ) → Phase → Type 0
 PhaseFinds count phase = Finds count phase.kind phase.position phase.replies

@@ -126,7 +126,8 @@ recorded_sound fragment object step now place less sound message kind made body_
     }
 
     stays : TagStays object posted.index call new
-    stays = λ value k tag t. tag_set value call.kind k (suc posted.index) call.phases (first_stage call.kind (source_of object posted.index))
+    stays =
+        λ value k tag t. tag_set value call.kind k (suc posted.index) call.phases (first_stage call.kind (source_of object posted.index))
         (of_write_first value call.kind (source_of object posted.index) k) posted.place phase grown tag posted.within last
         took.open_phase t
 

@@ -1,5 +1,5 @@
 -- Every step that may be made keeps a record sound; so every run from an opened object is sound, and atomic.
-use Rattle.std.proofs.Common.{◌≡◌, ℕ, suc, ◌+◌, ◌<◌, List, [], ◌∷◌, length, Option, Some, refl, subst, ap, arith}
+use Rattle.std.proofs.Common.{◌≡◌, ℕ, suc, ◌+◌, ◌<◌, List, [], ◌∷◌, length, Option, refl, subst, ap, arith}
 use Rattle.record.specs.Atomic.{IsAtomic}
 use Rattle.layout.specs.Layout.{Layout, IsLawful}
 use Rattle.record.specs.Records.{Object}
@@ -61,7 +61,8 @@ run_sound fragment code (made ∷ steps) object step sound may =
     let same : suc step + length steps ≡ step + suc (length steps) = omega arith in
     subst (IsSound fragment (run fragment steps (suc (suc step)) (stepped fragment made (suc step) object))) same rest
 
-pub opened_run_sound : (fragment : Code) → IsCode fragment → (layout : Layout) (delta : Option ℕ) (start : ℕ) (steps : List Step) → IsLawful layout →
+pub opened_run_sound : (fragment : Code) → IsCode fragment → (layout : Layout) (delta : Option ℕ) (start : ℕ) (steps : List Step) →
+    IsLawful layout →
     MayRun fragment steps (suc start) (opened_object layout delta start) →
     IsSound fragment (run fragment steps (suc start) (opened_object layout delta start)) (start + length steps)
 opened_run_sound fragment code layout delta start steps lawful may =
@@ -72,7 +73,8 @@ pub sound_atomic : (fragment : Code) → IsCode fragment → (object : Object) (
 sound_atomic fragment code object step sound =
     atomic_of_legal object sound.legal (reads_journaled fragment object code.determines sound.legal sound.values sound.coded sound.settled)
 
-pub run_atomic : (fragment : Code) → IsCode fragment → (layout : Layout) (delta : Option ℕ) (start : ℕ) (steps : List Step) → IsLawful layout →
+pub run_atomic : (fragment : Code) → IsCode fragment → (layout : Layout) (delta : Option ℕ) (start : ℕ) (steps : List Step) →
+    IsLawful layout →
     MayRun fragment steps (suc start) (opened_object layout delta start) →
     IsAtomic (entries (run fragment steps (suc start) (opened_object layout delta start)))
 run_atomic fragment code layout delta start steps lawful may =

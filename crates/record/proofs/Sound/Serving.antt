@@ -9,7 +9,6 @@ use Rattle.bank.specs.Knowledge.{IsTrueAnswer}
 use Rattle.bank.specs.Serve.{kind_of, served_bank, answer_to, reply_to}
 use Rattle.bank.specs.declared.reply.Reply.{Reply}
 use Rattle.bank.specs.declared.request.Request.{Request}
-use Rattle.bank.specs.declared.request.Request.TheVariants as request
 use Rattle.mail.specs.Message.{body_kind, answered}
 use Rattle.mail.specs.declared.message.Message.{Message}
 use Rattle.phase.specs.declared.phase.Taken.{Taken}
@@ -23,7 +22,7 @@ use Rattle.record.specs.Steps.{with_bank, handled_object, served_by}
 use Rattle.record.specs.May.{IsRequestAt}
 use Rattle.mail.specs.declared.message.Body.TheVariants as body
 use Rattle.record.proofs.Lists.{all_weaker, all_pairs, all_get, all_set}
-use Rattle.record.proofs.Sound.Banks.{BankCoded, served_past, served_next, served_opened_at, served_true, served_coded, answer_coded}
+use Rattle.record.proofs.Sound.Banks.{served-delta, served-retired, BankCoded, served_past, served_next, served_opened_at, served_true, served_coded, answer_coded}
 use Rattle.record.proofs.Sound.Changing.{same_call}
 use Rattle.record.proofs.Sound.Due.{spread_there}
 use Rattle.record.proofs.Sound.Keeping.{agree_same, served_agrees}
@@ -33,23 +32,6 @@ use Rattle.record.proofs.Sound.Mays.{MadeBefore}
 use Rattle.record.proofs.Sound.Parts.{BankRest, MessageRest, Sizes, sound_of, sizes_of, call_rest, bank_rest, mail_rest, all_from}
 use Rattle.record.proofs.Sound.Placed.{KindPlaced}
 use Rattle.record.proofs.Sound.Requests.{served_keeps}
-
--- what a request leaves as it is
-served-delta : (bank : Bank) (asked : Request) (now : ℕ) → (served_bank bank asked now).delta ≡ bank.delta
-served-delta bank request.Next now = refl
-served-delta bank (request.Spread status) now = refl
-served-delta bank request.Query now = refl
-served-delta bank (request.PreWrite tag piece) now = refl
-served-delta bank (request.Finalize tag) now = refl
-served-delta bank (request.Fetch tag) now = refl
-
-served-retired : (bank : Bank) (asked : Request) (now : ℕ) → (served_bank bank asked now).retired ≡ bank.retired
-served-retired bank request.Next now = refl
-served-retired bank (request.Spread status) now = refl
-served-retired bank request.Query now = refl
-served-retired bank (request.PreWrite tag piece) now = refl
-served-retired bank (request.Finalize tag) now = refl
-served-retired bank (request.Fetch tag) now = refl
 
 -- the bank that changed
 bank_here : (object : Object) (position member : ℕ) (bank : Bank) → position < length object.banks →

@@ -17,13 +17,13 @@ use Rattle.record.specs.Steps.{answered_object, repeated_object, asked_again, su
 use Rattle.record.specs.Sending.{sent_value, sent_pieces}
 use Rattle.record.proofs.Atomic.Values.Sent.{sends_plain, sends_some}
 use Rattle.record.proofs.Sound.Asking.{asked_sound}
-use Rattle.record.proofs.Sound.Beginning.{begun_sound, ready_on, lacking_on}
+use Rattle.record.proofs.Sound.Beginning.{begun_sound}
 use Rattle.record.proofs.Sound.Closing.{answered_sound, settled_sound}
 use Rattle.record.proofs.Sound.Mailing.{lost_sound, repeated_sound}
 use Rattle.record.proofs.Sound.Sending.{sent_there}
 use Rattle.record.proofs.Sound.Serving.{served_sound}
 use Rattle.record.proofs.Sound.Taking.{taken_sound}
-use Rattle.record.proofs.Sound.Wanting.{advance_ready, supply_ready, waiting_of, lacking_of}
+use Rattle.record.proofs.Sound.Wanting.{advance_ready, supply_ready, waiting_of, lacking_of, ready_on, lacking_on}
 use Rattle.record.proofs.Sound.Anew.{anew_due}
 
 at_call : (fragment : Code) (now : ℕ) (object : Object) (o : Option Call) (call : Call) (f : Call → Object) → o ≡ Some call →

@@ -76,7 +76,8 @@ unfetched_query kind fetches number found p l greatest q = go (eqb p l)
     go true = unfetched_tagged kind fetches number shown l later
     go false = tt
 
-unfetched_after : (kind : CallKind) → Fetches kind → (number : ℕ) (stage : Stage) (replies : List Taken) (lacks : Bool) → IsUnfetched stage →
+unfetched_after : (kind : CallKind) → Fetches kind → (number : ℕ) (stage : Stage) (replies : List Taken) (lacks : Bool) →
+    IsUnfetched stage →
     (IsFetchDue stage × (lacks ≡ false)) ⊎ IsUnfetched (after kind number stage replies lacks)
 unfetched_after kind fetches number (ReadNext p m) replies lacks none = inr (unfetched_next p m (greatest_status replies))
 unfetched_after kind fetches number (ReadSpread p m s) replies lacks none = inr (unfetched_spread p m s)
@@ -149,7 +150,8 @@ pub fetched_before_due : (kind : CallKind) → Fetches kind → (number : ℕ) (
 fetched_before_due kind fetches number [] stage course none sending = absurd (unfetched_due stage none sending)
 fetched_before_due kind fetches number (phase ∷ phases) stage course none sending =
     fetched_from phase phases stage course.0 (unfetched_passed kind fetches number stage phase.end phase.replies (lacks_pieces phase) none)
-    (λ still. fetched_before_due kind fetches number phases (passed kind number stage phase.end phase.replies (lacks_pieces phase)) course.2 still sending)
+    (λ still. fetched_before_due kind fetches number phases
+    (passed kind number stage phase.end phase.replies (lacks_pieces phase)) course.2 still sending)
 
 -- and so has one that sends them
 pub fetched_before_sent : (kind : CallKind) → Fetches kind → (number : ℕ) (phases : List Phase) (stage : Stage) →

@@ -1,12 +1,13 @@
 -- When a call may advance, be supplied or be answered, by what it wants.
-use Rattle.std.proofs.Common.{◌≡◌, ℕ, ◌<◌, ◌⊎◌, true, false, length, Option, Some, None, refl, sym, ◌∙◌, inl, inr, arith}
+use Rattle.std.proofs.Common.{◌≡◌, ℕ, ◌<◌, ◌⊎◌, true, false, length, Option, Some, None, IsSome, refl, sym, ◌∙◌, inl, inr, arith}
 use Rattle.tag.specs.declared.tag.Tag.{Tag}
 use Rattle.bank.specs.declared.kind.Kind.{Kind}
-use Rattle.phase.specs.Phase.{Phase}
+use Rattle.phase.specs.Phase.{Phase, lacks_pieces}
 use Rattle.record.specs.Records.{Call, Object, layout_at}
 use Rattle.bank.specs.declared.kind.Kind.TheVariants.{Next, Spread, Query, PreWrite, Finalize, Fetch}
 use Rattle.record.specs.Courses.{due, EndsBefore}
 use Rattle.record.specs.Legal.{stage_of}
+use Rattle.record.specs.Fragments.{IsFetch}
 use Rattle.record.specs.Sound.{IsPhasePast, IsCallPast}
 use Rattle.record.specs.declared.stage.Want.{Want}
 use Rattle.record.specs.Wants.{current_phase, want_for, want_of}
@@ -121,7 +122,8 @@ supply_ready object index call k n e = (ready.0, go (due_cases object next))
     next = due (stage_of object index call)
 
     ready : Ready call × (want_for object next ≡ wants.Supply k n)
-    ready = ready_of object index call (wants.Supply k n) e (λ d. absurd (cc)) (λ d. absurd (cc)) (λ k' len d. absurd (cc)) (λ d. absurd (cc))
+    ready =
+        ready_of object index call (wants.Supply k n) e (λ d. absurd (cc)) (λ d. absurd (cc)) (λ k' len d. absurd (cc)) (λ d. absurd (cc))
 
     go : Dues object next → Sending object next
     go (inl a) = absurd (let clash : wants.Answer ≡ wants.Supply k n = sym a.0 ∙ ready.1 in cc)
@@ -171,3 +173,32 @@ ended_before call phase end step now current ended past less =
     let there = last_at call.phases phase current in
     let before = (all_get (IsPhasePast step) call.phases there.place phase past.phases there.within).end end ended in
     ends_before call.phases phase end now current ended (omega arith)
+
+-- a call that may begin its next phase: its current one is complete, and if it is a fetch, settled or lacking pieces
+pub record MayGoOn (call : Call) : Type 0 where
+  pub open_call : call.answered ≡ None
+  pub phase : Phase
+  pub current : current_phase call.phases ≡ Some phase
+  pub end : ℕ
+  pub ended : phase.end ≡ Some end
+  pub settled : IsFetch phase.kind → IsSome call.settled ⊎ (lacks_pieces phase ≡ true)
+
+pub ready_on : (call : Call) → Ready call → MayGoOn call
+ready_on call ready = record {
+  open_call = ready.open_call;
+  phase = ready.phase;
+  current = ready.current;
+  end = ready.end;
+  ended = ready.ended;
+  settled = λ fetch. inl (ready.settled fetch);
+}
+
+pub lacking_on : (call : Call) → Unsettled call true → MayGoOn call
+lacking_on call wanting = record {
+  open_call = wanting.open_call;
+  phase = wanting.phase;
+  current = wanting.current;
+  end = wanting.end;
+  ended = wanting.ended;
+  settled = λ fetch. inr wanting.lacking;
+}

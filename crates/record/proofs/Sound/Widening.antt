@@ -1,6 +1,6 @@
 -- Calling a read, a write or a move makes a sound record.
 use Rattle.std.proofs.Common.{◌≡◌, ℕ, zero, suc, pred, ◌+◌, ◌<◌, ◌≤◌, ◌⊎◌, Bool, true, false, cond, List, []}
-use Rattle.std.proofs.Common.{◌∷◌, ◌++◌, length, set, get_or, Some, None, refl, sym, subst, ap, ◌∙◌, inl, inr, arith, le_refl}
+use Rattle.std.proofs.Common.{◌∷◌, ◌++◌, length, set, get_or, Some, refl, sym, subst, ap, ◌∙◌, inl, inr, arith, le_refl}
 use Rattle.std.proofs.lemmas.List.{length_push, get_or_append_left}
 use Rattle.layout.specs.Layout.{Layout, IsLawful}
 use Rattle.bank.specs.Bank.{Bank, opened_bank}

@@ -1,5 +1,6 @@
 -- Each phase of a call keeps what is so of it.
-use Rattle.std.proofs.Common.{◌≡◌, ℕ, suc, ◌≤◌, Bool, true, false, eqb, inl, List, Some, refl, sym, subst, arith, le_trans, le_refl, eqb-true}
+use Rattle.std.proofs.Common.{◌≡◌, ℕ, suc, ◌≤◌, Bool, true, false, eqb, inl}
+use Rattle.std.proofs.Common.{List, Some, refl, sym, subst, arith, le_trans, le_refl, eqb-true}
 use Rattle.std.proofs.lemmas.Bool.{cond_both}
 use Rattle.tag.specs.declared.tag.Tag.{Tag}
 use Rattle.bank.specs.declared.status.Status.{Status}
@@ -92,7 +93,8 @@ facts_after object kind from number called now (QueryFrom p last greatest shown_
     onward facts
 facts_after object kind from number called now (FetchAt shown_at last tag) asked position start end replies true e done since onward facts =
     (λ j below. absurd (omega arith), le_refl 0, inl refl, no_move object kind number called tag facts.1)
-facts_after object kind from number called now (FetchAt shown_at last tag) asked position start end replies false e done since onward facts =
+facts_after object kind from number called now
+    (FetchAt shown_at last tag) asked position start end replies false e done since onward facts =
     fetch_facts object kind from number called now shown_at last tag start end replies
     (done_at object _ asked _ position start end replies done e) onward facts
 facts_after object kind from number called now (PreWriteAt last tag) asked position start end replies lacks e done since onward facts =
@@ -103,7 +105,8 @@ facts_after object kind from number called now (FinalizeAt last tag) asked posit
 facts_after object kind from number called now (AgainNext last p tag) asked position start end replies lacks e done since onward facts =
     again_facts object kind from number called now last p tag start end replies (greatest_status replies) refl
     (done_at object _ asked _ position start end replies done e) onward facts
-facts_after object kind from number called now (AgainSpread last p tag status) asked position start end replies lacks e done since onward facts =
+facts_after object kind from number called now
+    (AgainSpread last p tag status) asked position start end replies lacks e done since onward facts =
     let here = done_at object _ asked _ position start end replies done e in
     let over : now ≤ end = le_trans onward done.later in (
       reached_more object p now end over facts.0 (here.spreads status refl facts.3),
@@ -133,4 +136,5 @@ facts_after object kind from number called now (MoveFinalize p tag) asked positi
 facts_after object kind from number called now (MoveFinal p tag) asked position start end replies lacks e done since onward facts =
     (facts.0, facts.1, stored_later object (suc p) tag now end (le_trans onward done.later) facts.2)
 facts_after object kind from number called now (Moved p tag) asked position start end replies lacks e done since onward facts = absurd (cc)
-facts_after object kind from number called now (Ended last tag) asked position start end replies lacks e done since onward facts = absurd (cc)
+facts_after object kind from number called now (Ended last tag) asked position start end replies lacks e done since onward facts =
+    absurd (cc)

@@ -32,7 +32,8 @@ pub one_phase : (object : Object) (kind : CallKind) (from number called now end 
     Facts object kind from number called end (passed kind number stage phase.end phase.replies (lacks_pieces phase))
 one_phase object kind from number called now end stage phase lawful is_due truth e since before facts =
     subst (λ o. Facts object kind from number called end (passed kind number stage o phase.replies (lacks_pieces phase))) (sym e)
-    (facts_after object kind from number called now stage phase.kind phase.position phase.start end phase.replies (lacks_pieces phase) is_due
+    (facts_after object kind from number called now stage phase.kind phase.position phase.start end phase.replies
+    (lacks_pieces phase) is_due
     (done_of object phase end lawful truth e) since before facts)
 
 at_phase : (object : Object) (kind : CallKind) (from number called : ℕ) → AllByRecursion IsLawful object.layouts →
@@ -53,7 +54,8 @@ at_phase object kind from number called lawful (first ∷ next ∷ later) now st
     let ended = course.1.1 in
     let grew : first.start ≤ end = (done_of object first end lawful truth.0 ended).later in
     let before : now ≤ first.start = starts in
-    at_phase object kind from number called lawful (next ∷ later) end (passed kind number stage first.end first.replies (lacks_pieces first)) course.2 truth.1
+    at_phase object kind from number called lawful (next ∷ later) end
+    (passed kind number stage first.end first.replies (lacks_pieces first)) course.2 truth.1
     (omega arith) (le_of_lt course.1.2)
     (one_phase object kind from number called now end stage first lawful course.0 truth.0 ended since starts facts) place phase e
 
@@ -72,7 +74,8 @@ last_facts object kind from number called now stage phase lawful is_due truth si
   now = now;
   since = since;
   until = λ step ends. absurd (let both : None ≡ Some ends.0 = sym e ∙ ends.1 in cc);
-  facts = subst (λ o. Facts object kind from number called now (passed kind number stage o phase.replies (lacks_pieces phase))) (sym e) facts;
+  facts =
+      subst (λ o. Facts object kind from number called now (passed kind number stage o phase.replies (lacks_pieces phase))) (sym e) facts;
 }
 last_facts object kind from number called now stage phase lawful is_due truth since before facts (Some end) e = record {
   now = end;

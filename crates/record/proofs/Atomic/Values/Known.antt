@@ -101,7 +101,8 @@ known_query P kind number found p l greatest q plain new old =
     known : P later
     known = cond_both (tag_lt greatest found) found greatest P (λ e. new) (λ e. old)
 
-known_after : (P : Tag → Type 0) → P opening_tag → (kind : CallKind) (number : ℕ) (stage : Stage) (replies : List Taken) (lacks : Bool) → IsNoWrite kind →
+known_after : (P : Tag → Type 0) → P opening_tag → (kind : CallKind) (number : ℕ) (stage : Stage) (replies : List Taken) (lacks : Bool) →
+    IsNoWrite kind →
     P (greatest_tag replies) → TagIs P stage →
     TagIs P (after kind number stage replies lacks)
 known_after P opening kind number (ReadNext p m) replies lacks plain shown known = known_next P opening p m (greatest_status replies)
@@ -125,11 +126,13 @@ known_after P opening kind number (MoveFinal p t) replies lacks plain shown know
 known_after P opening kind number (Ended l t) replies lacks plain shown known = known
 known_after P opening kind number (Moved p t) replies lacks plain shown known = known
 
-known_passed : (P : Tag → Type 0) → P opening_tag → (kind : CallKind) (number : ℕ) (stage : Stage) (end : Option ℕ) (replies : List Taken) (lacks : Bool) →
+known_passed : (P : Tag → Type 0) → P opening_tag →
+    (kind : CallKind) (number : ℕ) (stage : Stage) (end : Option ℕ) (replies : List Taken) (lacks : Bool) →
     IsNoWrite kind → P (greatest_tag replies) → TagIs P stage →
     TagIs P (passed kind number stage end replies lacks)
 known_passed P opening kind number stage None replies lacks plain shown known = known
-known_passed P opening kind number stage (Some end) replies lacks plain shown known = known_after P opening kind number stage replies lacks plain shown known
+known_passed P opening kind number stage (Some end) replies lacks plain shown known =
+    known_after P opening kind number stage replies lacks plain shown known
 
 pub known_end : (P : Tag → Type 0) → P opening_tag → (kind : CallKind) (number : ℕ) (phases : List Phase) (stage : Stage) → IsNoWrite kind →
     AllByRecursion (λ phase. P (greatest_tag phase.replies)) phases →

@@ -85,7 +85,8 @@ numbered_after : (step : ℕ) (kind : CallKind) (number : ℕ) (stage : Stage) (
     (greatest_tag replies).number ≤ step → NumberedAt step stage → NumberedAt step (after kind number stage replies lacks)
 numbered_after step kind number (ReadNext p m) replies lacks shown h = numbered_next step p m (greatest_status replies)
 numbered_after step kind number (ReadSpread p m s) replies lacks shown h = numbered_spread step p m s
-numbered_after step kind number (QueryFrom p l t q) replies lacks shown h = numbered_query step kind number (greatest_tag replies) p l t q shown h
+numbered_after step kind number (QueryFrom p l t q) replies lacks shown h =
+    numbered_query step kind number (greatest_tag replies) p l t q shown h
 numbered_after step kind number (FetchAt q l t) replies true shown h = tt
 numbered_after step kind number (FetchAt q l t) replies false shown h =
     cond_both (eqb q l) (AgainNext l l t) (PreWriteAt l t) (λ stage. NumberedAt step stage) (λ e. h) (λ e. h)

@@ -1,5 +1,5 @@
 -- What is sent is the journal's value of its tag.
-use Rattle.std.proofs.Common.{◌≡◌, ℕ, suc, ◌≤◌, true, List, Option, Some, None}
+use Rattle.std.proofs.Common.{◌≡◌, ℕ, ◌≤◌, true, List, Option, Some, None}
 use Rattle.std.proofs.Common.{IsSome, refl, sym, subst, ap, ◌∙◌, inl, inr, arith, slice_get}
 use Rattle.std.proofs.lemmas.Option.{same_Some}
 use Rattle.tag.specs.declared.tag.Tag.{Tag}

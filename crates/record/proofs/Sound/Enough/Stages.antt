@@ -94,7 +94,8 @@ query_pieces object kind number found j last greatest shown_at end new old =
         cases_of false false h k = subst (λ t. Somewhere object j t end) (same_tag found greatest h k) new
 
 pieces_after :
-    (object : Object) (kind : CallKind) (number now : ℕ) (stage : Stage) (asked : Kind) (position end : ℕ) (replies : List Taken) (lacks : Bool) →
+    (object : Object) (kind : CallKind) (number now : ℕ) (stage : Stage) (asked : Kind) (position end : ℕ) (replies : List Taken)
+    (lacks : Bool) →
     due stage ≡ Some (asked, position) → Says object asked position end replies → now ≤ end → PieceFacts object now stage →
     PieceFacts object end (after kind number stage replies lacks)
 pieces_after object kind number now (ReadNext p m) asked position end replies lacks e says over facts =
@@ -147,10 +148,12 @@ at_phase object lawful kind number (first ∷ next ∷ later) now stage course t
     let ended = course.1.1 in
     let grew = start_before_end object first end lawful truth.0 ended in
     let before : now ≤ first.start = starts in
-    at_phase object lawful kind number (next ∷ later) end (passed kind number stage first.end first.replies (lacks_pieces first)) course.2 truth.1
+    at_phase object lawful kind number (next ∷ later) end
+    (passed kind number stage first.end first.replies (lacks_pieces first)) course.2 truth.1
     (le_of_lt course.1.2)
     (subst (λ o. PieceFacts object end (passed kind number stage o first.replies (lacks_pieces first))) (sym ended)
-    (pieces_after object kind number now stage first.kind first.position end first.replies (lacks_pieces first) course.0 (says_of object first end truth.0 ended)
+    (pieces_after object kind number now stage first.kind first.position end first.replies (lacks_pieces first) course.0
+    (says_of object first end truth.0 ended)
     (le_trans before grew) facts))
     place phase e
 
