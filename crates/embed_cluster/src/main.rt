@@ -70,6 +70,7 @@ fn make_turns(alloc: Global, cluster: &mut Cluster, call: u64) -> Result<Receipt
                 let decoded = decode(alloc, k, len, cluster.pieces(NAME, call)?)?;
                 cluster.settle(NAME, call, decoded)?;
             }
+            Want::Again => cluster.again(NAME, call)?,
             Want::Answer => return cluster.answer(NAME, call),
             Want::Done => return Err(Refusal::NotNow),
         }

@@ -23,7 +23,7 @@ pub struct Admin<L: StoreName> {
 #[derive(Drop)]
 pub enum Order<'a> {
     AddLayout(Layout),
-    Create { name: &'a str, layout: LayoutId },
+    Create { name: &'a str, layout: LayoutId, delta: Option<u32> },
     SetServer { server: u8, up: bool },
 }
 

@@ -26,8 +26,8 @@ pub fn admin_in<L: StoreName>(
     let _ = &admin.pending;
     match order {
         Order::AddLayout(layout) => Ok(Some(booked.cluster.add_layout(layout)?)),
-        Order::Create { name, layout } => {
-            booked.cluster.create(alloc, name, layout)?;
+        Order::Create { name, layout, delta } => {
+            booked.cluster.create_with(alloc, name, layout, delta)?;
             Ok(None)
         }
         Order::SetServer { server, up } => {

@@ -35,10 +35,9 @@ impl<L: StoreName> Store<L> {
         }
     }
 
-    /// One more object, with one position of this layout.
+    /// One more object, with one position of this layout, whose banks keep every piece.
     ///
-    /// `ObjectExists` where an object has this name, `BadLayout` where there is no such layout, `TooLong` where the
-    /// name is too long, and `Full` where the limit of steps or of objects is met.
+    /// It is refused as `create_with` is.
     pub fn create<R: Wait>(
         &self,
         rt: &R,
@@ -49,7 +48,26 @@ impl<L: StoreName> Store<L> {
         ensures created { Creates name.now layout result }
         ensures same { admin.new ≡ admin.old }
     {
-        let order = Order::Create { name, layout };
+        self.create_with(rt, admin, name, layout, None)
+    }
+
+    /// One more object, with one position of this layout. The banks of all its positions keep the pieces of the newest
+    /// finalized version and of `delta` others; all where there is no `delta`.
+    ///
+    /// `ObjectExists` where an object has this name, `BadLayout` where there is no such layout, `TooLong` where the
+    /// name is too long, and `Full` where the limit of steps or of objects is met.
+    pub fn create_with<R: Wait>(
+        &self,
+        rt: &R,
+        admin: &mut Admin<L>,
+        name: &str,
+        layout: LayoutId,
+        delta: Option<u32>,
+    ) -> Result<(), Refusal>
+        ensures created { Creates name.now layout result }
+        ensures same { admin.new ≡ admin.old }
+    {
+        let order = Order::Create { name, layout, delta };
         admin_in(self.alloc, &mut *self.booked.lock(rt), admin, order)?;
         Ok(())
     }

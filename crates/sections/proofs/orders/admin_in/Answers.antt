@@ -14,11 +14,12 @@ invariant_of-booked-in-AddLayout g c =
 pub invariant_of-booked-in-Create : goal.invariant_of-booked-in-Create
 invariant_of-booked-in-Create g c =
     let h = c.booked.invariant in
-    let made = c.in_ok-create-in-Create.ensures.step in
+    let made = c.in_ok-create_with-in-Create.ensures.step in
     let name = c.in-Create.name.now in
     let layout = c.in-Create.layout in
-    let same = ap client_calls made ∙ calls_created c.booked.inside.cluster name (layout_of c.booked.inside.cluster layout) in
-    (h.0 ∙ sym same, h.1, h.2, h.3, h.4, became_next _ _ _ h.5 (inr (inr (inl (name, (layout, made))))))
+    let delta = c.in-Create.delta in
+    let same = ap client_calls made ∙ calls_created c.booked.inside.cluster name (layout_of c.booked.inside.cluster layout) delta in
+    (h.0 ∙ sym same, h.1, h.2, h.3, h.4, became_next _ _ _ h.5 (inr (inr (inl (name, (layout, (delta, made)))))))
 
 pub invariant_of-booked-in-SetServer : goal.invariant_of-booked-in-SetServer
 invariant_of-booked-in-SetServer g c =
