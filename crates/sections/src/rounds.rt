@@ -46,7 +46,8 @@ impl Hand {
 }
 
 /// One round of the seat's pending call: one step of the call, or of one of its messages; or none and a copy of what is
-/// to be coded or decoded for the next round, or none where what is handed in came too late.
+/// to be coded or decoded for the next round, or none where what is handed in came too late. The seat counts the rounds
+/// that ask again.
 ///
 /// `Stranger` where the seat has seen a later step than there was, `NoCall` where it has no pending call, `NotNow`
 /// where that is answered, `GaveUp` where no turns are left, and else as `make_round`, `supply` and `settle` are
@@ -61,7 +62,7 @@ pub fn round_in<L: StoreName, C: Chooser>(
 ) -> Result<Round, Refusal>
     ensures steps { IfOk result
         (λ r. SeatGoes C.chooses seat.old.pending hand asks_again booked.old chooser.old booked.new chooser.new r) }
-    ensures seat { IfOk result (λ r. SeatLeaves seat.old r seat.new) }
+    ensures seat { IfOk result (λ r. SeatLeaves asks_again seat.old r seat.new) }
     ensures cause { MatchResult result (λ r. round_cause booked.old seat.old turns ≡ None) (λ e.
         ((round_cause booked.old seat.old turns ≡ Some e) × (chooser.new ≡ chooser.old))
         ⊎ ((round_cause booked.old seat.old turns ≡ None)
@@ -86,6 +87,9 @@ pub fn round_in<L: StoreName, C: Chooser>(
         turns,
         chooser,
     )?;
+    if asks_again {
+        seat.note_asked();
+    }
     if let Round::Answered(receipt) = &round {
         seat.settle(receipt, copy);
     }
