@@ -46,8 +46,8 @@ AddsLayout first old layout answer new =
     × (IsStateOf first cluster
     × (IsByCause (layout_cause cluster layout) answer
     × MatchResult answer
-        (λ id. (id ≡ length cluster.layouts) × (new ≡ ordered_by old (with_layout cluster layout)))
-        (λ r. new ≡ old)))
+    (λ id. (id ≡ length cluster.layouts) × (new ≡ ordered_by old (with_layout cluster layout)))
+    (λ r. new ≡ old)))
 
 -- an object is created, or refused
 abbrev pub Creates : {T : Type 0} → (first : Cluster) → AdminState → (name : List ℕ) → (id : ℕ) → Result T Refusal

@@ -1,5 +1,6 @@
 -- The administrator, and what it keeps.
-use Rattle.std.specs.Prelude.{◌≡◌, ℕ, ◌+◌, ◌%◌, ◌^◌, ◌<◌, Bool, true, false, List, Option, Some, None}
+use Rattle.std.specs.Prelude.{◌≡◌, ℕ, ◌+◌, ◌%◌, ◌^◌, ◌<◌, Bool, true, false, refl, List, Option, Some, None}
+use Rattle.std.specs.Coded.{Coded, code_by, coded×, coded_list, coded_option, coded_ℕ}
 use Rattle.register.specs.declared.receipt.Receipt.{Receipt}
 use Rattle.cluster.specs.Cluster.{Cluster}
 
@@ -15,6 +16,20 @@ pub record AdminState : Type 0 where
   pub orders : ℕ
   pub asked : ℕ
   pub left : Cluster
+
+-- a move is stored as the pair of its parts
+abbrev pub moving_code : Coded Moving
+moving_code =
+    code_by (List ℕ × ℕ) (coded× (coded_list coded_ℕ) coded_ℕ) (λ m. (m.name, m.call))
+    (λ p. record { name = p.0; call = p.1 }) (λ _. refl)
+
+-- an administrator is stored as the tuple of its parts
+abbrev pub admin_code : Coded Cluster → Coded AdminState
+admin_code cluster =
+    code_by (Option Moving × (ℕ × (ℕ × Cluster)))
+    (coded× (coded_option moving_code) (coded× coded_ℕ (coded× coded_ℕ cluster)))
+    (λ a. (a.moving, (a.orders, (a.asked, a.left))))
+    (λ p. record { moving = p.0; orders = p.1.0; asked = p.1.1.0; left = p.1.1.1 }) (λ _. refl)
 
 abbrev pub moving_of : List ℕ → Option ℕ → Option Moving
 moving_of name None = None
@@ -40,6 +55,11 @@ has_asked a = record a { asked = one_more a.asked }
 abbrev pub asked_if : {S : Type 0} → (S → S) → (again : Bool) → S → S
 asked_if asks true s = asks s
 asked_if asks false s = s
+
+-- the receipt is that of the move without an answer
+abbrev pub IsOfMove : Option Moving → Receipt → Type 0
+IsOfMove None receipt = ⊥
+IsOfMove (Some m) receipt = receipt.call ≡ m.call
 
 -- the move of this number is over, and the receipt is that of its call, answered later than called
 abbrev pub EndsMove : Option Moving → AdminState → Receipt → AdminState → Type 0

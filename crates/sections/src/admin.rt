@@ -1,13 +1,14 @@
 //! The one administrator of a store.
 
-ghost use Rattle.std.specs.Prelude.{◌≡◌, ◌↔◌, IsTrue, IsSome, IfErr};
+ghost use Rattle.std.specs.Prelude.{◌≡◌, ◌<◌, ◌↔◌, IsTrue, IsSome, IfErr};
 ghost use Rattle.tag.specs.declared.refusal.Refusal.TheVariants.{NoMemory};
-ghost use Rattle.sections.specs.Moves.{has_asked, new_admin, ordered_by};
+ghost use Rattle.sections.specs.Moves.{Ends, IsOfMove, has_asked, new_admin, ordered_by};
 
 use crate::booked::StoreName;
 use crate::seat::hold;
 use cluster::{Cluster, LayoutId};
 use layout::Layout;
+use register::Receipt;
 use std::alloc::Global;
 use std::marker::{Model, PhantomData};
 use std::snapshot::Snapshot;
@@ -38,9 +39,12 @@ pub enum Order<'a> {
 
 impl<L: StoreName> Model for Admin<L> {
     ghost use Rattle.std.specs.String.{string_bytes};
-    ghost use Rattle.sections.specs.Moves.{AdminState, moving_of};
+    ghost use Rattle.cluster.specs.contracts.cluster.Cluster as whole;
+    ghost use Rattle.sections.specs.Moves.{AdminState, admin_code, moving_of};
 
     ghost Value = { AdminState };
+
+    ghost coded = { admin_code whole.the_row.coded };
 
     ghost view = { λ a. record {
       moving = moving_of (string_bytes a.name) a.pending;
@@ -103,6 +107,15 @@ impl<L: StoreName> Admin<L> {
     {
         self.orders = self.orders.wrapping_add(1);
         self.left = Snapshot::of(cluster);
+    }
+
+    /// Its move is answered with a receipt.
+    pub(crate) fn end_move(&mut self, receipt: &Receipt)
+        requires call { IsOfMove self.old.moving receipt.now }
+        requires later { receipt.now.called < receipt.now.answered }
+        ensures { Ends self.old receipt.now self.new }
+    {
+        self.pending = None;
     }
 
     /// Counts a round of its move that asked again.

@@ -13,7 +13,7 @@ ghost use Rattle.sections.specs.Sections.{move_cause_of};
 
 use crate::admin::Admin;
 use crate::booked::{Booked, StoreName};
-use crate::rounds::{Hand, past_calls, round_with, want_to_go};
+use crate::rounds::{Hand, round_with_copy};
 use cluster::{Cluster, LayoutId};
 use driver::{Chooser, Round};
 use tag::Refusal;
@@ -88,23 +88,20 @@ pub fn move_round_in<L: StoreName, C: Chooser>(
     let Some(call) = admin.pending else {
         return Err(Refusal::NoCall);
     };
-    let name = admin.name.as_str();
-    let want = want_to_go(&booked.cluster, name, call, turns)?;
-    past_calls(&booked.cluster, name);
-    let round = round_with(
+    let (round, _copy) = round_with_copy(
         &mut booked.cluster,
-        name,
+        admin.name.as_str(),
         call,
-        want,
         hand,
         asks_again,
+        turns,
         chooser,
     )?;
     if asks_again {
         admin.note_asked();
     }
-    if let Round::Answered(_) = &round {
-        admin.pending = None;
+    if let Round::Answered(receipt) = &round {
+        admin.end_move(receipt);
     }
     Ok(round)
 }

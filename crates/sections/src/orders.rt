@@ -3,7 +3,7 @@
 ghost use Rattle.std.specs.Prelude.{◌≡◌, IfOk, OnOk, OnErr};
 ghost use Rattle.tag.specs.Refusal.{IsByCause};
 ghost use Rattle.sections.specs.Calls.{client_calls};
-ghost use Rattle.sections.specs.Course.{IsStateOf, IsStep};
+ghost use Rattle.sections.specs.Course.{GoesOn, IsStateOf};
 ghost use Rattle.sections.specs.Moves.{ordered_by};
 ghost use Rattle.sections.specs.Sections.{order_cause, ordered, ordered_id};
 
@@ -36,13 +36,17 @@ pub fn admin_in<L: StoreName>(
 }
 
 // The same of the cluster alone.
-fn carry_out(alloc: Global, cluster: &mut Cluster, order: Order) -> Result<Option<LayoutId>, Refusal>
+fn carry_out(
+    alloc: Global,
+    cluster: &mut Cluster,
+    order: Order,
+) -> Result<Option<LayoutId>, Refusal>
     ensures step { OnOk result (cluster.new ≡ ordered cluster.old order.entry) }
-    ensures next { OnOk result (IsStep cluster.old cluster.new) }
     ensures id { IfOk result (λ id. id ≡ ordered_id cluster.old order.entry) }
     ensures cause { IsByCause (order_cause cluster.old order.entry) result }
     ensures unchanged { OnErr result (cluster.new ≡ cluster.old) }
     ensures count { client_calls cluster.new ≡ client_calls cluster.old }
+    ensures course { GoesOn cluster.old cluster.new }
 {
     match order {
         Order::AddLayout(layout) => Ok(Some(cluster.add_layout(layout)?)),

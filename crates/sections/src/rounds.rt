@@ -96,9 +96,9 @@ pub fn round_in<L: StoreName, C: Chooser>(
     Ok(round)
 }
 
-// One round of a call, and, where that answers it, a second copy of the value that it tells, which is had before the
-// step.
-fn round_with_copy<C: Chooser>(
+/// One round of a call, and, where that answers it, a second copy of the value that it tells, which is had before the
+/// step.
+pub(crate) fn round_with_copy<C: Chooser>(
     cluster: &mut Cluster,
     name: &str,
     call: u64,
@@ -162,8 +162,8 @@ fn copy_to_keep(
     }
 }
 
-/// The calls of an object were made by the last step. It does nothing.
-pub(crate) fn past_calls(cluster: &Cluster, name: &str)
+// The calls of an object were made by the last step. It does nothing.
+fn past_calls(cluster: &Cluster, name: &str)
     ensures { (state : State) → named cluster.now.objects name.now ≡ Some state
         → AllByRecursion (λ call. call.called ≤ cluster.now.counter) state.object.calls }
 {
@@ -184,13 +184,8 @@ fn kept_value(round: &Round, copy: Option<Bytes>) -> Option<Bytes>
     }
 }
 
-/// What a call wants that may go on.
-pub(crate) fn want_to_go(
-    cluster: &Cluster,
-    name: &str,
-    call: u64,
-    turns: u64,
-) -> Result<Want, Refusal>
+// What a call wants that may go on.
+fn want_to_go(cluster: &Cluster, name: &str, call: u64, turns: u64) -> Result<Want, Refusal>
     ensures want { IfOk result (λ w. wanted cluster.now name.now call ≡ Some w) }
     ensures cause { MatchResult result (λ w. going_cause cluster.now name.now call turns ≡ None)
         (λ e. going_cause cluster.now name.now call turns ≡ Some e) }
@@ -205,8 +200,8 @@ pub(crate) fn want_to_go(
     Ok(want)
 }
 
-/// One round of a call that wants this, which answers it only where it wants to be answered and nothing is handed in.
-pub(crate) fn round_with<C: Chooser>(
+// One round of a call that wants this, which answers it only where it wants to be answered and nothing is handed in.
+fn round_with<C: Chooser>(
     cluster: &mut Cluster,
     name: &str,
     call: u64,
