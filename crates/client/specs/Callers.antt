@@ -3,7 +3,6 @@ use Rattle.std.specs.Prelude.{◌≡◌, ◌⊎◌, Bool, true, false}
 use Rattle.register.specs.declared.receipt.Receipt.{Receipt}
 use Rattle.driver.specs.declared.round.Round.{Round}
 use Rattle.driver.specs.declared.round.Round.TheVariants as round
-use Rattle.sections.specs.Moves.{asked_if}
 
 -- an answer ends the call; any other round leaves its maker as it is
 abbrev pub LeavesBy : {S : Type 0} → (S → Receipt → S → Type 0) → S → Round → S → Type 0
