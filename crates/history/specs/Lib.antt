@@ -1,3 +1,4 @@
 pub mod Calls
 pub mod Check
 pub mod Places
+pub mod Promised
