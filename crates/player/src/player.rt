@@ -82,7 +82,7 @@ fn change(alloc: Global, cluster: &mut Cluster, command: Command) -> Report
 {
     match command {
         Command::Layout { k, members } => cluster_commands::layout(cluster, k, &members),
-        Command::Object { name, layout } => cluster_commands::object(alloc, cluster, name, layout),
+        Command::Object { name, layout } => cluster_commands::object(cluster, name, layout),
         Command::Down { server } => cluster_commands::server(cluster, server, false),
         Command::Up { server } => cluster_commands::server(cluster, server, true),
         Command::CallRead { name } => call_commands::call_read(cluster, name),

@@ -13,7 +13,7 @@ use tag::{Refusal, Stamp};
 fn one_server(alloc: Global) -> Result<Cluster, Refusal> {
     let mut cluster = Cluster::new(alloc, 1);
     let layout = cluster.add_layout(Layout::new(1, &[0])?)?;
-    cluster.create(alloc, "a", layout)?;
+    cluster.create("a", layout)?;
     Ok(cluster)
 }
 
@@ -48,9 +48,9 @@ fn a_name_of_255_bytes(rt: HostRuntime) -> Result<(), Fail> {
     let alloc = rt.alloc();
     let mut cluster = one_server(alloc)?;
     let longer = String::from_utf8(vec![in alloc; b'c'; 256]?)?;
-    assert!(rt; cluster.create(alloc, &longer, 0) == Err(Refusal::TooLong));
+    assert!(rt; cluster.create(&longer, 0) == Err(Refusal::TooLong));
     let longest = String::from_utf8(vec![in alloc; b'c'; 255]?)?;
-    assert!(rt; cluster.create(alloc, &longest, 0).is_ok());
+    assert!(rt; cluster.create(&longest, 0).is_ok());
     assert!(rt; cluster.call_read(&longest) == Ok(1));
     Ok(())
 }

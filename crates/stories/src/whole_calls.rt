@@ -21,7 +21,7 @@ impl Chooser for Greatest {
 fn one_server(alloc: Global) -> Result<Cluster, Refusal> {
     let mut cluster = Cluster::new(alloc, 1);
     let layout = cluster.add_layout(Layout::new(1, &[0])?)?;
-    cluster.create(alloc, "a", layout)?;
+    cluster.create("a", layout)?;
     Ok(cluster)
 }
 

@@ -28,7 +28,7 @@ impl<L: StoreName> Store<L> {
         ensures { AddsLayout L.first admin.old layout result admin.new }
     {
         let order = Order::AddLayout(layout);
-        match admin_in(self.alloc, &mut *self.booked.lock(rt), admin, order)? {
+        match admin_in(&mut *self.booked.lock(rt), admin, order)? {
             Some(id) => Ok(id),
             None => unreachable!(),
         }
@@ -48,7 +48,7 @@ impl<L: StoreName> Store<L> {
         ensures { Creates L.first admin.old name.now layout result admin.new }
     {
         let order = Order::Create { name, layout };
-        admin_in(self.alloc, &mut *self.booked.lock(rt), admin, order)?;
+        admin_in(&mut *self.booked.lock(rt), admin, order)?;
         Ok(())
     }
 
@@ -63,7 +63,7 @@ impl<L: StoreName> Store<L> {
         ensures { SetsServer L.first admin.old server up result admin.new }
     {
         let order = Order::SetServer { server, up };
-        admin_in(self.alloc, &mut *self.booked.lock(rt), admin, order)?;
+        admin_in(&mut *self.booked.lock(rt), admin, order)?;
         Ok(())
     }
 

@@ -9,7 +9,6 @@ ghost use Rattle.cluster.specs.Causes.{layout_cause, create_cause, server_cause}
 use crate::cluster::{Cluster, LayoutId};
 use layout::Layout;
 use register::Register;
-use std::alloc::Global;
 use tag::{LONGEST_NAME, MOST_LAYOUTS, MOST_OBJECTS, MOST_STEPS, Refusal};
 
 impl Cluster {
@@ -38,7 +37,7 @@ impl Cluster {
     ///
     /// `ObjectExists` where an object has this name, `BadLayout` where there is no such layout, `TooLong` where the
     /// name is longer than `LONGEST_NAME` bytes, and `Full` where the limit of steps or of objects is met.
-    pub fn create(&mut self, alloc: Global, name: &str, id: LayoutId) -> Result<(), Refusal>
+    pub fn create(&mut self, name: &str, id: LayoutId) -> Result<(), Refusal>
         ensures step { OnOk result (self.new ≡ created self.old name.now id) }
         ensures cause { IsByCause (create_cause self.old name.now id) result }
         ensures unchanged { OnErr result (self.new ≡ self.old) }
@@ -56,6 +55,7 @@ impl Cluster {
             return Err(Refusal::Full);
         }
         let now = self.counter + 1;
+        let alloc = *self.layouts.allocator();
         let register = Register::new(alloc, layout.clone()?, now)?;
         let name = String::from_str(alloc, name)?;
         self.objects.insert(name, register)?;

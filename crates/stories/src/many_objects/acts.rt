@@ -21,8 +21,8 @@ pub(crate) fn two_objects(
 ) -> Result<Cluster, Fail> {
     let mut cluster = Cluster::new(alloc, servers);
     let layout = cluster.add_layout(Layout::new(k, members)?)?;
-    cluster.create(alloc, "a", layout)?;
-    cluster.create(alloc, "b", layout)?;
+    cluster.create("a", layout)?;
+    cluster.create("b", layout)?;
     Ok(cluster)
 }
 
@@ -132,7 +132,7 @@ pub(crate) fn create_objects(
 ) -> Result<(), Fail> {
     for number in 0..count {
         let name = format!(in alloc; "{number}")?;
-        cluster.create(alloc, &name, 0)?;
+        cluster.create(&name, 0)?;
     }
     Ok(())
 }
