@@ -4,12 +4,10 @@ use Rattle.std.specs.List.{AllByRecursion}
 use Rattle.std.specs.Map.{values_of}
 use Rattle.encoder.specs.Fragment.{fragment}
 use Rattle.record.specs.Atomic.{IsAtomic}
-use Rattle.record.specs.Fragments.{AreCoded}
-use Rattle.record.specs.Journals.{entries, ReadsJournaled}
+use Rattle.record.specs.Journals.{entries}
 use Rattle.record.specs.Sound.{IsSound}
 use Rattle.register.specs.Kept.{IsWithinLimits}
 use Rattle.register.specs.State.{State}
-use Rattle.history.specs.Promised.{FetchesHaveEnough, HasOneValue}
 use Rattle.cluster.specs.Cluster.{Named}
 use Rattle.cluster.proofs.Places.{Entry, objects_of}
 
@@ -18,13 +16,10 @@ pub record IsObjectSound (state : State) : Type 0 where
   pub sound : IsSound fragment state.object state.last
   pub limits : IsWithinLimits state.object
 
--- the object's pieces are fragments, enough of them are fetched, and its history is atomic and of the journal's values
+-- the object is sound, and its history is atomic
 pub record IsObjectAtomic (state : State) : Type 0 where
-  pub coded : AreCoded fragment state.object
+  pub sound : IsSound fragment state.object state.last
   pub atomic : IsAtomic (entries state.object)
-  pub enough : FetchesHaveEnough state.object
-  pub reads : ReadsJournaled state.object
-  pub journal : HasOneValue state.object
 
 -- what holds of each value holds of each object
 all_objects : (P : State → Type 0) (entries : List Entry) → AllByRecursion P (values_of entries) →

@@ -1,13 +1,15 @@
 -- What holds of every cluster, whatever steps made it.
-use Rattle.std.specs.Prelude.{◌≡◌, length, map}
+use Rattle.std.specs.Prelude.{◌≡◌, ℕ, List, Some, length, map, slice_get}
 use Rattle.std.specs.List.{AllByRecursion, range_with_len}
+use Rattle.tag.specs.declared.tag.Tag.{Tag}
 use Rattle.encoder.specs.Fragment.{fragment}
+use Rattle.phase.specs.Phase.{Phase}
 use Rattle.record.specs.Atomic.{IsAtomic}
-use Rattle.record.specs.Fragments.{AreCoded}
-use Rattle.record.specs.Journals.{entries, ReadsJournaled}
+use Rattle.record.specs.Fragments.{AreCoded, HasEnough, IsFetch}
+use Rattle.record.specs.Journals.{entries, IsJournaled, ReadsJournaled}
+use Rattle.record.specs.Records.{Call, Object}
 use Rattle.record.specs.Sound.{IsSound}
 use Rattle.register.specs.Kept.{IsWithinLimits}
-use Rattle.history.specs.Promised.{FetchesHaveEnough, HasOneValue}
 use Rattle.cluster.specs.Accounts as of
 use Rattle.cluster.specs.Cluster.{Cluster}
 use Rattle.cluster.specs.declared.cluster.accounts.Accounts.{Accounts}
@@ -30,7 +32,17 @@ AreFragments cluster = AllByRecursion (λ o. AreCoded fragment o.state.object) c
 abbrev pub AreAtomic : Cluster → Type 0
 AreAtomic cluster = AllByRecursion (λ o. IsAtomic (entries o.state.object)) cluster.objects
 
--- each complete fetch of each object has pieces of at least k distinct members
+-- each complete fetch has pieces of at least k distinct members
+abbrev pub FetchesHaveEnough : Object → Type 0
+FetchesHaveEnough object =
+    (index place end : ℕ) (call : Call) (phase : Phase) → slice_get object.calls index ≡ Some call →
+    slice_get call.phases place ≡ Some phase → IsFetch phase.kind → phase.end ≡ Some end → HasEnough object phase
+
+-- the journal has one value for a tag
+abbrev pub HasOneValue : Object → Type 0
+HasOneValue object = (tag : Tag) (v w : List ℕ) → IsJournaled object tag v → IsJournaled object tag w → v ≡ w
+
+-- so it is of each object
 abbrev pub HaveEnough : Cluster → Type 0
 HaveEnough cluster = AllByRecursion (λ o. FetchesHaveEnough o.state.object) cluster.objects
 

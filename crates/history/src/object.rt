@@ -5,35 +5,21 @@
 ghost use Rattle.std.specs.Prelude.{◌≡◌, IfOk, IfErr, map};
 ghost use Rattle.tag.specs.declared.refusal.Refusal.TheVariants.{NoMemory};
 ghost use Rattle.record.specs.Atomic.{IsAtomic, IsSequence};
-ghost use Rattle.record.specs.Journals.{entries, ReadsJournaled};
+ghost use Rattle.record.specs.Journals.{entries};
 ghost use Rattle.record.specs.Sequence.{IsTagSequence};
 ghost use Rattle.history.specs.Calls.{AreCallsOf, tagged_entry};
-ghost use Rattle.history.specs.Promised.{FetchesHaveEnough, HasOneValue};
 
 use crate::order::order_by_tags;
-use record::{
-    Entry, TaggedCall, complete_fetches_have_enough, fragments_are_a_code,
-    journaled_values_are_unique, reads_return_journaled_values, sound_records_are_atomic,
-};
+use record::{Entry, TaggedCall};
 use register::Register;
 use std::alloc::{AllocError, Global};
 use tag::Refusal;
 
-/// Whatever steps made an object, its history is atomic; each of its complete fetches has pieces of at least k members;
-/// and an answered read returns the value that the journal has for its tag, which is one. It does nothing, and takes no
-/// memory.
+/// The history of each object is atomic, whatever steps made the object. It does nothing, and takes no memory.
 pub fn atomic(register: &Register)
-    ensures atomic { IsAtomic (entries register.now.object) }
-    ensures enough { FetchesHaveEnough register.now.object }
-    ensures reads { ReadsJournaled register.now.object }
-    ensures journal { HasOneValue register.now.object }
+    ensures { IsAtomic (entries register.now.object) }
 {
     register.soundness();
-    fragments_are_a_code();
-    sound_records_are_atomic();
-    complete_fetches_have_enough();
-    reads_return_journaled_values();
-    journaled_values_are_unique();
 }
 
 /// The sequence that the tags give: the answered reads and writes, and the unanswered writes whose tag an answered read

@@ -7,6 +7,10 @@ ghost use Rattle.cluster.specs.Kept.{IsKeptCluster};
 
 use crate::cluster::{Accounts, Cluster};
 use history::atomic;
+use record::{
+    complete_fetches_have_enough, fragments_are_a_code, journaled_values_are_unique,
+    reads_return_journaled_values,
+};
 
 impl Cluster {
     /// Each object is atomic: its answered reads and writes, with some unanswered writes, follow one register in an
@@ -23,6 +27,10 @@ impl Cluster {
         ensures journal { HaveOneValue self.now }
         ensures accounts { AreSums self.now result }
     {
+        fragments_are_a_code();
+        complete_fetches_have_enough();
+        reads_return_journaled_values();
+        journaled_values_are_unique();
         for register in self.objects.values() {
             register.soundness();
             atomic(register);

@@ -5,8 +5,7 @@ use Rattle.encoder.specs.Fragment.{fragment}
 use Rattle.record.specs.Atomic.{IsAtomic}
 use Rattle.record.specs.Fragments.{AreCoded}
 use Rattle.record.specs.Journals.{entries, ReadsJournaled}
-use Rattle.history.specs.Promised.{FetchesHaveEnough, HasOneValue}
-use Rattle.cluster.specs.Atomic.{AreAtomic, AreFragments, AreJournaled, HaveEnough, HaveOneValue}
+use Rattle.cluster.specs.Atomic.{AreAtomic, AreFragments, AreJournaled, FetchesHaveEnough, HasOneValue, HaveEnough, HaveOneValue}
 use Rattle.cluster.proofs.Laws.{IsObjectAtomic, all_done, all_weaker}
 use Rattle.cluster.proofs.Places.{objects_of}
 use Rattle.cluster.proofs.cluster.Cluster.atomic.Goals as goal
@@ -29,19 +28,27 @@ pub returns-clause-fragments : goal.returns-clause-fragments
 returns-clause-fragments c =
     subst AreFragments c.self.view_is
     (all_weaker IsObjectAtomic (λ s. AreCoded fragment s.object)
-    (λ s held. held.coded) (objects_of c.self.inside.objects.entries) (each c))
+    (λ s held. held.sound.coded) (objects_of c.self.inside.objects.entries) (each c))
 
 pub returns-clause-enough : goal.returns-clause-enough
 returns-clause-enough c =
     subst HaveEnough c.self.view_is
-    (all_weaker IsObjectAtomic (λ s. FetchesHaveEnough s.object) (λ s held. held.enough) (objects_of c.self.inside.objects.entries) (each c))
+    (all_weaker IsObjectAtomic (λ s. FetchesHaveEnough s.object)
+    (λ s held index place end call phase at within fetch e.
+        c.complete_fetches_have_enough.ensures fragment s.object s.last index place end call phase held.sound at within fetch e)
+    (objects_of c.self.inside.objects.entries) (each c))
 
 pub returns-clause-reads : goal.returns-clause-reads
 returns-clause-reads c =
     subst AreJournaled c.self.view_is
-    (all_weaker IsObjectAtomic (λ s. ReadsJournaled s.object) (λ s held. held.reads) (objects_of c.self.inside.objects.entries) (each c))
+    (all_weaker IsObjectAtomic (λ s. ReadsJournaled s.object)
+    (λ s held. c.reads_return_journaled_values.ensures fragment s.object s.last c.fragments_are_a_code.ensures held.sound)
+    (objects_of c.self.inside.objects.entries) (each c))
 
 pub returns-clause-journal : goal.returns-clause-journal
 returns-clause-journal c =
     subst HaveOneValue c.self.view_is
-    (all_weaker IsObjectAtomic (λ s. HasOneValue s.object) (λ s held. held.journal) (objects_of c.self.inside.objects.entries) (each c))
+    (all_weaker IsObjectAtomic (λ s. HasOneValue s.object)
+    (λ s held tag v w first second.
+        c.journaled_values_are_unique.ensures fragment s.object s.last tag v w held.sound first second)
+    (objects_of c.self.inside.objects.entries) (each c))
