@@ -27,6 +27,7 @@ impl Cluster {
         ensures journal { HaveOneValue self.now }
         ensures accounts { AreSums self.now result }
     {
+        let told = self.accounts();
         fragments_are_a_code();
         complete_fetches_have_enough();
         reads_return_journaled_values();
@@ -35,7 +36,7 @@ impl Cluster {
             register.soundness();
             atomic(register);
         }
-        self.accounts()
+        told
     }
 
     /// What every step keeps: the record of each object is sound and within the limits, and no step of it is later than
