@@ -1,8 +1,10 @@
 -- Phases, and what takes make of them.
-use Rattle.std.specs.Prelude.{◌≡◌, ℕ, ◌+◌, ◌≤◌, ◌==◌, ◌&&◌, Bool, not, if◌then◌else◌, nat_lt, nat_eq, List, [], ◌∷◌}
-use Rattle.std.specs.Prelude.{◌++◌, length, map, Option, Some, None, is_some}
+use Rattle.std.specs.Prelude.{◌≡◌, ℕ, ◌+◌, ◌≤◌, ◌==◌, ◌&&◌, Bool, true, false, not, if◌then◌else◌, nat_lt, nat_eq}
+use Rattle.std.specs.Prelude.{List, [], ◌∷◌, ◌++◌, length, map, count_by, Option, Some, None, is_some}
 use Rattle.std.specs.List.{list_any, IsDistinct}
 use Rattle.bank.specs.declared.kind.Kind.{Kind}
+use Rattle.bank.specs.declared.reply.Answer.{Answer}
+use Rattle.bank.specs.declared.reply.Answer.TheVariants as answer
 use Rattle.bank.specs.declared.reply.Reply.{Reply}
 use Rattle.mail.specs.declared.message.Message.{Message}
 use Rattle.mail.specs.declared.message.Body.{Body}
@@ -11,8 +13,8 @@ use Rattle.phase.specs.declared.phase.Taken.{Taken}
 use Rattle.phase.specs.declared.phase.Took.{Took}
 use Rattle.phase.specs.declared.phase.Took.TheVariants as took
 
--- a phase: its call, its number there, what it asks of the members of a position, how many are to reply,
--- the steps at which it began and ended, and the replies that were taken
+-- a phase: its call, its number there, what it asks of the members of a position, how many are to reply
+-- and how many pieces a fetch needs, the steps at which it began and ended, and the replies that were taken
 pub record Phase : Type 0 where
   pub call : ℕ
   pub number : ℕ
@@ -20,6 +22,7 @@ pub record Phase : Type 0 where
   pub position : ℕ
   pub members : ℕ
   pub quorum : ℕ
+  pub needed : ℕ
   pub start : ℕ
   pub replies : List Taken
   pub end : Option ℕ
@@ -35,14 +38,15 @@ abbrev pub end_of : (quorum : ℕ) → List Taken → Option ℕ
 end_of quorum replies = if nat_lt (length replies) quorum then None else last_step replies
 
 -- a phase that has taken nothing yet
-abbrev pub begun : (call number : ℕ) → Kind → (position members quorum now : ℕ) → Phase
-begun call number kind position members quorum now = record {
+abbrev pub begun : (call number : ℕ) → Kind → (position members quorum needed now : ℕ) → Phase
+begun call number kind position members quorum needed now = record {
   call = call;
   number = number;
   kind = kind;
   position = position;
   members = members;
   quorum = quorum;
+  needed = needed;
   start = now;
   replies = [];
   end = None;
@@ -55,6 +59,19 @@ members_of replies = map (λ t. t.member) replies
 -- whether a reply of the member is among those taken
 abbrev pub has_taken : List Taken → ℕ → Bool
 has_taken replies member = list_any (λ t. t.member == member) replies
+
+-- whether an answer brings a piece
+abbrev pub has_piece : Answer → Bool
+has_piece (answer.Piece (Some piece)) = true
+has_piece a = false
+
+-- how many of the replies bring a piece
+abbrev pub pieces_in : List Taken → ℕ
+pieces_in replies = count_by (λ t. has_piece t.reply.answer) replies
+
+-- whether fewer replies than a fetch needs bring a piece
+abbrev pub lacks_pieces : Phase → Bool
+lacks_pieces p = nat_lt (pieces_in p.replies) p.needed
 
 -- whether the phase has this call and number, and has not ended
 abbrev pub is_current : Phase → ℕ → ℕ → Bool

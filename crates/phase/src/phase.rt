@@ -1,8 +1,9 @@
 ghost use Rattle.std.specs.Prelude.{◌≡◌, ◌≤◌, IsNone, IfOk, IfErr, is_some, false, if◌then◌else◌};
 ghost use Rattle.tag.specs.declared.refusal.Refusal.TheVariants.{NoMemory};
 ghost use Rattle.phase.specs.Complete.{CompleteMeansQuorum};
+ghost use Rattle.phase.specs.Phase.{has_piece};
 
-use bank::{Kind, Reply};
+use bank::{Answer, Kind, Reply};
 use mail::{Body, Message};
 use std::alloc::Global;
 use std::marker::Model;
@@ -52,6 +53,8 @@ pub struct Phase {
     replies: Vec<Taken>,
     members: u8,
     quorum: u8,
+    // How many pieces a fetch needs.
+    needed: u8,
 }
 
 impl Model for Phase {
@@ -67,6 +70,7 @@ impl Model for Phase {
       position = p.ask.position;
       members = p.members;
       quorum = p.quorum;
+      needed = p.needed;
       start = p.start;
       replies = p.replies.items;
       end = end_of p.quorum p.replies.items;
@@ -79,10 +83,11 @@ impl Model for Phase {
 
 impl Phase {
     ghost use Rattle.phase.specs.Phase.{IsRecord, begun, after_take, took_by};
-    ghost use Rattle.phase.specs.Phase.{is_current, has_taken, makes_quorum, with_reply};
+    ghost use Rattle.phase.specs.Phase.{is_current, has_taken, makes_quorum, with_reply, lacks_pieces};
     ghost use Rattle.phase.specs.declared.phase.Took.TheVariants as took;
 
-    /// A phase that begins at step `now`, of which `quorum` of the position's `members` are to reply.
+    /// A phase that begins at step `now`, of which `quorum` of the position's `members` are to reply; a fetch needs
+    /// `needed` pieces.
     ///
     /// Room for a quorum's replies is reserved, so that no take is refused; `NoMemory` where there is none.
     pub fn new(
@@ -90,11 +95,13 @@ impl Phase {
         ask: Ask,
         members: u8,
         quorum: u8,
+        needed: u8,
         now: Stamp,
     ) -> Result<Phase, Refusal>
         requires some { 1 ≤ quorum }
         requires within { quorum ≤ members }
-        ensures phase { IfOk result (λ p. p ≡ begun ask.call ask.number ask.kind ask.position members quorum now) }
+        ensures phase { IfOk result (λ p. p
+            ≡ begun ask.call ask.number ask.kind ask.position members quorum needed now) }
         ensures refused { IfErr result (λ e. e ≡ NoMemory) }
     {
         Ok(Phase {
@@ -103,6 +110,7 @@ impl Phase {
             replies: Vec::with_capacity(alloc, usize::from(quorum))?,
             members,
             quorum,
+            needed,
         })
     }
 
@@ -183,6 +191,17 @@ impl Phase {
         self.quorum
     }
 
+    /// Whether fewer replies than a fetch needs bring a piece.
+    pub fn lacks_pieces(&self) -> bool
+        ensures { result ≡ lacks_pieces self.now }
+    {
+        self.replies
+            .iter()
+            .filter(|taken| brings_piece(&taken.reply))
+            .count()
+            < usize::from(self.needed)
+    }
+
     /// Takes a message at step `now`, and records it where it is the first reply of its member to this phase and a
     /// quorum is missing. It takes no memory.
     pub fn take(&mut self, message: Message, now: Stamp) -> Took
@@ -232,6 +251,13 @@ impl Phase {
         }
         Took::Complete
     }
+}
+
+// Whether a reply brings a piece.
+fn brings_piece(reply: &Reply) -> bool
+    ensures { result ≡ has_piece reply.now.answer }
+{
+    matches!(&reply.answer, Answer::Piece(Some(_)))
 }
 
 /// A complete phase has replies of a quorum of its position, one for a member. Each was taken as a reply to this call

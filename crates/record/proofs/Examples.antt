@@ -1,4 +1,7 @@
 -- Worked examples.
+pub mod Anew
+pub mod Exactly
+pub mod Rows
 pub mod Runs
 pub mod Stale
 pub mod WithMove

@@ -1,6 +1,7 @@
 pub mod Accounting
 pub mod Atomic
 pub mod Examples
+pub mod Overlapping
 pub mod Lists
 pub mod Phases
 pub mod Sound

@@ -1,6 +1,7 @@
 -- What every step keeps of the record.
 pub mod Added
 pub mod Adding
+pub mod Anew
 pub mod Asking
 pub mod BankLabels
 pub mod Banks
@@ -17,6 +18,7 @@ pub mod Growing
 pub mod Keeping
 pub mod Knowing
 pub mod Labels
+pub mod Late
 pub mod Later
 pub mod Mailing
 pub mod Mays

@@ -118,6 +118,9 @@ abbrev pub mailed_by : Code → Object → Step → ℕ
 mailed_by fragment object (Step.Advance index) =
     some_bytes (slice_get object.calls index)
     (λ call. due_bytes fragment object call (due (stage_of object index call)))
+mailed_by fragment object (Step.Again index) =
+    some_bytes (slice_get object.calls index)
+    (λ call. due_bytes fragment object call (due (stage_of object index call)))
 mailed_by fragment object (Step.Supply index) =
     some_bytes (slice_get object.calls index)
     (λ call. supply_bytes fragment object index call (current_phase call.phases))

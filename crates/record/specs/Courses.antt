@@ -1,6 +1,6 @@
 -- The order of a call's phases: which phase is due at each stage
 -- of a read, a write or a move, and where its replies lead.
-use Rattle.std.specs.Prelude.{◌≡◌, ℕ, suc, ◌<◌, ◌==◌, if◌then◌else◌}
+use Rattle.std.specs.Prelude.{◌≡◌, ℕ, suc, ◌<◌, ◌==◌, Bool, if◌then◌else◌}
 use Rattle.std.specs.Prelude.{List, [], ◌∷◌, Option, Some, None}
 use Rattle.tag.specs.declared.tag.Tag.{Tag}
 use Rattle.tag.specs.Tag.{opening_tag, next_tag, later_tag, tag_lt}
@@ -12,7 +12,7 @@ use Rattle.bank.specs.declared.reply.Answer.{Answer}
 use Rattle.bank.specs.declared.reply.Answer.TheVariants as answer
 use Rattle.bank.specs.Knowledge.{status_le}
 use Rattle.phase.specs.declared.phase.Taken.{Taken}
-use Rattle.phase.specs.Phase.{Phase}
+use Rattle.phase.specs.Phase.{Phase, lacks_pieces}
 use Rattle.record.specs.declared.call.CallKind.{CallKind}
 use Rattle.record.specs.declared.call.CallKind.TheVariants.{Read, Write, Move}
 use Rattle.record.specs.declared.stage.Stage.{Stage}
@@ -101,36 +101,39 @@ after_again Unset last position tag = if position == last then Ended last tag el
 after_again Pending last position tag = AgainSpread last position tag Pending
 after_again Final last position tag = AgainSpread last position tag Final
 
--- where the replies of a complete phase lead call number `number`
-abbrev pub after : CallKind → (number : ℕ) → Stage → List Taken → Stage
-after kind number (ReadNext position finalized) replies = after_next (greatest_status replies) position finalized
-after kind number (ReadSpread position finalized status) replies = after_spread status position finalized
-after kind number (QueryFrom position last greatest shown_at) replies =
+-- where the replies of a complete phase lead call number `number`: a fetch that lacks pieces leads back, a read to its
+-- first reading and a move to its query
+abbrev pub after : CallKind → (number : ℕ) → Stage → List Taken → (lacks : Bool) → Stage
+after kind number (ReadNext position finalized) replies lacks = after_next (greatest_status replies) position finalized
+after kind number (ReadSpread position finalized status) replies lacks = after_spread status position finalized
+after kind number (QueryFrom position last greatest shown_at) replies lacks =
     after_query kind number (greatest_tag replies) position last greatest shown_at
-after kind number (FetchAt shown_at last tag) replies = after_fetch shown_at last tag
-after kind number (PreWriteAt last tag) replies = FinalizeAt last tag
-after kind number (FinalizeAt last tag) replies = AgainNext last last tag
-after kind number (AgainNext last position tag) replies = after_again (greatest_status replies) last position tag
-after kind number (AgainSpread last position tag status) replies = AgainNext last (suc position) tag
-after kind number (MoveSpread position) replies = MoveQuery position
-after kind number (MoveQuery position) replies = MoveFetch position (greatest_tag replies)
-after kind number (MoveFetch position tag) replies = MovePreWrite position tag
-after kind number (MovePreWrite position tag) replies = MoveFinalize position tag
-after kind number (MoveFinalize position tag) replies = MoveFinal position tag
-after kind number (MoveFinal position tag) replies = Moved position tag
-after kind number (Ended last tag) replies = Ended last tag
-after kind number (Moved position tag) replies = Moved position tag
+after kind number (FetchAt shown_at last tag) replies lacks =
+    if lacks then ReadNext 0 0 else after_fetch shown_at last tag
+after kind number (PreWriteAt last tag) replies lacks = FinalizeAt last tag
+after kind number (FinalizeAt last tag) replies lacks = AgainNext last last tag
+after kind number (AgainNext last position tag) replies lacks = after_again (greatest_status replies) last position tag
+after kind number (AgainSpread last position tag status) replies lacks = AgainNext last (suc position) tag
+after kind number (MoveSpread position) replies lacks = MoveQuery position
+after kind number (MoveQuery position) replies lacks = MoveFetch position (greatest_tag replies)
+after kind number (MoveFetch position tag) replies lacks =
+    if lacks then MoveQuery position else MovePreWrite position tag
+after kind number (MovePreWrite position tag) replies lacks = MoveFinalize position tag
+after kind number (MoveFinalize position tag) replies lacks = MoveFinal position tag
+after kind number (MoveFinal position tag) replies lacks = Moved position tag
+after kind number (Ended last tag) replies lacks = Ended last tag
+after kind number (Moved position tag) replies lacks = Moved position tag
 
 -- a phase that is not complete leaves the stage as it is
-abbrev pub passed : CallKind → (number : ℕ) → Stage → Option ℕ → List Taken → Stage
-passed kind number stage None replies = stage
-passed kind number stage (Some end) replies = after kind number stage replies
+abbrev pub passed : CallKind → (number : ℕ) → Stage → Option ℕ → List Taken → (lacks : Bool) → Stage
+passed kind number stage None replies lacks = stage
+passed kind number stage (Some end) replies lacks = after kind number stage replies lacks
 
 -- the stage after these phases
 abbrev pub stage_after : CallKind → (number : ℕ) → Stage → List Phase → Stage
 stage_after kind number stage [] = stage
 stage_after kind number stage (phase ∷ phases) =
-    stage_after kind number (passed kind number stage phase.end phase.replies) phases
+    stage_after kind number (passed kind number stage phase.end phase.replies (lacks_pieces phase)) phases
 
 -- each phase but the current one is complete before the next begins
 abbrev pub IsEndedBefore : Phase → List Phase → Type 0
@@ -142,7 +145,7 @@ abbrev pub IsCourse : CallKind → (number : ℕ) → Stage → List Phase → T
 IsCourse kind number stage [] = Unit {0}
 IsCourse kind number stage (phase ∷ phases) =
     (due stage ≡ Some (phase.kind, phase.position)) × IsEndedBefore phase phases
-    × IsCourse kind number (passed kind number stage phase.end phase.replies) phases
+    × IsCourse kind number (passed kind number stage phase.end phase.replies (lacks_pieces phase)) phases
 
 -- the last phase ended before a step
 abbrev pub EndsBefore : List Phase → ℕ → Type 0

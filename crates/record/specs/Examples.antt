@@ -1,11 +1,16 @@
 -- Worked examples, step by step. The layouts have one member, and the code keeps whole values.
-use Rattle.std.specs.Prelude.{List, [], ◌∷◌, Some, None}
+use Rattle.std.specs.Prelude.{◌≡◌, ℕ, List, [], ◌∷◌, Some, None}
 use Rattle.layout.specs.Layout.{Layout}
 use Rattle.record.specs.declared.call.Entry.{Entry}
 use Rattle.record.specs.declared.call.Operation.TheVariants as operation
 use Rattle.record.specs.Fragments.{Code}
 use Rattle.record.specs.Steps.{Step}
-use Rattle.record.specs.Steps.Step.{CallRead, CallWrite, CallMove, Advance, Supply, Settle, AnswerCall, Serve, Take}
+use Rattle.record.specs.Steps.Step.{CallRead, CallWrite, CallMove, Advance, Again, Supply, Settle, AnswerCall}
+use Rattle.record.specs.Steps.Step.{Serve, Take}
+use Rattle.tag.specs.Tag.{opening_tag}
+use Rattle.phase.specs.Phase.{Phase}
+use Rattle.record.specs.Records.{Call, Object}
+use Rattle.record.specs.Lacking.{AreOverlapping, AreNoMore, IsLackingFetch}
 
 -- the code that keeps whole values
 abbrev pub whole : Code
@@ -63,3 +68,35 @@ abbrev pub stale_entries : List Entry
 stale_entries =
     record { call = 1; operation = operation.Write; called = 3; answered = Some 18; value = Some (65 ∷ []) }
     ∷ record { call = 2; operation = operation.Read; called = 19; answered = Some 32; value = Some [] } ∷ []
+
+-- a read has found the opening tag when a write of the byte 65 is made and answered, then it fetches; the banks keep
+-- the piece of the newest finalized tag alone
+abbrev pub lacking_script : List Step
+lacking_script =
+    CallRead ∷ Serve 0 ∷ Take 0 ∷ Advance 0 ∷ Serve 0 ∷ Take 0
+    ∷ CallWrite (65 ∷ []) ∷ Serve 0 ∷ Take 0 ∷ Advance 1 ∷ Serve 0 ∷ Take 0
+    ∷ Supply 1 ∷ Serve 0 ∷ Take 0 ∷ Advance 1 ∷ Serve 0 ∷ Take 0
+    ∷ Advance 1 ∷ Serve 0 ∷ Take 0 ∷ AnswerCall 1
+    ∷ Advance 0 ∷ Serve 0 ∷ Take 0 ∷ []
+
+-- the read begins anew, and finds the write's value
+abbrev pub anew_script : List Step
+anew_script =
+    Again 0 ∷ Serve 0 ∷ Take 0 ∷ Advance 0 ∷ Serve 0 ∷ Take 0 ∷ Advance 0 ∷ Serve 0 ∷ Take 0
+    ∷ Settle 0 (65 ∷ []) ∷ Advance 0 ∷ Serve 0 ∷ Take 0 ∷ AnswerCall 0 ∷ []
+
+-- the steps of both calls: 3 to 41, and 9 to 24
+abbrev pub anew_entries : List Entry
+anew_entries =
+    record { call = 1; operation = operation.Read; called = 3; answered = Some 41; value = Some (65 ∷ []) }
+    ∷ record { call = 2; operation = operation.Write; called = 9; answered = Some 24; value = Some (65 ∷ []) }
+    ∷ []
+
+-- the read's fetch, complete at step 27, lacks pieces, and delta + 1 = 1 write overlaps the read, no more
+pub record IsMetExactly (object : Object) : Type 0 where
+  pub collects : object.delta ≡ Some 0
+  pub call : Call
+  pub phase : Phase
+  pub lacking : IsLackingFetch object 0 2 call phase opening_tag 27
+  pub overlapping : AreOverlapping object opening_tag 3 27 1
+  pub no_more : AreNoMore object opening_tag 3 27 1

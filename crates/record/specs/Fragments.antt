@@ -1,5 +1,5 @@
 -- Which pieces are fragments of the journal's values, and which values are settled.
-use Rattle.std.specs.Prelude.{◌≡◌, ℕ, suc, ◌<◌, ◌≤◌, nat_eq, true}
+use Rattle.std.specs.Prelude.{◌≡◌, ℕ, suc, ◌<◌, ◌≤◌, ◌⊎◌, nat_eq, true}
 use Rattle.std.specs.Prelude.{List, [], length, Option, Some, None, IsSome, slice_get}
 use Rattle.std.specs.List.{AllByRecursion, IsDistinct}
 use Rattle.tag.specs.declared.tag.Tag.{Tag}
@@ -13,10 +13,11 @@ use Rattle.bank.specs.declared.reply.Answer.TheVariants as answer
 use Rattle.bank.specs.declared.request.Request.{Request}
 use Rattle.bank.specs.declared.request.Request.TheVariants as request
 use Rattle.bank.specs.Bank.{knows, piece_of}
+use Rattle.bank.specs.Knowledge.{is_dropped_at}
 use Rattle.mail.specs.declared.message.Body.{Body}
 use Rattle.mail.specs.declared.message.Body.TheVariants as body
 use Rattle.phase.specs.declared.phase.Taken.{Taken}
-use Rattle.phase.specs.Phase.{Phase}
+use Rattle.phase.specs.Phase.{Phase, lacks_pieces}
 use Rattle.record.specs.declared.call.CallKind.TheVariants.{Read, Write}
 use Rattle.record.specs.Records.{Call, Object, layout_at, bank_at}
 use Rattle.record.specs.Journals.{IsJournaled}
@@ -148,13 +149,15 @@ pub record IsSettled (fragment : Code) (object : Object) (call : Call) (value : 
       IsFetch other.kind → ⊥
   pub pieces : HasPieces fragment object phase value
 
--- what a call settled; a phase after a fetch begins, and a read is answered, once it has
+-- what a call settled; a phase after a fetch begins once it has, or where the fetch lacks pieces;
+-- a read is answered once it has
 pub record AreSettled (fragment : Code) (object : Object) : Type 0 where
   pub settled : (index : ℕ) (call : Call) (value : List ℕ) → slice_get object.calls index ≡ Some call →
       call.settled ≡ Some value → IsSettled fragment object call value
   pub before_next : (index place : ℕ) (call : Call) (phase next : Phase) →
       slice_get object.calls index ≡ Some call → slice_get call.phases place ≡ Some phase →
-      IsFetch phase.kind → slice_get call.phases (suc place) ≡ Some next → IsSome call.settled
+      IsFetch phase.kind → slice_get call.phases (suc place) ≡ Some next →
+      IsSome call.settled ⊎ (lacks_pieces phase ≡ true)
   pub before_answer : (index : ℕ) (call : Call) → slice_get object.calls index ≡ Some call →
       call.kind ≡ Read → IsSome call.answered → IsSome call.settled
 
@@ -172,6 +175,13 @@ pub record TookPiece (phase : Phase) (member : ℕ) : Type 0 where
   pub within : slice_get phase.replies place ≡ Some reply
   pub same_member : reply.member ≡ member
   pub some_piece : IsSome (answer_piece reply.reply.answer)
+
+-- a reply that the phase took was made when its member had dropped the pieces of the tag
+pub record HasDropped (object : Object) (phase : Phase) (tag : Tag) : Type 0 where
+  pub place : ℕ
+  pub reply : Taken
+  pub within : slice_get phase.replies place ≡ Some reply
+  pub dropped : is_dropped_at (bank_at object phase.position reply.member) tag reply.reply.step ≡ true
 
 -- a phase took pieces of at least k members
 pub record HasEnough (object : Object) (phase : Phase) : Type 0 where

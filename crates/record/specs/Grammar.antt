@@ -1,21 +1,19 @@
 -- The phases of a call in whole. Of a read or a write: a reading of the sequence,
 -- the queries, a read's fetch, and puts with later readings. Of a move: six phases.
-use Rattle.std.specs.Prelude.{◌≡◌, ◌≢◌, ◌⊎◌, ◌↔◌, ℕ, suc, if◌then◌else◌}
-use Rattle.std.specs.Prelude.{List, [], ◌∷◌, ◌++◌, Some, None, IsSome, slice_get}
+-- Attempts that were given up for want of pieces stand before: each ends with a fetch.
+use Rattle.std.specs.Prelude.{◌≡◌, ◌≢◌, ◌⊎◌, ℕ, suc, true, false, if◌then◌else◌}
+use Rattle.std.specs.Prelude.{List, [], ◌∷◌, ◌++◌}
+use Rattle.std.specs.List.{AllByRecursion}
 use Rattle.tag.specs.declared.tag.Tag.{Tag}
 use Rattle.tag.specs.Tag.{opening_tag, next_tag, later_tag, tag_eq}
 use Rattle.bank.specs.declared.status.Status.{Status}
 use Rattle.bank.specs.declared.kind.Kind.{Kind}
-use Rattle.phase.specs.Phase.{Phase}
+use Rattle.phase.specs.Phase.{Phase, lacks_pieces}
 use Rattle.record.specs.declared.call.CallKind.{CallKind}
 use Rattle.bank.specs.declared.status.Status.TheVariants.{Unset, Pending, Final}
 use Rattle.bank.specs.declared.kind.Kind.TheVariants.{Next, Spread, Query, PreWrite, Finalize, Fetch}
 use Rattle.record.specs.declared.call.CallKind.TheVariants.{Read, Write, Move}
-use Rattle.record.specs.declared.stage.Stage.{Stage}
-use Rattle.record.specs.Courses.{greatest_status, greatest_tag, due, stage_after, IsCourse, IsEndedBefore}
-use Rattle.record.specs.Records.{Call, Object}
-use Rattle.record.specs.Legal.{first_stage, source_of, IsLegal}
-use Rattle.record.specs.Journals.{stage_tag, tag_of}
+use Rattle.record.specs.Courses.{greatest_status, greatest_tag}
 
 -- a phase asks this of the members of a position
 abbrev pub Asks : Phase → Kind → (position : ℕ) → Type 0
@@ -54,25 +52,53 @@ TakesTag Read number greatest tag = tag ≡ greatest
 TakesTag (Write value) number greatest tag = tag ≡ next_tag greatest number
 TakesTag Move number greatest tag = ⊥
 
--- a read or a write that has its tag: a reading, then the queries
--- from the last finalized position to the last, then the rest
-pub record FindsTag (kind : CallKind) (number : ℕ) (phases : List Phase) (tag : Tag) : Type 0 where
-  pub first : List Phase
-  pub queries : List Phase
-  pub rest : List Phase
-  pub split : phases ≡ first ++ (queries ++ rest)
-  pub last : ℕ
-  pub finalized : ℕ
-  pub reading : IsReading 0 0 first last finalized
-  pub asked : AreQueries finalized last queries
-  pub takes : TakesTag kind number (greatest_shown opening_tag queries) tag
-
 -- the position of the last of these queries that shows the tag,
 -- the first of them at `position`; `place` where none does
 abbrev pub place_shown : Tag → (position place : ℕ) → List Phase → ℕ
 place_shown tag position place [] = place
 place_shown tag position place (query ∷ later) =
     place_shown tag (suc position) (if tag_eq (greatest_tag query.replies) tag then position else place) later
+
+-- an attempt of a read that was given up: a reading, the queries, and a fetch that lacks pieces
+pub record IsAttempt (phases : List Phase) : Type 0 where
+  pub first : List Phase
+  pub queries : List Phase
+  pub fetch : Phase
+  pub split : phases ≡ first ++ (queries ++ fetch ∷ [])
+  pub last : ℕ
+  pub finalized : ℕ
+  pub reading : IsReading 0 0 first last finalized
+  pub asked : AreQueries finalized last queries
+  pub tag : Tag
+  pub takes : tag ≡ greatest_shown opening_tag queries
+  pub fetches : Asks fetch (Fetch tag) (place_shown tag finalized finalized queries)
+  pub lacks : lacks_pieces fetch ≡ true
+
+-- attempts that were given up: a read's, any number of them
+abbrev pub AreAttempts : CallKind → List (List Phase) → Type 0
+AreAttempts Read attempts = AllByRecursion IsAttempt attempts
+AreAttempts (Write value) attempts = attempts ≡ []
+AreAttempts Move attempts = ⊥
+
+-- the phases of attempts, one after another
+abbrev pub attempt_phases : List (List Phase) → List Phase
+attempt_phases [] = []
+attempt_phases (attempt ∷ later) = attempt ++ attempt_phases later
+
+-- a read or a write that has its tag: after attempts that were given up a reading,
+-- then the queries from the last finalized position to the last, then the rest
+pub record FindsTag (kind : CallKind) (number : ℕ) (phases : List Phase) (tag : Tag) : Type 0 where
+  pub attempts : List (List Phase)
+  pub first : List Phase
+  pub queries : List Phase
+  pub rest : List Phase
+  pub given_up : AreAttempts kind attempts
+  pub split : phases ≡ attempt_phases attempts ++ (first ++ (queries ++ rest))
+  pub last : ℕ
+  pub finalized : ℕ
+  pub reading : IsReading 0 0 first last finalized
+  pub asked : AreQueries finalized last queries
+  pub takes : TakesTag kind number (greatest_shown opening_tag queries) tag
 
 -- a reading from a position that ends at `last`
 abbrev pub IsReadingTo : (position : ℕ) → List Phase → (last : ℕ) → Type 0
@@ -121,12 +147,12 @@ pub record IsPut (tag : Tag) (position : ℕ) (phases : List Phase) : Type 0 whe
   pub finalizes : Asks finalize (Finalize tag) position
   pub again : IsReread tag position later
 
--- a read fetches its tag at the last position that showed it, and puts it into the
--- last position where that is another; a write puts its tag into the last position
+-- a read fetches its tag at the last position that showed it, lacks no pieces, and puts it into
+-- the last position where that is another; a write puts its tag into the last position
 abbrev pub IsRest : CallKind → Tag → (place last : ℕ) → List Phase → Type 0
 IsRest Read tag place last [] = ⊥
 IsRest Read tag place last (fetch ∷ later) =
-    Asks fetch (Fetch tag) place
+    Asks fetch (Fetch tag) place × (lacks_pieces fetch ≡ false)
     × (((place ≡ last) × IsReread tag last later) ⊎ ((place ≢ last) × IsPut tag last later))
 IsRest (Write value) tag place last phases = IsPut tag last phases
 IsRest Move tag place last phases = ⊥
@@ -136,8 +162,18 @@ pub record ArePhasesOfCall (kind : CallKind) (number : ℕ) (phases : List Phase
   pub finds : FindsTag kind number phases tag
   pub rest : IsRest kind tag (place_shown tag finds.finalized finds.finalized finds.queries) finds.last finds.rest
 
--- the phases of a whole move from a position: the next one is spread as pending, the greatest
--- tag is found, fetched and put into the next position, and that one is spread as final
+-- an attempt of a move that was given up: a query and a fetch that lacks pieces
+abbrev pub IsMoveAttempt : (position : ℕ) → Phase × Phase → Type 0
+IsMoveAttempt position (query, fetch) =
+    Asks query Query position × Asks fetch (Fetch (greatest_tag query.replies)) position × (lacks_pieces fetch ≡ true)
+
+-- the phases of such attempts, one after another
+abbrev pub move_attempt_phases : List (Phase × Phase) → List Phase
+move_attempt_phases [] = []
+move_attempt_phases (attempt ∷ later) = attempt.0 ∷ attempt.1 ∷ move_attempt_phases later
+
+-- the phases of a whole move from a position: the next one is spread as pending, after attempts that were given up the
+-- greatest tag is found, fetched and put into the next position, and that one is spread as final
 pub record ArePhasesOfMove (position : ℕ) (phases : List Phase) (tag : Tag) : Type 0 where
   pub spread : Phase
   pub query : Phase
@@ -145,11 +181,15 @@ pub record ArePhasesOfMove (position : ℕ) (phases : List Phase) (tag : Tag) : 
   pub pre_write : Phase
   pub finalize : Phase
   pub final : Phase
-  pub split : phases ≡ spread ∷ query ∷ fetch ∷ pre_write ∷ finalize ∷ final ∷ []
+  pub attempts : List (Phase × Phase)
+  pub split : phases
+      ≡ spread ∷ (move_attempt_phases attempts ++ query ∷ fetch ∷ pre_write ∷ finalize ∷ final ∷ [])
+  pub given_up : AllByRecursion (IsMoveAttempt position) attempts
   pub spreads : Asks spread (Spread Pending) position
   pub queries : Asks query Query position
   pub takes : tag ≡ greatest_tag query.replies
   pub fetches : Asks fetch (Fetch tag) position
+  pub has_pieces : lacks_pieces fetch ≡ false
   pub pre_writes : Asks pre_write (PreWrite tag) (suc position)
   pub finalizes : Asks finalize (Finalize tag) (suc position)
   pub ends : Asks final (Spread Final) position
@@ -159,62 +199,3 @@ abbrev pub IsSentence : CallKind → (number from : ℕ) → List Phase → Tag 
 IsSentence Read number from phases tag = ArePhasesOfCall Read number phases tag
 IsSentence (Write value) number from phases tag = ArePhasesOfCall (Write value) number phases tag
 IsSentence Move number from phases tag = ArePhasesOfMove from phases tag
-
--- each phase is complete, and was before the next one began
-abbrev pub AreInTurn : List Phase → Type 0
-AreInTurn [] = Unit {0}
-AreInTurn (phase ∷ []) = IsSome phase.end
-AreInTurn (phase ∷ next ∷ later) = IsEndedBefore phase (next ∷ later) × AreInTurn (next ∷ later)
-
--- the phases are those that are due from this stage on, up to one where none is due and the call has this tag
-pub record IsFinished (kind : CallKind) (number : ℕ) (stage : Stage) (phases : List Phase) (tag : Tag) : Type 0 where
-  pub course : IsCourse kind number stage phases
-  pub none_due : due (stage_after kind number stage phases) ≡ None
-  pub tagged : stage_tag (stage_after kind number stage phases) ≡ Some tag
-
--- the finished calls are those whose phases are complete, one after another, in the shape of a whole call
-abbrev pub FinishedAreWhole : Type 0
-FinishedAreWhole =
-    (kind : CallKind) (number from : ℕ) (phases : List Phase) (tag : Tag) →
-    IsFinished kind number (first_stage kind from) phases tag
-    ↔ (AreInTurn phases × IsSentence kind number from phases tag)
-
--- an answered call has a tag, and its phases are those of a whole call
-pub record IsAnsweredWhole (object : Object) (index : ℕ) (call : Call) : Type 0 where
-  pub tag : Tag
-  pub tagged : tag_of object index call ≡ Some tag
-  pub in_turn : AreInTurn call.phases
-  pub whole : IsSentence call.kind (suc index) (source_of object index) call.phases tag
-
--- each answered call of a legal record has the phases of a whole call
-abbrev pub AnsweredAreWhole : Type 0
-AnsweredAreWhole =
-    (object : Object) (index : ℕ) (call : Call) (step : ℕ) → IsLegal object →
-    slice_get object.calls index ≡ Some call → call.answered ≡ Some step →
-    IsAnsweredWhole object index call
-
--- each phase but the last is complete before the next one begins
-abbrev pub AreBegun : List Phase → Type 0
-AreBegun [] = Unit {0}
-AreBegun (phase ∷ later) = IsEndedBefore phase later × AreBegun later
-
--- these phases begin those: each asks the same, and has the same replies where it is complete
-abbrev pub Begin : List Phase → List Phase → Type 0
-Begin [] others = Unit {0}
-Begin (phase ∷ later) [] = ⊥
-Begin (phase ∷ later) (other ∷ others) =
-    Asks other phase.kind phase.position × (IsSome phase.end → other.replies ≡ phase.replies) × Begin later others
-
--- the phases begin those of a whole call
-pub record IsBeginning (kind : CallKind) (number from : ℕ) (phases : List Phase) : Type 0 where
-  pub in_turn : AreBegun phases
-  pub whole : List Phase
-  pub tag : Tag
-  pub is_whole : IsSentence kind number from whole tag
-  pub begin : Begin phases whole
-
--- a call's phases are those that are due exactly where they are the beginning of a whole call's
-abbrev pub CoursesAreBeginnings : Type 0
-CoursesAreBeginnings =
-    (kind : CallKind) (number from : ℕ) (phases : List Phase) →
-    IsCourse kind number (first_stage kind from) phases ↔ IsBeginning kind number from phases

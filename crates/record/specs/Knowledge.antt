@@ -15,10 +15,11 @@ pub record IsTrueReply (object : Object) (phase : Phase) (taken : Taken) : Type 
   pub in_order : taken.reply.step < taken.step
   pub says : IsTrueAnswer (bank_at object phase.position taken.member) taken.reply.step phase.kind taken.reply.answer
 
--- the phase asks all members of a layout, and waits for a quorum of them
+-- the phase asks all members of a layout, waits for a quorum of them, and a fetch needs the pieces that make a value
 pub record IsSized (layout : Layout) (phase : Phase) : Type 0 where
   pub members : phase.members ≡ length layout.members
   pub quorum : phase.quorum ≡ quorum_of layout
+  pub needed : phase.needed ≡ layout.k
 
 -- a phase took true replies, one for a member; where it counts as complete, those of a quorum, the last by its end
 pub record IsTruePhase (object : Object) (phase : Phase) : Type 0 where

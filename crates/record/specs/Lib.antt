@@ -13,5 +13,7 @@ pub mod Accounts
 pub mod May
 pub mod Sound
 pub mod Grammar
+pub mod Shape
 pub mod Examples
 pub mod Origins
+pub mod Lacking

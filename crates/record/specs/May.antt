@@ -78,6 +78,7 @@ MayStep fragment object Step.CallRead = Unit {0}
 MayStep fragment object (Step.CallWrite value) = IsValue value
 MayStep fragment object (Step.CallMove layout) = IsLawful layout × NoOpenMove object
 MayStep fragment object (Step.Advance index) = (call : Call) × Wants object index call want.Advance
+MayStep fragment object (Step.Again index) = (call : Call) × Wants object index call want.Again
 MayStep fragment object (Step.Supply index) = MaySupply object index
 MayStep fragment object (Step.Post index) = MayPost object index
 MayStep fragment object (Step.Settle index value) = MaySettle fragment object index value

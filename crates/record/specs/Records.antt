@@ -17,8 +17,10 @@ pub record Call : Type 0 where
   pub settled : Option (List ℕ)
   pub phases : List Phase
 
--- an object: a layout and a bank for each member at each position, the waiting messages, and the calls
+-- an object: how many finalized versions beside the newest its banks keep (None: all), a layout and a bank for each
+-- member at each position, the waiting messages, and the calls
 pub record Object : Type 0 where
+  pub delta : Option ℕ
   pub layouts : List Layout
   pub banks : List (List Bank)
   pub mail : List Message

@@ -1,10 +1,10 @@
 -- What every step keeps of the record: it is legal, its messages
 -- are true, its steps are past, and its pieces are fragments.
-use Rattle.std.specs.Prelude.{◌≡◌, ℕ, suc, ◌<◌, ◌≤◌, length, get_or, [], Option, Some, slice_get}
+use Rattle.std.specs.Prelude.{◌≡◌, ℕ, suc, ◌<◌, ◌≤◌, length, get_or, [], Option, Some, None, slice_get}
 use Rattle.std.specs.List.{AllByRecursion}
 use Rattle.tag.specs.declared.tag.Tag.{Tag}
 use Rattle.bank.specs.Bank.{Bank}
-use Rattle.bank.specs.Collect.{IsCollected, KeepsAll}
+use Rattle.bank.specs.Collect.{IsCollected}
 use Rattle.bank.specs.Facts.{IsBefore}
 use Rattle.bank.specs.Knowledge.{IsTrueAnswer, pending_since, final_since}
 use Rattle.bank.specs.declared.kind.Kind.{Kind}
@@ -65,7 +65,8 @@ pub record HasNext (count position : ℕ) (bank : Bank) : Type 0 where
   pub final : (step : ℕ) → final_since bank.pointer ≡ Some step → suc position < count
 
 -- a position for the first layout and for each move, a bank for each member that begins with the opening tag,
--- no pointer to a position that is not there, in each bank just the pieces that it keeps, and each keeps all
+-- with the object's delta, no pointer to a position that is not there, in each bank just the pieces that it keeps, and
+-- none retired
 pub record HasShape (object : Object) : Type 0 where
   pub positions : length object.layouts ≡ suc (moves_in object.calls)
   pub banks : length object.banks ≡ length object.layouts
@@ -74,9 +75,11 @@ pub record HasShape (object : Object) : Type 0 where
   pub opened : (position member : ℕ) → position < length object.layouts →
       member < length (layout_at object position).members →
       (step : ℕ) × IsOpenedAt (bank_at object position member) step
+  pub delta : (position member : ℕ) → position < length object.layouts →
+      member < length (layout_at object position).members → (bank_at object position member).delta ≡ object.delta
   pub next : (position member : ℕ) → HasNext (length object.layouts) position (bank_at object position member)
   pub collected : (position member : ℕ) → IsCollected (bank_at object position member)
-  pub keeps_all : (position member : ℕ) → KeepsAll (bank_at object position member)
+  pub unretired : (position member : ℕ) → (bank_at object position member).retired ≡ None
 
 -- the record after a step with this number
 pub record IsSound (fragment : Code) (object : Object) (step : ℕ) : Type 0 where

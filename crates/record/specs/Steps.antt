@@ -38,7 +38,7 @@ with_call object index call = record object { calls = slice_set object.calls ind
 -- a phase of this kind begins at a position with this layout
 abbrev pub new_phase : (call number : ℕ) → Kind → (position : ℕ) → Layout → (now : ℕ) → Phase
 new_phase call number kind position layout now =
-    begun call number kind position (length layout.members) (quorum_of layout) now
+    begun call number kind position (length layout.members) (quorum_of layout) layout.k now
 
 -- the call at this place begins a phase, whose requests go to the end of the mail
 abbrev pub with_phase : Object → (index : ℕ) → Call → Kind → (position now : ℕ) →
@@ -57,14 +57,20 @@ with_phase object index call kind position now piece =
 -- Opening
 
 -- the banks of members `member`, `member` + 1, .., one for each server
-abbrev pub opened_banks : List ℕ → (member now : ℕ) → List Bank
-opened_banks [] member now = []
-opened_banks (server ∷ servers) member now = opened_bank member None now ∷ opened_banks servers (suc member) now
+abbrev pub opened_banks : List ℕ → (member : ℕ) → (delta : Option ℕ) → (now : ℕ) → List Bank
+opened_banks [] member delta now = []
+opened_banks (server ∷ servers) member delta now =
+    opened_bank member delta now ∷ opened_banks servers (suc member) delta now
 
--- an object that begins with this layout
-abbrev pub opened_object : Layout → ℕ → Object
-opened_object layout now =
-    record { layouts = layout ∷ []; banks = opened_banks layout.members 0 now ∷ []; mail = []; calls = [] }
+-- an object that begins with this layout, and whose banks keep `delta` finalized versions beside the newest
+abbrev pub opened_object : Layout → (delta : Option ℕ) → (now : ℕ) → Object
+opened_object layout delta now = record {
+  delta = delta;
+  layouts = layout ∷ [];
+  banks = opened_banks layout.members 0 delta now ∷ [];
+  mail = [];
+  calls = [];
+}
 
 -- Calls
 
@@ -87,7 +93,7 @@ moving_object object layout now =
     with_phase
     (record object {
       layouts = object.layouts ++ layout ∷ [];
-      banks = object.banks ++ opened_banks layout.members 0 now ∷ [];
+      banks = object.banks ++ opened_banks layout.members 0 object.delta now ∷ [];
       calls = object.calls ++ new_call Move now ∷ [];
     }) index (new_call Move now) (Spread Pending) last now empty_piece
 
@@ -189,6 +195,7 @@ pub data Step : Type 0 where
   CallWrite : List ℕ → Step
   CallMove : Layout → Step
   Advance : (index : ℕ) → Step
+  Again : (index : ℕ) → Step
   Supply : (index : ℕ) → Step
   Post : (index : ℕ) → Step
   Settle : (index : ℕ) → List ℕ → Step
@@ -214,6 +221,8 @@ stepped fragment Step.CallRead now object = called_object object Read now
 stepped fragment (Step.CallWrite value) now object = called_object object (Write value) now
 stepped fragment (Step.CallMove layout) now object = moving_object object layout now
 stepped fragment (Step.Advance index) now object =
+    on_call object (slice_get object.calls index) (λ call. advanced_object fragment object index call now)
+stepped fragment (Step.Again index) now object =
     on_call object (slice_get object.calls index) (λ call. advanced_object fragment object index call now)
 stepped fragment (Step.Supply index) now object =
     on_call object (slice_get object.calls index) (λ call. supplied_object fragment object index call now)

@@ -1,17 +1,19 @@
 -- What a call wants next.
 use Rattle.std.specs.Prelude.{◌≡◌, ℕ, Bool, true, false, is_some, if◌then◌else◌}
 use Rattle.std.specs.Prelude.{List, [], ◌∷◌, length, Option, Some, None, slice_get}
+use Rattle.tag.specs.declared.tag.Tag.{Tag}
 use Rattle.layout.specs.Layout.{Layout}
 use Rattle.encoder.specs.declared.fragment.Piece.{Piece}
 use Rattle.bank.specs.declared.kind.Kind.{Kind}
 use Rattle.bank.specs.declared.kind.Kind.TheVariants.{PreWrite, Fetch}
 use Rattle.phase.specs.declared.phase.Taken.{Taken}
-use Rattle.phase.specs.Phase.{Phase}
+use Rattle.phase.specs.Phase.{Phase, lacks_pieces}
 use Rattle.record.specs.declared.stage.Want.{Want}
 use Rattle.record.specs.declared.stage.Want.TheVariants as want
 use Rattle.record.specs.Records.{Call, Object, layout_at}
 use Rattle.record.specs.Courses.{due}
 use Rattle.record.specs.Legal.{stage_of}
+use Rattle.record.specs.Journals.{tag_of}
 use Rattle.record.specs.Fragments.{answer_piece}
 
 -- the last phase that began
@@ -45,14 +47,19 @@ abbrev pub want_for : Object → Option (Kind × ℕ) → Want
 want_for object None = want.Answer
 want_for object (Some next) = want_to_begin next.0 (layout_at object next.1)
 
--- what is wanted by the current phase: replies until it is complete, and after a fetch the value
+-- what is wanted after a complete fetch of which nothing is settled: the value, or a new beginning where pieces lack
+abbrev pub want_of_fetch : Object → Phase → Want
+want_of_fetch object phase =
+    if lacks_pieces phase then want.Again
+    else want.Settle (layout_at object phase.position).k (value_len phase.replies)
+
+-- what is wanted by the current phase: replies until it is complete, and after a fetch the value, or to begin anew
 abbrev pub want_after : Object → Option (Kind × ℕ) → (settled : Option (List ℕ)) → Option Phase → Want
 want_after object next settled None = want.Replies
 want_after object next settled (Some phase) =
     if is_some phase.end
     then (if is_fetch phase.kind
-    then (if is_some settled then want_for object next
-    else want.Settle (layout_at object phase.position).k (value_len phase.replies))
+    then (if is_some settled then want_for object next else want_of_fetch object phase)
     else want_for object next)
     else want.Replies
 
@@ -61,6 +68,20 @@ abbrev pub want_of : Object → (index : ℕ) → Call → Want
 want_of object index call =
     if is_some call.answered then want.Done
     else want_after object (due (stage_of object index call)) call.settled (current_phase call.phases)
+
+-- the tag that a phase of this kind fetches, or else this one
+abbrev pub fetched_or : Kind → Option Tag → Option Tag
+fetched_or (Fetch tag) other = Some tag
+fetched_or _ other = other
+
+-- the tag that the current phase fetches, or else this one
+abbrev pub phase_tag : Option Phase → Option Tag → Option Tag
+phase_tag None other = other
+phase_tag (Some phase) other = fetched_or phase.kind other
+
+-- the tag that a view of the call shows: a fetch shows its own until the call has begun anew
+abbrev pub viewed_tag : Object → (index : ℕ) → Call → Option Tag
+viewed_tag object index call = phase_tag (current_phase call.phases) (tag_of object index call)
 
 -- the call is there, and wants this
 abbrev pub Wants : Object → (index : ℕ) → Call → Want → Type 0

@@ -14,12 +14,6 @@ pub fn stored_bytes_come_and_go()
         ≡ stored object server + stored_by object step server }
 {}
 
-/// A step adds to what a server stores the bytes that its bank gains where it serves a request, and nothing else.
-pub fn stored_bytes_grow_by_new_pieces()
-    ensures { (fragment : Code) (object : Object) (last now server : ℕ) (step : Step) → IsSound fragment object last
-        → stored (stepped fragment step now object) server ≡ stored object server + stored_by object step server }
-{}
-
 /// What waits in messages grows by the pieces that a step posts or answers, and falls by those that it takes out.
 pub fn mailed_bytes_come_and_go()
     ensures { (fragment : Code) (object : Object) (now : ℕ) (step : Step)

@@ -1,5 +1,5 @@
 //! A sound record is atomic.
-ghost use Rattle.std.specs.Prelude.{◌≡◌, ℕ, suc, List, Some, slice_get};
+ghost use Rattle.std.specs.Prelude.{◌≡◌, ℕ, suc, List, Option, Some, slice_get};
 ghost use Rattle.tag.specs.declared.tag.Tag.{Tag};
 ghost use Rattle.layout.specs.Layout.{IsLawful, Layout};
 ghost use Rattle.record.specs.Atomic.{IsAtomic, IsSequence};
@@ -20,9 +20,9 @@ pub fn sound_records_are_atomic()
 
 /// So every list of steps, with any number of moves, leaves an atomic history.
 pub fn runs_are_atomic()
-    ensures { (fragment : Code) (layout : Layout) (start : ℕ) (steps : List Step) → IsCode fragment
-        → IsLawful layout → MayRun fragment steps (suc start) (opened_object layout start)
-        → IsAtomic (entries (run fragment steps (suc start) (opened_object layout start))) }
+    ensures { (fragment : Code) (layout : Layout) (delta : Option ℕ) (start : ℕ) (steps : List Step)
+        → IsCode fragment → IsLawful layout → MayRun fragment steps (suc start) (opened_object layout delta start)
+        → IsAtomic (entries (run fragment steps (suc start) (opened_object layout delta start))) }
 {}
 
 /// The list that the tags give is a sequence of the entries: the answered reads and writes, and the unanswered writes

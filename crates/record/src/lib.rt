@@ -6,31 +6,37 @@
 //! (1996).
 #![tactic(auto)]
 
-pub use accounts::{
-    mailed_bytes_come_and_go, stored_bytes_come_and_go, stored_bytes_grow_by_new_pieces,
-};
+pub use accounts::{mailed_bytes_come_and_go, stored_bytes_come_and_go};
 pub use atomicity::{
     journaled_values_are_unique, reads_return_journaled_values, runs_are_atomic,
     settled_values_are_journaled, sound_records_are_atomic, tag_sequences_are_sequences,
 };
 pub use call::{CallKind, Entry, Operation, TaggedCall};
 pub use code::fragments_are_a_code;
+pub use lacking::{
+    complete_fetches_have_enough, few_pieces_are_kept, lacking_fetches_are_overlapped,
+    lacking_is_to_have_too_few,
+};
 pub use origins::{labels_come_with_their_requests, sent_tags_are_journaled};
 pub use shape::{
     answered_calls_are_whole, courses_are_beginnings, due_positions_are_there,
     finished_calls_are_whole, readings_come_before_tags,
 };
 pub use soundness::{
-    complete_fetches_have_enough, opened_objects_are_sound, runs_are_sound, runs_keep_soundness,
-    sent_values_are_there, steps_keep_soundness, tags_are_past, wanted_pieces_fit_the_layout,
+    opened_objects_are_sound, runs_are_sound, runs_keep_soundness, sent_values_are_there,
+    steps_keep_soundness, tags_are_past, wanted_pieces_fit_the_layout,
 };
 pub use stage::{Stage, Want};
-pub use worked::{a_stale_read_is_not_atomic, a_write_a_move_and_a_read, a_write_and_a_read};
+pub use worked::{
+    a_read_that_begins_anew, a_stale_read_is_not_atomic, a_write_a_move_and_a_read,
+    a_write_and_a_read, the_bound_is_met_exactly,
+};
 
 mod accounts;
 mod atomicity;
 mod call;
 mod code;
+mod lacking;
 mod origins;
 mod shape;
 mod soundness;

@@ -1,13 +1,12 @@
 //! Every step that may be made keeps a record sound.
 ghost use Rattle.std.specs.Prelude.{◌≡◌, ◌<◌, ◌≤◌, ◌+◌, ◌⊎◌};
-ghost use Rattle.std.specs.Prelude.{ℕ, suc, true, List, length, Some, IsSome, slice_get};
+ghost use Rattle.std.specs.Prelude.{ℕ, suc, true, List, length, Option, Some, IsSome, slice_get};
 ghost use Rattle.tag.specs.declared.tag.Tag.{Tag};
 ghost use Rattle.layout.specs.Layout.{IsLawful, Layout};
 ghost use Rattle.bank.specs.Bank.{knows};
 ghost use Rattle.bank.specs.declared.kind.Kind.TheVariants.{PreWrite};
-ghost use Rattle.phase.specs.Phase.{Phase};
 ghost use Rattle.record.specs.Courses.{due};
-ghost use Rattle.record.specs.Fragments.{Code, HasEnough, IsCode, IsFetch};
+ghost use Rattle.record.specs.Fragments.{Code, IsCode};
 ghost use Rattle.record.specs.Legal.{stage_of};
 ghost use Rattle.record.specs.May.{AwaitsPieces, MayRun, MayStep, WantsPieces};
 ghost use Rattle.record.specs.Records.{bank_at, Call, layout_at, Object};
@@ -19,8 +18,8 @@ ghost use Rattle.record.specs.declared.stage.Want.TheVariants as wants;
 
 /// An object that was just opened is sound.
 pub fn opened_objects_are_sound()
-    ensures { (fragment : Code) (layout : Layout) (now : ℕ) → IsCode fragment → IsLawful layout
-        → IsSound fragment (opened_object layout now) now }
+    ensures { (fragment : Code) (layout : Layout) (delta : Option ℕ) (now : ℕ) → IsCode fragment
+        → IsLawful layout → IsSound fragment (opened_object layout delta now) now }
 {}
 
 /// Every step that may be made keeps a record sound.
@@ -39,17 +38,10 @@ pub fn runs_keep_soundness()
 
 /// So whatever steps are made, an object that began with a lawful layout is sound.
 pub fn runs_are_sound()
-    ensures { (fragment : Code) (layout : Layout) (start : ℕ) (steps : List Step) → IsCode fragment
-        → IsLawful layout → MayRun fragment steps (suc start) (opened_object layout start)
-        → IsSound fragment (run fragment steps (suc start) (opened_object layout start)) (start + length steps) }
-{}
-
-/// In a sound record each complete fetch has pieces of at least k distinct members.
-pub fn complete_fetches_have_enough()
-    ensures { (fragment : Code) (object : Object) (last index place end : ℕ) (call : Call) (phase : Phase)
-        → IsSound fragment object last → slice_get object.calls index ≡ Some call
-        → slice_get call.phases place ≡ Some phase → IsFetch phase.kind → phase.end ≡ Some end
-        → HasEnough object phase }
+    ensures { (fragment : Code) (layout : Layout) (delta : Option ℕ) (start : ℕ) (steps : List Step)
+        → IsCode fragment → IsLawful layout → MayRun fragment steps (suc start) (opened_object layout delta start)
+        → IsSound fragment (run fragment steps (suc start) (opened_object layout delta start))
+        (start + length steps) }
 {}
 
 /// In a sound record the number of a tag that a bank knows is at most that of the last step.

@@ -24,7 +24,7 @@ pub enum Stage {
         greatest: Tag,
         shown_at: u32,
     },
-    /// The tag is fetched where it was shown.
+    /// The tag is fetched where it was shown; where pieces are lacking, the first reading begins anew.
     FetchAt {
         shown_at: u32,
         last: u32,
@@ -61,7 +61,7 @@ pub enum Stage {
     MoveQuery {
         position: u32,
     },
-    /// A move fetches the greatest tag.
+    /// A move fetches the greatest tag; where pieces are lacking, it asks anew.
     MoveFetch {
         position: u32,
         tag: Tag,
@@ -100,6 +100,8 @@ pub enum Want {
     Replies,
     /// To begin a phase that brings no pieces.
     Advance,
+    /// To begin anew: its complete fetch lacks pieces.
+    Again,
     /// The pieces of its value, for this threshold and number of members.
     Supply { k: u8, n: u8 },
     /// The value of k pieces, in bytes.

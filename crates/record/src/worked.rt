@@ -1,7 +1,8 @@
 //! Worked examples as theorems.
-ghost use Rattle.std.specs.Prelude.{◌≡◌};
+ghost use Rattle.std.specs.Prelude.{◌≡◌, ◌++◌, None, Some};
 ghost use Rattle.record.specs.Atomic.{IsAtomic};
 ghost use Rattle.record.specs.Examples.{move_entries, move_script, one_member};
+ghost use Rattle.record.specs.Examples.{anew_entries, anew_script, IsMetExactly, lacking_script};
 ghost use Rattle.record.specs.Examples.{script, script_entries, stale_entries, whole};
 ghost use Rattle.record.specs.Journals.{entries};
 ghost use Rattle.record.specs.May.{MayRun};
@@ -9,14 +10,27 @@ ghost use Rattle.record.specs.Steps.{opened_object, run};
 
 /// One whole write and read with one member: each step may be made, and the calls have the steps 3 to 18 and 19 to 32.
 pub fn a_write_and_a_read()
-    ensures may { MayRun whole script 3 (opened_object one_member 2) }
-    ensures gives { entries (run whole script 3 (opened_object one_member 2)) ≡ script_entries }
+    ensures may { MayRun whole script 3 (opened_object one_member None 2) }
+    ensures gives { entries (run whole script 3 (opened_object one_member None 2)) ≡ script_entries }
 {}
 
 /// A write, a move to another server, and a read that finds the value there.
 pub fn a_write_a_move_and_a_read()
-    ensures may { MayRun whole move_script 3 (opened_object one_member 2) }
-    ensures gives { entries (run whole move_script 3 (opened_object one_member 2)) ≡ move_entries }
+    ensures may { MayRun whole move_script 3 (opened_object one_member None 2) }
+    ensures gives { entries (run whole move_script 3 (opened_object one_member None 2)) ≡ move_entries }
+{}
+
+/// A read that begins anew, with delta 0: a write comes between its queries and its fetch, which lacks pieces. Each
+/// step may be made, and the calls have the steps 3 to 41 and 9 to 24.
+pub fn a_read_that_begins_anew()
+    ensures may { MayRun whole (lacking_script ++ anew_script) 3 (opened_object one_member (Some 0) 2) }
+    ensures gives { entries (run whole (lacking_script ++ anew_script) 3 (opened_object one_member (Some 0) 2))
+        ≡ anew_entries }
+{}
+
+/// In it delta + 1 writes overlap the read when its fetch lacks pieces, and no more: the bound is met exactly.
+pub fn the_bound_is_met_exactly()
+    ensures { IsMetExactly (run whole lacking_script 3 (opened_object one_member (Some 0) 2)) }
 {}
 
 /// A history in which a read misses a write that was answered before it was called is not atomic.

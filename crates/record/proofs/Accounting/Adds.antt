@@ -6,7 +6,7 @@ use Rattle.mail.specs.Message.{request_bytes}
 use Rattle.phase.specs.Phase.{Phase}
 use Rattle.record.specs.Records.{Call, Object, layout_at}
 use Rattle.record.specs.Courses.{due}
-use Rattle.record.specs.Legal.{stage_of}
+use Rattle.record.specs.Legal.{stage_of, IsLegal}
 use Rattle.record.specs.Fragments.{Code}
 use Rattle.record.specs.Accounts.{member_sum, some_bytes, due_bytes, again_bytes, supply_bytes, mailed_by}
 use Rattle.record.specs.Sending.{sent_pieces, request_to}
@@ -15,7 +15,8 @@ use Rattle.record.specs.Wants.{current_phase, want_of}
 use Rattle.record.specs.declared.stage.Want.TheVariants as want
 use Rattle.record.proofs.Accounting.Mail.{none_sum, no_piece}
 use Rattle.record.proofs.Accounting.Mailed.{missing_requests-le}
-use Rattle.record.proofs.Sound.Wanting.{advance_ready}
+use Rattle.record.proofs.Sound.Anew.{anew_due}
+use Rattle.record.proofs.Sound.Wanting.{advance_ready, lacking_of}
 
 -- a step that wants no pieces sends none
 pub mailed_by-advance : (fragment : Code) (object : Object) (index : ℕ) (call : Call) → slice_get object.calls index ≡ Some call →
@@ -23,6 +24,18 @@ pub mailed_by-advance : (fragment : Code) (object : Object) (index : ℕ) (call 
     mailed_by fragment object (Step.Advance index) ≡ 0
 mailed_by-advance fragment object index call at wanted =
     let plain = (advance_ready object index call wanted).1 in
+    ap (λ o. some_bytes o (λ (c : Call). due_bytes fragment object c (due (stage_of object index c)))) at
+    ∙ ap (due_bytes fragment object call) plain.is_due
+    ∙ none_sum (λ i. request_bytes (request_to plain.kind (sent_pieces fragment object call plain.position i)))
+    (λ i. no_piece plain.kind plain.not_pre (sent_pieces fragment object call plain.position i)) 0
+    (length (layout_at object plain.position).members)
+
+-- so it is with a step that begins anew
+pub mailed_by-again : (fragment : Code) (object : Object) → IsLegal object → (index : ℕ) (call : Call) →
+    slice_get object.calls index ≡ Some call → want_of object index call ≡ want.Again →
+    mailed_by fragment object (Step.Again index) ≡ 0
+mailed_by-again fragment object legal index call at wanted =
+    let plain = anew_due object legal index call at (lacking_of object index call wanted) in
     ap (λ o. some_bytes o (λ (c : Call). due_bytes fragment object c (due (stage_of object index c)))) at
     ∙ ap (due_bytes fragment object call) plain.is_due
     ∙ none_sum (λ i. request_bytes (request_to plain.kind (sent_pieces fragment object call plain.position i)))

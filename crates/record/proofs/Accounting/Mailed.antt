@@ -1,5 +1,5 @@
 -- What each step leaves in messages.
-use Rattle.std.proofs.Common.{◌≡◌, ℕ, suc, pred, ◌+◌, ◌≤◌, List, [], ◌∷◌}
+use Rattle.std.proofs.Common.{◌≡◌, ℕ, suc, pred, ◌+◌, ◌≤◌, List, [], ◌∷◌, Option}
 use Rattle.std.proofs.Common.{◌++◌, length, Some, refl, ap, ◌∙◌, arith, slice_get}
 use Rattle.tag.specs.declared.tag.Tag.{Tag}
 use Rattle.layout.specs.Layout.{Layout}
@@ -30,15 +30,15 @@ use Rattle.record.proofs.Accounting.Mail.{mail-append, mail-one, mail-set, mail-
 use Rattle.record.proofs.Accounting.Stored.{position-opened}
 
 -- an object that was just opened stores nothing, and nothing waits
-pub stored-opened : (layout : Layout) (now server : ℕ) → stored (opened_object layout now) server ≡ 0
-stored-opened layout now server = more (position_bytes server layout.members (opened_banks layout.members 0 now))
-    (position-opened server layout.members layout.members 0 now)
+pub stored-opened : (layout : Layout) (delta : Option ℕ) (now server : ℕ) → stored (opened_object layout delta now) server ≡ 0
+stored-opened layout delta now server = more (position_bytes server layout.members (opened_banks layout.members 0 delta now))
+    (position-opened server layout.members layout.members 0 delta now)
   where
     more : (b : ℕ) → b ≡ 0 → b + 0 ≡ 0
     more b e = omega arith
 
-pub mailed-opened : (layout : Layout) (now : ℕ) → mailed (opened_object layout now) ≡ 0
-mailed-opened layout now = refl
+pub mailed-opened : (layout : Layout) (delta : Option ℕ) (now : ℕ) → mailed (opened_object layout delta now) ≡ 0
+mailed-opened layout delta now = refl
 
 -- a request's bytes leave the mail, and its reply's come
 pub mailed-handled : (object : Object) (place : ℕ) (message : Message) (asked : Request) (now : ℕ) →
@@ -91,7 +91,7 @@ mailed-moving object layout now =
     mailed-plain
     (record object {
       layouts = object.layouts ++ layout ∷ [];
-      banks = object.banks ++ opened_banks layout.members 0 now ∷ [];
+      banks = object.banks ++ opened_banks layout.members 0 object.delta now ∷ [];
       calls = object.calls ++ new_call Move now ∷ [];
     }) (length object.calls) (new_call Move now) (Spread Pending) (pred (length object.layouts)) now empty_piece (λ tag e. cc)
 

@@ -113,6 +113,10 @@ mailed-stepped fragment object now (Step.Advance index) =
     mailed-on_call object (slice_get object.calls index) (λ call. advanced_object fragment object index call now)
     (λ call. due_bytes fragment object call (due (stage_of object index call)))
     (λ call. mailed-begun fragment object index call (due (stage_of object index call)) now)
+mailed-stepped fragment object now (Step.Again index) =
+    mailed-on_call object (slice_get object.calls index) (λ call. advanced_object fragment object index call now)
+    (λ call. due_bytes fragment object call (due (stage_of object index call)))
+    (λ call. mailed-begun fragment object index call (due (stage_of object index call)) now)
 mailed-stepped fragment object now (Step.Supply index) =
     mailed-on_call object (slice_get object.calls index) (λ call. supplied_object fragment object index call now)
     (λ call. supply_bytes fragment object index call (current_phase call.phases))

@@ -3,15 +3,12 @@ use Rattle.std.proofs.Common.{◌≡◌, ℕ, zero, suc, ◌+◌, ◌<◌, ◌==
 use Rattle.std.proofs.Common.{◌∷◌, ◌++◌, length, set, get_or, Option, Some, None, is_some, refl, sym, ap, ◌∙◌, arith}
 use Rattle.layout.specs.Layout.{Layout}
 use Rattle.encoder.specs.declared.fragment.Piece.{Piece}
-use Rattle.bank.specs.Bank.{Bank, opened_bank, pre_written, finalized}
+use Rattle.bank.specs.Bank.{Bank, opened_bank}
 use Rattle.bank.specs.Bytes.{bank_bytes, added_bytes}
-use Rattle.bank.specs.Collect.{KeepsAll, dropped_bytes}
 use Rattle.bank.specs.Serve.{served_bank, freed_bytes}
 use Rattle.bank.specs.declared.kind.Kind.{Kind}
 use Rattle.bank.specs.declared.request.Request.{Request}
-use Rattle.bank.specs.declared.request.Request.TheVariants as request
-use Rattle.bank.proofs.Account.{collected_bytes, served_bytes, opened_bytes}
-use Rattle.bank.proofs.Collecting.{collected-keeps_all}
+use Rattle.bank.proofs.Account.{served_bytes, opened_bytes}
 use Rattle.mail.specs.declared.message.Message.{Message}
 use Rattle.mail.specs.declared.message.Body.{Body}
 use Rattle.phase.specs.Phase.{Phase}
@@ -114,31 +111,18 @@ stored-served object position member asked now server p b m n =
     ∙ ap there (served_bytes bank asked now)
     ∙ for_server-sum server (server_at object position member) (bank_bytes bank) (added_bytes bank asked))
 
--- where a bank keeps all, a request frees nothing
-module _ (bank : Bank) (keeps : KeepsAll bank) where
-  none_dropped : (changed : Bank) → KeepsAll changed → dropped_bytes changed ≡ 0
-  none_dropped changed all =
-      let sum = collected_bytes changed in let same = ap bank_bytes (collected-keeps_all changed all) in omega (arith, sum, same)
-
-  pub none_freed : (asked : Request) (now : ℕ) → freed_bytes bank asked now ≡ 0
-  none_freed request.Next now = refl
-  none_freed (request.Spread status) now = refl
-  none_freed request.Query now = refl
-  none_freed (request.PreWrite tag piece) now = none_dropped (pre_written bank tag piece now) keeps
-  none_freed (request.Finalize tag) now = none_dropped (finalized bank tag now) keeps
-  none_freed (request.Fetch tag) now = none_dropped (finalized bank tag now) keeps
-
 -- banks that were just opened
-pub position-opened : (server : ℕ) (members servers : List ℕ) (member now : ℕ) →
-    position_bytes server members (opened_banks servers member now) ≡ 0
-position-opened server [] servers member now = refl
-position-opened server (x ∷ members) [] member now = refl
-position-opened server (x ∷ members) (y ∷ servers) member now =
-    let rest = position-opened server members servers (suc member) now in
-    let first : for_server server x (bank_bytes (opened_bank member None now)) ≡ 0 = ap (for_server server x) (opened_bytes member None now)
+pub position-opened : (server : ℕ) (members servers : List ℕ) (member : ℕ) (delta : Option ℕ) (now : ℕ) →
+    position_bytes server members (opened_banks servers member delta now) ≡ 0
+position-opened server [] servers member delta now = refl
+position-opened server (x ∷ members) [] member delta now = refl
+position-opened server (x ∷ members) (y ∷ servers) member delta now =
+    let rest = position-opened server members servers (suc member) delta now in
+    let first : for_server server x (bank_bytes (opened_bank member delta now)) ≡ 0 = ap (for_server server x)
+    (opened_bytes member delta now)
     ∙ none (x == server) 0 in
-    sum_none (for_server server x (bank_bytes (opened_bank member None now)))
-    (position_bytes server members (opened_banks servers (suc member) now)) first rest
+    sum_none (for_server server x (bank_bytes (opened_bank member delta now)))
+    (position_bytes server members (opened_banks servers (suc member) delta now)) first rest
   where
     none : (c : Bool) (n : ℕ) → cond c n n ≡ n
     none true n = refl
@@ -208,9 +192,9 @@ module _ (object : Object) (server : ℕ) where
   pub stored-moving : (layout : Layout) (now : ℕ) → length object.banks ≡ length object.layouts →
       stored (moving_object object layout now) server ≡ stored object server
   stored-moving layout now e =
-      stored-append server object.layouts object.banks layout (opened_banks layout.members 0 now) e
-      ∙ more (stored object server) (position_bytes server layout.members (opened_banks layout.members 0 now))
-      (position-opened server layout.members layout.members 0 now)
+      stored-append server object.layouts object.banks layout (opened_banks layout.members 0 object.delta now) e
+      ∙ more (stored object server) (position_bytes server layout.members (opened_banks layout.members 0 object.delta now))
+      (position-opened server layout.members layout.members 0 object.delta now)
     where
       more : (a b : ℕ) → b ≡ 0 → a + b ≡ a
       more a b e = omega arith

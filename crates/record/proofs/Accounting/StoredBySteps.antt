@@ -1,21 +1,19 @@
 -- What each step adds to what a server stores, and what it frees.
-use Rattle.std.proofs.Common.{◌≡◌, ℕ, ◌+◌, ◌<◌, ◌==◌, Bool, true, false, cond, length, Option, Some, None, refl, ap, ◌∙◌, arith, slice_get}
+use Rattle.std.proofs.Common.{◌≡◌, ℕ, ◌+◌, ◌<◌, length, Option, Some, None, refl, arith, slice_get}
 use Rattle.mail.specs.declared.message.Message.{Message}
 use Rattle.mail.specs.declared.message.Body.{Body}
-use Rattle.bank.specs.Collect.{KeepsAll}
-use Rattle.record.specs.Records.{Call, Object, bank_at}
+use Rattle.record.specs.Records.{Call, Object}
 use Rattle.record.specs.Courses.{due}
 use Rattle.record.specs.Legal.{stage_of}
 use Rattle.record.specs.Fragments.{Code}
-use Rattle.record.specs.Accounts.{stored, server_at, for_server, some_bytes, stored_by_body, stored_by, freed_by_body, freed_by}
+use Rattle.record.specs.Accounts.{stored, some_bytes, stored_by_body, stored_by, freed_by_body, freed_by}
 use Rattle.record.specs.Steps.{moving_object, advanced_object, settled_object, answered_object, served_by, taken_by}
 use Rattle.record.specs.Steps.{repeated_object, asked_again, supplied_object, Step, on_call, on_message, stepped}
 use Rattle.record.specs.Wants.{current_phase}
 use Rattle.record.specs.Sound.{IsPosted, IsSound}
 use Rattle.record.specs.Knowledge.{IsTruePhase}
 use Rattle.mail.specs.declared.message.Body.TheVariants as body
-use Rattle.record.proofs.Accounting.Stored.{none_freed, stored-handled, stored-begun, stored-asked_again, stored-supplied}
-use Rattle.record.proofs.Accounting.Stored.{stored-taken, stored-moving}
+use Rattle.record.proofs.Accounting.Stored.{stored-handled, stored-begun, stored-asked_again, stored-supplied, stored-taken, stored-moving}
 use Rattle.record.proofs.Lists.{all_get}
 
 -- Each step, by its name
@@ -47,6 +45,9 @@ stored-changed fragment object step now (Step.CallMove layout) server sound =
     same_more (stored (moving_object object layout now) server) (stored object server)
     (stored-moving object server layout now sound.shape.banks)
 stored-changed fragment object step now (Step.Advance index) server sound =
+    stored-on_call object server (slice_get object.calls index) (λ call. advanced_object fragment object index call now)
+    (λ call. stored-begun object server fragment index call (due (stage_of object index call)) now)
+stored-changed fragment object step now (Step.Again index) server sound =
     stored-on_call object server (slice_get object.calls index) (λ call. advanced_object fragment object index call now)
     (λ call. stored-begun object server fragment index call (due (stage_of object index call)) now)
 stored-changed fragment object step now (Step.Supply index) server sound =
@@ -88,40 +89,3 @@ stored-changed fragment object step now (Step.Take place) server sound =
 stored-changed fragment object step now (Step.Lose place) server sound = same_more (stored object server) (stored object server) refl
 stored-changed fragment object step now (Step.Repeat place) server sound =
     stored-on_message object server (slice_get object.mail place) (λ message. repeated_object object message) (λ message. refl)
-
--- where each bank keeps all, a step frees nothing
-none_freed_by : (object : Object) (s : Step) (now server : ℕ) → ((p i : ℕ) → KeepsAll (bank_at object p i)) →
-    freed_by object s now server ≡ 0
-none_freed_by object (Step.Serve place) now server keep = found (slice_get object.mail place)
-  where
-    none_there : (here : Bool) (n : ℕ) → cond here n n ≡ n
-    none_there true n = refl
-    none_there false n = refl
-
-    by_body : (message : Message) (b : Body) → freed_by_body object message b now server ≡ 0
-    by_body message (body.Request asked) =
-        ap (λ n. for_server server (server_at object message.position message.member) n)
-        (none_freed (bank_at object message.position message.member) (keep message.position message.member) asked now)
-        ∙ none_there (server_at object message.position message.member == server) 0
-    by_body message (body.Reply kind made) = refl
-
-    found : (o : Option Message) → some_bytes o (λ message. freed_by_body object message message.body now server) ≡ 0
-    found None = refl
-    found (Some message) = by_body message message.body
-none_freed_by object Step.CallRead now server keep = refl
-none_freed_by object (Step.CallWrite value) now server keep = refl
-none_freed_by object (Step.CallMove layout) now server keep = refl
-none_freed_by object (Step.Advance index) now server keep = refl
-none_freed_by object (Step.Supply index) now server keep = refl
-none_freed_by object (Step.Post index) now server keep = refl
-none_freed_by object (Step.Settle index value) now server keep = refl
-none_freed_by object (Step.AnswerCall index) now server keep = refl
-none_freed_by object (Step.Take place) now server keep = refl
-none_freed_by object (Step.Lose place) now server keep = refl
-none_freed_by object (Step.Repeat place) now server keep = refl
-
-pub stored-stepped : (fragment : Code) (object : Object) (step now : ℕ) (s : Step) (server : ℕ) → IsSound fragment object step →
-    stored (stepped fragment s now object) server ≡ stored object server + stored_by object s server
-stored-stepped fragment object step now s server sound =
-    let changed = stored-changed fragment object step now s server sound in
-    let none = none_freed_by object s now server sound.shape.keeps_all in omega (arith, changed, none)

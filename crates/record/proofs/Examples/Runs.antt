@@ -68,3 +68,11 @@ goes_on xs ys now then object later history e leads goes =
       may = may_append xs ys now then object e leads.may here.may;
       gives = ap entries (run_append xs ys now then object e) ∙ here.gives;
     }
+
+-- parts that lead one to another
+pub leads_on : (xs ys : List Step) (now then : ℕ) (object middle later : Object) → then ≡ now + length xs →
+    Leads xs now object middle → Leads ys then middle later → Leads (xs ++ ys) now object later
+leads_on xs ys now then object middle later e first rest = record {
+  may = may_append xs ys now then object e first.may (subst (λ o. MayRun whole ys then o) (sym first.gives) rest.may);
+  gives = run_append xs ys now then object e ∙ (ap (λ o. run whole ys then o) first.gives ∙ rest.gives);
+}

@@ -1,5 +1,5 @@
 -- A read that misses an answered write is not atomic.
-use Rattle.std.proofs.Common.{◌≡◌, ℕ, zero, false, nat_eq, inl, suc, true, List, [], ◌∷◌, ◌<◌, ◌⊎◌}
+use Rattle.std.proofs.Common.{◌≡◌, ℕ, zero, false, nat_eq, inl, suc, true, List, [], ◌∷◌, ◌<◌, ◌⊎◌, None}
 use Rattle.std.proofs.Common.{◌==◌, ◌||◌, Bool, inr, map, eqb-true, Some, refl, sym, subst, ap, ◌∙◌, arith}
 use Rattle.std.specs.List.{AllByRecursion, IsDistinct}
 use Rattle.std.proofs.lemmas.Option.{same_Some}
@@ -14,10 +14,10 @@ use Rattle.record.proofs.Examples.WriteAndRead.{parts, history, every_step}
 use Rattle.record.proofs.Sound.Running.{run_atomic}
 
 did_is_atomic : IsAtomic script_entries
-did_is_atomic = subst IsAtomic history (run_atomic whole whole_is_code one_member 2 parts one_lawful every_step)
+did_is_atomic = subst IsAtomic history (run_atomic whole whole_is_code one_member None 2 parts one_lawful every_step)
 
 moved_is_atomic : IsAtomic move_entries
-moved_is_atomic = subst IsAtomic move_history (run_atomic whole whole_is_code one_member 2 move_parts one_lawful every_step_of_move)
+moved_is_atomic = subst IsAtomic move_history (run_atomic whole whole_is_code one_member None 2 move_parts one_lawful every_step_of_move)
 
 -- A read that was called after a write's answer and misses it is refused
 

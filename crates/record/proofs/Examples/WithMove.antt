@@ -1,6 +1,6 @@
 -- A write, a move to another server, and a read.
 use Rattle.std.proofs.Common.{◌≡◌, ℕ, IsSome, zero, false, slice_get, inl, suc, ◌≤◌, true}
-use Rattle.std.proofs.Common.{List, [], ◌∷◌, ◌++◌, Some, refl, sym, ap, ◌∙◌, arith, le_refl}
+use Rattle.std.proofs.Common.{List, [], ◌∷◌, ◌++◌, Some, None, refl, sym, ap, ◌∙◌, arith, le_refl}
 use Rattle.std.proofs.lemmas.Option.{same_Some}
 use Rattle.layout.specs.Layout.{IsLawful}
 use Rattle.bank.specs.declared.kind.Kind.TheVariants.{Query, Fetch}
@@ -215,10 +215,10 @@ move_goes =
     (goes_on to_read_query (to_read_fetch ++ to_read_end) 27 50 move_letter read_found move_entries refl reads_ask
     (goes_on to_read_fetch to_read_end 50 53 read_found read_letter move_entries refl reads_fetch move_ends))))
 
-pub move_history : entries (run whole move_parts 3 (opened_object one_member 2)) ≡ move_entries
+pub move_history : entries (run whole move_parts 3 (opened_object one_member None 2)) ≡ move_entries
 move_history = move_goes.gives
 
-pub every_step_of_move : MayRun whole move_parts 3 (opened_object one_member 2)
+pub every_step_of_move : MayRun whole move_parts 3 (opened_object one_member None 2)
 every_step_of_move = move_goes.may
 
 -- so both are atomic

@@ -126,7 +126,7 @@ abbrev pub parts : List Step
 parts = to_query ++ (to_next_query ++ (to_fetch ++ to_end))
 
 abbrev pub start : Object
-start = opened_object one_member 2
+start = opened_object one_member None 2
 
 abbrev queried : Object
 queried = run whole to_query 3 start
@@ -231,8 +231,8 @@ goes =
     (goes_on to_next_query (to_fetch ++ to_end) 8 24 found found_again script_entries refl asks_again
     (goes_on to_fetch to_end 24 27 found_again fetched_letter script_entries refl fetches ends))
 
-pub history : entries (run whole parts 3 (opened_object one_member 2)) ≡ script_entries
+pub history : entries (run whole parts 3 (opened_object one_member None 2)) ≡ script_entries
 history = goes.gives
 
-pub every_step : MayRun whole parts 3 (opened_object one_member 2)
+pub every_step : MayRun whole parts 3 (opened_object one_member None 2)
 every_step = goes.may

@@ -1,8 +1,8 @@
 -- The phases of a call, finished or not, begin those of a whole call, and phases that do are due one after another.
 use Rattle.std.proofs.Common.{◌≡◌, ℕ, true, false, List, [], ◌∷◌, Option}
-use Rattle.std.proofs.Common.{Some, None, IsSome, is_some, refl, sym, subst, ap, ◌∙◌}
+use Rattle.std.proofs.Common.{Some, None, IsSome, is_some, nat_lt, refl, sym, subst, subst₂, ap, ◌∙◌}
 use Rattle.tag.specs.declared.tag.Tag.{Tag}
-use Rattle.phase.specs.Phase.{Phase}
+use Rattle.phase.specs.Phase.{Phase, pieces_in, lacks_pieces}
 use Rattle.record.specs.declared.call.CallKind.{CallKind}
 use Rattle.record.specs.declared.call.CallKind.TheVariants.{Read, Write, Move}
 use Rattle.record.specs.declared.stage.Stage.{Stage}
@@ -10,12 +10,14 @@ use Rattle.record.specs.declared.stage.Stage.TheVariants.{Ended, Moved}
 use Rattle.record.specs.Courses.{due, after, tagged, passed, IsCourse, IsEndedBefore}
 use Rattle.record.specs.Legal.{first_stage}
 use Rattle.record.specs.Journals.{stage_tag}
-use Rattle.record.specs.Grammar.{IsSentence, AreBegun, Begin, IsBeginning, CoursesAreBeginnings}
+use Rattle.record.specs.Grammar.{IsSentence}
+use Rattle.record.specs.Shape.{AreBegun, SameReplies, Begin, IsBeginning, CoursesAreBeginnings}
 use Rattle.record.proofs.Phases.Finishes.{Finish, finish}
 use Rattle.record.proofs.Phases.Orderly.{IsOrderly, orderly_after, orderly_first}
 use Rattle.record.proofs.Phases.Paths.{IsPath, asks_of, due_of}
 use Rattle.record.proofs.Phases.Turns.{IsLast}
-use Rattle.record.proofs.Phases.Whole.{whole_of_path, path_of_whole, move_of_path, path_of_move}
+use Rattle.record.proofs.Phases.Moves.{move_of_path, path_of_move}
+use Rattle.record.proofs.Phases.Whole.{whole_of_path, path_of_whole}
 
 -- from the table to beginnings
 
@@ -27,7 +29,7 @@ record Begun (kind : CallKind) (number : ℕ) (stage : Stage) (phases : List Pha
 -- a complete phase before what a later stage begins with
 begun_on : (kind : CallKind) (number : ℕ) (stage : Stage) (phase : Phase) (later : List Phase) →
     due stage ≡ Some (phase.kind, phase.position) → IsEndedBefore phase later →
-    Begun kind number (after kind number stage phase.replies) later → Begun kind number stage (phase ∷ later)
+    Begun kind number (after kind number stage phase.replies (lacks_pieces phase)) later → Begun kind number stage (phase ∷ later)
 begun_on kind number stage phase later e ended rest = record {
   in_turn = (ended, rest.in_turn);
   finish = record {
@@ -38,7 +40,7 @@ begun_on kind number stage phase later e ended rest = record {
     tagged = rest.finish.tagged;
     path = (e, rest.finish.path);
   };
-  begin = ((refl, refl), (λ some. refl), rest.begin);
+  begin = ((refl, refl), (λ some. (refl, refl)), rest.begin);
 }
 
 -- a phase that is not complete is the one that is due
@@ -70,23 +72,33 @@ begun_of kind number (phase ∷ []) stage orderly course = by_end phase.end refl
         begun_on kind number stage phase [] course.0 tt
         (record {
           in_turn = tt;
-          finish = finish kind number (after kind number stage phase.replies) (orderly_after kind number stage phase.replies orderly);
+          finish =
+              finish kind number (after kind number stage phase.replies (lacks_pieces phase))
+              (orderly_after kind number stage phase.replies (lacks_pieces phase) orderly);
           begin = tt;
         })
 begun_of kind number (phase ∷ next ∷ later) stage orderly course =
     begun_on kind number stage phase (next ∷ later) course.0 course.1
-    (begun_of kind number (next ∷ later) (after kind number stage phase.replies) (orderly_after kind number stage phase.replies orderly)
-    (subst (λ o. IsCourse kind number (passed kind number stage o phase.replies) (next ∷ later)) course.1.1 course.2))
+    (begun_of kind number (next ∷ later) (after kind number stage phase.replies (lacks_pieces phase))
+    (orderly_after kind number stage phase.replies (lacks_pieces phase) orderly)
+    (subst (λ o. IsCourse kind number (passed kind number stage o phase.replies (lacks_pieces phase)) (next ∷ later)) course.1.1 course.2))
 
 -- and back
 
 course_step : (kind : CallKind) (number : ℕ) (stage : Stage) (phase : Phase) (later : List Phase) → IsEndedBefore phase later →
-    (IsSome phase.end → IsCourse kind number (after kind number stage phase.replies) later) → (o : Option ℕ) → phase.end ≡ o →
-    IsCourse kind number (passed kind number stage o phase.replies) later
+    (IsSome phase.end → IsCourse kind number (after kind number stage phase.replies (lacks_pieces phase)) later) → (o : Option ℕ) →
+    phase.end ≡ o →
+    IsCourse kind number (passed kind number stage o phase.replies (lacks_pieces phase)) later
 course_step kind number stage phase [] ended rest None h = tt
 course_step kind number stage phase (next ∷ later) ended rest None h =
     absurd (let clash : None ≡ Some ended.0 = sym h ∙ ended.1 in cc)
 course_step kind number stage phase later ended rest (Some end) h = rest (ap is_some h)
+
+same_after : (kind : CallKind) (number : ℕ) (stage : Stage) (phase other : Phase) → SameReplies phase other →
+    after kind number stage other.replies (lacks_pieces other) ≡ after kind number stage phase.replies (lacks_pieces phase)
+same_after kind number stage phase other same =
+    subst₂ (λ replies needed. after kind number stage replies (nat_lt (pieces_in replies) needed)
+    ≡ after kind number stage phase.replies (lacks_pieces phase)) (sym same.0) (sym same.1) refl
 
 course_of_begin : (kind : CallKind) (number : ℕ) (phases whole : List Phase) (stage end : Stage) →
     IsPath kind number stage whole end → AreBegun phases → Begin phases whole → IsCourse kind number stage phases
@@ -96,8 +108,9 @@ course_of_begin kind number (phase ∷ later) (other ∷ others) stage end path 
   path.0 ∙ sym (due_of phase.kind phase.position other begin.0),
   turn.0,
   course_step kind number stage phase later turn.0
-      (λ some. course_of_begin kind number later others (after kind number stage phase.replies) end
-      (subst (λ r. IsPath kind number (after kind number stage r) others end) (begin.1 some) path.1) turn.1 begin.2) phase.end refl,
+      (λ some. course_of_begin kind number later others (after kind number stage phase.replies (lacks_pieces phase)) end
+      (subst (λ s. IsPath kind number s others end) (same_after kind number stage phase other (begin.1 some)) path.1) turn.1
+      begin.2) phase.end refl,
 )
 
 sentence_path : (kind : CallKind) (number from : ℕ) (phases : List Phase) (tag : Tag) → IsSentence kind number from phases tag →

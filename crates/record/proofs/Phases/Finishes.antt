@@ -23,9 +23,9 @@ use Rattle.record.proofs.Phases.Turns.{IsLast}
 
 -- each stage comes to an end, by phases without replies
 
--- a phase that asks this and took no reply
+-- a phase that asks this, took no reply and needs no piece
 abbrev silent : Kind → (position : ℕ) → Phase
-silent kind position = begun 0 0 kind position 0 0 0
+silent kind position = begun 0 0 kind position 0 0 0 0
 
 pub record Finish (kind : CallKind) (number : ℕ) (stage : Stage) : Type 0 where
   pub more : List Phase
@@ -36,7 +36,7 @@ pub record Finish (kind : CallKind) (number : ℕ) (stage : Stage) : Type 0 wher
   pub path : IsPath kind number stage more end
 
 finish_by : (kind : CallKind) (number : ℕ) (stage : Stage) (asked : Kind) (position : ℕ) → due stage ≡ Some (asked, position) →
-    Finish kind number (after kind number stage []) →
+    Finish kind number (after kind number stage [] false) →
     Finish kind number stage
 finish_by kind number stage asked position e rest = record {
   more = silent asked position ∷ rest.more;

@@ -70,25 +70,27 @@ orderly_fetch place last tag = go (eqb place last)
     go true = tt
     go false = tt
 
-pub orderly_after : (kind : CallKind) (number : ℕ) (stage : Stage) (replies : List Taken) → IsOrderly stage →
-    IsOrderly (after kind number stage replies)
-orderly_after kind number (ReadNext position finalized) replies h = orderly_next (greatest_status replies) position finalized h
-orderly_after kind number (ReadSpread position finalized status) replies h = orderly_spread status position finalized h
-orderly_after kind number (QueryFrom position last greatest shown_at) replies h =
+pub orderly_after : (kind : CallKind) (number : ℕ) (stage : Stage) (replies : List Taken) (lacks : Bool) → IsOrderly stage →
+    IsOrderly (after kind number stage replies lacks)
+orderly_after kind number (ReadNext position finalized) replies lacks h = orderly_next (greatest_status replies) position finalized h
+orderly_after kind number (ReadSpread position finalized status) replies lacks h = orderly_spread status position finalized h
+orderly_after kind number (QueryFrom position last greatest shown_at) replies lacks h =
     orderly_query kind number (greatest_tag replies) position last greatest shown_at (eqb position last) refl h
-orderly_after kind number (FetchAt place last tag) replies h = orderly_fetch place last tag
-orderly_after kind number (PreWriteAt last tag) replies h = tt
-orderly_after kind number (FinalizeAt last tag) replies h = tt
-orderly_after kind number (AgainNext last position tag) replies h = orderly_again (greatest_status replies) last position tag
-orderly_after kind number (AgainSpread last position tag status) replies h = tt
-orderly_after kind number (MoveSpread position) replies h = tt
-orderly_after kind number (MoveQuery position) replies h = tt
-orderly_after kind number (MoveFetch position tag) replies h = tt
-orderly_after kind number (MovePreWrite position tag) replies h = tt
-orderly_after kind number (MoveFinalize position tag) replies h = tt
-orderly_after kind number (MoveFinal position tag) replies h = tt
-orderly_after kind number (Ended last tag) replies h = tt
-orderly_after kind number (Moved position tag) replies h = tt
+orderly_after kind number (FetchAt place last tag) replies true h = le_refl 0
+orderly_after kind number (FetchAt place last tag) replies false h = orderly_fetch place last tag
+orderly_after kind number (PreWriteAt last tag) replies lacks h = tt
+orderly_after kind number (FinalizeAt last tag) replies lacks h = tt
+orderly_after kind number (AgainNext last position tag) replies lacks h = orderly_again (greatest_status replies) last position tag
+orderly_after kind number (AgainSpread last position tag status) replies lacks h = tt
+orderly_after kind number (MoveSpread position) replies lacks h = tt
+orderly_after kind number (MoveQuery position) replies lacks h = tt
+orderly_after kind number (MoveFetch position tag) replies true h = tt
+orderly_after kind number (MoveFetch position tag) replies false h = tt
+orderly_after kind number (MovePreWrite position tag) replies lacks h = tt
+orderly_after kind number (MoveFinalize position tag) replies lacks h = tt
+orderly_after kind number (MoveFinal position tag) replies lacks h = tt
+orderly_after kind number (Ended last tag) replies lacks h = tt
+orderly_after kind number (Moved position tag) replies lacks h = tt
 
 pub orderly_first : (kind : CallKind) (from : ℕ) → IsOrderly (first_stage kind from)
 orderly_first Read from = le_refl 0

@@ -8,14 +8,14 @@ use Rattle.bank.specs.declared.status.Status.{Status}
 use Rattle.bank.specs.declared.status.Status.TheVariants.{Unset, Pending, Final}
 use Rattle.bank.specs.declared.kind.Kind.{Kind}
 use Rattle.bank.specs.declared.kind.Kind.TheVariants.{Next, Spread}
-use Rattle.phase.specs.Phase.{Phase}
+use Rattle.phase.specs.Phase.{Phase, lacks_pieces}
 use Rattle.record.specs.declared.call.CallKind.{CallKind}
 use Rattle.record.specs.declared.stage.Stage.{Stage}
 use Rattle.record.specs.declared.stage.Stage.TheVariants.{ReadNext, ReadSpread, QueryFrom}
 use Rattle.record.specs.Courses.{due, after, after_next, after_spread, passed, stage_after, IsCourse, greatest_status}
 use Rattle.record.specs.Journals.{stage_tag}
 use Rattle.record.specs.Grammar.{Asks, finalized_after, IsReading}
-use Rattle.record.proofs.Atomic.Values.Coded.{tag_passed}
+use Rattle.record.proofs.Sound.Late.{IsLateWith, late_after}
 
 -- paths
 
@@ -23,7 +23,8 @@ use Rattle.record.proofs.Atomic.Values.Coded.{tag_passed}
 abbrev pub IsPath : CallKind → (number : ℕ) → Stage → List Phase → Stage → Type 0
 IsPath kind number stage [] end = stage ≡ end
 IsPath kind number stage (phase ∷ phases) end =
-    (due stage ≡ Some (phase.kind, phase.position)) × IsPath kind number (after kind number stage phase.replies) phases end
+    (due stage ≡ Some (phase.kind, phase.position)) × IsPath kind number
+    (after kind number stage phase.replies (lacks_pieces phase)) phases end
 
 -- the call has its tag at this stage
 abbrev pub HasTag : Stage → Type 0
@@ -48,23 +49,28 @@ closed_of kind number (phase ∷ []) stage course = by_end phase.end refl
   where
     by_end : (o : Option ℕ) → phase.end ≡ o → Closed kind number stage (phase ∷ []) (stage_after kind number stage (phase ∷ []))
     by_end None h =
-        record { done = []; open_phase = phase ∷ []; split = refl; path = ap (λ o. passed kind number stage o phase.replies) (sym h) }
+        record {
+          done = [];
+          open_phase = phase ∷ [];
+          split = refl;
+          path = ap (λ o. passed kind number stage o phase.replies (lacks_pieces phase)) (sym h);
+        }
     by_end (Some end) h = record {
       done = phase ∷ [];
       open_phase = [];
       split = refl;
-      path = (course.0, ap (λ o. passed kind number stage o phase.replies) (sym h));
+      path = (course.0, ap (λ o. passed kind number stage o phase.replies (lacks_pieces phase)) (sym h));
     }
 closed_of kind number (phase ∷ next ∷ later) stage course =
     let ended = course.1.1 in
-    let rest = closed_of kind number (next ∷ later) (passed kind number stage phase.end phase.replies) course.2 in
+    let rest = closed_of kind number (next ∷ later) (passed kind number stage phase.end phase.replies (lacks_pieces phase)) course.2 in
     record {
       done = phase ∷ rest.done;
       open_phase = rest.open_phase;
       split = ap (λ xs. phase ∷ xs) rest.split;
       path = (
         course.0,
-        subst (λ o. IsPath kind number (passed kind number stage o phase.replies) rest.done
+        subst (λ o. IsPath kind number (passed kind number stage o phase.replies (lacks_pieces phase)) rest.done
             (stage_after kind number stage (phase ∷ next ∷ later))) ended rest.path,
       );
     }
@@ -73,14 +79,15 @@ pub path-append : (kind : CallKind) (number : ℕ) (xs ys : List Phase) (stage m
     IsPath kind number stage xs middle → IsPath kind number middle ys end → IsPath kind number stage (xs ++ ys) end
 path-append kind number [] ys stage middle end p q = subst (λ s. IsPath kind number s ys end) (sym p) q
 path-append kind number (x ∷ xs) ys stage middle end p q =
-    (p.0, path-append kind number xs ys (after kind number stage x.replies) middle end p.1 q)
+    (p.0, path-append kind number xs ys (after kind number stage x.replies (lacks_pieces x)) middle end p.1 q)
 
-pub path_tag : (kind : CallKind) (number : ℕ) (phases : List Phase) (stage end : Stage) (tag : Tag) → stage_tag stage ≡ Some tag →
+-- a call that has what it needs keeps its tag
+pub path_tag : (kind : CallKind) (number : ℕ) (phases : List Phase) (stage end : Stage) (tag : Tag) → IsLateWith tag stage →
     IsPath kind number stage phases end → stage_tag end ≡ Some tag
-path_tag kind number [] stage end tag e path = subst (λ s. stage_tag s ≡ Some tag) path e
-path_tag kind number (phase ∷ phases) stage end tag e path =
-    path_tag kind number phases (after kind number stage phase.replies) end tag
-    (tag_passed kind number stage (Some 0) phase.replies tag e) path.1
+path_tag kind number [] stage end tag late path = subst (λ s. stage_tag s ≡ Some tag) path late.1
+path_tag kind number (phase ∷ phases) stage end tag late path =
+    path_tag kind number phases (after kind number stage phase.replies (lacks_pieces phase)) end tag
+    (late_after kind number stage phase.replies (lacks_pieces phase) tag late) path.1
 
 pub asks_of : (k : Kind) (p : ℕ) (phase : Phase) →
     ◌≡◌ {A = Option (Kind × ℕ)} (Some (k, p)) (Some (phase.kind, phase.position)) → Asks phase k p

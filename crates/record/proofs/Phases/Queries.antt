@@ -1,21 +1,20 @@
--- The path of the queries, and of all phases up to the tag.
+-- The path of the queries.
 use Rattle.std.proofs.Common.{◌≡◌, ◌≢◌, ℕ, suc, Bool, true, false, cond, eqb, List, [], ◌∷◌}
-use Rattle.std.proofs.Common.{◌++◌, Some, is_some, refl, sym, subst, ap, ◌∙◌, eqb-true, eq-eqb}
-use Rattle.std.proofs.lemmas.List.{append_assoc}
+use Rattle.std.proofs.Common.{◌++◌, Some, refl, sym, subst, ap, ◌∙◌, eqb-true, eq-eqb}
 use Rattle.std.proofs.lemmas.Option.{same_Some}
 use Rattle.tag.specs.declared.tag.Tag.{Tag}
-use Rattle.tag.specs.Tag.{opening_tag, next_tag, later_tag, tag_lt}
+use Rattle.tag.specs.Tag.{next_tag, later_tag, tag_lt}
 use Rattle.bank.specs.declared.kind.Kind.TheVariants.{Query}
-use Rattle.phase.specs.Phase.{Phase}
+use Rattle.phase.specs.Phase.{Phase, lacks_pieces}
 use Rattle.record.specs.declared.call.CallKind.{CallKind}
 use Rattle.record.specs.declared.call.CallKind.TheVariants.{Read, Write, Move}
 use Rattle.record.specs.declared.stage.Stage.{Stage}
-use Rattle.record.specs.declared.stage.Stage.TheVariants.{ReadNext, QueryFrom, FetchAt, PreWriteAt}
-use Rattle.record.specs.Courses.{after_query, tagged, stage_after, IsCourse, greatest_tag}
+use Rattle.record.specs.declared.stage.Stage.TheVariants.{QueryFrom, FetchAt, PreWriteAt}
+use Rattle.record.specs.Courses.{after, after_query, tagged, greatest_tag}
 use Rattle.record.specs.Journals.{stage_tag}
-use Rattle.record.specs.Grammar.{Asks, AreQueries, greatest_shown, TakesTag, FindsTag}
-use Rattle.record.proofs.Phases.Paths.{IsPath, HasTag, untagged, closed_of, path_tag, asks_of}
-use Rattle.record.proofs.Phases.Readings.{read_split}
+use Rattle.record.specs.Grammar.{Asks, AreQueries, greatest_shown, TakesTag}
+use Rattle.record.proofs.Phases.Paths.{IsPath, HasTag, untagged, path_tag, asks_of}
+use Rattle.record.proofs.Sound.Late.{fetch_late}
 
 -- queries
 
@@ -102,42 +101,24 @@ query_split kind number (query ∷ later) position last greatest shown_at end ha
     (later_place found greatest shown_at position) end has p)
     (eqb position last) refl path.1
 
+-- what a read begins with, if anything, lacks no pieces
+abbrev pub HasPiecesFirst : CallKind → List Phase → Type 0
+HasPiecesFirst kind rest =
+    kind ≡ Read → (fetch : Phase) (later : List Phase) → rest ≡ fetch ∷ later → lacks_pieces fetch ≡ false
+
 -- after the queries the call has the greatest tag, or the next one
 pub takes_of : (kind : CallKind) (number place last : ℕ) (greatest : Tag) (rest : List Phase) (end : Stage) (tag : Tag) →
-    kind ≢ Move → stage_tag end ≡ Some tag → IsPath kind number (tagged kind number place last greatest) rest end →
-    TakesTag kind number greatest tag
-takes_of Read number place last greatest rest end tag reads has path =
-    same_Some tag greatest (sym has ∙ path_tag Read number rest (FetchAt place last greatest) end greatest refl path)
-takes_of (Write value) number place last greatest rest end tag reads has path =
+    kind ≢ Move → stage_tag end ≡ Some tag → HasPiecesFirst kind rest →
+    IsPath kind number (tagged kind number place last greatest) rest end → TakesTag kind number greatest tag
+takes_of Read number place last greatest [] end tag reads has enough path =
+    same_Some tag greatest (sym has ∙ sym (ap stage_tag path))
+takes_of Read number place last greatest (fetch ∷ later) end tag reads has enough path =
+    let late = fetch_late Read number (FetchAt place last greatest) fetch.replies greatest place refl in
+    same_Some tag greatest (sym has
+    ∙ path_tag Read number later (after Read number (FetchAt place last greatest) fetch.replies false) end greatest late
+    (subst (λ b. IsPath Read number (after Read number (FetchAt place last greatest) fetch.replies b) later end)
+    (enough refl fetch later refl) path.1))
+takes_of (Write value) number place last greatest rest end tag reads has enough path =
     let own = next_tag greatest number in
-    same_Some tag own (sym has ∙ path_tag (Write value) number rest (PreWriteAt last own) end own refl path)
-takes_of Move number place last greatest rest end tag reads has path = reads refl
-
-split_on : (phases done last first later queries rest : List Phase) → phases ≡ done ++ last → done ≡ first ++ later →
-    later ≡ queries ++ rest → phases ≡ first ++ (queries ++ (rest ++ last))
-split_on phases done last first later queries rest a b c =
-    let whole : done ≡ first ++ (queries ++ rest) = b ∙ ap (λ xs. first ++ xs) c in
-    let moved : (first ++ (queries ++ rest)) ++ last ≡ first ++ ((queries ++ rest) ++ last) = append_assoc first (queries ++ rest) last in
-    a ∙ (ap (λ xs. xs ++ last) whole ∙ (moved ∙ ap (λ xs. first ++ xs) (append_assoc queries rest last)))
-
-pub finds_tag : (kind : CallKind) (number : ℕ) → kind ≢ Move → (phases : List Phase) (tag : Tag) →
-    IsCourse kind number (ReadNext 0 0) phases → stage_tag (stage_after kind number (ReadNext 0 0) phases) ≡ Some tag →
-    FindsTag kind number phases tag
-finds_tag kind number reads phases tag course has =
-    let end = stage_after kind number (ReadNext 0 0) phases in
-    let closed = closed_of kind number phases (ReadNext 0 0) course in
-    let read = read_split kind number closed.done 0 0 end (ap is_some has) closed.path in
-    let asked = query_split kind number read.later read.to read.last opening_tag read.to end (ap is_some has) read.path in
-    record {
-      first = read.first;
-      queries = asked.queries;
-      rest = asked.rest ++ closed.open_phase;
-      split =
-          split_on phases closed.done closed.open_phase read.first read.later asked.queries asked.rest closed.split read.split asked.split;
-      last = read.last;
-      finalized = read.to;
-      reading = read.reading;
-      asked = asked.asked;
-      takes = takes_of kind number (place_after opening_tag read.to read.to asked.queries) read.last
-          (greatest_shown opening_tag asked.queries) asked.rest end tag reads has asked.path;
-    }
+    same_Some tag own (sym has ∙ path_tag (Write value) number rest (PreWriteAt last own) end own (tt, refl) path)
+takes_of Move number place last greatest rest end tag reads has enough path = reads refl

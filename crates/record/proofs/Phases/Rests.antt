@@ -10,9 +10,10 @@ use Rattle.record.specs.declared.call.CallKind.{CallKind}
 use Rattle.record.specs.declared.call.CallKind.TheVariants.{Read, Write, Move}
 use Rattle.record.specs.declared.stage.Stage.{Stage}
 use Rattle.record.specs.declared.stage.Stage.TheVariants.{FetchAt, PreWriteAt, FinalizeAt, AgainNext, Ended}
-use Rattle.record.specs.Courses.{after_fetch, after_again, tagged}
+use Rattle.record.specs.Courses.{after, after_fetch, after_again, tagged}
 use Rattle.record.specs.Grammar.{TakesTag, Round, round_phases, AreRounds, IsReread, IsPut, IsRest}
 use Rattle.record.proofs.Phases.Again.{again_split}
+use Rattle.record.proofs.Phases.Queries.{HasPiecesFirst}
 use Rattle.record.proofs.Phases.Paths.{IsPath, path-append, asks_of, due_of}
 use Rattle.record.proofs.Phases.Turns.{IsLast, not_end, again_path}
 
@@ -100,17 +101,22 @@ fetched_of number place last tag later end ends false h path =
     inr ((λ e. let clash : true ≡ false = sym (eq-eqb place last e) ∙ h in cc), put_of Read number later end last tag ends path)
 
 pub rest_of : (kind : CallKind) (number place last : ℕ) (greatest : Tag) (rest : List Phase) (end : Stage) (tag : Tag) → IsLast end →
-    TakesTag kind number greatest tag →
+    TakesTag kind number greatest tag → HasPiecesFirst kind rest →
     IsPath kind number (tagged kind number place last greatest) rest end → IsRest kind tag place last rest
-rest_of Read number place last greatest [] end tag ends takes path =
+rest_of Read number place last greatest [] end tag ends takes enough path =
     absurd (not_end (FetchAt place last greatest) end (Fetch greatest, place) refl ends path)
-rest_of Read number place last greatest (fetch ∷ later) end tag ends takes path =
-    subst (λ t. IsRest Read t place last (fetch ∷ later)) (sym takes)
-    (asks_of (Fetch greatest) place fetch path.0, fetched_of number place last greatest later end ends (eqb place last) refl path.1)
-rest_of (Write value) number place last greatest rest end tag ends takes path =
+rest_of Read number place last greatest (fetch ∷ later) end tag ends takes enough path =
+    let has = enough refl fetch later refl in
+    subst (λ t. IsRest Read t place last (fetch ∷ later)) (sym takes) (
+      asks_of (Fetch greatest) place fetch path.0,
+      has,
+      fetched_of number place last greatest later end ends (eqb place last) refl
+          (subst (λ b. IsPath Read number (after Read number (FetchAt place last greatest) fetch.replies b) later end) has path.1),
+    )
+rest_of (Write value) number place last greatest rest end tag ends takes enough path =
     let own = next_tag greatest number in
     subst (λ t. IsPut t last rest) (sym takes) (put_of (Write value) number rest end last own ends path)
-rest_of Move number place last greatest rest end tag ends takes path = absurd takes
+rest_of Move number place last greatest rest end tag ends takes enough path = absurd takes
 
 fetched_path : (number place last : ℕ) (tag : Tag) (later : List Phase) →
     ((place ≡ last) × IsReread tag last later) ⊎ ((place ≢ last) × IsPut tag last later) →
@@ -131,10 +137,13 @@ pub rest_path : (kind : CallKind) (number place last : ℕ) (greatest : Tag) (re
     (at : ℕ) × IsPath kind number (tagged kind number place last greatest) rest (Ended at tag)
 rest_path Read number place last greatest [] tag takes is = absurd is
 rest_path Read number place last greatest (fetch ∷ later) tag takes is =
-    let way = fetched_path number place last tag later is.1 in (
+    let way = fetched_path number place last tag later is.2 in (
       way.0,
-      subst (λ t. IsPath Read number (FetchAt place last t) (fetch ∷ later) (Ended way.0 tag)) takes
-          (due_of (Fetch tag) place fetch is.0, way.1),
+      subst (λ t. IsPath Read number (FetchAt place last t) (fetch ∷ later) (Ended way.0 tag)) takes (
+        due_of (Fetch tag) place fetch is.0,
+        subst (λ b. IsPath Read number (after Read number (FetchAt place last tag) fetch.replies b) later (Ended way.0 tag))
+            (sym is.1) way.1,
+      ),
     )
 rest_path (Write value) number place last greatest rest tag takes is =
     let way = put_path (Write value) number rest last tag is in

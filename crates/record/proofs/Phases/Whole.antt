@@ -1,11 +1,8 @@
 -- The phases of a finished call have the shape of a whole one, and a call whose phases have that shape is finished.
-use Rattle.std.proofs.Common.{◌≡◌, ◌≢◌, ℕ, suc, ◌≤◌, List, [], ◌∷◌, ◌++◌}
-use Rattle.std.proofs.Common.{Some, is_some, refl, sym, subst, ap, ◌∙◌, arith, le_refl}
-use Rattle.std.proofs.lemmas.Option.{same_Some}
+use Rattle.std.proofs.Common.{◌≡◌, ◌≢◌, ℕ, suc, ◌≤◌, List, [], ◌∷◌, ◌++◌, length}
+use Rattle.std.proofs.Common.{Some, is_some, refl, sym, subst, ap, arith, le_refl}
 use Rattle.tag.specs.declared.tag.Tag.{Tag}
 use Rattle.tag.specs.Tag.{opening_tag}
-use Rattle.bank.specs.declared.status.Status.TheVariants.{Pending, Final}
-use Rattle.bank.specs.declared.kind.Kind.TheVariants.{Spread, Query, PreWrite, Finalize, Fetch}
 use Rattle.phase.specs.Phase.{Phase}
 use Rattle.record.specs.declared.call.CallKind.{CallKind}
 use Rattle.record.specs.declared.call.CallKind.TheVariants.{Read, Write, Move}
@@ -13,45 +10,44 @@ use Rattle.record.specs.declared.stage.Stage.{Stage}
 use Rattle.record.specs.declared.stage.Stage.TheVariants.{ReadNext, ReadSpread, QueryFrom, FetchAt, PreWriteAt}
 use Rattle.record.specs.declared.stage.Stage.TheVariants.{FinalizeAt, AgainNext, AgainSpread, MoveSpread, MoveQuery}
 use Rattle.record.specs.declared.stage.Stage.TheVariants.{MoveFetch, MovePreWrite, MoveFinalize, MoveFinal, Ended, Moved}
-use Rattle.record.specs.Courses.{tagged, stage_after, greatest_tag}
+use Rattle.record.specs.Courses.{tagged, stage_after}
 use Rattle.record.specs.Legal.{source_of, stage_of}
 use Rattle.record.specs.Journals.{stage_tag}
-use Rattle.record.specs.Grammar.{Asks, AreQueries, greatest_shown, TakesTag, place_shown, IsRest, ArePhasesOfCall}
-use Rattle.record.specs.Grammar.{ArePhasesOfMove, AreInTurn, IsFinished, FinishedAreWhole, AnsweredAreWhole}
+use Rattle.record.specs.Grammar.{AreQueries, greatest_shown, TakesTag, place_shown, IsRest, ArePhasesOfCall, attempt_phases}
+use Rattle.record.specs.Shape.{AreInTurn, IsFinished, FinishedAreWhole, AnsweredAreWhole}
 use Rattle.record.proofs.Phases.Again.{queries_path}
-use Rattle.record.proofs.Phases.Paths.{IsPath, path-append, asks_of, due_of, reading_path}
-use Rattle.record.proofs.Phases.Queries.{place_after, query_split, takes_of}
-use Rattle.record.proofs.Phases.Readings.{read_split}
+use Rattle.record.proofs.Phases.Attempts.{place_same, attempt_split}
+use Rattle.record.proofs.Phases.Backward.{attempts_path}
+use Rattle.record.proofs.Phases.Moves.{move_of_path, path_of_move}
+use Rattle.record.proofs.Phases.Paths.{IsPath, path-append, reading_path}
+use Rattle.record.proofs.Phases.Queries.{place_after, takes_of}
 use Rattle.record.proofs.Phases.Rests.{rest_of, rest_path, rest_placed, rest_from}
-use Rattle.record.proofs.Phases.Turns.{IsLast, not_last, not_end, path_of_course, course_of_path, reading-bound, place_after-place_shown}
-
-place_same : (queries : List Phase) (finalized : ℕ) →
-    place_after opening_tag finalized finalized queries ≡ place_shown (greatest_shown opening_tag queries) finalized finalized queries
-place_same queries finalized = place_after-place_shown queries opening_tag finalized finalized finalized (λ e. refl)
+use Rattle.record.proofs.Phases.Turns.{IsLast, path_of_course, course_of_path, reading-bound}
 
 pub whole_of_path : (kind : CallKind) (number : ℕ) (phases : List Phase) (end : Stage) (tag : Tag) → kind ≢ Move → IsLast end →
     stage_tag end ≡ Some tag → IsPath kind number (ReadNext 0 0) phases end → ArePhasesOfCall kind number phases tag
 whole_of_path kind number phases end tag reads ends has path =
-    let read = read_split kind number phases 0 0 end (ap is_some has) path in
-    let asked = query_split kind number read.later read.to read.last opening_tag read.to end (ap is_some has) read.path in
-    let place = place_after opening_tag read.to read.to asked.queries in
-    let top = greatest_shown opening_tag asked.queries in
-    let takes = takes_of kind number place read.last top asked.rest end tag reads has asked.path in
+    let found = attempt_split kind reads number (length phases) phases (le_refl (length phases)) end (ap is_some has) path in
+    let place = place_after opening_tag found.to found.to found.queries in
+    let top = greatest_shown opening_tag found.queries in
+    let takes = takes_of kind number place found.last top found.rest end tag reads has found.enough found.path in
     record {
       finds = record {
-        first = read.first;
-        queries = asked.queries;
-        rest = asked.rest;
-        split = read.split ∙ ap (λ xs. read.first ++ xs) asked.split;
-        last = read.last;
-        finalized = read.to;
-        reading = read.reading;
-        asked = asked.asked;
+        attempts = found.attempts;
+        first = found.first;
+        queries = found.queries;
+        rest = found.rest;
+        given_up = found.given_up;
+        split = found.split;
+        last = found.last;
+        finalized = found.to;
+        reading = found.reading;
+        asked = found.asked;
         takes = takes;
       };
-      rest = rest_placed kind number read.last top tag asked.rest (λ t. place_shown t read.to read.to asked.queries) place
-          (place_same asked.queries read.to) takes
-          (rest_of kind number place read.last top asked.rest end tag ends takes asked.path);
+      rest = rest_placed kind number found.last top tag found.rest (λ t. place_shown t found.to found.to found.queries) place
+          (place_same found.queries found.to) takes
+          (rest_of kind number place found.last top found.rest end tag ends takes found.enough found.path);
     }
 
 after_queries : (kind : CallKind) (number : ℕ) (queries rest : List Phase) (last finalized : ℕ) (tag : Tag) →
@@ -80,67 +76,11 @@ path_of_whole kind number phases tag whole =
     (reading-bound finds.first 0 0 finds.last finds.finalized (le_refl 0) finds.reading) finds.asked finds.takes whole.rest in (
       way.0,
       subst (λ xs. IsPath kind number (ReadNext 0 0) xs (Ended way.0 tag)) (sym finds.split)
+          (path-append kind number (attempt_phases finds.attempts) (finds.first ++ (finds.queries ++ finds.rest)) (ReadNext 0 0)
+          (ReadNext 0 0) (Ended way.0 tag) (attempts_path kind number finds.attempts finds.given_up)
           (path-append kind number finds.first (finds.queries ++ finds.rest) (ReadNext 0 0)
           (QueryFrom finds.finalized finds.last opening_tag finds.finalized) (Ended way.0 tag)
-          (reading_path kind number finds.first 0 0 finds.last finds.finalized finds.reading) way.1),
-    )
-
--- whole moves
-
-pub move_of_path : (number position : ℕ) (phases : List Phase) (end : Stage) (tag : Tag) → IsLast end → stage_tag end ≡ Some tag →
-    IsPath Move number (MoveSpread position) phases end →
-    ArePhasesOfMove position phases tag
-move_of_path number position [] end tag ends has path = absurd (not_end (MoveSpread position) end (Spread Pending, position) refl ends path)
-move_of_path number position (a ∷ []) end tag ends has path = absurd (not_end (MoveQuery position) end (Query, position) refl ends path.1)
-move_of_path number position (a ∷ b ∷ []) end tag ends has path =
-    let top = greatest_tag b.replies in absurd (not_end (MoveFetch position top) end (Fetch top, position) refl ends path.1.1)
-move_of_path number position (a ∷ b ∷ c ∷ []) end tag ends has path =
-    let top = greatest_tag b.replies in absurd (not_end (MovePreWrite position top) end (PreWrite top, suc position) refl ends path.1.1.1)
-move_of_path number position (a ∷ b ∷ c ∷ d ∷ []) end tag ends has path =
-    let top = greatest_tag b.replies in absurd (not_end (MoveFinalize position top) end (Finalize top, suc position) refl ends path.1.1.1.1)
-move_of_path number position (a ∷ b ∷ c ∷ d ∷ e ∷ []) end tag ends has path =
-    let top = greatest_tag b.replies in absurd (not_end (MoveFinal position top) end (Spread Final, position) refl ends path.1.1.1.1.1)
-move_of_path number position (a ∷ b ∷ c ∷ d ∷ e ∷ f ∷ []) end tag ends has path =
-    let top = greatest_tag b.replies in
-    let same : tag ≡ top = same_Some tag top (sym has ∙ sym (ap (λ s. stage_tag s) path.1.1.1.1.1.1)) in
-    record {
-      spread = a;
-      query = b;
-      fetch = c;
-      pre_write = d;
-      finalize = e;
-      final = f;
-      split = refl;
-      spreads = asks_of (Spread Pending) position a path.0;
-      queries = asks_of Query position b path.1.0;
-      takes = same;
-      fetches = subst (λ t. Asks c (Fetch t) position) (sym same) (asks_of (Fetch top) position c path.1.1.0);
-      pre_writes = subst (λ t. Asks d (PreWrite t) (suc position)) (sym same) (asks_of (PreWrite top) (suc position) d path.1.1.1.0);
-      finalizes = subst (λ t. Asks e (Finalize t) (suc position)) (sym same) (asks_of (Finalize top) (suc position) e path.1.1.1.1.0);
-      ends = asks_of (Spread Final) position f path.1.1.1.1.1.0;
-    }
-move_of_path number position (a ∷ b ∷ c ∷ d ∷ e ∷ f ∷ g ∷ later) end tag ends has path =
-    absurd (not_last (Moved position (greatest_tag b.replies)) (g.kind, g.position) path.1.1.1.1.1.1.0 refl)
-
-pub path_of_move : (number position : ℕ) (phases : List Phase) (tag : Tag) → ArePhasesOfMove position phases tag →
-    IsPath Move number (MoveSpread position) phases (Moved position tag)
-path_of_move number position phases tag whole =
-    subst (λ xs. IsPath Move number (MoveSpread position) xs (Moved position tag)) (sym whole.split) (
-      due_of (Spread Pending) position whole.spread whole.spreads,
-      (
-        due_of Query position whole.query whole.queries,
-        subst (λ t. IsPath Move number (MoveFetch position t) (whole.fetch ∷ whole.pre_write ∷ whole.finalize ∷ whole.final ∷ [])
-            (Moved position tag)) whole.takes (
-              due_of (Fetch tag) position whole.fetch whole.fetches,
-              (
-                due_of (PreWrite tag) (suc position) whole.pre_write whole.pre_writes,
-                (
-                  due_of (Finalize tag) (suc position) whole.finalize whole.finalizes,
-                  (due_of (Spread Final) position whole.final whole.ends, refl),
-                ),
-              ),
-            ),
-      ),
+          (reading_path kind number finds.first 0 0 finds.last finds.finalized finds.reading) way.1)),
     )
 
 -- finished calls

@@ -99,7 +99,7 @@ added_sound fragment object new step now less sound kind asked position wide siz
         other = c;
         at = there i c e;
         changed = same_call c;
-        tagged = λ tag t. subst (λ from. stage_tag (stage_after c.kind (suc i) (first_stage c.kind from) c.phases) ≡ Some tag)
+        tagged = λ value k tag t. subst (λ from. stage_tag (stage_after c.kind (suc i) (first_stage c.kind from) c.phases) ≡ Some tag)
             (sym (source_old i c e)) t;
       };
     }
@@ -124,7 +124,7 @@ added_sound fragment object new step now less sound kind asked position wide siz
       phases = (
         record {
           placed = (let m = wide.more in omega arith);
-          sized = record { members = refl; quorum = refl };
+          sized = record { members = refl; quorum = refl; needed = refl };
           replies = tt;
           one_each =
               none_twice;

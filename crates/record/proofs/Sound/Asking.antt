@@ -4,7 +4,7 @@ use Rattle.std.proofs.Common.{length, Some, None, refl, sym, subst, ap, ◌∙�
 use Rattle.std.proofs.lemmas.Option.{same_Some}
 use Rattle.encoder.specs.declared.fragment.Piece.{Piece}
 use Rattle.mail.specs.declared.message.Message.{Message}
-use Rattle.phase.specs.Phase.{Phase, members_of}
+use Rattle.phase.specs.Phase.{Phase, members_of, lacks_pieces}
 use Rattle.record.specs.declared.call.CallKind.{CallKind}
 use Rattle.record.specs.Records.{Call, Object, layout_at}
 use Rattle.record.specs.declared.stage.Stage.{Stage}
@@ -29,10 +29,11 @@ current_due kind number [] stage phase course current none = absurd (cc)
 current_due kind number (first ∷ []) stage phase course current none =
     let same = same_Some first phase current in
     let end_is : first.end ≡ None = ap (λ (p : Phase). p.end) same ∙ none in
-    subst (λ o. due (passed kind number stage o first.replies) ≡ Some (phase.kind, phase.position)) (sym end_is)
+    subst (λ o. due (passed kind number stage o first.replies (lacks_pieces first)) ≡ Some (phase.kind, phase.position)) (sym end_is)
     (subst (λ (p : Phase). due stage ≡ Some (p.kind, p.position)) same course.0)
 current_due kind number (first ∷ next ∷ later) stage phase course current none =
-    current_due kind number (next ∷ later) (passed kind number stage first.end first.replies) phase course.2 current none
+    current_due kind number (next ∷ later)
+    (passed kind number stage first.end first.replies (lacks_pieces first)) phase course.2 current none
 
 -- the current phase asks again
 pub asked_sound : (fragment : Code) (object : Object) (step now : ℕ) → step < now → Determines fragment →

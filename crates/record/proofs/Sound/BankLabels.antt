@@ -119,15 +119,16 @@ served_gives bank (request.Fetch asked) now tag label e = go
 
 -- Banks that open
 
-opened_row : (member now : ℕ) (tag : Tag) →
-    map.get (opened_bank member None now).rows tag ≡ cond (tag_eq tag opening_tag) (Some (opening_row member now)) None
-opened_row member now tag =
+opened_row : (member : ℕ) (delta : Option ℕ) (now : ℕ) (tag : Tag) →
+    map.get (opened_bank member delta now).rows tag ≡ cond (tag_eq tag opening_tag) (Some (opening_row member now)) None
+opened_row member delta now tag =
     get-with_row map.empty opening_tag (λ row. opening_row member now) tag
     ∙ ap (λ o. cond (tag_eq tag opening_tag) (Some (opening_row member now)) o) (map.get-empty tag_cmp tag)
 
-pub opened_label : (member now : ℕ) (tag : Tag) (label : Label) → label_at (opened_bank member None now) tag ≡ Some label →
+pub opened_label : (member : ℕ) (delta : Option ℕ) (now : ℕ) (tag : Tag) (label : Label) →
+    label_at (opened_bank member delta now) tag ≡ Some label →
     (tag ≡ opening_tag) × (label ≡ Finalized now)
-opened_label member now tag label e = go (tag_eq tag opening_tag) refl (sym (ap row_label (opened_row member now tag)) ∙ e)
+opened_label member delta now tag label e = go (tag_eq tag opening_tag) refl (sym (ap row_label (opened_row member delta now tag)) ∙ e)
   where
     go : (b : Bool) → tag_eq tag opening_tag ≡ b → row_label (cond b (Some (opening_row member now)) None) ≡ Some label →
         (tag ≡ opening_tag) × (label ≡ Finalized now)

@@ -168,3 +168,20 @@ module _ (fragment : Code) (object : Object) (position member : ℕ) where
           IsCoded fragment object position member tag (cond outside None piece)
       kept true piece here = new
       kept false piece here = here
+
+-- what a request leaves as it is
+pub served-delta : (bank : Bank) (asked : Request) (now : ℕ) → (served_bank bank asked now).delta ≡ bank.delta
+served-delta bank request.Next now = refl
+served-delta bank (request.Spread status) now = refl
+served-delta bank request.Query now = refl
+served-delta bank (request.PreWrite tag piece) now = refl
+served-delta bank (request.Finalize tag) now = refl
+served-delta bank (request.Fetch tag) now = refl
+
+pub served-retired : (bank : Bank) (asked : Request) (now : ℕ) → (served_bank bank asked now).retired ≡ bank.retired
+served-retired bank request.Next now = refl
+served-retired bank (request.Spread status) now = refl
+served-retired bank request.Query now = refl
+served-retired bank (request.PreWrite tag piece) now = refl
+served-retired bank (request.Finalize tag) now = refl
+served-retired bank (request.Fetch tag) now = refl

@@ -1,13 +1,13 @@
 -- Beginning the phase that is due, and asking again, keep a record sound.
 use Rattle.std.proofs.Common.{◌≡◌, ℕ, zero, suc, ◌<◌, ◌⊎◌, List, [], ◌∷◌, ◌++◌, length}
-use Rattle.std.proofs.Common.{Some, None, IsSome, refl, sym, subst, ap, ◌∙◌, inl, inr, arith, le_refl, slice_get}
+use Rattle.std.proofs.Common.{Some, None, IsSome, true, refl, sym, subst, ap, ◌∙◌, inl, inr, arith, le_refl, slice_get}
 use Rattle.std.proofs.lemmas.Option.{same_Some, slice_get_within}
 use Rattle.std.specs.List.{AllByRecursion}
 use Rattle.tag.specs.Tag.{opening_tag}
 use Rattle.encoder.specs.declared.fragment.Piece.{Piece}
 use Rattle.bank.specs.declared.kind.Kind.{Kind}
 use Rattle.mail.specs.declared.message.Message.{Message}
-use Rattle.phase.specs.Phase.{Phase}
+use Rattle.phase.specs.Phase.{Phase, lacks_pieces}
 use Rattle.record.specs.declared.call.CallKind.{CallKind}
 use Rattle.record.specs.Records.{Call, Object, layout_at}
 use Rattle.record.specs.declared.stage.Stage.{Stage}
@@ -18,9 +18,10 @@ use Rattle.record.specs.Fragments.{Code, Determines, IsFetch, IsSettled, request
 use Rattle.record.specs.Sound.{IsPhasePast, IsCallPast, IsSound}
 use Rattle.record.specs.Sending.{request_to, requests}
 use Rattle.record.specs.Steps.{new_phase, with_phase}
+use Rattle.record.specs.Knowledge.{IsTruePhase}
 use Rattle.record.proofs.Atomic.Values.Numbered.{coded_tag_past}
 use Rattle.record.proofs.Atomic.Values.Sent.{Sends, request_coded}
-use Rattle.record.proofs.Lists.{all_push, get_push, set_here}
+use Rattle.record.proofs.Lists.{all_push, all_get, get_push, set_here}
 use Rattle.record.proofs.Sound.Calling.{TagStays, WithCall, call_grown, call_step, old_mail, old_call}
 use Rattle.record.proofs.Sound.Calls.{begun_keeps}
 use Rattle.record.proofs.Sound.Changing.{Changed, begun_call}
@@ -29,8 +30,9 @@ use Rattle.record.proofs.Sound.Fetching.{FetchDue, late_due, course_late}
 use Rattle.record.proofs.Sound.Later.{if_coded_grows}
 use Rattle.record.proofs.Sound.Mailing.{request_message, kind_of-request_to, all_requests, all_append}
 use Rattle.record.proofs.Sound.Parts.{ReplyCoded, CallRest, MessageRest, call_rest, mail_rest}
-use Rattle.record.proofs.Sound.Waiting.{LastAt, last_at, Ready}
-use Rattle.record.proofs.Sound.Wanting.{ended_before}
+use Rattle.record.proofs.Sound.Enough.Counting.{pieces_not_lacking}
+use Rattle.record.proofs.Sound.Waiting.{LastAt, last_at}
+use Rattle.record.proofs.Sound.Wanting.{MayGoOn, ended_before}
 
 pub get_pushed : {A : Type 0} (xs : List A) (y x : A) (i : ℕ) → slice_get (xs ++ y ∷ []) i ≡ Some x →
     (slice_get xs i ≡ Some x) ⊎ ((i ≡ length xs) × (y ≡ x))
@@ -50,9 +52,9 @@ get_last (x ∷ xs) y = get_last xs y
 
 stage_push : (kind : CallKind) (number : ℕ) (phases : List Phase) (stage : Stage) (next : Phase) → next.end ≡ None →
     stage_after kind number stage (phases ++ next ∷ []) ≡ stage_after kind number stage phases
-stage_push kind number [] stage next none = ap (λ o. passed kind number stage o next.replies) none
+stage_push kind number [] stage next none = ap (λ o. passed kind number stage o next.replies (lacks_pieces next)) none
 stage_push kind number (phase ∷ phases) stage next none =
-    stage_push kind number phases (passed kind number stage phase.end phase.replies) next none
+    stage_push kind number phases (passed kind number stage phase.end phase.replies (lacks_pieces phase)) next none
 
 settled_pushed : (fragment : Code) (object : Object) (call : Call) (next : Phase) (value : List ℕ) → (IsFetch next.kind → ⊥) →
     IsSettled fragment object call value →
@@ -74,7 +76,7 @@ settled_pushed fragment object call next value other s = record {
 -- the phase that is due begins
 pub begun_sound : (fragment : Code) (object : Object) (step now : ℕ) → step < now →
     Determines fragment → IsSound fragment object step → (index : ℕ) (call : Call) →
-    slice_get object.calls index ≡ Some call → (kind : Kind) (position : ℕ) (piece : ℕ → Piece) → Ready call →
+    slice_get object.calls index ≡ Some call → (kind : Kind) (position : ℕ) (piece : ℕ → Piece) → MayGoOn call →
     due (stage_of object index call) ≡ Some (kind, position) → Sends fragment (layout_at object position) call kind piece →
     IsSound fragment (with_phase object index call kind position now piece) now
 begun_sound fragment object step now less determines sound index call at kind position piece ready e sends =
@@ -138,7 +140,9 @@ begun_sound fragment object step now less determines sound index call at kind po
     }
 
     stays : TagStays object index call new
-    stays = λ tag t. ap stage_tag (stage_push call.kind (suc index) call.phases (first_stage call.kind (source_of object index)) next refl)
+    stays =
+        λ value k tag t. ap stage_tag (stage_push call.kind (suc index) call.phases
+        (first_stage call.kind (source_of object index)) next refl)
         ∙ t
 
     was : CallRest fragment object' now call
@@ -168,9 +172,12 @@ begun_sound fragment object step now less determines sound index call at kind po
     once : (value : List ℕ) → call.settled ≡ Some value → IsFetch kind → ⊥
     once value s fetch =
         let has = sound.settled.settled index call value at s in
+        let c = sound.legal.calls index call at in
         late_due (stage_of object index call)
-        (course_late call.kind (suc index) call.phases (first_stage call.kind (source_of object index))
-        (sound.legal.calls index call at).course now ends has.place has.phase has.within has.fetch)
+        ((course_late call.kind (suc index) call.phases (first_stage call.kind (source_of object index))
+        c.course now ends has.place has.phase has.fetch.0 has.within has.fetch.1
+        (pieces_not_lacking fragment object has.phase value
+        (all_get (IsTruePhase object) call.phases has.place has.phase c.phases has.within) has.pieces)).0)
         (subst FetchDue (sym e) fetch)
 
     there : LastAt call.phases ready.phase
@@ -179,14 +186,15 @@ begun_sound fragment object step now less determines sound index call at kind po
     before : (place : ℕ) (phase after : Phase) →
         (slice_get call.phases place ≡ Some phase) ⊎ ((place ≡ length call.phases) × (next ≡ phase)) →
         (slice_get call.phases (suc place) ≡ Some after) ⊎ ((suc place ≡ length call.phases) × (next ≡ after)) →
-        IsFetch phase.kind → IsSome call.settled
+        IsFetch phase.kind → IsSome call.settled ⊎ (lacks_pieces phase ≡ true)
     before place phase after (inl a) (inl b) fetch = was.before_next place phase after a fetch b
     before place phase after (inl a) (inr b) fetch =
         let last = there.last in
         let here : place ≡ there.place = (let c = b.0 in omega arith) in
         let same : phase ≡ ready.phase = same_Some phase ready.phase
         (sym a ∙ ap (λ i. slice_get call.phases i) here ∙ there.within) in
-        ready.settled (subst (λ (p : Phase). IsFetch p.kind) same fetch)
+        subst (λ (p : Phase). IsSome call.settled ⊎ (lacks_pieces p ≡ true)) (sym same)
+        (ready.settled (subst (λ (p : Phase). IsFetch p.kind) same fetch))
     before place phase after (inr a) (inl b) fetch =
         absurd (let c = a.0 in let w = slice_get_within call.phases (suc place) after b in omega arith)
     before place phase after (inr a) (inr b) fetch = absurd (let c = a.0 in let d = b.0 in omega arith)

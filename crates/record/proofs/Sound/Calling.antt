@@ -7,6 +7,7 @@ use Rattle.std.specs.List.{AllByRecursion}
 use Rattle.tag.specs.declared.tag.Tag.{Tag}
 use Rattle.mail.specs.declared.message.Message.{Message}
 use Rattle.record.specs.Records.{Call, Object, bank_at}
+use Rattle.record.specs.declared.call.CallKind.TheVariants.{Write}
 use Rattle.record.specs.Courses.{stage_after}
 use Rattle.record.specs.Legal.{is_move, moves_in, first_stage, source_of, IsLegal}
 use Rattle.record.specs.Journals.{stage_tag, tag_of}
@@ -26,10 +27,11 @@ moves_same (call ∷ calls) zero old new at e =
     ap (λ k. cond (is_move k) (suc (moves_in calls)) (moves_in calls)) kind_is
 moves_same (call ∷ calls) (suc index) old new at e = ap (λ m. cond (is_move call.kind) (suc m) m) (moves_same calls index old new at e)
 
--- a tag that the call had, it has still
+-- a tag that the call had, it has still where it is a write
 abbrev pub TagStays : Object → (index : ℕ) → (old new : Call) → Type 0
 TagStays object index old new =
-    (tag : Tag) → stage_tag (stage_after old.kind (suc index) (first_stage old.kind (source_of object index)) old.phases) ≡ Some tag →
+    (value : List ℕ) → old.kind ≡ Write value → (tag : Tag) →
+    stage_tag (stage_after old.kind (suc index) (first_stage old.kind (source_of object index)) old.phases) ≡ Some tag →
     stage_tag (stage_after new.kind (suc index) (first_stage new.kind (source_of object index)) new.phases) ≡ Some tag
 
 abbrev pub WithCall : Object → List Message → (index : ℕ) → Call → Object
@@ -54,14 +56,15 @@ call_grown now object index old new mail at changed stays = record {
           at = set_here object.calls index old new at;
           changed = changed;
           tagged =
-              λ tag t. subst (λ from. stage_tag (stage_after new.kind (suc index) (first_stage new.kind from) new.phases) ≡ Some tag)
-              (sym (moves_set object.calls index index old new at changed.same_kind)) (stays tag t);
+              λ value k tag t. subst (λ from. stage_tag
+              (stage_after new.kind (suc index) (first_stage new.kind from) new.phases) ≡ Some tag)
+              (sym (moves_set object.calls index index old new at changed.same_kind)) (stays value k tag t);
         })
     go i c e (inr other) = record {
       other = c;
       at = set_there object.calls index i new c other e;
       changed = same_call c;
-      tagged = λ tag t. subst (λ from. stage_tag (stage_after c.kind (suc i) (first_stage c.kind from) c.phases) ≡ Some tag)
+      tagged = λ value k tag t. subst (λ from. stage_tag (stage_after c.kind (suc i) (first_stage c.kind from) c.phases) ≡ Some tag)
           (sym (moves_set object.calls index i old new at changed.same_kind)) t;
     }
 
@@ -96,6 +99,7 @@ call_step fragment object step now less sound index old new mail at changed stay
       banks = sizes.banks;
       members = sizes.members;
       opened = sizes.opened;
+      delta = sizes.delta;
     })
     (λ i c e. go i c (get_set object.calls index i old new c at e))
     (λ p i. bank_grows fragment step now object (WithCall object mail index new) (le_of_lt less) grown p i (bank_at object p i) refl

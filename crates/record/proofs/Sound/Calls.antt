@@ -34,7 +34,7 @@ begun_legal object index call kind position now mail legal may =
           c.phases)
           (record {
             placed = may.placed;
-            sized = record { members = refl; quorum = refl };
+            sized = record { members = refl; quorum = refl; needed = refl };
             replies = tt;
             one_each = none_twice;
             complete = λ end e.

@@ -1,9 +1,9 @@
 -- Settling a value and answering keep a record sound.
-use Rattle.std.proofs.Common.{◌≡◌, ℕ, suc, ◌<◌, ◌⊎◌, List, length, get_or, Option, Some}
+use Rattle.std.proofs.Common.{◌≡◌, ℕ, suc, ◌<◌, ◌⊎◌, List, length, get_or, Option, Some, true, false}
 use Rattle.std.proofs.Common.{None, IsSome, refl, sym, subst, ap, ◌∙◌, inl, inr, arith, slice_get}
 use Rattle.std.proofs.lemmas.Bool.{cases_eq}
 use Rattle.std.proofs.lemmas.Option.{same_Some, slice_get_within, slice_get-get_or}
-use Rattle.phase.specs.Phase.{Phase}
+use Rattle.phase.specs.Phase.{Phase, lacks_pieces}
 use Rattle.record.specs.Records.{Call, Object}
 use Rattle.record.specs.declared.call.CallKind.TheVariants.{Read}
 use Rattle.record.specs.Courses.{due, stage_after, IsCourse}
@@ -48,6 +48,7 @@ read_settled fragment object step sound index call at kind ready none = go (case
     through = subst (λ k. due (stage_after k (suc index) (first_stage k from) call.phases) ≡ None) kind none
 
     found : (place : ℕ) × (phase : Phase) × (slice_get call.phases place ≡ Some phase) × IsFetch phase.kind
+        × (lacks_pieces phase ≡ false)
     found = has_fetch (suc index) call.phases (first_stage Read from) course tt
         (λ early. early_due (stage_after Read (suc index) (first_stage Read from) call.phases) early through)
 
@@ -63,9 +64,14 @@ read_settled fragment object step sound index call at kind ready none = go (case
         let within = slice_get_within call.phases found.0 found.1 found.2 in
         let last = there.last in
         let below : suc found.0 < length call.phases = omega (arith, apart) in
-        (call_rest fragment object step sound index call at).before_next found.0 found.1
+        settled_or found.1 found.4 ((call_rest fragment object step sound index call at).before_next found.0 found.1
         (get_or call.phases (suc found.0) found.1) found.2 found.3
-        (slice_get-get_or call.phases (suc found.0) found.1 below)
+        (slice_get-get_or call.phases (suc found.0) found.1 below))
+      where
+        settled_or : (phase : Phase) → lacks_pieces phase ≡ false → IsSome call.settled ⊎ (lacks_pieces phase ≡ true) →
+            IsSome call.settled
+        settled_or phase enough (inl some) = some
+        settled_or phase enough (inr lacks) = absurd (let no : true ≡ false = sym lacks ∙ enough in cc)
 
 pub answered_sound : (fragment : Code) (object : Object) (step now : ℕ) → step < now → IsSound fragment object step →
     (index : ℕ) (call : Call) → slice_get object.calls index ≡ Some call → want_of object index call ≡ wants.Answer →
@@ -77,7 +83,7 @@ answered_sound fragment object step now less sound index call at e =
     let past = (call_rest fragment object step sound index call at).past in
     let ends = ended_before call ready.phase ready.end step now ready.current ready.ended past less in
     let changed : Changed call new = marked call (Some now) call.settled ready.open_call in
-    let stays : TagStays object index call new = λ tag t. t in
+    let stays : TagStays object index call new = λ value k tag t. t in
     let was = old_call fragment object step now less sound index call new object.mail at changed stays in
     call_step fragment object step now less sound index call new object.mail at changed stays
     (answered_keeps object index call now sound.legal at ready.open_call both.1 ends)
@@ -114,7 +120,7 @@ settled_sound fragment object step now less sound index value may =
           (settled_grows now fragment object (WithCall object object.mail index new)
           (call_grown now object index call new object.mail at changed stays) call
           (sound.legal.calls index call at).phases value has));
-      before_next = λ place phase next within fetch then. refl;
+      before_next = λ place phase next within fetch then. inl refl;
       before_answer = λ kind answered. refl;
       values = record { written = was.values.written; settled = λ v s. subst IsValue (same_Some value v s) may.is_value };
       past = record { called = was.past.called; answered = was.past.answered; phases = was.past.phases };
@@ -129,7 +135,7 @@ settled_sound fragment object step now less sound index value may =
     at : slice_get object.calls index ≡ Some call
     at = may.wants.0
 
-    wanting : Unsettled call
+    wanting : Unsettled call false
     wanting = unsettled_of object index call may.k may.len may.wants.1
 
     new : Call
@@ -139,7 +145,7 @@ settled_sound fragment object step now less sound index value may =
     changed = marked call call.answered (Some value) wanting.open_call
 
     stays : TagStays object index call new
-    stays = λ tag t. t
+    stays = λ value k tag t. t
 
     was : CallRest fragment (WithCall object object.mail index new) now call
     was = old_call fragment object step now less sound index call new object.mail at changed stays

@@ -3,7 +3,7 @@ use Rattle.std.proofs.Common.{◌≡◌, ℕ, zero, suc, ◌<◌, ◌⊎◌, Lis
 use Rattle.std.proofs.Common.{Some, refl, sym, subst, subst₂, ap, ◌∙◌, inl, inr, arith, slice_get}
 use Rattle.std.proofs.lemmas.Bool.{cases_eq}
 use Rattle.std.proofs.lemmas.Option.{same_Some}
-use Rattle.phase.specs.Phase.{Phase}
+use Rattle.phase.specs.Phase.{Phase, lacks_pieces}
 use Rattle.record.specs.declared.call.CallKind.{CallKind}
 use Rattle.record.specs.declared.stage.Stage.{Stage}
 use Rattle.record.specs.Courses.{due, passed, IsCourse, EndsBefore}
@@ -28,13 +28,15 @@ course_set kind number (phase ∷ next ∷ phases) stage (suc zero) old new cour
     let starts : next.start ≡ new.start = ap (λ (q : Phase). q.start) same ∙ sym s in (
       course.0,
       (course.1.0, course.1.1, subst (λ n. course.1.0 < n) starts course.1.2),
-      course_set kind number (next ∷ phases) (passed kind number stage phase.end phase.replies) zero old new course.2 at
+      course_set kind number (next ∷ phases)
+          (passed kind number stage phase.end phase.replies (lacks_pieces phase)) zero old new course.2 at
           (omega arith) k p s,
     )
 course_set kind number (phase ∷ next ∷ phases) stage (suc (suc place)) old new course at last k p s = (
   course.0,
   course.1,
-  course_set kind number (next ∷ phases) (passed kind number stage phase.end phase.replies) (suc place) old new course.2 at
+  course_set kind number (next ∷ phases) (passed kind number stage phase.end phase.replies (lacks_pieces phase))
+      (suc place) old new course.2 at
       (omega arith) k p s,
 )
 

@@ -1,25 +1,25 @@
--- A read fetches before it is answered, and no call fetches twice.
+-- A read fetches before it is answered, and no call fetches again once it has its pieces.
 use Rattle.std.proofs.Common.{◌≡◌, ℕ, zero, suc, ◌⊎◌, Bool, true, false, cond, eqb, List, []}
-use Rattle.std.proofs.Common.{◌∷◌, Option, Some, None, refl, sym, subst, ◌∙◌, inl, inr, slice_get}
-use Rattle.std.proofs.lemmas.Bool.{cond_both}
+use Rattle.std.proofs.Common.{◌∷◌, Option, Some, None, refl, sym, subst, ap, ◌∙◌, inl, inr, slice_get}
 use Rattle.std.proofs.lemmas.Option.{same_Some}
 use Rattle.tag.specs.declared.tag.Tag.{Tag}
 use Rattle.tag.specs.Tag.{tag_lt, later_tag}
 use Rattle.bank.specs.declared.status.Status.{Status}
 use Rattle.bank.specs.declared.kind.Kind.{Kind}
 use Rattle.phase.specs.declared.phase.Taken.{Taken}
-use Rattle.phase.specs.Phase.{Phase}
+use Rattle.phase.specs.Phase.{Phase, lacks_pieces}
 use Rattle.record.specs.declared.call.CallKind.{CallKind}
 use Rattle.bank.specs.declared.status.Status.TheVariants.{Unset, Pending, Final}
 use Rattle.bank.specs.declared.kind.Kind.TheVariants.{Next, Spread, Query, PreWrite, Finalize, Fetch}
 use Rattle.record.specs.declared.call.CallKind.TheVariants.{Read}
 use Rattle.record.specs.Courses.{greatest_status, greatest_tag, due, after, passed, stage_after, IsCourse}
-use Rattle.record.specs.Courses.{EndsBefore, after_next, after_spread, after_query, after_again, tagged}
+use Rattle.record.specs.Courses.{EndsBefore, after_next, after_spread, after_query, tagged}
 use Rattle.record.specs.declared.stage.Stage.{Stage}
 use Rattle.record.specs.declared.stage.Stage.TheVariants.{ReadNext, ReadSpread, QueryFrom, FetchAt, PreWriteAt}
-use Rattle.record.specs.declared.stage.Stage.TheVariants.{FinalizeAt, AgainNext, AgainSpread, MoveSpread, MoveQuery}
-use Rattle.record.specs.declared.stage.Stage.TheVariants.{MoveFetch, MovePreWrite, MoveFinalize, MoveFinal, Ended, Moved}
+use Rattle.record.specs.declared.stage.Stage.TheVariants.{FinalizeAt, AgainNext, AgainSpread}
+use Rattle.record.specs.declared.stage.Stage.TheVariants.{MovePreWrite, MoveFinalize, MoveFinal, Ended, Moved}
 use Rattle.record.specs.Fragments.{IsFetch}
+use Rattle.record.proofs.Sound.Late.{IsLate, IsLateWith, fetch_late, late_stays}
 
 -- a read that has not fetched
 abbrev pub IsEarly : Stage → Type 0
@@ -28,19 +28,6 @@ IsEarly (ReadSpread p m s) = Unit {0}
 IsEarly (QueryFrom p l t q) = Unit {0}
 IsEarly (FetchAt q l t) = Unit {0}
 IsEarly _ = ⊥
-
--- a call that has
-abbrev pub IsLate : Stage → Type 0
-IsLate (PreWriteAt l t) = Unit {0}
-IsLate (FinalizeAt l t) = Unit {0}
-IsLate (AgainNext l p t) = Unit {0}
-IsLate (AgainSpread l p t s) = Unit {0}
-IsLate (MovePreWrite p t) = Unit {0}
-IsLate (MoveFinalize p t) = Unit {0}
-IsLate (MoveFinal p t) = Unit {0}
-IsLate (Ended l t) = Unit {0}
-IsLate (Moved p t) = Unit {0}
-IsLate _ = ⊥
 
 abbrev pub FetchDue : Option (Kind × ℕ) → Type 0
 FetchDue None = ⊥
@@ -68,18 +55,19 @@ early_query number found p l greatest q = go (tag_lt found greatest) (eqb p l)
     go false true = tt
     go false false = tt
 
-early_after : (number : ℕ) (stage : Stage) (replies : List Taken) → IsEarly stage →
-    FetchDue (due stage) ⊎ IsEarly (after Read number stage replies)
-early_after number (ReadNext p m) replies early = inr (early_next p m (greatest_status replies))
-early_after number (ReadSpread p m s) replies early = inr (early_spread p m s)
-early_after number (QueryFrom p l t q) replies early = inr (early_query number (greatest_tag replies) p l t q)
-early_after number (FetchAt q l t) replies early = inl (t, refl)
-early_after number stage replies early = absurd early
+early_after : (number : ℕ) (stage : Stage) (replies : List Taken) (lacks : Bool) → IsEarly stage →
+    (FetchDue (due stage) × (lacks ≡ false)) ⊎ IsEarly (after Read number stage replies lacks)
+early_after number (ReadNext p m) replies lacks early = inr (early_next p m (greatest_status replies))
+early_after number (ReadSpread p m s) replies lacks early = inr (early_spread p m s)
+early_after number (QueryFrom p l t q) replies lacks early = inr (early_query number (greatest_tag replies) p l t q)
+early_after number (FetchAt q l t) replies true early = inr tt
+early_after number (FetchAt q l t) replies false early = inl ((t, refl), refl)
+early_after number stage replies lacks early = absurd early
 
-early_passed : (number : ℕ) (stage : Stage) (end : Option ℕ) (replies : List Taken) → IsEarly stage →
-    FetchDue (due stage) ⊎ IsEarly (passed Read number stage end replies)
-early_passed number stage None replies early = inr early
-early_passed number stage (Some end) replies early = early_after number stage replies early
+early_passed : (number : ℕ) (stage : Stage) (end : Option ℕ) (replies : List Taken) (lacks : Bool) → IsEarly stage →
+    (FetchDue (due stage) × (lacks ≡ false)) ⊎ IsEarly (passed Read number stage end replies lacks)
+early_passed number stage None replies lacks early = inr early
+early_passed number stage (Some end) replies lacks early = early_after number stage replies lacks early
 
 pub early_due : (stage : Stage) → IsEarly stage → due stage ≡ None → ⊥
 early_due (ReadNext p m) early e = cc
@@ -88,50 +76,22 @@ early_due (QueryFrom p l t q) early e = cc
 early_due (FetchAt q l t) early e = cc
 early_due stage early e = absurd early
 
--- a read that is through has fetched
+-- a read that is through has fetched what it needs
 pub has_fetch : (number : ℕ) (phases : List Phase) (stage : Stage) → IsCourse Read number stage phases → IsEarly stage →
     (IsEarly (stage_after Read number stage phases) → ⊥) →
-    (place : ℕ) × (phase : Phase) × (slice_get phases place ≡ Some phase) × IsFetch phase.kind
+    (place : ℕ) × (phase : Phase) × (slice_get phases place ≡ Some phase) × IsFetch phase.kind × (lacks_pieces phase ≡ false)
 has_fetch number [] stage course early none = absurd (none early)
 has_fetch number (phase ∷ phases) stage course early none =
-    go (early_passed number stage phase.end phase.replies early)
-    (λ e. has_fetch number phases (passed Read number stage phase.end phase.replies) course.2 e none)
+    go (early_passed number stage phase.end phase.replies (lacks_pieces phase) early)
+    (λ e. has_fetch number phases (passed Read number stage phase.end phase.replies (lacks_pieces phase)) course.2 e none)
   where
-    go : FetchDue (due stage) ⊎ IsEarly (passed Read number stage phase.end phase.replies) →
-        (IsEarly (passed Read number stage phase.end phase.replies) → (place : ℕ) × (p : Phase) × (slice_get phases place ≡ Some p)
-        × IsFetch p.kind) → (place : ℕ) × (p : Phase) × (slice_get (phase ∷ phases) place ≡ Some p) × IsFetch p.kind
-    go (inl fetch) rest = (0, phase, refl, subst FetchDue course.0 fetch)
-    go (inr e) rest = let found = rest e in (suc found.0, found.1, found.2, found.3)
-
-late_again : (l p : ℕ) (t : Tag) (status : Status) → IsLate (after_again status l p t)
-late_again l p t Unset = cond_both (eqb p l) (Ended l t) (PreWriteAt p t) (λ stage. IsLate stage) (λ e. tt) (λ e. tt)
-late_again l p t Pending = tt
-late_again l p t Final = tt
-
-late_after : (kind : CallKind) (number : ℕ) (stage : Stage) (replies : List Taken) → IsLate stage →
-    IsLate (after kind number stage replies)
-late_after kind number (PreWriteAt l t) replies late = tt
-late_after kind number (FinalizeAt l t) replies late = tt
-late_after kind number (AgainNext l p t) replies late = late_again l p t (greatest_status replies)
-late_after kind number (AgainSpread l p t s) replies late = tt
-late_after kind number (MovePreWrite p t) replies late = tt
-late_after kind number (MoveFinalize p t) replies late = tt
-late_after kind number (MoveFinal p t) replies late = tt
-late_after kind number (Ended l t) replies late = tt
-late_after kind number (Moved p t) replies late = tt
-late_after kind number stage replies late = absurd late
-
-late_passed : (kind : CallKind) (number : ℕ) (stage : Stage) (end : Option ℕ) (replies : List Taken) → IsLate stage →
-    IsLate (passed kind number stage end replies)
-late_passed kind number stage None replies late = late
-late_passed kind number stage (Some end) replies late = late_after kind number stage replies late
-
-late_stays : (kind : CallKind) (number : ℕ) (phases : List Phase) (stage : Stage) → IsLate stage →
-    IsLate (stage_after kind number stage phases)
-late_stays kind number [] stage late = late
-late_stays kind number (phase ∷ phases) stage late =
-    late_stays kind number phases (passed kind number stage phase.end phase.replies)
-    (late_passed kind number stage phase.end phase.replies late)
+    go : (FetchDue (due stage) × (lacks_pieces phase ≡ false))
+        ⊎ IsEarly (passed Read number stage phase.end phase.replies (lacks_pieces phase)) →
+        (IsEarly (passed Read number stage phase.end phase.replies (lacks_pieces phase)) → (place : ℕ) × (p : Phase)
+        × (slice_get phases place ≡ Some p) × IsFetch p.kind × (lacks_pieces p ≡ false)) →
+        (place : ℕ) × (p : Phase) × (slice_get (phase ∷ phases) place ≡ Some p) × IsFetch p.kind × (lacks_pieces p ≡ false)
+    go (inl fetch) rest = (0, phase, refl, subst FetchDue course.0 fetch.0, fetch.1)
+    go (inr e) rest = let found = rest e in (suc found.0, found.1, found.2, found.3, found.4)
 
 not_fetch : (kind : Kind) → (kind ≡ Next) ⊎ ((kind ≡ Query)
     ⊎ (((s : Status) × (kind ≡ Spread s)) ⊎ (((t : Tag) × (kind ≡ PreWrite t)) ⊎ ((t : Tag) × (kind ≡ Finalize t))))) →
@@ -142,25 +102,16 @@ not_fetch kind (inr (inr (inl (s, k)))) fetch = let no : Spread s ≡ Fetch fetc
 not_fetch kind (inr (inr (inr (inl (t, k))))) fetch = let no : PreWrite t ≡ Fetch fetch.0 = sym k ∙ fetch.1 in cc
 not_fetch kind (inr (inr (inr (inr (t, k))))) fetch = let no : Finalize t ≡ Fetch fetch.0 = sym k ∙ fetch.1 in cc
 
-fetch_late : (kind : CallKind) (number : ℕ) (stage : Stage) (replies : List Taken) → FetchDue (due stage) →
-    IsLate (after kind number stage replies)
-fetch_late kind number (FetchAt q l t) replies fetch =
-    cond_both (eqb q l) (AgainNext l l t) (PreWriteAt l t) (λ stage. IsLate stage) (λ e. tt) (λ e. tt)
-fetch_late kind number (MoveFetch p t) replies fetch = tt
-fetch_late kind number (ReadNext p m) replies fetch = absurd (not_fetch Next (inl refl) fetch)
-fetch_late kind number (ReadSpread p m s) replies fetch = absurd (not_fetch (Spread s) (inr (inr (inl (s, refl)))) fetch)
-fetch_late kind number (QueryFrom p l t q) replies fetch = absurd (not_fetch Query (inr (inl refl)) fetch)
-fetch_late kind number (MoveSpread p) replies fetch = absurd (not_fetch (Spread Pending) (inr (inr (inl (Pending, refl)))) fetch)
-fetch_late kind number (MoveQuery p) replies fetch = absurd (not_fetch Query (inr (inl refl)) fetch)
-fetch_late kind number (PreWriteAt l t) replies fetch = tt
-fetch_late kind number (FinalizeAt l t) replies fetch = tt
-fetch_late kind number (AgainNext l p t) replies fetch = late_again l p t (greatest_status replies)
-fetch_late kind number (AgainSpread l p t s) replies fetch = tt
-fetch_late kind number (MovePreWrite p t) replies fetch = tt
-fetch_late kind number (MoveFinalize p t) replies fetch = tt
-fetch_late kind number (MoveFinal p t) replies fetch = tt
-fetch_late kind number (Ended l t) replies fetch = tt
-fetch_late kind number (Moved p t) replies fetch = tt
+-- once a fetch has its pieces
+pub first_late : (kind : CallKind) (number : ℕ) (stage : Stage) (first phase : Phase) (tag : Tag) →
+    due stage ≡ Some (first.kind, first.position) → first ≡ phase → phase.kind ≡ Fetch tag → lacks_pieces phase ≡ false →
+    IsLateWith tag (after kind number stage first.replies (lacks_pieces first))
+first_late kind number stage first phase tag is_due same fetch enough =
+    let asked : first.kind ≡ Fetch tag = ap (λ (p : Phase). p.kind) same ∙ fetch in
+    let has : lacks_pieces first ≡ false = ap (λ (p : Phase). lacks_pieces p) same ∙ enough in
+    subst (λ lacks. IsLateWith tag (after kind number stage first.replies lacks)) (sym has)
+    (fetch_late kind number stage first.replies tag first.position
+    (is_due ∙ ap (λ (k : Kind). Some (k, first.position)) asked))
 
 pub late_due : (stage : Stage) → IsLate stage → FetchDue (due stage) → ⊥
 late_due (PreWriteAt l t) late fetch = not_fetch (PreWrite t) (inr (inr (inr (inl (t, refl))))) fetch
@@ -174,18 +125,19 @@ late_due (Ended l t) late fetch = fetch
 late_due (Moved p t) late fetch = fetch
 late_due stage late fetch = absurd late
 
--- once a fetch is complete, none is due again
+-- a fetch that is complete and lacks no pieces makes the call late, with the tag that it fetched
 pub course_late : (kind : CallKind) (number : ℕ) (phases : List Phase) (stage : Stage) → IsCourse kind number stage phases →
-    (now : ℕ) → EndsBefore phases now → (place : ℕ) (phase : Phase) → slice_get phases place ≡ Some phase →
-    IsFetch phase.kind → IsLate (stage_after kind number stage phases)
-course_late kind number [] stage course now ends place phase at fetch = absurd (cc)
-course_late kind number (first ∷ []) stage course now ends zero phase at fetch =
-    let here : FetchDue (due stage) = subst FetchDue (sym course.0) (subst (λ p. IsFetch p.kind) (sym (same_Some first phase at)) fetch) in
-    subst (λ o. IsLate (passed kind number stage o first.replies)) (sym ends.1) (fetch_late kind number stage first.replies here)
-course_late kind number (first ∷ []) stage course now ends (suc place) phase at fetch = absurd (cc)
-course_late kind number (first ∷ next ∷ later) stage course now ends zero phase at fetch =
-    let here : FetchDue (due stage) = subst FetchDue (sym course.0) (subst (λ p. IsFetch p.kind) (sym (same_Some first phase at)) fetch) in
-    late_stays kind number (next ∷ later) (passed kind number stage first.end first.replies)
-    (subst (λ o. IsLate (passed kind number stage o first.replies)) (sym course.1.1) (fetch_late kind number stage first.replies here))
-course_late kind number (first ∷ next ∷ later) stage course now ends (suc place) phase at fetch =
-    course_late kind number (next ∷ later) (passed kind number stage first.end first.replies) course.2 now ends place phase at fetch
+    (now : ℕ) → EndsBefore phases now → (place : ℕ) (phase : Phase) (tag : Tag) → slice_get phases place ≡ Some phase →
+    phase.kind ≡ Fetch tag → lacks_pieces phase ≡ false → IsLateWith tag (stage_after kind number stage phases)
+course_late kind number [] stage course now ends place phase tag at fetch enough = absurd (cc)
+course_late kind number (first ∷ []) stage course now ends zero phase tag at fetch enough =
+    subst (λ o. IsLateWith tag (passed kind number stage o first.replies (lacks_pieces first))) (sym ends.1)
+    (first_late kind number stage first phase tag course.0 (same_Some first phase at) fetch enough)
+course_late kind number (first ∷ []) stage course now ends (suc place) phase tag at fetch enough = absurd (cc)
+course_late kind number (first ∷ next ∷ later) stage course now ends zero phase tag at fetch enough =
+    late_stays kind number (next ∷ later) (passed kind number stage first.end first.replies (lacks_pieces first)) tag
+    (subst (λ o. IsLateWith tag (passed kind number stage o first.replies (lacks_pieces first))) (sym course.1.1)
+    (first_late kind number stage first phase tag course.0 (same_Some first phase at) fetch enough))
+course_late kind number (first ∷ next ∷ later) stage course now ends (suc place) phase tag at fetch enough =
+    course_late kind number (next ∷ later) (passed kind number stage first.end first.replies (lacks_pieces first)) course.2 now ends place
+    phase tag at fetch enough

@@ -1,6 +1,6 @@
 -- A call's phases grow at the end of its course.
 use Rattle.std.proofs.Common.{◌≡◌, ℕ, suc, ◌+◌, List, [], ◌∷◌, ◌++◌, length, Some, arith}
-use Rattle.phase.specs.Phase.{Phase}
+use Rattle.phase.specs.Phase.{Phase, lacks_pieces}
 use Rattle.record.specs.declared.call.CallKind.{CallKind}
 use Rattle.record.specs.declared.stage.Stage.{Stage}
 use Rattle.record.specs.Courses.{due, passed, stage_after, IsCourse, EndsBefore}
@@ -16,7 +16,8 @@ course_push kind number (phase ∷ []) stage next course ends is_due = (course.0
 course_push kind number (phase ∷ other ∷ phases) stage next course ends is_due = (
   course.0,
   course.1,
-  course_push kind number (other ∷ phases) (passed kind number stage phase.end phase.replies) next course.2 ends is_due,
+  course_push kind number (other ∷ phases)
+      (passed kind number stage phase.end phase.replies (lacks_pieces phase)) next course.2 ends is_due,
 )
 
 pub numbered_push : (call number : ℕ) (phases : List Phase) (next : Phase) → AreNumbered call number phases → next.call ≡ call →

@@ -101,7 +101,7 @@ pub phase_takes : (object : Object) (phase : Phase) (reply : Taken) (end : Optio
     IsTruePhase object (record phase { replies = phase.replies ++ reply ∷ []; end = end })
 phase_takes object phase reply end truth r fresh earlier completes = record {
   placed = truth.placed;
-  sized = record { members = truth.sized.members; quorum = truth.sized.quorum };
+  sized = record { members = truth.sized.members; quorum = truth.sized.quorum; needed = truth.sized.needed };
   replies = all_push (IsTrueReply object (record phase { replies = phase.replies ++ reply ∷ []; end = end })) phase.replies reply
       (all_weaker (IsTrueReply object phase) (IsTrueReply object (record phase { replies = phase.replies ++ reply ∷ []; end = end }))
       (λ other o. grown_reply object phase (phase.replies ++ reply ∷ []) end other o) phase.replies truth.replies)

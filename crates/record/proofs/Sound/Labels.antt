@@ -151,14 +151,14 @@ module _ (fragment : Code) (object : Object) (last now position member : ℕ) (t
   moved layout e = at_position (appended object.banks fresh [] position)
     where
       fresh : List Bank
-      fresh = opened_banks layout.members 0 now
+      fresh = opened_banks layout.members 0 object.delta now
 
       here : position ≡ length object.banks → (get_or fresh member no_bank ≡ no_bank)
-          ⊎ (get_or fresh member no_bank ≡ opened_bank (0 + member) None now) →
+          ⊎ (get_or fresh member no_bank ≡ opened_bank (0 + member) object.delta now) →
           label_at (get_or fresh member no_bank) tag ≡ Some label → Comes (Step.CallMove layout)
       here p (inl none) e = absurd (unknown_label tag label (sym (ap (λ bank. label_at bank tag) none) ∙ e))
       here p (inr new) e =
-          let opening = opened_label (0 + member) now tag label (sym (ap (λ bank. label_at bank tag) new) ∙ e) in
+          let opening = opened_label (0 + member) object.delta now tag label (sym (ap (λ bank. label_at bank tag) new) ∙ e) in
           inr (inr (record {
             layout = layout;
             moves = refl;
@@ -172,7 +172,8 @@ module _ (fragment : Code) (object : Object) (last now position member : ℕ) (t
           Comes (Step.CallMove layout)
       at_position (inl old) = inl (sym (ap (λ banks. label_at (get_or banks member no_bank) tag) old) ∙ e)
       at_position (inr new) =
-          here new.0 (opened_get layout.members 0 now member) (sym (ap (λ banks. label_at (get_or banks member no_bank) tag) new.1) ∙ e)
+          here new.0 (opened_get layout.members 0 object.delta now member)
+          (sym (ap (λ banks. label_at (get_or banks member no_bank) tag) new.1) ∙ e)
 
   pub labels_stepped : (step : Step) → ComesWithIts fragment object step now position member tag label
   labels_stepped Step.CallRead e = inl e
@@ -180,6 +181,10 @@ module _ (fragment : Code) (object : Object) (last now position member : ℕ) (t
   labels_stepped (Step.CallMove layout) e = moved layout e
   labels_stepped (Step.Advance index) e =
       kept (Step.Advance index) (stepped fragment (Step.Advance index) now object)
+      (banks_on_call object (slice_get object.calls index) (λ call. advanced_object fragment object index call now)
+      (λ call. banks_begun fragment object index call (due (stage_of object index call)) now)) e
+  labels_stepped (Step.Again index) e =
+      kept (Step.Again index) (stepped fragment (Step.Again index) now object)
       (banks_on_call object (slice_get object.calls index) (λ call. advanced_object fragment object index call now)
       (λ call. banks_begun fragment object index call (due (stage_of object index call)) now)) e
   labels_stepped (Step.Supply index) e =

@@ -11,6 +11,7 @@ use Rattle.bank.specs.declared.reply.Reply.{Reply}
 use Rattle.mail.specs.declared.message.Message.{Message}
 use Rattle.phase.specs.Phase.{Phase}
 use Rattle.record.specs.Records.{Call, Object, layout_at, bank_at}
+use Rattle.record.specs.declared.call.CallKind.TheVariants.{Write}
 use Rattle.record.specs.Knowledge.{IsTruePhase}
 use Rattle.record.specs.Courses.{stage_after}
 use Rattle.record.specs.Legal.{moves_in, first_stage, IsOpenedAt, IsOpenedBy, AreOpened, IsLegal}
@@ -26,12 +27,13 @@ use Rattle.record.proofs.Sound.Parts.{ReplyCoded, CallRest, BankRest, MessageRes
 
 -- Growth: what a step leaves of an earlier record
 
--- a call is there later too, with the tag that it had
+-- a call is there later too; a write with the tag that it had
 pub record Later (old new : Object) (index : ℕ) (call : Call) : Type 0 where
   pub other : Call
   pub at : slice_get new.calls index ≡ Some other
   pub changed : Changed call other
-  pub tagged : (tag : Tag) → tag_of old index call ≡ Some tag → tag_of new index other ≡ Some tag
+  pub tagged : (value : List ℕ) → call.kind ≡ Write value → (tag : Tag) → tag_of old index call ≡ Some tag →
+      tag_of new index other ≡ Some tag
 
 -- layouts stay, banks keep what they knew, and calls stay
 pub record Grows (now : ℕ) (old new : Object) : Type 0 where
@@ -80,7 +82,7 @@ journaled_grows now old new grows tag value (inr written) =
       at = later.at;
       kind = later.changed.same_kind
           ∙ written.kind;
-      tagged = later.tagged tag written.tagged;
+      tagged = later.tagged value written.kind tag written.tagged;
     })
 
 pub coded_grows : (now : ℕ) (fragment : Code) (old new : Object) → Grows now old new → (position member : ℕ) →
@@ -236,5 +238,5 @@ bank_grows fragment step now old new less grows position member bank same more r
   coded = λ tag known. coded_grows now fragment old new grows position member same tag (piece_of bank tag) (rest.coded tag known);
   next = record { pending = λ s e. le_trans (rest.next.pending s e) more; final = λ s e. le_trans (rest.next.final s e) more };
   collected = rest.collected;
-  keeps_all = rest.keeps_all;
+  unretired = rest.unretired;
 }

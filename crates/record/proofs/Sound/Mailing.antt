@@ -30,7 +30,7 @@ pub mailed_grows : (now : ℕ) (object : Object) (mail : List Message) → Grows
 mailed_grows now object mail = record {
   keeps = record { layouts = λ p h. (h, refl); banks = λ p i h. agree_same now (bank_at object p i) };
   opened = λ p i s h o. o;
-  calls = λ index call at. record { other = call; at = at; changed = same_call call; tagged = λ tag e. e };
+  calls = λ index call at. record { other = call; at = at; changed = same_call call; tagged = λ value k tag e. e };
 }
 
 pub mailed_legal : (object : Object) (mail : List Message) → IsLegal object → IsLegal (Mailed object mail)
@@ -59,7 +59,7 @@ mailed_sound fragment object step now mail less sound rests =
     let new = Mailed object mail in
     let sizes = sizes_of fragment object step sound in
     sound_of fragment new now (mailed_legal object mail sound.legal)
-    (record { positions = sizes.positions; banks = sizes.banks; members = sizes.members; opened = sizes.opened })
+    (record { positions = sizes.positions; banks = sizes.banks; members = sizes.members; opened = sizes.opened; delta = sizes.delta })
     (λ index call at. call_grows fragment step now object new (le_of_lt less) grown call (sound.legal.calls index call at).phases
     (call_rest fragment object step sound index call at))
     (λ p i. bank_grows fragment step now object new (le_of_lt less) grown p i (bank_at object p i) refl (le_refl (length object.layouts))

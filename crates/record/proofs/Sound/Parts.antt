@@ -1,16 +1,16 @@
 -- The parts of soundness, one for each call, bank and message.
 use Rattle.std.proofs.Common.{◌≡◌, ℕ, suc, ◌<◌, ◌≤◌, true, List, []}
-use Rattle.std.proofs.Common.{◌∷◌, length, get_or, Option, Some, IsSome, refl, slice_get}
+use Rattle.std.proofs.Common.{◌∷◌, length, get_or, ◌⊎◌, Option, Some, None, IsSome, refl, slice_get}
 use Rattle.std.specs.List.{AllByRecursion}
 use Rattle.tag.specs.declared.tag.Tag.{Tag}
 use Rattle.bank.specs.Bank.{Bank, knows, piece_of}
-use Rattle.bank.specs.Collect.{IsCollected, KeepsAll}
+use Rattle.bank.specs.Collect.{IsCollected}
 use Rattle.bank.specs.Facts.{IsBefore}
 use Rattle.bank.specs.declared.kind.Kind.{Kind}
 use Rattle.bank.specs.declared.reply.Reply.{Reply}
 use Rattle.mail.specs.declared.message.Message.{Message}
 use Rattle.phase.specs.declared.phase.Taken.{Taken}
-use Rattle.phase.specs.Phase.{Phase}
+use Rattle.phase.specs.Phase.{Phase, lacks_pieces}
 use Rattle.record.specs.declared.call.CallKind.{CallKind}
 use Rattle.record.specs.declared.call.CallKind.TheVariants.{Read, Write}
 use Rattle.record.specs.Records.{Call, Object, layout_at, bank_at}
@@ -37,7 +37,7 @@ pub record CallRest (fragment : Code) (object : Object) (now : ℕ) (call : Call
       AllByRecursion (ReplyCoded fragment object phase) phase.replies
   pub settled : (value : List ℕ) → call.settled ≡ Some value → IsSettled fragment object call value
   pub before_next : (place : ℕ) (phase next : Phase) → slice_get call.phases place ≡ Some phase → IsFetch phase.kind →
-      slice_get call.phases (suc place) ≡ Some next → IsSome call.settled
+      slice_get call.phases (suc place) ≡ Some next → IsSome call.settled ⊎ (lacks_pieces phase ≡ true)
   pub before_answer : call.kind ≡ Read → IsSome call.answered → IsSome call.settled
   pub values : ValuesOf call.kind call.settled
   pub past : IsCallPast now call
@@ -48,7 +48,7 @@ pub record BankRest (fragment : Code) (object : Object) (now position member : �
   pub coded : (tag : Tag) → knows bank tag ≡ true → IsCoded fragment object position member tag (piece_of bank tag)
   pub next : HasNext (length object.layouts) position bank
   pub collected : IsCollected bank
-  pub keeps_all : KeepsAll bank
+  pub unretired : bank.retired ≡ None
 
 -- of a message
 pub record MessageRest (fragment : Code) (object : Object) (now : ℕ) (message : Message) : Type 0 where
@@ -64,6 +64,8 @@ pub record Sizes (object : Object) : Type 0 where
       length (get_or object.banks position []) ≡ length (layout_at object position).members
   pub opened : (position member : ℕ) → position < length object.layouts → member < length (layout_at object position).members →
       (step : ℕ) × IsOpenedAt (bank_at object position member) step
+  pub delta : (position member : ℕ) → position < length object.layouts → member < length (layout_at object position).members →
+      (bank_at object position member).delta ≡ object.delta
 
 -- no tag of a call has a greater number
 abbrev pub TagsPast : ℕ → Object → Type 0
@@ -96,9 +98,10 @@ sound_of fragment object now legal sizes calls banks mail tags = record {
     banks = sizes.banks;
     members = sizes.members;
     opened = sizes.opened;
+    delta = sizes.delta;
     next = λ position member. (banks position member).next;
     collected = λ position member. (banks position member).collected;
-    keeps_all = λ position member. (banks position member).keeps_all;
+    unretired = λ position member. (banks position member).unretired;
   };
   values = record {
     written = λ index call value at e. (calls index call at).values.written value e;
@@ -124,6 +127,7 @@ sizes_of fragment object now sound = record {
   banks = sound.shape.banks;
   members = sound.shape.members;
   opened = sound.shape.opened;
+  delta = sound.shape.delta;
 }
 
 pub call_rest : (fragment : Code) (object : Object) (now : ℕ) → IsSound fragment object now → (index : ℕ) (call : Call) →
@@ -148,7 +152,7 @@ bank_rest fragment object now sound position member = record {
   coded = sound.coded.banks position member;
   next = sound.shape.next position member;
   collected = sound.shape.collected position member;
-  keeps_all = sound.shape.keeps_all position member;
+  unretired = sound.shape.unretired position member;
 }
 
 mail_rests : (fragment : Code) (object : Object) (now : ℕ) (mail : List Message) → AllByRecursion (IsPosted object) mail →

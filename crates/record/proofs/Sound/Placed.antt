@@ -1,6 +1,6 @@
 -- The stages of a call are at positions that are there.
 use Rattle.std.proofs.Common.{◌≡◌, ℕ, zero, suc, ◌<◌, ◌≤◌, Bool, true, false, cond, eqb}
-use Rattle.std.proofs.Common.{List, [], ◌∷◌, Option, Some, None, refl, sym, subst, arith, slice_get}
+use Rattle.std.proofs.Common.{List, [], ◌∷◌, Option, Some, None, refl, sym, subst, arith, le_refl, slice_get}
 use Rattle.std.proofs.lemmas.Bool.{cond_both, eqb-false}
 use Rattle.std.proofs.lemmas.Option.{same_Some}
 use Rattle.std.specs.List.{AllByRecursion}
@@ -9,7 +9,7 @@ use Rattle.tag.specs.Tag.{tag_lt, later_tag}
 use Rattle.bank.specs.declared.status.Status.{Status}
 use Rattle.bank.specs.declared.kind.Kind.{Kind}
 use Rattle.phase.specs.declared.phase.Taken.{Taken}
-use Rattle.phase.specs.Phase.{Phase}
+use Rattle.phase.specs.Phase.{Phase, lacks_pieces}
 use Rattle.record.specs.declared.call.CallKind.{CallKind}
 use Rattle.bank.specs.declared.status.Status.TheVariants.{Unset, Pending, Final}
 use Rattle.bank.specs.declared.kind.Kind.TheVariants.{Next, Spread, Query, PreWrite, Finalize, Fetch}
@@ -119,33 +119,36 @@ query_placed count kind number found p l greatest q low a b = go (tag_lt found g
     go true false e = let apart = eqb-false p l e in (omega (arith, apart), a, b)
     go false false e = let apart = eqb-false p l e in (omega (arith, apart), omega arith, b)
 
-placed_after : (count : ℕ) (kind : CallKind) (number : ℕ) (stage : Stage) (replies : List Taken) →
-    DueFinds count (due stage) replies → Placed count stage → Placed count (after kind number stage replies)
-placed_after count kind number (ReadNext p m) replies finds placed =
+placed_after : (count : ℕ) (kind : CallKind) (number : ℕ) (stage : Stage) (replies : List Taken) (lacks : Bool) →
+    DueFinds count (due stage) replies → Placed count stage → Placed count (after kind number stage replies lacks)
+placed_after count kind number (ReadNext p m) replies lacks finds placed =
     after_next_placed count p m (greatest_status replies) (finds refl) placed.0 placed.1
-placed_after count kind number (ReadSpread p m s) replies finds placed = after_spread_placed count p m s placed.0 placed.1
-placed_after count kind number (QueryFrom p l t q) replies finds placed =
+placed_after count kind number (ReadSpread p m s) replies lacks finds placed = after_spread_placed count p m s placed.0 placed.1
+placed_after count kind number (QueryFrom p l t q) replies lacks finds placed =
     query_placed count kind number (greatest_tag replies) p l t q placed.0 placed.1 placed.2
-placed_after count kind number (FetchAt q l t) replies finds placed =
+placed_after count kind number (FetchAt q l t) replies true finds placed = (le_refl 0, omega arith)
+placed_after count kind number (FetchAt q l t) replies false finds placed =
     cond_both (eqb q l) (AgainNext l l t) (PreWriteAt l t) (λ stage. Placed count stage) (λ e. (placed.1, placed.1)) (λ e. placed.1)
-placed_after count kind number (PreWriteAt l t) replies finds placed = placed
-placed_after count kind number (FinalizeAt l t) replies finds placed = (placed, placed)
-placed_after count kind number (AgainNext l p t) replies finds placed =
+placed_after count kind number (PreWriteAt l t) replies lacks finds placed = placed
+placed_after count kind number (FinalizeAt l t) replies lacks finds placed = (placed, placed)
+placed_after count kind number (AgainNext l p t) replies lacks finds placed =
     after_again_placed count l p t (greatest_status replies) (finds refl) placed.0 placed.1
-placed_after count kind number (AgainSpread l p t s) replies finds placed = placed
-placed_after count kind number (MoveSpread p) replies finds placed = placed
-placed_after count kind number (MoveQuery p) replies finds placed = placed
-placed_after count kind number (MoveFetch p t) replies finds placed = placed
-placed_after count kind number (MovePreWrite p t) replies finds placed = placed
-placed_after count kind number (MoveFinalize p t) replies finds placed = placed
-placed_after count kind number (MoveFinal p t) replies finds placed = tt
-placed_after count kind number (Ended l t) replies finds placed = tt
-placed_after count kind number (Moved p t) replies finds placed = tt
+placed_after count kind number (AgainSpread l p t s) replies lacks finds placed = placed
+placed_after count kind number (MoveSpread p) replies lacks finds placed = placed
+placed_after count kind number (MoveQuery p) replies lacks finds placed = placed
+placed_after count kind number (MoveFetch p t) replies true finds placed = placed
+placed_after count kind number (MoveFetch p t) replies false finds placed = placed
+placed_after count kind number (MovePreWrite p t) replies lacks finds placed = placed
+placed_after count kind number (MoveFinalize p t) replies lacks finds placed = placed
+placed_after count kind number (MoveFinal p t) replies lacks finds placed = tt
+placed_after count kind number (Ended l t) replies lacks finds placed = tt
+placed_after count kind number (Moved p t) replies lacks finds placed = tt
 
-placed_passed : (count : ℕ) (kind : CallKind) (number : ℕ) (stage : Stage) (end : Option ℕ) (replies : List Taken) →
-    DueFinds count (due stage) replies → Placed count stage → Placed count (passed kind number stage end replies)
-placed_passed count kind number stage None replies finds placed = placed
-placed_passed count kind number stage (Some end) replies finds placed = placed_after count kind number stage replies finds placed
+placed_passed : (count : ℕ) (kind : CallKind) (number : ℕ) (stage : Stage) (end : Option ℕ) (replies : List Taken) (lacks : Bool) →
+    DueFinds count (due stage) replies → Placed count stage → Placed count (passed kind number stage end replies lacks)
+placed_passed count kind number stage None replies lacks finds placed = placed
+placed_passed count kind number stage (Some end) replies lacks finds placed =
+    placed_after count kind number stage replies lacks finds placed
 
 abbrev pub PhaseFinds : (count : ℕ) → Phase → Type 0
 PhaseFinds count phase = Finds count phase.kind phase.position phase.replies
@@ -156,8 +159,8 @@ pub placed_end : (count : ℕ) (kind : CallKind) (number : ℕ) (phases : List P
     Placed count (stage_after kind number stage phases)
 placed_end count kind number [] stage course finds placed = placed
 placed_end count kind number (phase ∷ phases) stage course finds placed =
-    placed_end count kind number phases (passed kind number stage phase.end phase.replies) course.2 finds.1
-    (placed_passed count kind number stage phase.end phase.replies
+    placed_end count kind number phases (passed kind number stage phase.end phase.replies (lacks_pieces phase)) course.2 finds.1
+    (placed_passed count kind number stage phase.end phase.replies (lacks_pieces phase)
     (subst (λ next. DueFinds count next phase.replies) (sym course.0) finds.0) placed)
 
 -- and each phase
@@ -169,6 +172,6 @@ placed_at count kind number (first ∷ phases) stage course finds placed zero ph
     subst (λ p. KindPlaced count p.kind p.position) (same_Some first phase e)
     (subst (λ next. DuePlaced count next) course.0 (due_placed count stage placed))
 placed_at count kind number (first ∷ phases) stage course finds placed (suc place) phase e =
-    placed_at count kind number phases (passed kind number stage first.end first.replies) course.2 finds.1
-    (placed_passed count kind number stage first.end first.replies (subst (λ next. DueFinds count next first.replies)
+    placed_at count kind number phases (passed kind number stage first.end first.replies (lacks_pieces first)) course.2 finds.1
+    (placed_passed count kind number stage first.end first.replies (lacks_pieces first) (subst (λ next. DueFinds count next first.replies)
     (sym course.0) finds.0) placed) place phase e

@@ -1,6 +1,7 @@
 -- Taking a reply keeps a record sound.
-use Rattle.std.proofs.Common.{◌≡◌, ℕ, suc, ◌<◌, ◌≤◌, ◌⊎◌, List, length, set, Some, IsSome, refl}
+use Rattle.std.proofs.Common.{◌≡◌, ℕ, suc, ◌<◌, ◌≤◌, ◌⊎◌, true, List, length, set, Some, IsSome, refl}
 use Rattle.std.proofs.Common.{sym, subst, subst₂, ap, ◌∙◌, inl, inr, arith, le_refl, le_of_lt, le_trans, slice_get}
+use Rattle.std.proofs.lemmas.Option.{slice_get_within}
 use Rattle.std.specs.List.{AllByRecursion, remove}
 use Rattle.bank.specs.declared.kind.Kind.{Kind}
 use Rattle.bank.specs.declared.reply.Reply.{Reply}
@@ -8,10 +9,10 @@ use Rattle.bank.specs.Knowledge.{IsTrueAnswer}
 use Rattle.mail.specs.declared.message.Message.{Message}
 use Rattle.mail.specs.Message.{body_kind}
 use Rattle.phase.specs.declared.phase.Taken.{Taken}
-use Rattle.phase.specs.Phase.{Phase}
+use Rattle.phase.specs.Phase.{Phase, lacks_pieces}
 use Rattle.record.specs.Records.{Call, Object, layout_at, bank_at}
 use Rattle.record.specs.Knowledge.{IsTrueReply, IsTruePhase}
-use Rattle.record.specs.Legal.{AreOpened, source_of}
+use Rattle.record.specs.Legal.{AreOpened, first_stage, source_of}
 use Rattle.record.specs.Fragments.{Code, IsFetch, IfCoded, body_tag, body_piece, answer_tag, answer_piece}
 use Rattle.record.specs.Sound.{IsPosted, IsPhasePast, IsSound}
 use Rattle.mail.specs.declared.message.Body.TheVariants as body
@@ -20,6 +21,7 @@ use Rattle.record.proofs.Lists.{all_weaker, all_get, all_push, all_set, get_set}
 use Rattle.record.proofs.Sound.Calling.{TagStays, WithCall, call_grown, call_step, old_mail, old_call}
 use Rattle.record.proofs.Sound.Changing.{Changed}
 use Rattle.record.proofs.Sound.Courses.{phases_set}
+use Rattle.record.proofs.Sound.Late.{of_write_first}
 use Rattle.record.proofs.Sound.Later.{Grows, message_grows, opened_grows}
 use Rattle.record.proofs.Sound.Mailing.{all_without}
 use Rattle.record.proofs.Sound.Mays.{grown_phase}
@@ -124,7 +126,10 @@ recorded_sound fragment object step now place less sound message kind made body_
     }
 
     stays : TagStays object posted.index call new
-    stays = λ tag t. tag_set call.kind (suc posted.index) call.phases _ posted.place phase grown tag posted.within last took.open_phase t
+    stays =
+        λ value k tag t. tag_set value call.kind k (suc posted.index) call.phases (first_stage call.kind (source_of object posted.index))
+        (of_write_first value call.kind (source_of object posted.index) k) posted.place phase grown tag posted.within last
+        took.open_phase t
 
     grows : Grows now object object'
     grows = call_grown now object posted.index call new mail posted.at changed stays
@@ -170,11 +175,10 @@ recorded_sound fragment object step now place less sound message kind made body_
 
     before : (j : ℕ) (other next : Phase) → ((j ≡ posted.place) × (grown ≡ other)) ⊎ (slice_get call.phases j ≡ Some other) →
         ((suc j ≡ posted.place) × (grown ≡ next)) ⊎ (slice_get call.phases (suc j) ≡ Some next) →
-        IsFetch other.kind → IsSome call.settled
+        IsFetch other.kind → IsSome call.settled ⊎ (lacks_pieces other ≡ true)
     before j other next (inl here) (inl there) fetch = absurd (let a = here.0 in let b = there.0 in omega arith)
     before j other next (inl here) (inr there) fetch =
-        was.before_next posted.place phase next posted.within (subst (λ (p : Phase). IsFetch p.kind) (sym here.1) fetch)
-        (subst (λ i. slice_get call.phases (suc i) ≡ Some next) here.0 there)
+        absurd (let below = slice_get_within call.phases (suc j) next there in let a = here.0 in omega (arith, last))
     before j other next (inr here) (inl there) fetch =
         was.before_next j other phase here fetch (subst (λ i. slice_get call.phases i ≡ Some phase) (sym there.0) posted.within)
     before j other next (inr here) (inr there) fetch = was.before_next j other next here fetch there

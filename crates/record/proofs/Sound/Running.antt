@@ -1,23 +1,19 @@
 -- Every step that may be made keeps a record sound; so every run from an opened object is sound, and atomic.
-use Rattle.std.proofs.Common.{◌≡◌, ℕ, suc, ◌+◌, ◌<◌, List, [], ◌∷◌, length, Some, refl, subst, ap, arith, slice_get}
+use Rattle.std.proofs.Common.{◌≡◌, ℕ, suc, ◌+◌, ◌<◌, List, [], ◌∷◌, length, Option, refl, subst, ap, arith}
 use Rattle.record.specs.Atomic.{IsAtomic}
 use Rattle.layout.specs.Layout.{Layout, IsLawful}
-use Rattle.phase.specs.Phase.{Phase}
-use Rattle.record.specs.Records.{Call, Object}
+use Rattle.record.specs.Records.{Object}
 use Rattle.record.specs.declared.call.CallKind.{CallKind}
 use Rattle.record.specs.declared.call.CallKind.TheVariants.{Read, Write, Move}
 use Rattle.record.specs.Journals.{entries}
-use Rattle.record.specs.Fragments.{Code, IsCode, IsFetch, HasEnough, IsValue}
-use Rattle.record.specs.Knowledge.{IsTruePhase}
+use Rattle.record.specs.Fragments.{Code, IsCode, IsValue}
 use Rattle.record.specs.Sound.{IsSound}
 use Rattle.record.specs.May.{MayStep, MayRun}
 use Rattle.record.specs.Steps.{Step, stepped, run, opened_object}
 use Rattle.record.proofs.Atomic.Sequences.Whole.{atomic_of_legal}
 use Rattle.record.proofs.Atomic.Values.Coded.{reads_journaled}
-use Rattle.record.proofs.Lists.{all_get}
-use Rattle.record.proofs.Sound.Enough.Fetches.{fetch_has_enough}
 use Rattle.record.proofs.Sound.Opening.{opening_sound}
-use Rattle.record.proofs.Sound.Stepping.{advance_sound, supply_sound, post_sound, settle_sound}
+use Rattle.record.proofs.Sound.Stepping.{advance_sound, again_sound, supply_sound, post_sound, settle_sound}
 use Rattle.record.proofs.Sound.Stepping.{answer_sound, serve_sound, take_sound, lose_sound, repeat_sound}
 use Rattle.record.proofs.Sound.Widening.{called_sound, moving_sound}
 
@@ -41,6 +37,8 @@ step_sound fragment object step now code less sound (Step.CallMove layout) may =
     moving_sound fragment code object step now less sound layout may.0 may.1
 step_sound fragment object step now code less sound (Step.Advance index) may =
     advance_sound fragment object step now less code.determines sound index may
+step_sound fragment object step now code less sound (Step.Again index) may =
+    again_sound fragment object step now less code.determines sound index may
 step_sound fragment object step now code less sound (Step.Supply index) may =
     supply_sound fragment object step now less code.determines sound index may
 step_sound fragment object step now code less sound (Step.Post index) may =
@@ -63,27 +61,22 @@ run_sound fragment code (made ∷ steps) object step sound may =
     let same : suc step + length steps ≡ step + suc (length steps) = omega arith in
     subst (IsSound fragment (run fragment steps (suc (suc step)) (stepped fragment made (suc step) object))) same rest
 
-pub opened_run_sound : (fragment : Code) → IsCode fragment → (layout : Layout) (start : ℕ) (steps : List Step) → IsLawful layout →
-    MayRun fragment steps (suc start) (opened_object layout start) →
-    IsSound fragment (run fragment steps (suc start) (opened_object layout start)) (start + length steps)
-opened_run_sound fragment code layout start steps lawful may =
-    run_sound fragment code steps (opened_object layout start) start (opening_sound fragment code layout start lawful) may
+pub opened_run_sound : (fragment : Code) → IsCode fragment → (layout : Layout) (delta : Option ℕ) (start : ℕ) (steps : List Step) →
+    IsLawful layout →
+    MayRun fragment steps (suc start) (opened_object layout delta start) →
+    IsSound fragment (run fragment steps (suc start) (opened_object layout delta start)) (start + length steps)
+opened_run_sound fragment code layout delta start steps lawful may =
+    run_sound fragment code steps (opened_object layout delta start) start (opening_sound fragment code layout delta start lawful) may
 
 pub sound_atomic : (fragment : Code) → IsCode fragment → (object : Object) (step : ℕ) → IsSound fragment object step →
     IsAtomic (entries object)
 sound_atomic fragment code object step sound =
     atomic_of_legal object sound.legal (reads_journaled fragment object code.determines sound.legal sound.values sound.coded sound.settled)
 
-pub sound_enough : (fragment : Code) (object : Object) (step : ℕ) → IsSound fragment object step →
-    (index place : ℕ) (call : Call) (phase : Phase) → slice_get object.calls index ≡ Some call →
-    slice_get call.phases place ≡ Some phase → IsFetch phase.kind → (end : ℕ) → phase.end ≡ Some end → HasEnough object phase
-sound_enough fragment object step sound index place call phase at within fetch end e =
-    fetch_has_enough object sound.legal sound.open_banks sound.shape.keeps_all index place call phase at within
-    (all_get (IsTruePhase object) call.phases place phase (sound.legal.calls index call at).phases within) fetch end e
-
-pub run_atomic : (fragment : Code) → IsCode fragment → (layout : Layout) (start : ℕ) (steps : List Step) → IsLawful layout →
-    MayRun fragment steps (suc start) (opened_object layout start) →
-    IsAtomic (entries (run fragment steps (suc start) (opened_object layout start)))
-run_atomic fragment code layout start steps lawful may =
-    sound_atomic fragment code (run fragment steps (suc start) (opened_object layout start)) (start + length steps)
-    (opened_run_sound fragment code layout start steps lawful may)
+pub run_atomic : (fragment : Code) → IsCode fragment → (layout : Layout) (delta : Option ℕ) (start : ℕ) (steps : List Step) →
+    IsLawful layout →
+    MayRun fragment steps (suc start) (opened_object layout delta start) →
+    IsAtomic (entries (run fragment steps (suc start) (opened_object layout delta start)))
+run_atomic fragment code layout delta start steps lawful may =
+    sound_atomic fragment code (run fragment steps (suc start) (opened_object layout delta start)) (start + length steps)
+    (opened_run_sound fragment code layout delta start steps lawful may)

@@ -6,7 +6,7 @@ use Rattle.std.proofs.lemmas.Option.{same_Some, slice_get_within, slice_get-get_
 use Rattle.tag.specs.declared.tag.Tag.{Tag}
 use Rattle.bank.specs.declared.kind.Kind.{Kind}
 use Rattle.bank.specs.declared.kind.Kind.TheVariants.{Next, Spread, Query, PreWrite, Finalize, Fetch}
-use Rattle.phase.specs.Phase.{Phase}
+use Rattle.phase.specs.Phase.{Phase, lacks_pieces}
 use Rattle.record.specs.declared.call.CallKind.{CallKind}
 use Rattle.record.specs.declared.call.CallKind.TheVariants.{Read, Write, Move}
 use Rattle.record.specs.Records.{Call, Object, layout_at}
@@ -17,7 +17,7 @@ use Rattle.record.specs.Fragments.{Code, IsFetch}
 use Rattle.record.specs.Sound.{IsSound}
 use Rattle.record.specs.Sending.{sent_value}
 use Rattle.record.specs.declared.stage.Want.{Want}
-use Rattle.record.specs.Wants.{current_phase, is_fetch, value_len, want_for, want_after, want_of}
+use Rattle.record.specs.Wants.{current_phase, is_fetch, want_for, want_of_fetch, want_after, want_of}
 use Rattle.record.specs.May.{IsPreWrite, WantsPieces, AwaitsPieces}
 use Rattle.record.specs.declared.stage.Want.TheVariants as wants
 use Rattle.record.proofs.Sound.Unfetched.{Fetches, Fetched, fetched_before_due, fetched_before_sent, unfetched_first}
@@ -44,9 +44,13 @@ settled_after fragment object step sound index call at phase current last found 
         let within = slice_get_within call.phases found.place found.phase found.within in
         let ends = there.last in
         let below : suc found.place < length call.phases = omega (arith, apart) in
-        sound.settled.before_next index found.place call found.phase
+        settled_or (sound.settled.before_next index found.place call found.phase
         (get_or call.phases (suc found.place) found.phase) at found.within found.fetch
-        (slice_get-get_or call.phases (suc found.place) found.phase below)
+        (slice_get-get_or call.phases (suc found.place) found.phase below))
+      where
+        settled_or : IsSome call.settled ⊎ (lacks_pieces found.phase ≡ true) → IsSome call.settled
+        settled_or (inl some) = some
+        settled_or (inr lacks) = absurd (let no : true ≡ false = sym lacks ∙ found.enough in cc)
 
 -- a phase that sends pieces is no fetch
 not_both : (kind : Kind) → IsPreWrite kind → IsFetch kind → ⊥
@@ -112,7 +116,7 @@ ready_wants object index call ready =
     ap (λ a. cond (is_some a) wants.Done (want_after object next call.settled (current_phase call.phases))) ready.open_call
     ∙ ap (λ p. want_after object next call.settled p) ready.current
     ∙ after_end ready.phase.end ready.phase.kind call.settled (want_for object next)
-    (wants.Settle (layout_at object ready.phase.position).k (value_len ready.phase.replies)) (ap is_some ready.ended) ready.settled
+    (want_of_fetch object ready.phase) (ap is_some ready.ended) ready.settled
   where
     next : Option (Kind × ℕ)
     next = due (stage_of object index call)

@@ -12,7 +12,6 @@ use Rattle.bank.specs.declared.request.Request.{Request}
 use Rattle.mail.specs.Message.{body_kind, answered}
 use Rattle.mail.specs.declared.message.Message.{Message}
 use Rattle.phase.specs.declared.phase.Taken.{Taken}
-use Rattle.bank.proofs.KeptAll.{keeps_all-served}
 use Rattle.bank.proofs.Pieces.{served_collected}
 use Rattle.record.specs.Records.{Object, bank_at, no_bank}
 use Rattle.record.specs.Knowledge.{IsTrueReply, IsTruePhase}
@@ -23,7 +22,8 @@ use Rattle.record.specs.Steps.{with_bank, handled_object, served_by}
 use Rattle.record.specs.May.{IsRequestAt}
 use Rattle.mail.specs.declared.message.Body.TheVariants as body
 use Rattle.record.proofs.Lists.{all_weaker, all_pairs, all_get, all_set}
-use Rattle.record.proofs.Sound.Banks.{BankCoded, served_past, served_next, served_opened_at, served_true, served_coded, answer_coded}
+use Rattle.record.proofs.Sound.Banks.{served-delta, served-retired, BankCoded, served_past, served_next, served_opened_at}
+use Rattle.record.proofs.Sound.Banks.{served_true, served_coded, answer_coded}
 use Rattle.record.proofs.Sound.Changing.{same_call}
 use Rattle.record.proofs.Sound.Due.{spread_there}
 use Rattle.record.proofs.Sound.Keeping.{agree_same, served_agrees}
@@ -67,6 +67,7 @@ handled_sound fragment object step now place less sound message asked at is =
           ∙ sizes.banks;
       members = λ p h. members_kept object message.position message.member served p ∙ sizes.members p h;
       opened = λ p i h k. let o = sizes.opened p i h k in (o.0, grows.opened p i o.0 h o.1);
+      delta = λ p i h k. same_delta p i (bank_at_set object message.position message.member served p i) ∙ sizes.delta p i h k;
     })
     (λ index call e. call_grows fragment step now object new (le_of_lt less) grows call (sound.legal.calls index call e).phases
     (call_rest fragment object step sound index call e))
@@ -152,6 +153,14 @@ handled_sound fragment object step now place less sound message asked at is =
         subst (λ bank. IsOpenedAt bank opened) (sym here.2)
         (served_opened_at old asked now opened (subst (λ bank. IsOpenedAt bank opened) was o))
 
+    same_delta : (p i : ℕ) → (bank_at new p i ≡ bank_at object p i)
+        ⊎ ((p ≡ message.position) × (i ≡ message.member) × (bank_at new p i ≡ served)) →
+        (bank_at new p i).delta ≡ (bank_at object p i).delta
+    same_delta p i (inl same) = ap (λ (bank : Bank). bank.delta) same
+    same_delta p i (inr here) =
+        let was : bank_at object p i ≡ old = subst₂ (λ q j. bank_at object q j ≡ old) (sym here.0) (sym here.1) refl in
+        ap (λ (bank : Bank). bank.delta) here.2 ∙ served-delta old asked now ∙ sym (ap (λ (bank : Bank). bank.delta) was)
+
     grows : Grows now object new
     grows = record {
       keeps = record {
@@ -159,7 +168,7 @@ handled_sound fragment object step now place less sound message asked at is =
         banks = λ p i h. agrees p i (bank_at_set object message.position message.member served p i);
       };
       opened = λ p i opened h o. opens p i opened (bank_at_set object message.position message.member served p i) o;
-      calls = λ index call e. record { other = call; at = e; changed = same_call call; tagged = λ tag t. t };
+      calls = λ index call e. record { other = call; at = e; changed = same_call call; tagged = λ value k tag t. t };
     }
 
     old_rest : BankRest fragment new now message.position message.member old
@@ -187,7 +196,7 @@ handled_sound fragment object step now place less sound message asked at is =
       coded = served_coded fragment new message.position message.member old asked now sent old_coded;
       next = served_next (length object.layouts) message.position old asked now kind_there old_rest.next;
       collected = served_collected old asked now old_rest.collected;
-      keeps_all = keeps_all-served old asked now old_rest.keeps_all;
+      unretired = served-retired old asked now ∙ old_rest.unretired;
     }
 
     banks : (p i : ℕ) → (bank_at new p i ≡ bank_at object p i)

@@ -23,7 +23,8 @@ use Rattle.record.proofs.Sound.Mailing.{lost_sound, repeated_sound}
 use Rattle.record.proofs.Sound.Sending.{sent_there}
 use Rattle.record.proofs.Sound.Serving.{served_sound}
 use Rattle.record.proofs.Sound.Taking.{taken_sound}
-use Rattle.record.proofs.Sound.Wanting.{advance_ready, supply_ready, waiting_of}
+use Rattle.record.proofs.Sound.Wanting.{advance_ready, supply_ready, waiting_of, lacking_of, ready_on, lacking_on}
+use Rattle.record.proofs.Sound.Anew.{anew_due}
 
 at_call : (fragment : Code) (now : ℕ) (object : Object) (o : Option Call) (call : Call) (f : Call → Object) → o ≡ Some call →
     IsSound fragment (f call) now → IsSound fragment (on_call object o f) now
@@ -50,9 +51,23 @@ advance_sound fragment object step now less determines sound index may =
     at_call fragment now object (slice_get object.calls index) call (λ call. advanced_object fragment object index call now) may.1.0
     (at_due fragment now object index call plain.kind plain.position plain.is_due
     (begun_sound fragment object step now less determines sound index call may.1.0 plain.kind plain.position
-    (sent_pieces fragment object call plain.position) ready.0 plain.is_due
+    (sent_pieces fragment object call plain.position) (ready_on call ready.0) plain.is_due
     (sends_plain fragment (layout_at object plain.position) call plain.kind
     (sent_pieces fragment object call plain.position) plain.not_pre)))
+
+pub again_sound : (fragment : Code) (object : Object) (step now : ℕ) → step < now → Determines fragment →
+    IsSound fragment object step → (index : ℕ) → MayStep fragment object (Step.Again index) →
+    IsSound fragment (stepped fragment (Step.Again index) now object) now
+again_sound fragment object step now less determines sound index may =
+    let call = may.0 in
+    let wanting = lacking_of object index call may.1.1 in
+    let due_now = anew_due object sound.legal index call may.1.0 wanting in
+    at_call fragment now object (slice_get object.calls index) call (λ call. advanced_object fragment object index call now) may.1.0
+    (at_due fragment now object index call due_now.kind due_now.position due_now.is_due
+    (begun_sound fragment object step now less determines sound index call may.1.0 due_now.kind due_now.position
+    (sent_pieces fragment object call due_now.position) (lacking_on call wanting) due_now.is_due
+    (sends_plain fragment (layout_at object due_now.position) call due_now.kind
+    (sent_pieces fragment object call due_now.position) due_now.not_pre)))
 
 -- a call whose current phase has ended begins the phase that is due; one whose current phase is open asks again
 at_ended : (fragment : Code) (now : ℕ) (object : Object) (index : ℕ) (call : Call) (phase : Phase) (end : ℕ) →
@@ -87,7 +102,7 @@ supply_due fragment object step now less determines sound index call sent wanted
     (at_ended fragment now object index call ready.0.phase ready.0.end ready.0.current ready.0.ended
     (at_due fragment now object index call (PreWrite next.tag) next.position next.is_due
     (begun_sound fragment object step now less determines sound index call wanted.2.0 (PreWrite next.tag) next.position
-    (sent_pieces fragment object call next.position) ready.0 next.is_due
+    (sent_pieces fragment object call next.position) (ready_on call ready.0) next.is_due
     (sends_some fragment object call (PreWrite next.tag) next.position sent))))
 
 supply_again : (fragment : Code) (object : Object) (step now : ℕ) → step < now → Determines fragment →

@@ -10,8 +10,9 @@ use Rattle.layout.specs.Quorum.{has}
 use Rattle.bank.specs.declared.reply.Reply.{Reply}
 use Rattle.mail.specs.declared.message.Message.{Message}
 use Rattle.phase.specs.declared.phase.Taken.{Taken}
-use Rattle.phase.specs.Phase.{Phase, members_of, has_taken, after_reply, after_take}
+use Rattle.phase.specs.Phase.{Phase, members_of, has_taken, after_reply, after_take, lacks_pieces}
 use Rattle.record.specs.declared.call.CallKind.{CallKind}
+use Rattle.record.specs.declared.call.CallKind.TheVariants.{Write}
 use Rattle.record.specs.Records.{Call, Object, layout_at}
 use Rattle.record.specs.declared.stage.Stage.{Stage}
 use Rattle.record.specs.Courses.{passed, stage_after}
@@ -19,8 +20,8 @@ use Rattle.record.specs.Legal.{AreNumbered}
 use Rattle.record.specs.Journals.{stage_tag}
 use Rattle.record.specs.Fragments.{Code, IsFetch, IsSettled, HasPiece}
 use Rattle.record.specs.Steps.{taking_phases}
-use Rattle.record.proofs.Atomic.Values.Coded.{tag_passed}
 use Rattle.record.proofs.Lists.{all_weaker, get_push, get_set, set_here, set_there}
+use Rattle.record.proofs.Sound.Late.{IsOfWrite, late_of_write, late_passed, of_write_on}
 use Rattle.record.proofs.Sound.Mays.{grown_phase}
 
 pub numbered_at : (call number : ℕ) (phases : List Phase) (place : ℕ) (phase : Phase) → AreNumbered call number phases →
@@ -32,20 +33,23 @@ numbered_at call number (first ∷ phases) zero phase numbered at =
 numbered_at call number (first ∷ phases) (suc place) phase numbered at =
     let rest = numbered_at call (suc number) phases place phase numbered.2 at in (rest.0, (let n = rest.1 in omega arith))
 
--- the tag stays when the last phase, which was open, is changed
-pub tag_set : (kind : CallKind) (number : ℕ) (phases : List Phase) (stage : Stage) (place : ℕ) (old new : Phase) (tag : Tag) →
+-- a write's tag stays when the last phase, which was open, is changed
+pub tag_set : (value : List ℕ) (kind : CallKind) → kind ≡ Write value → (number : ℕ) (phases : List Phase) (stage : Stage) →
+    IsOfWrite stage → (place : ℕ) (old new : Phase) (tag : Tag) →
     slice_get phases place ≡ Some old → suc place ≡ length phases →
     old.end ≡ None → stage_tag (stage_after kind number stage phases) ≡ Some tag →
     stage_tag (stage_after kind number stage (set phases place new)) ≡ Some tag
-tag_set kind number [] stage place old new tag at last none e = absurd (cc)
-tag_set kind number (first ∷ []) stage zero old new tag at last none e =
+tag_set value kind k number [] stage of place old new tag at last none e = absurd (cc)
+tag_set value kind k number (first ∷ []) stage of zero old new tag at last none e =
     let end_is : first.end ≡ None = ap (λ (p : Phase). p.end) (same_Some first old at) ∙ none in
-    tag_passed kind number stage new.end new.replies tag
-    (subst (λ o. stage_tag (passed kind number stage o first.replies) ≡ Some tag) end_is e)
-tag_set kind number (first ∷ []) stage (suc place) old new tag at last none e = absurd (cc)
-tag_set kind number (first ∷ next ∷ later) stage zero old new tag at last none e = absurd (omega arith)
-tag_set kind number (first ∷ next ∷ later) stage (suc place) old new tag at last none e =
-    tag_set kind number (next ∷ later) (passed kind number stage first.end first.replies) place old new tag at (omega arith) none e
+    (late_passed kind number stage new.end new.replies (lacks_pieces new) tag
+    (late_of_write stage of tag
+    (subst (λ o. stage_tag (passed kind number stage o first.replies (lacks_pieces first)) ≡ Some tag) end_is e))).1
+tag_set value kind k number (first ∷ []) stage of (suc place) old new tag at last none e = absurd (cc)
+tag_set value kind k number (first ∷ next ∷ later) stage of zero old new tag at last none e = absurd (omega arith)
+tag_set value kind k number (first ∷ next ∷ later) stage of (suc place) old new tag at last none e =
+    tag_set value kind k number (next ∷ later) (passed kind number stage first.end first.replies (lacks_pieces first))
+    (of_write_on value kind k number stage first.end first.replies (lacks_pieces first) of) place old new tag at (omega arith) none e
 
 -- the test on the replies is one on their members
 has-members_of : (replies : List Taken) (member : ℕ) → has (members_of replies) member ≡ has_taken replies member

@@ -9,7 +9,7 @@ use Rattle.bank.specs.declared.status.Status.TheVariants.{Unset, Pending, Final}
 use Rattle.bank.specs.declared.kind.Kind.{Kind}
 use Rattle.bank.specs.declared.kind.Kind.TheVariants.{PreWrite, Fetch}
 use Rattle.phase.specs.declared.phase.Taken.{Taken}
-use Rattle.phase.specs.Phase.{Phase}
+use Rattle.phase.specs.Phase.{Phase, lacks_pieces}
 use Rattle.record.specs.declared.call.CallKind.{CallKind}
 use Rattle.record.specs.declared.call.CallKind.TheVariants.{Read, Write, Move}
 use Rattle.record.specs.Courses.{greatest_status, greatest_tag, due, after, passed, stage_after}
@@ -76,22 +76,25 @@ unfetched_query kind fetches number found p l greatest q = go (eqb p l)
     go true = unfetched_tagged kind fetches number shown l later
     go false = tt
 
-unfetched_after : (kind : CallKind) → Fetches kind → (number : ℕ) (stage : Stage) (replies : List Taken) → IsUnfetched stage →
-    IsFetchDue stage ⊎ IsUnfetched (after kind number stage replies)
-unfetched_after kind fetches number (ReadNext p m) replies none = inr (unfetched_next p m (greatest_status replies))
-unfetched_after kind fetches number (ReadSpread p m s) replies none = inr (unfetched_spread p m s)
-unfetched_after kind fetches number (QueryFrom p l t q) replies none =
+unfetched_after : (kind : CallKind) → Fetches kind → (number : ℕ) (stage : Stage) (replies : List Taken) (lacks : Bool) →
+    IsUnfetched stage →
+    (IsFetchDue stage × (lacks ≡ false)) ⊎ IsUnfetched (after kind number stage replies lacks)
+unfetched_after kind fetches number (ReadNext p m) replies lacks none = inr (unfetched_next p m (greatest_status replies))
+unfetched_after kind fetches number (ReadSpread p m s) replies lacks none = inr (unfetched_spread p m s)
+unfetched_after kind fetches number (QueryFrom p l t q) replies lacks none =
     inr (unfetched_query kind fetches number (greatest_tag replies) p l t q)
-unfetched_after kind fetches number (FetchAt q l t) replies none = inl (t, q, refl)
-unfetched_after kind fetches number (MoveSpread p) replies none = inr tt
-unfetched_after kind fetches number (MoveQuery p) replies none = inr tt
-unfetched_after kind fetches number (MoveFetch p t) replies none = inl (t, p, refl)
-unfetched_after kind fetches number stage replies none = absurd none
+unfetched_after kind fetches number (FetchAt q l t) replies true none = inr tt
+unfetched_after kind fetches number (FetchAt q l t) replies false none = inl ((t, q, refl), refl)
+unfetched_after kind fetches number (MoveSpread p) replies lacks none = inr tt
+unfetched_after kind fetches number (MoveQuery p) replies lacks none = inr tt
+unfetched_after kind fetches number (MoveFetch p t) replies true none = inr tt
+unfetched_after kind fetches number (MoveFetch p t) replies false none = inl ((t, p, refl), refl)
+unfetched_after kind fetches number stage replies lacks none = absurd none
 
-unfetched_passed : (kind : CallKind) → Fetches kind → (number : ℕ) (stage : Stage) (end : Option ℕ) (replies : List Taken) →
-    IsUnfetched stage → IsFetchDue stage ⊎ IsUnfetched (passed kind number stage end replies)
-unfetched_passed kind fetches number stage None replies none = inr none
-unfetched_passed kind fetches number stage (Some end) replies none = unfetched_after kind fetches number stage replies none
+unfetched_passed : (kind : CallKind) → Fetches kind → (number : ℕ) (stage : Stage) (end : Option ℕ) (replies : List Taken) (lacks : Bool) →
+    IsUnfetched stage → (IsFetchDue stage × (lacks ≡ false)) ⊎ IsUnfetched (passed kind number stage end replies lacks)
+unfetched_passed kind fetches number stage None replies lacks none = inr none
+unfetched_passed kind fetches number stage (Some end) replies lacks none = unfetched_after kind fetches number stage replies lacks none
 
 -- whether what is due sends pieces
 abbrev sends : Option (Kind × ℕ) → Bool
@@ -118,28 +121,37 @@ pub record Fetched (phases : List Phase) : Type 0 where
   pub phase : Phase
   pub within : slice_get phases place ≡ Some phase
   pub fetch : IsFetch phase.kind
+  pub enough : lacks_pieces phase ≡ false
 
 fetched_here : (phase : Phase) (phases : List Phase) (stage : Stage) → due stage ≡ Some (phase.kind, phase.position) →
-    IsFetchDue stage → Fetched (phase ∷ phases)
-fetched_here phase phases stage is (tag, position, e) =
+    IsFetchDue stage → lacks_pieces phase ≡ false → Fetched (phase ∷ phases)
+fetched_here phase phases stage is (tag, position, e) enough =
     let same : (phase.kind, phase.position)
     ≡ (Fetch tag, position) = same_Some (phase.kind, phase.position) (Fetch tag, position) (sym is ∙ e) in
-    record { place = 0; phase = phase; within = refl; fetch = (tag, ap (λ (next : Kind × ℕ). next.0) same) }
+    record { place = 0; phase = phase; within = refl; fetch = (tag, ap (λ (next : Kind × ℕ). next.0) same); enough = enough }
 
 fetched_from : {Still : Type 0} (phase : Phase) (phases : List Phase) (stage : Stage) →
-    due stage ≡ Some (phase.kind, phase.position) → IsFetchDue stage ⊎ Still → (Still → Fetched phases) →
+    due stage ≡ Some (phase.kind, phase.position) → (IsFetchDue stage × (lacks_pieces phase ≡ false)) ⊎ Still →
+    (Still → Fetched phases) →
     Fetched (phase ∷ phases)
-fetched_from phase phases stage is (inl fetch) later = fetched_here phase phases stage is fetch
+fetched_from phase phases stage is (inl fetch) later = fetched_here phase phases stage is fetch.0 fetch.1
 fetched_from phase phases stage is (inr still) later =
-    let found = later still in record { place = suc found.place; phase = found.phase; within = found.within; fetch = found.fetch }
+    let found = later still in record {
+      place = suc found.place;
+      phase = found.phase;
+      within = found.within;
+      fetch = found.fetch;
+      enough = found.enough;
+    }
 
 -- a read or a move that is to send pieces has fetched
 pub fetched_before_due : (kind : CallKind) → Fetches kind → (number : ℕ) (phases : List Phase) (stage : Stage) →
     IsCourse kind number stage phases → IsUnfetched stage → IsSendingDue (stage_after kind number stage phases) → Fetched phases
 fetched_before_due kind fetches number [] stage course none sending = absurd (unfetched_due stage none sending)
 fetched_before_due kind fetches number (phase ∷ phases) stage course none sending =
-    fetched_from phase phases stage course.0 (unfetched_passed kind fetches number stage phase.end phase.replies none)
-    (λ still. fetched_before_due kind fetches number phases (passed kind number stage phase.end phase.replies) course.2 still sending)
+    fetched_from phase phases stage course.0 (unfetched_passed kind fetches number stage phase.end phase.replies (lacks_pieces phase) none)
+    (λ still. fetched_before_due kind fetches number phases
+    (passed kind number stage phase.end phase.replies (lacks_pieces phase)) course.2 still sending)
 
 -- and so has one that sends them
 pub fetched_before_sent : (kind : CallKind) → Fetches kind → (number : ℕ) (phases : List Phase) (stage : Stage) →
@@ -151,9 +163,9 @@ fetched_before_sent kind fetches number (phase ∷ phases) stage course none zer
     let asked : phase.kind ≡ PreWrite pre.0 = ap (λ (p : Phase). p.kind) same ∙ pre.1 in
     absurd (unfetched_due stage none (pre.0, phase.position, course.0 ∙ ap (λ (k : Kind). Some (k, phase.position)) asked))
 fetched_before_sent kind fetches number (phase ∷ phases) stage course none (suc place) sent at pre =
-    fetched_from phase phases stage course.0 (unfetched_passed kind fetches number stage phase.end phase.replies none)
+    fetched_from phase phases stage course.0 (unfetched_passed kind fetches number stage phase.end phase.replies (lacks_pieces phase) none)
     (λ still. fetched_before_sent kind fetches number phases
-    (passed kind number stage phase.end phase.replies) course.2 still place sent at pre)
+    (passed kind number stage phase.end phase.replies (lacks_pieces phase)) course.2 still place sent at pre)
 
 pub unfetched_first : (kind : CallKind) (moves : ℕ) → IsUnfetched (first_stage kind moves)
 unfetched_first Read moves = tt

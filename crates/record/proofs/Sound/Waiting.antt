@@ -3,14 +3,14 @@ use Rattle.std.proofs.Common.{◌≡◌, ℕ, suc, ◌<◌, ◌⊎◌, Bool, tru
 use Rattle.std.proofs.Common.{Option, Some, None, IsSome, is_some, refl, sym, subst, ap, ◌∙◌, inl, inr, arith, slice_get}
 use Rattle.std.proofs.lemmas.Option.{same_Some}
 use Rattle.bank.specs.declared.kind.Kind.{Kind}
-use Rattle.phase.specs.Phase.{Phase}
+use Rattle.phase.specs.Phase.{Phase, lacks_pieces}
 use Rattle.record.specs.Records.{Call, Object, layout_at}
 use Rattle.bank.specs.declared.kind.Kind.TheVariants.{Next, Spread, Query, PreWrite, Finalize, Fetch}
 use Rattle.record.specs.Courses.{due, EndsBefore}
 use Rattle.record.specs.Legal.{stage_of}
 use Rattle.record.specs.Fragments.{IsFetch}
 use Rattle.record.specs.declared.stage.Want.{Want}
-use Rattle.record.specs.Wants.{current_phase, is_fetch, value_len, want_for, want_after, want_of}
+use Rattle.record.specs.Wants.{current_phase, is_fetch, value_len, want_for, want_of_fetch, want_after, want_of}
 use Rattle.record.specs.declared.stage.Want.TheVariants as wants
 
 -- where the current phase stands
@@ -41,8 +41,8 @@ pub record Ready (call : Call) : Type 0 where
   pub ended : phase.end ≡ Some end
   pub settled : IsFetch phase.kind → IsSome call.settled
 
--- a call that wants its value
-pub record Unsettled (call : Call) : Type 0 where
+-- a call whose current phase is a complete fetch of which nothing is settled, and that lacks pieces or not
+pub record Unsettled (call : Call) (lacks : Bool) : Type 0 where
   pub open_call : call.answered ≡ None
   pub phase : Phase
   pub current : current_phase call.phases ≡ Some phase
@@ -50,6 +50,7 @@ pub record Unsettled (call : Call) : Type 0 where
   pub ended : phase.end ≡ Some end
   pub fetch : IsFetch phase.kind
   pub none : call.settled ≡ None
+  pub lacking : lacks_pieces phase ≡ lacks
 
 -- a call whose current phase lacks a quorum
 pub record Waiting (call : Call) : Type 0 where
@@ -61,14 +62,15 @@ pub record Settling (call : Call) (want : Want) : Type 0 where
   pub k : ℕ
   pub len : ℕ
   pub is : want ≡ wants.Settle k len
-  pub unsettled : Unsettled call
+  pub unsettled : Unsettled call false
 
 abbrev pub Cases : Object → Call → Option (Kind × ℕ) → Want → Type 0
 Cases object call next want =
     (want ≡ wants.Done)
-    ⊎ (((want ≡ wants.Replies) × Waiting call) ⊎ (Settling call want ⊎ (Ready call × (want_for object next ≡ want))))
+    ⊎ (((want ≡ wants.Replies) × Waiting call) ⊎ (Settling call want
+    ⊎ (((want ≡ wants.Again) × Unsettled call true) ⊎ (Ready call × (want_for object next ≡ want)))))
 
-fetch_is : (kind : Kind) → is_fetch kind ≡ true → IsFetch kind
+pub fetch_is : (kind : Kind) → is_fetch kind ≡ true → IsFetch kind
 fetch_is (Fetch tag) e = (tag, refl)
 fetch_is Next e = absurd (cc)
 fetch_is (Spread s) e = absurd (cc)
@@ -88,10 +90,24 @@ want_cases object call next want e = on_answer call.answered refl
     settle_at : Phase → Want
     settle_at phase = wants.Settle (layout_at object phase.position).k (value_len phase.replies)
 
-    on_settled : call.answered ≡ None → (phase : Phase) → current_phase call.phases ≡ Some phase → (end : ℕ) →
-        phase.end ≡ Some end → is_fetch phase.kind ≡ true → (s : Option (List ℕ)) → call.settled ≡ s →
-        cond (is_some s) (want_for object next) (settle_at phase) ≡ want → Cases object call next want
-    on_settled unanswered phase current end ended fetch None s w =
+    on_lacking : call.answered ≡ None → (phase : Phase) → current_phase call.phases ≡ Some phase → (end : ℕ) →
+        phase.end ≡ Some end → is_fetch phase.kind ≡ true → call.settled ≡ None → (b : Bool) → lacks_pieces phase ≡ b →
+        cond b wants.Again (settle_at phase) ≡ want → Cases object call next want
+    on_lacking unanswered phase current end ended fetch none true lacking w =
+        inr (inr (inr (inl (
+          sym w,
+          record {
+            open_call = unanswered;
+            phase = phase;
+            current = current;
+            end = end;
+            ended = ended;
+            fetch = fetch_is phase.kind fetch;
+            none = none;
+            lacking = lacking;
+          },
+        ))))
+    on_lacking unanswered phase current end ended fetch none false lacking w =
         inr (inr (inl (record {
           k = (layout_at object phase.position).k;
           len = value_len phase.replies;
@@ -103,11 +119,18 @@ want_cases object call next want e = on_answer call.answered refl
             end = end;
             ended = ended;
             fetch = fetch_is phase.kind fetch;
-            none = s;
+            none = none;
+            lacking = lacking;
           };
         })))
+
+    on_settled : call.answered ≡ None → (phase : Phase) → current_phase call.phases ≡ Some phase → (end : ℕ) →
+        phase.end ≡ Some end → is_fetch phase.kind ≡ true → (s : Option (List ℕ)) → call.settled ≡ s →
+        cond (is_some s) (want_for object next) (want_of_fetch object phase) ≡ want → Cases object call next want
+    on_settled unanswered phase current end ended fetch None s w =
+        on_lacking unanswered phase current end ended fetch s (lacks_pieces phase) refl w
     on_settled unanswered phase current end ended fetch (Some value) s w =
-        inr (inr (inr (
+        inr (inr (inr (inr (
           record {
             open_call = unanswered;
             phase = phase;
@@ -117,15 +140,15 @@ want_cases object call next want e = on_answer call.answered refl
             settled = λ f. ap is_some s;
           },
           w,
-        )))
+        ))))
 
     on_fetch : call.answered ≡ None → (phase : Phase) → current_phase call.phases ≡ Some phase →
         (end : ℕ) → phase.end ≡ Some end → (f : Bool) → is_fetch phase.kind ≡ f →
-        cond f (cond (is_some call.settled) (want_for object next) (settle_at phase)) (want_for object next) ≡ want →
+        cond f (cond (is_some call.settled) (want_for object next) (want_of_fetch object phase)) (want_for object next) ≡ want →
         Cases object call next want
     on_fetch unanswered phase current end ended true f w = on_settled unanswered phase current end ended f call.settled refl w
     on_fetch unanswered phase current end ended false f w =
-        inr (inr (inr (
+        inr (inr (inr (inr (
           record {
             open_call = unanswered;
             phase = phase;
@@ -135,11 +158,11 @@ want_cases object call next want e = on_answer call.answered refl
             settled = λ fetch. absurd (let no : false ≡ true = sym f ∙ is_fetch_of phase.kind fetch in cc);
           },
           w,
-        )))
+        ))))
 
     on_end : call.answered ≡ None → (phase : Phase) → current_phase call.phases ≡ Some phase →
         (o : Option ℕ) → phase.end ≡ o → cond (is_some o) (cond (is_fetch phase.kind)
-        (cond (is_some call.settled) (want_for object next) (settle_at phase)) (want_for object next)) wants.Replies ≡ want →
+        (cond (is_some call.settled) (want_for object next) (want_of_fetch object phase)) (want_for object next)) wants.Replies ≡ want →
         Cases object call next want
     on_end unanswered phase current None o w =
         inr (inl (

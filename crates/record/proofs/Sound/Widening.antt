@@ -1,6 +1,6 @@
 -- Calling a read, a write or a move makes a sound record.
 use Rattle.std.proofs.Common.{◌≡◌, ℕ, zero, suc, pred, ◌+◌, ◌<◌, ◌≤◌, ◌⊎◌, Bool, true, false, cond, List, []}
-use Rattle.std.proofs.Common.{◌∷◌, ◌++◌, length, set, get_or, Some, None, refl, sym, subst, ap, ◌∙◌, inl, inr, arith, le_refl}
+use Rattle.std.proofs.Common.{◌∷◌, ◌++◌, length, set, get_or, Some, refl, sym, subst, ap, ◌∙◌, inl, inr, arith, le_refl}
 use Rattle.std.proofs.lemmas.List.{length_push, get_or_append_left}
 use Rattle.layout.specs.Layout.{Layout, IsLawful}
 use Rattle.bank.specs.Bank.{Bank, opened_bank}
@@ -71,6 +71,7 @@ called_sound fragment code object step now less sound kind no_move first bytes =
       banks = sizes.banks;
       members = sizes.members;
       opened = sizes.opened;
+      delta = sizes.delta;
     })
     calls_are refl (first (moves_in object.calls)) (let p = sizes.positions in omega arith) refl bytes
     (λ k index c at is. absurd (let clash : false ≡ true = sym no_move ∙ ap is_move k in cc))
@@ -96,8 +97,8 @@ called_sound fragment code object step now less sound kind no_move first bytes =
       more = le_refl (length object.layouts);
       same_layouts = λ p h. refl;
       same_banks = λ p i h. refl;
-      caused = λ p i h. either_caused new now p i (bank_at object p i) (inl (gone p i h));
-      rest = λ p i h. either_rest fragment code new now p i (bank_at object p i) (inl (gone p i h));
+      caused = λ p i h. either_caused new object.delta now p i (bank_at object p i) (inl (gone p i h));
+      rest = λ p i h. either_rest fragment code new object.delta now p i (bank_at object p i) (inl (gone p i h));
     }
 
 -- a move is called
@@ -112,6 +113,7 @@ moving_sound fragment code object step now less sound layout lawful no_open =
       banks = length_push object.banks fresh ∙ same_count ∙ sym (length_push object.layouts layout);
       members = λ p h. members p h (either p (grown_below p h));
       opened = λ p i h k. opened p i (either p (grown_below p h)) k;
+      delta = λ p i h k. deltas p i (either p (grown_below p h)) k;
     })
     calls_are refl (ap (λ p. Some (Spread Pending, p)) source) below refl (λ value e. absurd (cc)) (λ k. no_open)
   where
@@ -122,7 +124,7 @@ moving_sound fragment code object step now less sound layout lawful no_open =
     last = pred (length object.layouts)
 
     fresh : List Bank
-    fresh = opened_banks layout.members 0 now
+    fresh = opened_banks layout.members 0 object.delta now
 
     call : Call
     call = begun Move (length object.calls) now (Spread Pending) last (layout_at new last)
@@ -168,7 +170,7 @@ moving_sound fragment code object step now less sound layout lawful no_open =
         length (get_or new.banks p []) ≡ length (layout_at new p).members
     members p h (inl old) =
         ap length (old_banks p old) ∙ sizes.members p old ∙ sym (ap (λ (l : Layout). length l.members) (old_layout p old))
-    members p h (inr end) = ap length (new_banks p end) ∙ opened_length layout.members 0 now
+    members p h (inr end) = ap length (new_banks p end) ∙ opened_length layout.members 0 object.delta now
         ∙ sym (ap (λ (l : Layout). length l.members) (new_layout p end))
 
     opened : (p i : ℕ) → (p < length object.layouts) ⊎ (p ≡ length object.layouts) → i < length (layout_at new p).members →
@@ -178,21 +180,29 @@ moving_sound fragment code object step now less sound layout lawful no_open =
     opened p i (inr end) k = subst (λ banks. (step : ℕ) × IsOpenedAt (get_or banks i no_bank) step) (sym (new_banks p end)) (
       now,
       subst (λ bank. IsOpenedAt bank now)
-          (sym (opened_there layout.members 0 now i (subst (λ (l : Layout). i < length l.members) (new_layout p end) k)))
-          (opened_at (0 + i) now),
+          (sym (opened_there layout.members 0 object.delta now i (subst (λ (l : Layout). i < length l.members) (new_layout p end) k)))
+          (opened_at (0 + i) object.delta now),
     )
 
+    deltas : (p i : ℕ) → (p < length object.layouts) ⊎ (p ≡ length object.layouts) → i < length (layout_at new p).members →
+        (bank_at new p i).delta ≡ object.delta
+    deltas p i (inl old) k = subst (λ banks. (get_or banks i no_bank).delta ≡ object.delta) (sym (old_banks p old))
+        (sizes.delta p i old (subst (λ (l : Layout). i < length l.members) (old_layout p old) k))
+    deltas p i (inr end) k = subst (λ banks. (get_or banks i no_bank).delta ≡ object.delta) (sym (new_banks p end))
+        (ap (λ (bank : Bank). bank.delta)
+        (opened_there layout.members 0 object.delta now i (subst (λ (l : Layout). i < length l.members) (new_layout p end) k)))
+
     further : (p i : ℕ) → (get_or new.banks p [] ≡ []) ⊎ (get_or new.banks p [] ≡ fresh) →
-        (bank_at new p i ≡ no_bank) ⊎ (bank_at new p i ≡ opened_bank (0 + i) None now)
+        (bank_at new p i ≡ no_bank) ⊎ (bank_at new p i ≡ opened_bank (0 + i) object.delta now)
     further p i (inl none) = inl (ap (λ banks. get_or banks i no_bank) none)
-    further p i (inr here) = go (opened_get layout.members 0 now i)
+    further p i (inr here) = go (opened_get layout.members 0 object.delta now i)
       where
-        go : (get_or fresh i no_bank ≡ no_bank) ⊎ (get_or fresh i no_bank ≡ opened_bank (0 + i) None now) →
-            (bank_at new p i ≡ no_bank) ⊎ (bank_at new p i ≡ opened_bank (0 + i) None now)
+        go : (get_or fresh i no_bank ≡ no_bank) ⊎ (get_or fresh i no_bank ≡ opened_bank (0 + i) object.delta now) →
+            (bank_at new p i ≡ no_bank) ⊎ (bank_at new p i ≡ opened_bank (0 + i) object.delta now)
         go (inl e) = inl (ap (λ banks. get_or banks i no_bank) here ∙ e)
         go (inr e) = inr (ap (λ banks. get_or banks i no_bank) here ∙ e)
 
-    beyond : (p i : ℕ) → length object.layouts ≤ p → (bank_at new p i ≡ no_bank) ⊎ (bank_at new p i ≡ opened_bank (0 + i) None now)
+    beyond : (p i : ℕ) → length object.layouts ≤ p → (bank_at new p i ≡ no_bank) ⊎ (bank_at new p i ≡ opened_bank (0 + i) object.delta now)
     beyond p i h = further p i (get_or_after object.banks fresh [] p (let b = sizes.banks in omega arith))
 
     wide : Wider fragment now object new
@@ -201,6 +211,6 @@ moving_sound fragment code object step now less sound layout lawful no_open =
       more = (let l : length new.layouts ≡ length object.layouts + 1 = length_push object.layouts layout in omega arith);
       same_layouts = old_layout;
       same_banks = λ p i h. ap (λ banks. get_or banks i no_bank) (old_banks p h);
-      caused = λ p i h. either_caused new now p i (bank_at new p i) (beyond p i h);
-      rest = λ p i h. either_rest fragment code new now p i (bank_at new p i) (beyond p i h);
+      caused = λ p i h. either_caused new object.delta now p i (bank_at new p i) (beyond p i h);
+      rest = λ p i h. either_rest fragment code new object.delta now p i (bank_at new p i) (beyond p i h);
     }

@@ -4,7 +4,7 @@ use Rattle.std.proofs.Common.{None, refl, sym, subst, ◌∙◌, inl, arith, le_
 use Rattle.std.proofs.lemmas.Option.{same_Some}
 use Rattle.std.specs.List.{AllByRecursion}
 use Rattle.layout.specs.Layout.{IsLawful}
-use Rattle.phase.specs.Phase.{Phase}
+use Rattle.phase.specs.Phase.{Phase, lacks_pieces}
 use Rattle.record.specs.declared.call.CallKind.{CallKind}
 use Rattle.record.specs.Records.{Call, Object}
 use Rattle.record.specs.declared.call.CallKind.TheVariants.{Read, Write, Move}
@@ -26,13 +26,14 @@ pub record AtPhase (object : Object) (kind : CallKind) (from number called : ℕ
   pub facts : Facts object kind from number called now stage
 
 -- one complete phase
-one_phase : (object : Object) (kind : CallKind) (from number called now end : ℕ) (stage : Stage) (phase : Phase) →
+pub one_phase : (object : Object) (kind : CallKind) (from number called now end : ℕ) (stage : Stage) (phase : Phase) →
     AllByRecursion IsLawful object.layouts → due stage ≡ Some (phase.kind, phase.position) → IsTruePhase object phase →
     phase.end ≡ Some end → called ≤ now → now ≤ phase.start → Facts object kind from number called now stage →
-    Facts object kind from number called end (passed kind number stage phase.end phase.replies)
+    Facts object kind from number called end (passed kind number stage phase.end phase.replies (lacks_pieces phase))
 one_phase object kind from number called now end stage phase lawful is_due truth e since before facts =
-    subst (λ o. Facts object kind from number called end (passed kind number stage o phase.replies)) (sym e)
-    (facts_after object kind from number called now stage phase.kind phase.position phase.start end phase.replies is_due
+    subst (λ o. Facts object kind from number called end (passed kind number stage o phase.replies (lacks_pieces phase))) (sym e)
+    (facts_after object kind from number called now stage phase.kind phase.position phase.start end phase.replies
+    (lacks_pieces phase) is_due
     (done_of object phase end lawful truth e) since before facts)
 
 at_phase : (object : Object) (kind : CallKind) (from number called : ℕ) → AllByRecursion IsLawful object.layouts →
@@ -53,7 +54,8 @@ at_phase object kind from number called lawful (first ∷ next ∷ later) now st
     let ended = course.1.1 in
     let grew : first.start ≤ end = (done_of object first end lawful truth.0 ended).later in
     let before : now ≤ first.start = starts in
-    at_phase object kind from number called lawful (next ∷ later) end (passed kind number stage first.end first.replies) course.2 truth.1
+    at_phase object kind from number called lawful (next ∷ later) end
+    (passed kind number stage first.end first.replies (lacks_pieces first)) course.2 truth.1
     (omega arith) (le_of_lt course.1.2)
     (one_phase object kind from number called now end stage first lawful course.0 truth.0 ended since starts facts) place phase e
 
@@ -67,12 +69,13 @@ pub record AtEnd (object : Object) (kind : CallKind) (from number called : ℕ) 
 last_facts : (object : Object) (kind : CallKind) (from number called now : ℕ) (stage : Stage) (phase : Phase) →
     AllByRecursion IsLawful object.layouts → due stage ≡ Some (phase.kind, phase.position) → IsTruePhase object phase →
     called ≤ now → now ≤ phase.start → Facts object kind from number called now stage → (o : Option ℕ) → phase.end ≡ o →
-    AtEnd object kind from number called (passed kind number stage phase.end phase.replies) (phase ∷ [])
+    AtEnd object kind from number called (passed kind number stage phase.end phase.replies (lacks_pieces phase)) (phase ∷ [])
 last_facts object kind from number called now stage phase lawful is_due truth since before facts None e = record {
   now = now;
   since = since;
   until = λ step ends. absurd (let both : None ≡ Some ends.0 = sym e ∙ ends.1 in cc);
-  facts = subst (λ o. Facts object kind from number called now (passed kind number stage o phase.replies)) (sym e) facts;
+  facts =
+      subst (λ o. Facts object kind from number called now (passed kind number stage o phase.replies (lacks_pieces phase))) (sym e) facts;
 }
 last_facts object kind from number called now stage phase lawful is_due truth since before facts (Some end) e = record {
   now = end;
@@ -96,18 +99,18 @@ at_end object kind from number called lawful (first ∷ next ∷ later) now stag
     let grew : first.start ≤ end = (done_of object first end lawful truth.0 ended).later in
     let before : now ≤ first.start = starts in
     let rest = at_end object kind from number called lawful (next ∷ later) end
-    (passed kind number stage first.end first.replies) course.2 truth.1
+    (passed kind number stage first.end first.replies (lacks_pieces first)) course.2 truth.1
     (omega arith) (le_of_lt course.1.2)
     (one_phase object kind from number called now end stage first lawful course.0 truth.0 ended since starts facts) in
     record { now = rest.now; since = rest.since; until = rest.until; facts = rest.facts }
 
-first_facts : (object : Object) (kind : CallKind) (from number called : ℕ) →
+pub first_facts : (object : Object) (kind : CallKind) (from number called : ℕ) →
     Facts object kind from number called called (first_stage kind from)
 first_facts object Read from number called = (λ j below. absurd (omega arith), le_refl 0, inl refl, refl)
 first_facts object (Write value) from number called = (λ j below. absurd (omega arith), le_refl 0, inl refl, refl)
 first_facts object Move from number called = (refl, refl)
 
-starts_from : (phases : List Phase) (called : ℕ) → BeginsAt phases called → StartsFrom called phases
+pub starts_from : (phases : List Phase) (called : ℕ) → BeginsAt phases called → StartsFrom called phases
 starts_from [] called begins = tt
 starts_from (phase ∷ phases) called begins = omega (arith, begins)
 

@@ -113,7 +113,8 @@ Facts object kind from number called now (AgainSpread last position tag status) 
     × (status ≡ Final → SeenFinal object position now)
 Facts object kind from number called now (MoveSpread position) = IsMoveFrom kind from position
 Facts object kind from number called now (MoveQuery position) = IsMoveFrom kind from position × Pointed object position now
-Facts object kind from number called now (MoveFetch position tag) = IsMoveFrom kind from position × Carried object called position tag
+Facts object kind from number called now (MoveFetch position tag) =
+    IsMoveFrom kind from position × Carried object called position tag × Pointed object position now
 Facts object kind from number called now (MovePreWrite position tag) = IsMoveFrom kind from position × Carried object called position tag
 Facts object kind from number called now (MoveFinalize position tag) = IsMoveFrom kind from position × Carried object called position tag
 Facts object kind from number called now (MoveFinal position tag) =
@@ -167,7 +168,8 @@ facts_later object kind from number called s u (AgainSpread last position tag st
 )
 facts_later object kind from number called s u (MoveSpread position) h facts = facts
 facts_later object kind from number called s u (MoveQuery position) h facts = (facts.0, pointed_later object position s u h facts.1)
-facts_later object kind from number called s u (MoveFetch position tag) h facts = facts
+facts_later object kind from number called s u (MoveFetch position tag) h facts =
+    (facts.0, facts.1, pointed_later object position s u h facts.2)
 facts_later object kind from number called s u (MovePreWrite position tag) h facts = facts
 facts_later object kind from number called s u (MoveFinalize position tag) h facts = facts
 facts_later object kind from number called s u (MoveFinal position tag) h facts =

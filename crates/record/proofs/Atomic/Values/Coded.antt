@@ -1,104 +1,66 @@
 -- An answered read returns the journal's value of its tag, since its pieces are fragments of both.
-use Rattle.std.proofs.Common.{nat_eq, ◌≡◌, ℕ, zero, suc, ◌<◌, ◌≤◌, eqb, List, [], ◌∷◌, length, Option}
+use Rattle.std.proofs.Common.{nat_eq, ◌≡◌, ℕ, zero, suc, ◌<◌, ◌≤◌, false, List, [], ◌∷◌, length, Option}
 use Rattle.std.proofs.Common.{Some, None, IsSome, is_some, refl, sym, subst, subst₂, ap, ◌∙◌, inl, inr, arith, slice_get}
-use Rattle.std.proofs.lemmas.Bool.{cond_both}
-use Rattle.std.proofs.lemmas.Option.{same_Some, some_pair_parts}
+use Rattle.std.proofs.lemmas.Option.{same_Some}
 use Rattle.std.specs.List.{AllByRecursion, IsDistinct}
 use Rattle.tag.specs.declared.tag.Tag.{Tag}
 use Rattle.tag.specs.declared.limits.TheConstants.{MOST_MEMBERS}
 use Rattle.layout.specs.Layout.{IsLawful}
-use Rattle.phase.specs.declared.phase.Taken.{Taken}
-use Rattle.phase.specs.Phase.{Phase}
+use Rattle.phase.specs.Phase.{Phase, lacks_pieces}
 use Rattle.record.specs.declared.call.CallKind.{CallKind}
 use Rattle.record.specs.Records.{Call, Object, layout_at}
-use Rattle.bank.specs.declared.kind.Kind.TheVariants.{Next, Spread, Query, PreWrite, Finalize, Fetch}
+use Rattle.bank.specs.declared.kind.Kind.{Kind}
+use Rattle.bank.specs.declared.kind.Kind.TheVariants.{Fetch}
 use Rattle.record.specs.declared.call.CallKind.TheVariants.{Write}
 use Rattle.record.specs.Knowledge.{IsTruePhase, IsTrueReply}
 use Rattle.record.specs.declared.stage.Stage.{Stage}
-use Rattle.record.specs.Courses.{due, after, passed, stage_after, IsCourse, greatest_status, after_again}
-use Rattle.record.specs.declared.stage.Stage.TheVariants.{ReadNext, ReadSpread, QueryFrom, FetchAt, PreWriteAt}
-use Rattle.record.specs.declared.stage.Stage.TheVariants.{FinalizeAt, AgainNext, AgainSpread, MoveSpread, MoveQuery}
-use Rattle.record.specs.declared.stage.Stage.TheVariants.{MoveFetch, MovePreWrite, MoveFinalize, MoveFinal, Ended, Moved}
-use Rattle.bank.specs.declared.status.Status.{Status}
-use Rattle.bank.specs.declared.status.Status.TheVariants.{Unset, Pending, Final}
+use Rattle.record.specs.Courses.{passed, stage_after, IsCourse}
 use Rattle.record.specs.Legal.{IsLegal, source_of, first_stage}
 use Rattle.record.specs.Atomic.{IsAtomic}
-use Rattle.record.specs.Journals.{stage_tag, IsJournaled, ReadsJournaled, entries}
+use Rattle.record.specs.Journals.{stage_tag, tag_of, IsJournaled, ReadsJournaled, entries}
 use Rattle.record.specs.Fragments.{Code, IsValue, AreValues, Determines, IsCoded, IfCoded, answer_tag}
 use Rattle.record.specs.Fragments.{answer_piece, AreCoded, HasPiece, IsSettled, AreSettled}
 use Rattle.record.proofs.Atomic.Quorums.Meeting.{lawful_at}
 use Rattle.record.proofs.Atomic.Sequences.Whole.{atomic_of_legal, written_number}
 use Rattle.record.proofs.Lists.{all_weaker, all_get}
+use Rattle.record.proofs.Sound.Enough.Counting.{pieces_not_lacking}
+use Rattle.record.proofs.Sound.Fetching.{first_late}
+use Rattle.record.proofs.Sound.Late.{IsLateWith, fetch_due, late_stays}
 
--- a call's tag stays
-tag_of_again : (status : Status) (last position : ℕ) (tag : Tag) → stage_tag (after_again status last position tag) ≡ Some tag
-tag_of_again Unset last position tag =
-    cond_both (eqb position last) (Ended last tag) (PreWriteAt position tag) (λ stage. stage_tag stage ≡ Some tag)
-    (λ e. refl) (λ e. refl)
-tag_of_again Pending last position tag = refl
-tag_of_again Final last position tag = refl
-
-tag_after : (kind : CallKind) (number : ℕ) (stage : Stage) (replies : List Taken) (tag : Tag) → stage_tag stage ≡ Some tag →
-    stage_tag (after kind number stage replies) ≡ Some tag
-tag_after kind number (FetchAt q l t) replies tag e =
-    cond_both (eqb q l) (AgainNext l l t) (PreWriteAt l t) (λ stage. stage_tag stage ≡ Some tag) (λ _. e) (λ _. e)
-tag_after kind number (PreWriteAt l t) replies tag e = e
-tag_after kind number (FinalizeAt l t) replies tag e = e
-tag_after kind number (AgainNext l p t) replies tag e = tag_of_again (greatest_status replies) l p t ∙ e
-tag_after kind number (AgainSpread l p t s) replies tag e = e
-tag_after kind number (MoveFetch p t) replies tag e = e
-tag_after kind number (MovePreWrite p t) replies tag e = e
-tag_after kind number (MoveFinalize p t) replies tag e = e
-tag_after kind number (MoveFinal p t) replies tag e = e
-tag_after kind number (Ended l t) replies tag e = e
-tag_after kind number (Moved p t) replies tag e = e
-tag_after kind number (ReadNext a b) replies tag e = absurd (cc)
-tag_after kind number (ReadSpread a b c) replies tag e = absurd (cc)
-tag_after kind number (QueryFrom a b c d) replies tag e = absurd (cc)
-tag_after kind number (MoveSpread a) replies tag e = absurd (cc)
-tag_after kind number (MoveQuery a) replies tag e = absurd (cc)
-
-pub tag_passed : (kind : CallKind) (number : ℕ) (stage : Stage) (end : Option ℕ) (replies : List Taken) (tag : Tag) →
-    stage_tag stage ≡ Some tag → stage_tag (passed kind number stage end replies) ≡ Some tag
-tag_passed kind number stage None replies tag e = e
-tag_passed kind number stage (Some end) replies tag e = tag_after kind number stage replies tag e
-
-pub tag_stays : (kind : CallKind) (number : ℕ) (phases : List Phase) (stage : Stage) (tag : Tag) → stage_tag stage ≡ Some tag →
-    stage_tag (stage_after kind number stage phases) ≡ Some tag
-tag_stays kind number [] stage tag e = e
-tag_stays kind number (phase ∷ phases) stage tag e =
-    tag_stays kind number phases (passed kind number stage phase.end phase.replies) tag
-    (tag_passed kind number stage phase.end phase.replies tag e)
-
--- the tag that is fetched is the call's
-fetch_due : (stage : Stage) (tag : Tag) (position : ℕ) → due stage ≡ Some (Fetch tag, position) → stage_tag stage ≡ Some tag
-fetch_due (FetchAt q l t) tag position e = let same = (some_pair_parts (Fetch t) (Fetch tag) q position e).0 in cc
-fetch_due (MoveFetch p t) tag position e = let same = (some_pair_parts (Fetch t) (Fetch tag) p position e).0 in cc
-fetch_due (ReadNext a b) tag position e = absurd (let other = (some_pair_parts Next (Fetch tag) a position e).0 in cc)
-fetch_due (ReadSpread a b c) tag position e = absurd (let other = (some_pair_parts (Spread c) (Fetch tag) a position e).0 in cc)
-fetch_due (QueryFrom a b c d) tag position e = absurd (let other = (some_pair_parts Query (Fetch tag) a position e).0 in cc)
-fetch_due (PreWriteAt a b) tag position e = absurd (let other = (some_pair_parts (PreWrite b) (Fetch tag) a position e).0 in cc)
-fetch_due (FinalizeAt a b) tag position e = absurd (let other = (some_pair_parts (Finalize b) (Fetch tag) a position e).0 in cc)
-fetch_due (AgainNext a b c) tag position e = absurd (let other = (some_pair_parts Next (Fetch tag) b position e).0 in cc)
-fetch_due (AgainSpread a b c d) tag position e = absurd (let other = (some_pair_parts (Spread d) (Fetch tag) b position e).0 in cc)
-fetch_due (MoveSpread a) tag position e = absurd (let other = (some_pair_parts (Spread Pending) (Fetch tag) a position e).0 in cc)
-fetch_due (MoveQuery a) tag position e = absurd (let other = (some_pair_parts Query (Fetch tag) a position e).0 in cc)
-fetch_due (MovePreWrite a b) tag position e = absurd (let other = (some_pair_parts (PreWrite b) (Fetch tag) (suc a) position e).0 in cc)
-fetch_due (MoveFinalize a b) tag position e = absurd (let other = (some_pair_parts (Finalize b) (Fetch tag) (suc a) position e).0 in cc)
-fetch_due (MoveFinal a b) tag position e = absurd (let other = (some_pair_parts (Spread Final) (Fetch tag) a position e).0 in cc)
-fetch_due (Ended a b) tag position e = absurd (cc)
-fetch_due (Moved a b) tag position e = absurd (cc)
-
+-- the tag that was fetched with all its pieces is the call's
 pub fetched_tag : (kind : CallKind) (number : ℕ) (phases : List Phase) (stage : Stage) → IsCourse kind number stage phases →
-    (place : ℕ) (phase : Phase) (tag : Tag) →
-    slice_get phases place ≡ Some phase → phase.kind ≡ Fetch tag → stage_tag (stage_after kind number stage phases) ≡ Some tag
-fetched_tag kind number [] stage course place phase tag at e = absurd (cc)
-fetched_tag kind number (first ∷ phases) stage course zero phase tag at e =
-    let kind_is : first.kind ≡ Fetch tag = ap (λ (p : Phase). p.kind) (same_Some first phase at) ∙ e in
-    tag_stays kind number (first ∷ phases) stage tag
-    (fetch_due stage tag first.position (subst (λ k. due stage ≡ Some (k, first.position)) kind_is course.0))
-fetched_tag kind number (first ∷ phases) stage course (suc place) phase tag at e =
-    fetched_tag kind number phases (passed kind number stage first.end first.replies) course.2 place phase tag at e
+    (place : ℕ) (phase : Phase) (tag : Tag) → slice_get phases place ≡ Some phase → phase.kind ≡ Fetch tag →
+    lacks_pieces phase ≡ false → stage_tag (stage_after kind number stage phases) ≡ Some tag
+fetched_tag kind number [] stage course place phase tag at e enough = absurd (cc)
+fetched_tag kind number (first ∷ []) stage course zero phase tag at e enough = by_end first.end refl
+  where
+    by_end : (o : Option ℕ) → first.end ≡ o → stage_tag (stage_after kind number stage (first ∷ [])) ≡ Some tag
+    by_end None h =
+        let asked : first.kind ≡ Fetch tag = ap (λ (p : Phase). p.kind) (same_Some first phase at) ∙ e in
+        subst (λ o. stage_tag (passed kind number stage o first.replies (lacks_pieces first)) ≡ Some tag) (sym h)
+        (fetch_due stage tag first.position (course.0 ∙ ap (λ (k : Kind). Some (k, first.position)) asked))
+    by_end (Some end) h =
+        subst (λ o. stage_tag (passed kind number stage o first.replies (lacks_pieces first)) ≡ Some tag) (sym h)
+        ((first_late kind number stage first phase tag course.0 (same_Some first phase at) e enough).1)
+fetched_tag kind number (first ∷ []) stage course (suc place) phase tag at e enough = absurd (cc)
+fetched_tag kind number (first ∷ next ∷ later) stage course zero phase tag at e enough =
+    (late_stays kind number (next ∷ later) (passed kind number stage first.end first.replies (lacks_pieces first)) tag
+    (subst (λ o. IsLateWith tag (passed kind number stage o first.replies (lacks_pieces first))) (sym course.1.1)
+    (first_late kind number stage first phase tag course.0 (same_Some first phase at) e enough))).1
+fetched_tag kind number (first ∷ next ∷ later) stage course (suc place) phase tag at e enough =
+    fetched_tag kind number (next ∷ later) (passed kind number stage first.end first.replies (lacks_pieces first)) course.2 place phase tag
+    at e enough
+
+-- so is the tag of which a value was settled
+pub settled_tag : (fragment : Code) (object : Object) → IsLegal object → (index : ℕ) (call : Call) →
+    slice_get object.calls index ≡ Some call → (value : List ℕ) → (settled : IsSettled fragment object call value) →
+    tag_of object index call ≡ Some settled.fetch.0
+settled_tag fragment object legal index call at value settled =
+    let c = legal.calls index call at in
+    fetched_tag call.kind (suc index) call.phases (first_stage call.kind (source_of object index)) c.course settled.place settled.phase
+    settled.fetch.0 settled.within settled.fetch.1
+    (pieces_not_lacking fragment object settled.phase value
+    (all_get (IsTruePhase object) call.phases settled.place settled.phase c.phases settled.within) settled.pieces)
 
 -- the journal has one value for a tag
 pub journal_unique : (object : Object) → IsLegal object → (tag : Tag) (v w : List ℕ) → IsJournaled object tag v →
@@ -204,9 +166,7 @@ reads_journaled fragment object determines legal values coded settled = λ index
       value.0,
       has.fetch.0,
       value.1,
-      fetched_tag call.kind (suc index) call.phases (first_stage call.kind (source_of object index))
-          (legal.calls index call at).course has.place has.phase
-          has.fetch.0 has.within has.fetch.1,
+      settled_tag fragment object legal index call at value.0 has,
       settled_journaled fragment object determines legal values coded index call at value.0
           (values.settled index call value.0 at value.1) has,
     )

@@ -1,6 +1,6 @@
 -- The tags that a call shows are known: its own, or those of banks.
-use Rattle.std.proofs.Common.{◌≡◌, ℕ, suc, cond, eqb, List, [], ◌∷◌, Option}
-use Rattle.std.proofs.Common.{Some, None, refl, sym, subst, ◌∙◌, inl, inr, slice_get}
+use Rattle.std.proofs.Common.{◌≡◌, ℕ, zero, suc, Bool, true, false, cond, eqb, List, [], ◌∷◌, Option}
+use Rattle.std.proofs.Common.{Some, None, ◌<◌, refl, sym, subst, ◌∙◌, inl, inr, arith, slice_get}
 use Rattle.std.proofs.lemmas.Bool.{cond_both}
 use Rattle.std.proofs.lemmas.Option.{same_Some}
 use Rattle.std.specs.List.{AllByRecursion}
@@ -10,12 +10,12 @@ use Rattle.bank.specs.declared.status.Status.{Status}
 use Rattle.bank.specs.declared.kind.Kind.{Kind}
 use Rattle.bank.specs.declared.reply.Answer.{Answer}
 use Rattle.phase.specs.declared.phase.Taken.{Taken}
-use Rattle.phase.specs.Phase.{Phase}
+use Rattle.phase.specs.Phase.{Phase, lacks_pieces}
 use Rattle.record.specs.declared.call.CallKind.{CallKind}
 use Rattle.record.specs.Records.{Call, Object}
 use Rattle.bank.specs.declared.status.Status.TheVariants.{Unset, Pending, Final}
 use Rattle.record.specs.declared.call.CallKind.TheVariants.{Read, Write, Move}
-use Rattle.record.specs.Courses.{shown_tag, greatest_status, greatest_tag, after, passed, stage_after}
+use Rattle.record.specs.Courses.{shown_tag, greatest_status, greatest_tag, due, after, passed, stage_after, IsCourse}
 use Rattle.record.specs.Courses.{after_next, after_spread, after_query, after_again, tagged}
 use Rattle.record.specs.declared.stage.Stage.{Stage}
 use Rattle.record.specs.declared.stage.Stage.TheVariants.{ReadNext, ReadSpread, QueryFrom, FetchAt, PreWriteAt}
@@ -34,20 +34,21 @@ use Rattle.record.proofs.Sound.Parts.{ReplyCoded, all_from}
 abbrev pub Known : Object → Tag → Type 0
 Known object tag = (value : List ℕ) × IsJournaled object tag value
 
-abbrev KnownAt : Object → Stage → Type 0
-KnownAt object (QueryFrom p l t q) = Known object t
-KnownAt object (FetchAt q l t) = Known object t
-KnownAt object (PreWriteAt l t) = Known object t
-KnownAt object (FinalizeAt l t) = Known object t
-KnownAt object (AgainNext l p t) = Known object t
-KnownAt object (AgainSpread l p t s) = Known object t
-KnownAt object (MoveFetch p t) = Known object t
-KnownAt object (MovePreWrite p t) = Known object t
-KnownAt object (MoveFinalize p t) = Known object t
-KnownAt object (MoveFinal p t) = Known object t
-KnownAt object (Ended l t) = Known object t
-KnownAt object (Moved p t) = Known object t
-KnownAt object _ = Unit {0}
+-- what is so of the tag at a stage
+abbrev pub TagIs : (Tag → Type 0) → Stage → Type 0
+TagIs P (QueryFrom p l t q) = P t
+TagIs P (FetchAt q l t) = P t
+TagIs P (PreWriteAt l t) = P t
+TagIs P (FinalizeAt l t) = P t
+TagIs P (AgainNext l p t) = P t
+TagIs P (AgainSpread l p t s) = P t
+TagIs P (MoveFetch p t) = P t
+TagIs P (MovePreWrite p t) = P t
+TagIs P (MoveFinalize p t) = P t
+TagIs P (MoveFinal p t) = P t
+TagIs P (Ended l t) = P t
+TagIs P (Moved p t) = P t
+TagIs P _ = Unit {0}
 
 pub opening_known : (object : Object) → Known object opening_tag
 opening_known object = ([], inl (refl, refl))
@@ -60,36 +61,36 @@ shown_known fragment object position member kind answer.Done coded = opening_kno
 shown_known fragment object position member kind (answer.Pointer s) coded = opening_known object
 shown_known fragment object position member kind (answer.Piece piece) coded = opening_known object
 
-known_next : (object : Object) (p m : ℕ) (status : Status) → KnownAt object (after_next status p m)
-known_next object p m Unset = opening_known object
-known_next object p m Pending = tt
-known_next object p m Final = tt
+known_next : (P : Tag → Type 0) → P opening_tag → (p m : ℕ) (status : Status) → TagIs P (after_next status p m)
+known_next P opening p m Unset = opening
+known_next P opening p m Pending = tt
+known_next P opening p m Final = tt
 
-known_spread : (object : Object) (p m : ℕ) (status : Status) → KnownAt object (after_spread status p m)
-known_spread object p m Unset = tt
-known_spread object p m Pending = tt
-known_spread object p m Final = tt
+known_spread : (P : Tag → Type 0) (p m : ℕ) (status : Status) → TagIs P (after_spread status p m)
+known_spread P p m Unset = tt
+known_spread P p m Pending = tt
+known_spread P p m Final = tt
 
-known_again : (object : Object) (l p : ℕ) (t : Tag) (status : Status) → Known object t → KnownAt object (after_again status l p t)
-known_again object l p t Unset known =
-    cond_both (eqb p l) (Ended l t) (PreWriteAt p t) (λ stage. KnownAt object stage) (λ e. known) (λ e. known)
-known_again object l p t Pending known = known
-known_again object l p t Final known = known
+known_again : (P : Tag → Type 0) (l p : ℕ) (t : Tag) (status : Status) → P t → TagIs P (after_again status l p t)
+known_again P l p t Unset known =
+    cond_both (eqb p l) (Ended l t) (PreWriteAt p t) (λ stage. TagIs P stage) (λ e. known) (λ e. known)
+known_again P l p t Pending known = known
+known_again P l p t Final known = known
 
-abbrev IsNoWrite : CallKind → Type 0
+abbrev pub IsNoWrite : CallKind → Type 0
 IsNoWrite kind = (value : List ℕ) → kind ≡ Write value → ⊥
 
-known_tagged : (object : Object) (kind : CallKind) (number q l : ℕ) (t : Tag) → IsNoWrite kind → Known object t →
-    KnownAt object (tagged kind number q l t)
-known_tagged object Read number q l t plain known = known
-known_tagged object (Write value) number q l t plain known = absurd (plain value refl)
-known_tagged object Move number q l t plain known = known
+known_tagged : (P : Tag → Type 0) (kind : CallKind) (number q l : ℕ) (t : Tag) → IsNoWrite kind → P t →
+    TagIs P (tagged kind number q l t)
+known_tagged P Read number q l t plain known = known
+known_tagged P (Write value) number q l t plain known = absurd (plain value refl)
+known_tagged P Move number q l t plain known = known
 
-known_query : (object : Object) (kind : CallKind) (number : ℕ) (found : Tag) (p l : ℕ) (greatest : Tag) (q : ℕ) → IsNoWrite kind →
-    Known object found → Known object greatest → KnownAt object (after_query kind number found p l greatest q)
-known_query object kind number found p l greatest q plain new old =
-    cond_both (eqb p l) (tagged kind number place l later) (QueryFrom (suc p) l later place) (λ stage. KnownAt object stage)
-    (λ e. known_tagged object kind number place l later plain known) (λ e. known)
+known_query : (P : Tag → Type 0) (kind : CallKind) (number : ℕ) (found : Tag) (p l : ℕ) (greatest : Tag) (q : ℕ) → IsNoWrite kind →
+    P found → P greatest → TagIs P (after_query kind number found p l greatest q)
+known_query P kind number found p l greatest q plain new old =
+    cond_both (eqb p l) (tagged kind number place l later) (QueryFrom (suc p) l later place) (λ stage. TagIs P stage)
+    (λ e. known_tagged P kind number place l later plain known) (λ e. known)
   where
     later : Tag
     later = later_tag greatest found
@@ -97,67 +98,95 @@ known_query object kind number found p l greatest q plain new old =
     place : ℕ
     place = cond (tag_lt found greatest) q p
 
-    known : Known object later
-    known = cond_both (tag_lt greatest found) found greatest (λ t. Known object t) (λ e. new) (λ e. old)
+    known : P later
+    known = cond_both (tag_lt greatest found) found greatest P (λ e. new) (λ e. old)
 
-known_after : (object : Object) (kind : CallKind) (number : ℕ) (stage : Stage) (replies : List Taken) → IsNoWrite kind →
-    Known object (greatest_tag replies) → KnownAt object stage →
-    KnownAt object (after kind number stage replies)
-known_after object kind number (ReadNext p m) replies plain shown known = known_next object p m (greatest_status replies)
-known_after object kind number (ReadSpread p m s) replies plain shown known = known_spread object p m s
-known_after object kind number (QueryFrom p l t q) replies plain shown known =
-    known_query object kind number (greatest_tag replies) p l t q plain shown known
-known_after object kind number (FetchAt q l t) replies plain shown known =
-    cond_both (eqb q l) (AgainNext l l t) (PreWriteAt l t) (λ stage. KnownAt object stage) (λ e. known) (λ e. known)
-known_after object kind number (PreWriteAt l t) replies plain shown known = known
-known_after object kind number (FinalizeAt l t) replies plain shown known = known
-known_after object kind number (AgainNext l p t) replies plain shown known = known_again object l p t (greatest_status replies) known
-known_after object kind number (AgainSpread l p t s) replies plain shown known = known
-known_after object kind number (MoveSpread p) replies plain shown known = tt
-known_after object kind number (MoveQuery p) replies plain shown known = shown
-known_after object kind number (MoveFetch p t) replies plain shown known = known
-known_after object kind number (MovePreWrite p t) replies plain shown known = known
-known_after object kind number (MoveFinalize p t) replies plain shown known = known
-known_after object kind number (MoveFinal p t) replies plain shown known = known
-known_after object kind number (Ended l t) replies plain shown known = known
-known_after object kind number (Moved p t) replies plain shown known = known
+known_after : (P : Tag → Type 0) → P opening_tag → (kind : CallKind) (number : ℕ) (stage : Stage) (replies : List Taken) (lacks : Bool) →
+    IsNoWrite kind →
+    P (greatest_tag replies) → TagIs P stage →
+    TagIs P (after kind number stage replies lacks)
+known_after P opening kind number (ReadNext p m) replies lacks plain shown known = known_next P opening p m (greatest_status replies)
+known_after P opening kind number (ReadSpread p m s) replies lacks plain shown known = known_spread P p m s
+known_after P opening kind number (QueryFrom p l t q) replies lacks plain shown known =
+    known_query P kind number (greatest_tag replies) p l t q plain shown known
+known_after P opening kind number (FetchAt q l t) replies true plain shown known = tt
+known_after P opening kind number (FetchAt q l t) replies false plain shown known =
+    cond_both (eqb q l) (AgainNext l l t) (PreWriteAt l t) (λ stage. TagIs P stage) (λ e. known) (λ e. known)
+known_after P opening kind number (PreWriteAt l t) replies lacks plain shown known = known
+known_after P opening kind number (FinalizeAt l t) replies lacks plain shown known = known
+known_after P opening kind number (AgainNext l p t) replies lacks plain shown known = known_again P l p t (greatest_status replies) known
+known_after P opening kind number (AgainSpread l p t s) replies lacks plain shown known = known
+known_after P opening kind number (MoveSpread p) replies lacks plain shown known = tt
+known_after P opening kind number (MoveQuery p) replies lacks plain shown known = shown
+known_after P opening kind number (MoveFetch p t) replies true plain shown known = tt
+known_after P opening kind number (MoveFetch p t) replies false plain shown known = known
+known_after P opening kind number (MovePreWrite p t) replies lacks plain shown known = known
+known_after P opening kind number (MoveFinalize p t) replies lacks plain shown known = known
+known_after P opening kind number (MoveFinal p t) replies lacks plain shown known = known
+known_after P opening kind number (Ended l t) replies lacks plain shown known = known
+known_after P opening kind number (Moved p t) replies lacks plain shown known = known
 
-known_passed : (object : Object) (kind : CallKind) (number : ℕ) (stage : Stage) (end : Option ℕ) (replies : List Taken) →
-    IsNoWrite kind → Known object (greatest_tag replies) → KnownAt object stage →
-    KnownAt object (passed kind number stage end replies)
-known_passed object kind number stage None replies plain shown known = known
-known_passed object kind number stage (Some end) replies plain shown known = known_after object kind number stage replies plain shown known
+known_passed : (P : Tag → Type 0) → P opening_tag →
+    (kind : CallKind) (number : ℕ) (stage : Stage) (end : Option ℕ) (replies : List Taken) (lacks : Bool) →
+    IsNoWrite kind → P (greatest_tag replies) → TagIs P stage →
+    TagIs P (passed kind number stage end replies lacks)
+known_passed P opening kind number stage None replies lacks plain shown known = known
+known_passed P opening kind number stage (Some end) replies lacks plain shown known =
+    known_after P opening kind number stage replies lacks plain shown known
 
-known_end : (object : Object) (kind : CallKind) (number : ℕ) (phases : List Phase) (stage : Stage) → IsNoWrite kind →
-    AllByRecursion (λ phase. Known object (greatest_tag phase.replies)) phases →
-    KnownAt object stage → KnownAt object (stage_after kind number stage phases)
-known_end object kind number [] stage plain shown known = known
-known_end object kind number (phase ∷ phases) stage plain shown known =
-    known_end object kind number phases (passed kind number stage phase.end phase.replies) plain shown.1
-    (known_passed object kind number stage phase.end phase.replies plain shown.0 known)
+pub known_end : (P : Tag → Type 0) → P opening_tag → (kind : CallKind) (number : ℕ) (phases : List Phase) (stage : Stage) → IsNoWrite kind →
+    AllByRecursion (λ phase. P (greatest_tag phase.replies)) phases →
+    TagIs P stage → TagIs P (stage_after kind number stage phases)
+known_end P opening kind number [] stage plain shown known = known
+known_end P opening kind number (phase ∷ phases) stage plain shown known =
+    known_end P opening kind number phases (passed kind number stage phase.end phase.replies (lacks_pieces phase)) plain shown.1
+    (known_passed P opening kind number stage phase.end phase.replies (lacks_pieces phase) plain shown.0 known)
 
-known_tag : (object : Object) (stage : Stage) (tag : Tag) → KnownAt object stage → stage_tag stage ≡ Some tag → Known object tag
-known_tag object (FetchAt q l t) tag known e = subst (Known object) (same_Some t tag e) known
-known_tag object (PreWriteAt l t) tag known e = subst (Known object) (same_Some t tag e) known
-known_tag object (FinalizeAt l t) tag known e = subst (Known object) (same_Some t tag e) known
-known_tag object (AgainNext l p t) tag known e = subst (Known object) (same_Some t tag e) known
-known_tag object (AgainSpread l p t s) tag known e = subst (Known object) (same_Some t tag e) known
-known_tag object (MoveFetch p t) tag known e = subst (Known object) (same_Some t tag e) known
-known_tag object (MovePreWrite p t) tag known e = subst (Known object) (same_Some t tag e) known
-known_tag object (MoveFinalize p t) tag known e = subst (Known object) (same_Some t tag e) known
-known_tag object (MoveFinal p t) tag known e = subst (Known object) (same_Some t tag e) known
-known_tag object (Ended l t) tag known e = subst (Known object) (same_Some t tag e) known
-known_tag object (Moved p t) tag known e = subst (Known object) (same_Some t tag e) known
-known_tag object (ReadNext p m) tag known e = absurd (cc)
-known_tag object (ReadSpread p m s) tag known e = absurd (cc)
-known_tag object (QueryFrom p l t q) tag known e = absurd (cc)
-known_tag object (MoveSpread p) tag known e = absurd (cc)
-known_tag object (MoveQuery p) tag known e = absurd (cc)
+-- and at the stage where a phase was due
+pub known_at : (P : Tag → Type 0) → P opening_tag → (kind : CallKind) (number : ℕ) (phases : List Phase) (stage : Stage) →
+    IsNoWrite kind → IsCourse kind number stage phases → (place : ℕ) (phase : Phase) → slice_get phases place ≡ Some phase →
+    ((before : ℕ) (other : Phase) → before < place → slice_get phases before ≡ Some other → P (greatest_tag other.replies)) →
+    TagIs P stage → (there : Stage) × (due there ≡ Some (phase.kind, phase.position)) × TagIs P there
+known_at P opening kind number [] stage plain course place phase at shown known = absurd (cc)
+known_at P opening kind number (first ∷ phases) stage plain course zero phase at shown known =
+    (stage, subst (λ (p : Phase). due stage ≡ Some (p.kind, p.position)) (same_Some first phase at) course.0, known)
+known_at P opening kind number (first ∷ phases) stage plain course (suc place) phase at shown known =
+    known_at P opening kind number phases (passed kind number stage first.end first.replies (lacks_pieces first)) plain course.2 place
+    phase at (λ before other less e. shown (suc before) other (omega arith) e)
+    (known_passed P opening kind number stage first.end first.replies (lacks_pieces first) plain (shown 0 first (omega arith) refl) known)
 
-known_first : (object : Object) (kind : CallKind) (from : ℕ) → KnownAt object (first_stage kind from)
-known_first object Read from = tt
-known_first object (Write value) from = tt
-known_first object Move from = tt
+pub known_tag : (P : Tag → Type 0) (stage : Stage) (tag : Tag) → TagIs P stage → stage_tag stage ≡ Some tag → P tag
+known_tag P (FetchAt q l t) tag known e = subst P (same_Some t tag e) known
+known_tag P (PreWriteAt l t) tag known e = subst P (same_Some t tag e) known
+known_tag P (FinalizeAt l t) tag known e = subst P (same_Some t tag e) known
+known_tag P (AgainNext l p t) tag known e = subst P (same_Some t tag e) known
+known_tag P (AgainSpread l p t s) tag known e = subst P (same_Some t tag e) known
+known_tag P (MoveFetch p t) tag known e = subst P (same_Some t tag e) known
+known_tag P (MovePreWrite p t) tag known e = subst P (same_Some t tag e) known
+known_tag P (MoveFinalize p t) tag known e = subst P (same_Some t tag e) known
+known_tag P (MoveFinal p t) tag known e = subst P (same_Some t tag e) known
+known_tag P (Ended l t) tag known e = subst P (same_Some t tag e) known
+known_tag P (Moved p t) tag known e = subst P (same_Some t tag e) known
+known_tag P (ReadNext p m) tag known e = absurd (cc)
+known_tag P (ReadSpread p m s) tag known e = absurd (cc)
+known_tag P (QueryFrom p l t q) tag known e = absurd (cc)
+known_tag P (MoveSpread p) tag known e = absurd (cc)
+known_tag P (MoveQuery p) tag known e = absurd (cc)
+
+pub known_first : (P : Tag → Type 0) (kind : CallKind) (from : ℕ) → TagIs P (first_stage kind from)
+known_first P Read from = tt
+known_first P (Write value) from = tt
+known_first P Move from = tt
+
+-- what the phases of a call show is in the journal
+pub phase_known : (fragment : Code) (object : Object) (step : ℕ) → IsSound fragment object step → (index : ℕ) (call : Call) →
+    slice_get object.calls index ≡ Some call → (place : ℕ) (phase : Phase) → slice_get call.phases place ≡ Some phase →
+    Known object (greatest_tag phase.replies)
+phase_known fragment object step sound index call at place phase within =
+    greatest_is (Known object) phase.replies (opening_known object)
+    (all_weaker (ReplyCoded fragment object phase) (λ reply. Known object (shown_tag reply.reply.answer))
+    (λ reply c. shown_known fragment object phase.position reply.member phase.kind reply.reply.answer c) phase.replies
+    (sound.coded.phases index place call phase at within))
 
 -- a call's tag is in the journal
 pub call_known : (fragment : Code) (object : Object) (step : ℕ) → IsSound fragment object step → (index : ℕ) (call : Call) →
@@ -166,16 +195,14 @@ pub call_known : (fragment : Code) (object : Object) (step : ℕ) → IsSound fr
 call_known fragment object step sound index call at tag e = go call.kind refl
   where
     shown : AllByRecursion (λ phase. Known object (greatest_tag phase.replies)) call.phases
-    shown = all_from (λ phase. Known object (greatest_tag phase.replies)) call.phases (λ place phase within.
-        greatest_is (Known object) phase.replies (opening_known object)
-        (all_weaker (ReplyCoded fragment object phase) (λ reply. Known object (shown_tag reply.reply.answer))
-        (λ reply c. shown_known fragment object phase.position reply.member phase.kind reply.reply.answer c) phase.replies
-        (sound.coded.phases index place call phase at within)))
+    shown = all_from (λ phase. Known object (greatest_tag phase.replies)) call.phases
+        (λ place phase within. phase_known fragment object step sound index call at place phase within)
 
     other : IsNoWrite call.kind → Known object tag
-    other plain = known_tag object (stage_of object index call) tag
-        (known_end object call.kind (suc index) call.phases (first_stage call.kind (source_of object index)) plain shown
-        (known_first object call.kind (source_of object index))) e
+    other plain = known_tag (Known object) (stage_of object index call) tag
+        (known_end (Known object) (opening_known object) call.kind (suc index) call.phases
+        (first_stage call.kind (source_of object index)) plain shown
+        (known_first (Known object) call.kind (source_of object index))) e
 
     go : (kind : CallKind) → call.kind ≡ kind → Known object tag
     go (Write value) k = (value, inr (record { index = index; call = call; at = at; kind = k; tagged = e }))

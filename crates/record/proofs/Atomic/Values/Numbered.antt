@@ -1,5 +1,5 @@
 -- The numbers of tags are those of past steps.
-use Rattle.std.proofs.Common.{◌≡◌, ℕ, suc, ◌<◌, ◌≤◌, cond, eqb, List, []}
+use Rattle.std.proofs.Common.{◌≡◌, ℕ, suc, ◌<◌, ◌≤◌, Bool, true, false, cond, eqb, List, []}
 use Rattle.std.proofs.Common.{◌∷◌, Option, Some, None, subst, arith, le_trans, slice_get}
 use Rattle.std.proofs.lemmas.Bool.{cond_both}
 use Rattle.std.proofs.lemmas.Option.{same_Some}
@@ -8,7 +8,7 @@ use Rattle.tag.specs.declared.tag.Tag.{Tag}
 use Rattle.tag.specs.Tag.{later_tag, tag_lt}
 use Rattle.bank.specs.declared.status.Status.{Status}
 use Rattle.phase.specs.declared.phase.Taken.{Taken}
-use Rattle.phase.specs.Phase.{Phase}
+use Rattle.phase.specs.Phase.{Phase, lacks_pieces}
 use Rattle.record.specs.declared.call.CallKind.{CallKind}
 use Rattle.record.specs.Records.{Object}
 use Rattle.bank.specs.declared.status.Status.TheVariants.{Unset, Pending, Final}
@@ -81,38 +81,41 @@ numbered_query step kind number found p l greatest q new old =
     past : later.number ≤ step
     past = cond_both (tag_lt greatest found) found greatest (λ t. t.number ≤ step) (λ e. new) (λ e. old)
 
-numbered_after : (step : ℕ) (kind : CallKind) (number : ℕ) (stage : Stage) (replies : List Taken) →
-    (greatest_tag replies).number ≤ step → NumberedAt step stage → NumberedAt step (after kind number stage replies)
-numbered_after step kind number (ReadNext p m) replies shown h = numbered_next step p m (greatest_status replies)
-numbered_after step kind number (ReadSpread p m s) replies shown h = numbered_spread step p m s
-numbered_after step kind number (QueryFrom p l t q) replies shown h = numbered_query step kind number (greatest_tag replies) p l t q shown h
-numbered_after step kind number (FetchAt q l t) replies shown h =
+numbered_after : (step : ℕ) (kind : CallKind) (number : ℕ) (stage : Stage) (replies : List Taken) (lacks : Bool) →
+    (greatest_tag replies).number ≤ step → NumberedAt step stage → NumberedAt step (after kind number stage replies lacks)
+numbered_after step kind number (ReadNext p m) replies lacks shown h = numbered_next step p m (greatest_status replies)
+numbered_after step kind number (ReadSpread p m s) replies lacks shown h = numbered_spread step p m s
+numbered_after step kind number (QueryFrom p l t q) replies lacks shown h =
+    numbered_query step kind number (greatest_tag replies) p l t q shown h
+numbered_after step kind number (FetchAt q l t) replies true shown h = tt
+numbered_after step kind number (FetchAt q l t) replies false shown h =
     cond_both (eqb q l) (AgainNext l l t) (PreWriteAt l t) (λ stage. NumberedAt step stage) (λ e. h) (λ e. h)
-numbered_after step kind number (PreWriteAt l t) replies shown h = h
-numbered_after step kind number (FinalizeAt l t) replies shown h = h
-numbered_after step kind number (AgainNext l p t) replies shown h = numbered_again step l p t (greatest_status replies) h
-numbered_after step kind number (AgainSpread l p t s) replies shown h = h
-numbered_after step kind number (MoveSpread p) replies shown h = tt
-numbered_after step kind number (MoveQuery p) replies shown h = omega arith
-numbered_after step kind number (MoveFetch p t) replies shown h = h
-numbered_after step kind number (MovePreWrite p t) replies shown h = h
-numbered_after step kind number (MoveFinalize p t) replies shown h = h
-numbered_after step kind number (MoveFinal p t) replies shown h = h
-numbered_after step kind number (Ended l t) replies shown h = h
-numbered_after step kind number (Moved p t) replies shown h = h
+numbered_after step kind number (PreWriteAt l t) replies lacks shown h = h
+numbered_after step kind number (FinalizeAt l t) replies lacks shown h = h
+numbered_after step kind number (AgainNext l p t) replies lacks shown h = numbered_again step l p t (greatest_status replies) h
+numbered_after step kind number (AgainSpread l p t s) replies lacks shown h = h
+numbered_after step kind number (MoveSpread p) replies lacks shown h = tt
+numbered_after step kind number (MoveQuery p) replies lacks shown h = omega arith
+numbered_after step kind number (MoveFetch p t) replies true shown h = tt
+numbered_after step kind number (MoveFetch p t) replies false shown h = h
+numbered_after step kind number (MovePreWrite p t) replies lacks shown h = h
+numbered_after step kind number (MoveFinalize p t) replies lacks shown h = h
+numbered_after step kind number (MoveFinal p t) replies lacks shown h = h
+numbered_after step kind number (Ended l t) replies lacks shown h = h
+numbered_after step kind number (Moved p t) replies lacks shown h = h
 
-numbered_passed : (step : ℕ) (kind : CallKind) (number : ℕ) (stage : Stage) (end : Option ℕ) (replies : List Taken) →
-    (greatest_tag replies).number ≤ step → NumberedAt step stage → NumberedAt step (passed kind number stage end replies)
-numbered_passed step kind number stage None replies shown h = h
-numbered_passed step kind number stage (Some end) replies shown h = numbered_after step kind number stage replies shown h
+numbered_passed : (step : ℕ) (kind : CallKind) (number : ℕ) (stage : Stage) (end : Option ℕ) (replies : List Taken) (lacks : Bool) →
+    (greatest_tag replies).number ≤ step → NumberedAt step stage → NumberedAt step (passed kind number stage end replies lacks)
+numbered_passed step kind number stage None replies lacks shown h = h
+numbered_passed step kind number stage (Some end) replies lacks shown h = numbered_after step kind number stage replies lacks shown h
 
 numbered_end : (step : ℕ) (kind : CallKind) (number : ℕ) (phases : List Phase) (stage : Stage) →
     AllByRecursion (λ phase. (greatest_tag phase.replies).number ≤ step) phases →
     NumberedAt step stage → NumberedAt step (stage_after kind number stage phases)
 numbered_end step kind number [] stage shown h = h
 numbered_end step kind number (phase ∷ phases) stage shown h =
-    numbered_end step kind number phases (passed kind number stage phase.end phase.replies) shown.1
-    (numbered_passed step kind number stage phase.end phase.replies shown.0 h)
+    numbered_end step kind number phases (passed kind number stage phase.end phase.replies (lacks_pieces phase)) shown.1
+    (numbered_passed step kind number stage phase.end phase.replies (lacks_pieces phase) shown.0 h)
 
 numbered_tag : (step : ℕ) (stage : Stage) (tag : Tag) → NumberedAt step stage → stage_tag stage ≡ Some tag →
     tag.number ≤ suc step

@@ -1,5 +1,5 @@
 -- What is sent is the journal's value of its tag.
-use Rattle.std.proofs.Common.{◌≡◌, ℕ, suc, ◌≤◌, true, List, Option, Some, None}
+use Rattle.std.proofs.Common.{◌≡◌, ℕ, ◌≤◌, true, List, Option, Some, None}
 use Rattle.std.proofs.Common.{IsSome, refl, sym, subst, ap, ◌∙◌, inl, inr, arith, slice_get}
 use Rattle.std.proofs.lemmas.Option.{same_Some}
 use Rattle.tag.specs.declared.tag.Tag.{Tag}
@@ -16,12 +16,12 @@ use Rattle.record.specs.declared.stage.Stage.{Stage}
 use Rattle.record.specs.declared.stage.Stage.TheVariants.{ReadNext, ReadSpread, QueryFrom, FetchAt, PreWriteAt}
 use Rattle.record.specs.declared.stage.Stage.TheVariants.{FinalizeAt, AgainNext, AgainSpread, MoveSpread, MoveQuery}
 use Rattle.record.specs.declared.stage.Stage.TheVariants.{MoveFetch, MovePreWrite, MoveFinalize, MoveFinal, Ended, Moved}
-use Rattle.record.specs.Legal.{first_stage, source_of, stage_of}
+use Rattle.record.specs.Legal.{stage_of}
 use Rattle.record.specs.Journals.{stage_tag, tag_of, IsJournaled}
 use Rattle.record.specs.Fragments.{Code, Determines, IsFragment, IsCoded, IfCoded, kind_tag, request_tag, request_piece}
 use Rattle.record.specs.Sound.{IsSound}
 use Rattle.record.specs.Sending.{sent_value, value_or_empty, fragment_piece, request_to, sent_pieces}
-use Rattle.record.proofs.Atomic.Values.Coded.{settled_journaled, fetched_tag}
+use Rattle.record.proofs.Atomic.Values.Coded.{settled_journaled, settled_tag}
 use Rattle.record.proofs.Atomic.Values.Known.{Known, call_known}
 
 -- the value whose pieces a call sends is the journal's
@@ -34,8 +34,7 @@ sent_journaled fragment object step determines sound index call at tag e value v
     settled s =
         let has = sound.settled.settled index call value at s in
         let fetched : tag_of object index call ≡ Some has.fetch.0 =
-        fetched_tag call.kind (suc index) call.phases (first_stage call.kind (source_of object index))
-        (sound.legal.calls index call at).course has.place has.phase has.fetch.0 has.within has.fetch.1 in
+        settled_tag fragment object sound.legal index call at value has in
         subst (λ t. IsJournaled object t value) (same_Some has.fetch.0 tag (sym fetched ∙ e))
         (settled_journaled fragment object determines sound.legal sound.values sound.coded index call at value
         (sound.values.settled index call value at s) has)

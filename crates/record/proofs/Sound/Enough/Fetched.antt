@@ -89,7 +89,7 @@ fin_rests object now position (MoveFinal a b) tag facts e =
 fin_rests object now position (Ended a b) tag facts e = absurd (cc)
 fin_rests object now position (Moved a b) tag facts e = absurd (cc)
 
-came_at : (o : Option ℕ) (step : ℕ) → came_by o step ≡ true → (came : ℕ) × (o ≡ Some came) × (came ≤ step)
+pub came_at : (o : Option ℕ) (step : ℕ) → came_by o step ≡ true → (came : ℕ) × (o ≡ Some came) × (came ≤ step)
 came_at None step e = absurd (cc)
 came_at (Some came) step e = (came, refl, leb-true came step e)
 

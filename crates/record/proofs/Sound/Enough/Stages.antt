@@ -11,7 +11,7 @@ use Rattle.layout.specs.Layout.{IsLawful}
 use Rattle.bank.specs.declared.status.Status.{Status}
 use Rattle.bank.specs.declared.kind.Kind.{Kind}
 use Rattle.phase.specs.declared.phase.Taken.{Taken}
-use Rattle.phase.specs.Phase.{Phase}
+use Rattle.phase.specs.Phase.{Phase, lacks_pieces}
 use Rattle.record.specs.declared.call.CallKind.{CallKind}
 use Rattle.record.specs.Records.{Call, Object}
 use Rattle.bank.specs.declared.status.Status.TheVariants.{Unset, Pending, Final}
@@ -94,35 +94,38 @@ query_pieces object kind number found j last greatest shown_at end new old =
         cases_of false false h k = subst (λ t. Somewhere object j t end) (same_tag found greatest h k) new
 
 pieces_after :
-    (object : Object) (kind : CallKind) (number now : ℕ) (stage : Stage) (asked : Kind) (position end : ℕ) (replies : List Taken) →
+    (object : Object) (kind : CallKind) (number now : ℕ) (stage : Stage) (asked : Kind) (position end : ℕ) (replies : List Taken)
+    (lacks : Bool) →
     due stage ≡ Some (asked, position) → Says object asked position end replies → now ≤ end → PieceFacts object now stage →
-    PieceFacts object end (after kind number stage replies)
-pieces_after object kind number now (ReadNext p m) asked position end replies e says over facts =
+    PieceFacts object end (after kind number stage replies lacks)
+pieces_after object kind number now (ReadNext p m) asked position end replies lacks e says over facts =
     after_next_pieces object end (greatest_status replies) p m
-pieces_after object kind number now (ReadSpread p m status) asked position end replies e says over facts =
+pieces_after object kind number now (ReadSpread p m status) asked position end replies lacks e says over facts =
     after_spread_pieces object end status p m
-pieces_after object kind number now (QueryFrom p last greatest shown_at) asked position end replies e says over facts =
+pieces_after object kind number now (QueryFrom p last greatest shown_at) asked position end replies lacks e says over facts =
     let here = says_at object Query asked p position end replies says e in
     query_pieces object kind number (greatest_tag replies) p last greatest shown_at end (here.shown refl)
     (somewhere_later object shown_at greatest now end over facts)
-pieces_after object kind number now (FetchAt q last tag) asked position end replies e says over facts =
+pieces_after object kind number now (FetchAt q last tag) asked position end replies true e says over facts = tt
+pieces_after object kind number now (FetchAt q last tag) asked position end replies false e says over facts =
     cond_both (eqb q last) (AgainNext last last tag) (PreWriteAt last tag) (λ stage. PieceFacts object end stage) (λ e. tt) (λ e. tt)
-pieces_after object kind number now (PreWriteAt last tag) asked position end replies e says over facts =
+pieces_after object kind number now (PreWriteAt last tag) asked position end replies lacks e says over facts =
     let here = says_at object (PreWrite tag) asked last position end replies says e in here.brought tag refl
-pieces_after object kind number now (FinalizeAt last tag) asked position end replies e says over facts = tt
-pieces_after object kind number now (AgainNext last p tag) asked position end replies e says over facts =
+pieces_after object kind number now (FinalizeAt last tag) asked position end replies lacks e says over facts = tt
+pieces_after object kind number now (AgainNext last p tag) asked position end replies lacks e says over facts =
     after_again_pieces object end (greatest_status replies) last p tag
-pieces_after object kind number now (AgainSpread last p tag status) asked position end replies e says over facts = tt
-pieces_after object kind number now (MoveSpread p) asked position end replies e says over facts = tt
-pieces_after object kind number now (MoveQuery p) asked position end replies e says over facts =
+pieces_after object kind number now (AgainSpread last p tag status) asked position end replies lacks e says over facts = tt
+pieces_after object kind number now (MoveSpread p) asked position end replies lacks e says over facts = tt
+pieces_after object kind number now (MoveQuery p) asked position end replies lacks e says over facts =
     let here = says_at object Query asked p position end replies says e in here.shown refl
-pieces_after object kind number now (MoveFetch p tag) asked position end replies e says over facts = tt
-pieces_after object kind number now (MovePreWrite p tag) asked position end replies e says over facts =
+pieces_after object kind number now (MoveFetch p tag) asked position end replies true e says over facts = tt
+pieces_after object kind number now (MoveFetch p tag) asked position end replies false e says over facts = tt
+pieces_after object kind number now (MovePreWrite p tag) asked position end replies lacks e says over facts =
     let here = says_at object (PreWrite tag) asked (suc p) position end replies says e in here.brought tag refl
-pieces_after object kind number now (MoveFinalize p tag) asked position end replies e says over facts = tt
-pieces_after object kind number now (MoveFinal p tag) asked position end replies e says over facts = tt
-pieces_after object kind number now (Moved p tag) asked position end replies e says over facts = tt
-pieces_after object kind number now (Ended last tag) asked position end replies e says over facts = tt
+pieces_after object kind number now (MoveFinalize p tag) asked position end replies lacks e says over facts = tt
+pieces_after object kind number now (MoveFinal p tag) asked position end replies lacks e says over facts = tt
+pieces_after object kind number now (Moved p tag) asked position end replies lacks e says over facts = tt
+pieces_after object kind number now (Ended last tag) asked position end replies lacks e says over facts = tt
 
 pub record AtPhase (object : Object) (phase : Phase) : Type 0 where
   pub stage : Stage
@@ -145,10 +148,12 @@ at_phase object lawful kind number (first ∷ next ∷ later) now stage course t
     let ended = course.1.1 in
     let grew = start_before_end object first end lawful truth.0 ended in
     let before : now ≤ first.start = starts in
-    at_phase object lawful kind number (next ∷ later) end (passed kind number stage first.end first.replies) course.2 truth.1
+    at_phase object lawful kind number (next ∷ later) end
+    (passed kind number stage first.end first.replies (lacks_pieces first)) course.2 truth.1
     (le_of_lt course.1.2)
-    (subst (λ o. PieceFacts object end (passed kind number stage o first.replies)) (sym ended)
-    (pieces_after object kind number now stage first.kind first.position end first.replies course.0 (says_of object first end truth.0 ended)
+    (subst (λ o. PieceFacts object end (passed kind number stage o first.replies (lacks_pieces first))) (sym ended)
+    (pieces_after object kind number now stage first.kind first.position end first.replies (lacks_pieces first) course.0
+    (says_of object first end truth.0 ended)
     (le_trans before grew) facts))
     place phase e
 

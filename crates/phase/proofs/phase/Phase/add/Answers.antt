@@ -40,6 +40,7 @@ returns-clause-phase c =
       position = p.ask.position;
       members = p.members;
       quorum = p.quorum;
+      needed = p.needed;
       start = p.start;
       replies = p.replies.items;
       end = end_of p.quorum p.replies.items;

@@ -1,0 +1,4 @@
+-- Where a read's fetch lacks pieces, writes overlap the read.
+pub mod Attempts
+pub mod Overlaps
+pub mod Written
