@@ -8,7 +8,7 @@ use Rattle.register.specs.declared.act.Act.{Act}
 use Rattle.register.specs.declared.act.Act.TheVariants as act
 use Rattle.register.specs.declared.act.Answered.{Answered}
 use Rattle.register.specs.declared.act.Answered.TheVariants as answered
-use Rattle.register.specs.Causes.{read_cause, write_cause, move_cause, advance_cause}
+use Rattle.register.specs.Causes.{read_cause, write_cause, move_cause, advance_cause, again_cause}
 use Rattle.register.specs.Causes.{supply_cause, post_cause, settle_cause, answer_cause}
 use Rattle.register.specs.Causes.{serve_cause, take_cause, lose_cause, repeat_cause}
 use Rattle.register.specs.View.{receipt_at, took_at}
@@ -19,6 +19,7 @@ step_of act.CallRead = Step.CallRead
 step_of (act.CallWrite value) = Step.CallWrite value
 step_of (act.CallMove layout) = Step.CallMove layout
 step_of (act.Advance call) = Step.Advance (pred call)
+step_of (act.Again call) = Step.Again (pred call)
 step_of (act.Supply call coded) = Step.Supply (pred call)
 step_of (act.Post call) = Step.Post (pred call)
 step_of (act.Settle call decoded) = Step.Settle (pred call) decoded.value
@@ -34,6 +35,7 @@ act_cause act.CallRead now object = read_cause now object
 act_cause (act.CallWrite value) now object = write_cause value now object
 act_cause (act.CallMove layout) now object = move_cause layout now object
 act_cause (act.Advance call) now object = advance_cause now object call
+act_cause (act.Again call) now object = again_cause now object call
 act_cause (act.Supply call coded) now object = supply_cause now object call coded
 act_cause (act.Post call) now object = post_cause now object call
 act_cause (act.Settle call decoded) now object = settle_cause now object call decoded

@@ -5,7 +5,7 @@ use Rattle.tag.specs.declared.limits.TheConstants.{LONGEST_VALUE, MOST_BYTES, MO
 use Rattle.tag.specs.declared.limits.TheConstants.{MOST_STEPS}
 use Rattle.tag.specs.declared.refusal.Refusal.{Refusal}
 use Rattle.tag.specs.declared.refusal.Refusal.TheVariants.{TooLong, NoCall, NotNow, NoMessage, WrongCode, MovePending}
-use Rattle.tag.specs.declared.refusal.Refusal.TheVariants.{Full}
+use Rattle.tag.specs.declared.refusal.Refusal.TheVariants.{Collected, Full}
 use Rattle.layout.specs.Layout.{Layout}
 use Rattle.encoder.specs.Fragment.{fragment}
 use Rattle.encoder.specs.Coded.{Coding}
@@ -99,9 +99,16 @@ abbrev pub is_advance : Want → Bool
 is_advance want.Advance = true
 is_advance _ = false
 
-abbrev pub is_settle : Want → Bool
-is_settle (want.Settle k len) = true
-is_settle _ = false
+abbrev pub is_again : Want → Bool
+is_again want.Again = true
+is_again _ = false
+
+-- a call that wants to settle a value may, and then what comes after it; of one whose fetch lacks pieces, they are
+-- collected
+abbrev pub if_settle : Want → Option Refusal → Option Refusal
+if_settle (want.Settle k len) later = later
+if_settle want.Again later = Some Collected
+if_settle _ later = Some NotNow
 
 abbrev pub is_answer : Want → Bool
 is_answer want.Answer = true
@@ -121,10 +128,26 @@ new_phase_cause step now object call =
 abbrev pub number_cause : Object → (number : ℕ) → Option Refusal
 number_cause object number = if_call (call_at object number) (λ call. None)
 
+-- whether a call that wants this is to begin the phase that is due, as it is or anew
+abbrev pub wants_due : (anew : Bool) → Want → Bool
+wants_due false wanted = is_advance wanted
+wants_due true wanted = is_again wanted
+
+-- the step that begins that phase
+abbrev pub due_step : (anew : Bool) → (index : ℕ) → Step
+due_step false index = Step.Advance index
+due_step true index = Step.Again index
+
+abbrev pub due_cause : (anew : Bool) → (now : ℕ) → Object → (number : ℕ) → Option Refusal
+due_cause anew now object number =
+    if_call (call_at object number) (λ call. unless (wants_due anew (want_of object (pred number) call)) NotNow
+    (new_phase_cause (due_step anew (pred number)) now object call))
+
 abbrev pub advance_cause : (now : ℕ) → Object → (number : ℕ) → Option Refusal
-advance_cause now object number =
-    if_call (call_at object number) (λ call. unless (is_advance (want_of object (pred number) call)) NotNow
-    (new_phase_cause (Step.Advance (pred number)) now object call))
+advance_cause now object number = due_cause false now object number
+
+abbrev pub again_cause : (now : ℕ) → Object → (number : ℕ) → Option Refusal
+again_cause now object number = due_cause true now object number
 
 -- whether the phase sends no pieces
 abbrev pub is_plain : Option Phase → Bool
@@ -178,7 +201,7 @@ value_cause object number = if_call (call_at object number)
 -- there are pieces to decode
 abbrev pub pieces_cause : Object → (number : ℕ) → Option Refusal
 pieces_cause object number = if_call (call_at object number)
-    (λ call. unless (is_settle (want_of object (pred number) call)) NotNow None)
+    (λ call. if_settle (want_of object (pred number) call) None)
 
 -- whether a decoded value is of pieces of this phase
 abbrev pub is_decoded_in : Object → Option Phase → Decoding → Bool
@@ -187,7 +210,7 @@ is_decoded_in object (Some phase) decoded = is_decoded_from (layout_at object ph
 
 abbrev pub settle_cause : (now : ℕ) → Object → (number : ℕ) → Decoding → Option Refusal
 settle_cause now object number decoded =
-    if_call (call_at object number) (λ call. unless (is_settle (want_of object (pred number) call)) NotNow
+    if_call (call_at object number) (λ call. if_settle (want_of object (pred number) call)
     (unless (is_decoded_in object (current_phase call.phases) decoded) WrongCode (if_step now None)))
 
 abbrev pub answer_cause : (now : ℕ) → Object → (number : ℕ) → Option Refusal

@@ -1,6 +1,6 @@
 -- One object with the number of its last step, and what each step makes of it.
-use Rattle.std.specs.Prelude.{ℕ, Bool, List, refl}
-use Rattle.std.specs.Coded.{Coded, code_by, coded×, coded_list, coded_ℕ}
+use Rattle.std.specs.Prelude.{ℕ, Bool, List, Option, refl}
+use Rattle.std.specs.Coded.{Coded, code_by, coded×, coded_list, coded_ℕ, coded_option}
 use Rattle.layout.specs.Layout.{Layout}
 use Rattle.encoder.specs.Fragment.{fragment}
 use Rattle.bank.specs.Bank.{Bank}
@@ -18,13 +18,19 @@ pub record State : Type 0 where
 -- an object is stored as the tuple of its parts
 abbrev pub state_code : Coded Layout → Coded Bank → Coded Message → Coded Call → Coded State
 state_code layout bank message call =
-    code_by (List Layout × (List (List Bank) × (List Message × (List Call × ℕ))))
+    code_by (List Layout × (List (List Bank) × (List Message × (List Call × (Option ℕ × ℕ)))))
     (coded× (coded_list layout) (coded× (coded_list (coded_list bank))
-    (coded× (coded_list message) (coded× (coded_list call) coded_ℕ))))
-    (λ s. (s.object.layouts, (s.object.banks, (s.object.mail, (s.object.calls, s.last)))))
+    (coded× (coded_list message) (coded× (coded_list call) (coded× (coded_option coded_ℕ) coded_ℕ)))))
+    (λ s. (s.object.layouts, (s.object.banks, (s.object.mail, (s.object.calls, (s.object.delta, s.last))))))
     (λ p. record {
-      object = record { layouts = p.0; banks = p.1.0; mail = p.1.1.0; calls = p.1.1.1.0 };
-      last = p.1.1.1.1;
+      object = record {
+        delta = p.1.1.1.1.0;
+        layouts = p.0;
+        banks = p.1.0;
+        mail = p.1.1.0;
+        calls = p.1.1.1.0;
+      };
+      last = p.1.1.1.1.1;
     }) (λ _. refl)
 
 -- the state that step number `now` makes of a state
@@ -34,6 +40,7 @@ made step now state = record { object = stepped fragment step now state.object; 
 -- what a register holds: the parts of the record, the stage of each call, whether a move is open, the bytes that all
 -- banks store, and the number of the last step
 pub record Contents : Type 0 where
+  pub delta : Option ℕ
   pub positions : List Position
   pub mail : List Message
   pub calls : List Tracked
@@ -42,9 +49,14 @@ pub record Contents : Type 0 where
   pub last : ℕ
 
 -- the record of what a register holds
-abbrev pub object_of : List Position → List Message → List Tracked → Object
-object_of positions mail calls =
-    record { layouts = layouts_of positions; banks = banks_of positions; mail = mail; calls = calls_of calls }
+abbrev pub object_of : (delta : Option ℕ) → List Position → List Message → List Tracked → Object
+object_of delta positions mail calls = record {
+  delta = delta;
+  layouts = layouts_of positions;
+  banks = banks_of positions;
+  mail = mail;
+  calls = calls_of calls;
+}
 
 abbrev pub state_of : Contents → State
-state_of c = record { object = object_of c.positions c.mail c.calls; last = c.last }
+state_of c = record { object = object_of c.delta c.positions c.mail c.calls; last = c.last }

@@ -7,7 +7,7 @@ use Rattle.bank.specs.declared.kind.Kind.{Kind}
 use Rattle.mail.specs.declared.message.Message.{Message}
 use Rattle.phase.specs.declared.phase.Took.{Took}
 use Rattle.phase.specs.declared.phase.Took.TheVariants as took
-use Rattle.phase.specs.Phase.{Phase, after_take, took_by, members_of}
+use Rattle.phase.specs.Phase.{Phase, after_take, took_by, members_of, lacks_pieces}
 use Rattle.record.specs.declared.call.CallKind.{CallKind}
 use Rattle.record.specs.declared.stage.Stage.{Stage}
 use Rattle.record.specs.declared.stage.Want.{Want}
@@ -49,6 +49,7 @@ stage_taken kind stage None message now = stage
 stage_taken kind stage (Some phase) message now =
     if is_some phase.end then stage
     else passed kind message.call stage (after_take phase message now).end (after_take phase message now).replies
+    (lacks_pieces (after_take phase message now))
 
 -- a call once its current phase took a message
 abbrev pub taken_tracked : Message → (now : ℕ) → Tracked → Tracked

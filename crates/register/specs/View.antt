@@ -10,7 +10,7 @@ use Rattle.phase.specs.Phase.{Phase}
 use Rattle.record.specs.declared.stage.Want.{Want}
 use Rattle.record.specs.Records.{Call, Object, layout_at}
 use Rattle.record.specs.Journals.{tag_of, operation_of, entry_value}
-use Rattle.record.specs.Wants.{current_phase, want_of}
+use Rattle.record.specs.Wants.{current_phase, want_of, viewed_tag}
 use Rattle.record.specs.Sending.{sent_value, value_or_empty}
 use Rattle.register.specs.declared.receipt.Receipt.{Receipt}
 use Rattle.register.specs.declared.receipt.CallView.{CallView}
@@ -77,7 +77,7 @@ phase_view object number call phase = record {
   position = phase.position;
   replies = length phase.replies;
   quorum = phase.quorum;
-  tag = tag_of object (pred number) call;
+  tag = viewed_tag object (pred number) call;
   want = want_of object (pred number) call;
 }
 

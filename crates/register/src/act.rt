@@ -20,6 +20,8 @@ pub enum Act {
     CallWrite(Bytes),
     CallMove(Layout),
     Advance(u64),
+    /// The call of this number begins anew.
+    Again(u64),
     /// The coded value of the call of this number.
     Supply(u64, Coded),
     Post(u64),
@@ -59,6 +61,10 @@ impl Register {
             Act::CallMove(layout) => Ok(Answered::Call(self.call_move(layout, now)?)),
             Act::Advance(call) => {
                 self.advance(call, now)?;
+                Ok(Answered::Nothing)
+            }
+            Act::Again(call) => {
+                self.again(call, now)?;
                 Ok(Answered::Nothing)
             }
             Act::Supply(call, coded) => {

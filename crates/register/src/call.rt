@@ -118,7 +118,7 @@ impl Call {
             position,
         };
         let messages = requests(alloc, ask, layout.n(), coded)?;
-        let phase = Phase::new(alloc, ask, layout.n(), layout.quorum(), now)?;
+        let phase = Phase::new(alloc, ask, layout.n(), layout.quorum(), layout.k(), now)?;
         self.phases.reserve(1)?;
         mail.post_all(messages)?;
         self.phases.push_reserved(phase);

@@ -35,15 +35,24 @@ impl Position {
     ghost use Rattle.record.specs.Accounts.{position_bytes};
     ghost use Rattle.record.specs.Steps.{opened_banks};
 
-    /// A position whose banks are opened at step `now`. `NoMemory` is the only refusal.
-    pub(crate) fn new(alloc: Global, layout: Layout, now: Stamp) -> Result<Position, Refusal>
-        ensures opened { IfOk result (λ p. p ≡ record { layout = layout; banks = opened_banks layout.members 0 now }) }
+    /// A position whose banks are opened at step `now`, and keep `delta` finalized versions beside the newest.
+    /// `NoMemory` is the only refusal.
+    pub(crate) fn new(
+        alloc: Global,
+        layout: Layout,
+        delta: Option<u32>,
+        now: Stamp,
+    ) -> Result<Position, Refusal>
+        ensures opened { IfOk result (λ p. p ≡ record {
+          layout = layout;
+          banks = opened_banks layout.members 0 delta now;
+        }) }
         ensures lawful { IfOk result (λ p. IsLawful p.layout) }
         ensures refused { IfErr result (λ e. e ≡ NoMemory) }
     {
         let mut banks = Vec::with_capacity(alloc, usize::from(layout.n()))?;
         for member in 0..layout.n() {
-            banks.push(Bank::new(alloc, member, None, now)?)?;
+            banks.push(Bank::new(alloc, member, delta, now)?)?;
         }
         Ok(Position { layout, banks })
     }

@@ -33,7 +33,7 @@ pub struct CallView {
     /// How many replies it took, and how many make its quorum.
     pub replies: u8,
     pub quorum: u8,
-    /// The call's tag, once its queries are complete.
+    /// The call's tag, once its queries are complete, or the one that its current phase fetches.
     pub tag: Option<Tag>,
     pub want: Want,
 }

@@ -23,6 +23,8 @@ mod views;
 /// for want of memory.
 #[derive(Debug, Drop)]
 pub struct Register {
+    // How many finalized versions the banks keep beside the newest; all where there is none.
+    delta: Option<u32>,
     positions: Vec<Position>,
     mail: Mail,
     // By their numbers, from 1.
@@ -46,6 +48,7 @@ impl Model for Register {
     ghost coded = { state_code arrangement.the_row.coded table.the_row.coded (Prim.hlevel codes) (Prim.hlevel codes) };
 
     ghost view = { λ r. state_of (record {
+      delta = r.delta;
       positions = r.positions.items;
       mail = r.mail;
       calls = r.calls.items;
@@ -55,6 +58,7 @@ impl Model for Register {
     }) };
 
     ghost invariant = { λ r. IsKept (record {
+      delta = r.delta;
       positions = r.positions.items;
       mail = r.mail;
       calls = r.calls.items;
@@ -67,15 +71,23 @@ impl Model for Register {
 impl Register {
     ghost use Rattle.record.specs.Steps.{opened_object};
 
-    /// An object with one position, whose banks are opened at step `now`, and no calls. `NoMemory` is the only refusal.
-    pub fn new(alloc: Global, layout: Layout, now: Stamp) -> Result<Register, Refusal>
-        ensures made { IfOk result (λ r. r ≡ record { object = opened_object layout now; last = now }) }
+    /// An object with one position and no calls. The banks of all its positions keep `delta` finalized versions beside
+    /// the newest, or all where there is none; those of the first are opened at step `now`. `NoMemory` is the only
+    /// refusal.
+    pub fn new(
+        alloc: Global,
+        layout: Layout,
+        delta: Option<u32>,
+        now: Stamp,
+    ) -> Result<Register, Refusal>
+        ensures made { IfOk result (λ r. r ≡ record { object = opened_object layout delta now; last = now }) }
         ensures refused { IfErr result (λ e. e ≡ NoMemory) }
     {
-        let position = Position::new(alloc, layout, now)?;
+        let position = Position::new(alloc, layout, delta, now)?;
         let mut positions = Vec::new(alloc);
         positions.push(position)?;
         Ok(Register {
+            delta,
             positions,
             mail: Mail::new(alloc),
             calls: Vec::new(alloc),

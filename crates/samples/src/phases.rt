@@ -14,7 +14,7 @@ fn begin(alloc: Global) -> Result<Phase, Refusal> {
         kind: Kind::Next,
         position: 7,
     };
-    Phase::new(alloc, ask, 4, 3, 9)
+    Phase::new(alloc, ask, 4, 3, 2, 9)
 }
 
 fn message(call: u64, phase: u32, member: u8, body: Body) -> Message {
@@ -63,6 +63,7 @@ fn tells_what_it_asks(rt: HostRuntime) -> Result<(), Fail> {
     let request = message(5, 2, 0, Body::Request(Request::Next));
     assert_eq!(rt; phase.take(request, 10), Took::Stale);
     assert!(rt; !phase.complete());
+    assert!(rt; phase.lacks_pieces());
     assert_eq!(rt;
         (phase.number(), phase.kind(), phase.position()),
         (2, Kind::Next, 7)

@@ -12,15 +12,21 @@ use transfer::{due, first_stage, next_phase, passed, stage_tag};
 
 const FIRST: Tag = Tag { number: 1, call: 1 };
 
-// A phase that one member's reply completes.
-fn complete(alloc: Global, kind: Kind, position: u32, answer: Answer) -> Result<Phase, Refusal> {
+// A phase that one member's reply completes; a fetch needs so many pieces.
+fn complete_with(
+    alloc: Global,
+    kind: Kind,
+    position: u32,
+    answer: Answer,
+    needed: u8,
+) -> Result<Phase, Refusal> {
     let ask = Ask {
         call: 2,
         number: 1,
         kind,
         position,
     };
-    let mut phase = Phase::new(alloc, ask, 1, 1, 5)?;
+    let mut phase = Phase::new(alloc, ask, 1, 1, needed, 5)?;
     let reply = Message {
         call: 2,
         phase: 1,
@@ -33,6 +39,11 @@ fn complete(alloc: Global, kind: Kind, position: u32, answer: Answer) -> Result<
     };
     phase.take(reply, 7);
     Ok(phase)
+}
+
+// A phase that needs no pieces.
+fn complete(alloc: Global, kind: Kind, position: u32, answer: Answer) -> Result<Phase, Refusal> {
+    complete_with(alloc, kind, position, answer, 0)
 }
 
 #[test]
@@ -95,5 +106,25 @@ fn reads_on_where_a_pointer_was_found(rt: HostRuntime) -> Result<(), Fail> {
         finalized: 1,
     };
     assert_eq!(rt; stage, next);
+    Ok(())
+}
+
+#[test]
+fn begins_anew_where_pieces_are_lacking(rt: HostRuntime) -> Result<(), Fail> {
+    let alloc = rt.alloc();
+    let fetch = complete_with(alloc, Kind::Fetch(FIRST), 3, Answer::Piece(None), 1)?;
+    let stage = Stage::FetchAt {
+        shown_at: 3,
+        last: 4,
+        tag: FIRST,
+    };
+    let stage = passed(&CallKind::Read, 2, stage, &fetch);
+    assert_eq!(rt; due(stage), Some((Kind::Next, 0)));
+    assert_eq!(rt; stage_tag(stage), None);
+    let mut done = Vec::new(alloc);
+    done.push(complete(alloc, Kind::Spread(Status::Pending), 3, Answer::Done)?)?;
+    done.push(complete(alloc, Kind::Query, 3, Answer::Greatest(FIRST))?)?;
+    done.push(fetch)?;
+    assert_eq!(rt; next_phase(3, &done), Some((Kind::Query, 3)));
     Ok(())
 }

@@ -1,12 +1,12 @@
 -- Where phases lead a reading.
-use Rattle.std.proofs.Common.{◌≡◌, ℕ, suc, List, [], ◌∷◌, Option, Some, None, refl, ap, sym, ◌∙◌, subst₂}
+use Rattle.std.proofs.Common.{◌≡◌, ℕ, suc, Bool, List, [], ◌∷◌, Option, Some, None, refl, ap, sym, ◌∙◌, subst₂}
 use Rattle.std.specs.Prelude.{IsSome, ◌≢◌}
 use Rattle.tag.specs.declared.tag.Tag.{Tag}
 use Rattle.bank.specs.declared.kind.Kind.{Kind}
 use Rattle.bank.specs.declared.kind.Kind.TheVariants as kind
 use Rattle.bank.specs.declared.status.Status.{Status}
 use Rattle.bank.specs.declared.status.Status.TheVariants.{Unset, Pending, Final}
-use Rattle.phase.specs.Phase.{Phase}
+use Rattle.phase.specs.Phase.{Phase, lacks_pieces}
 use Rattle.phase.specs.declared.phase.Taken.{Taken}
 use Rattle.record.specs.declared.call.CallKind.{CallKind}
 use Rattle.record.specs.declared.stage.Stage.{Stage}
@@ -17,10 +17,10 @@ use Rattle.successor.specs.declared.reading.Reading.TheVariants.{Next, Spread, E
 use Rattle.successor.specs.Reading.{next_of, found_at, first_of, again_of}
 use Rattle.successor.specs.Laws.{led_on, Leads, AreComplete, ReadingsLeadToTheEnd, ReadingsAreStages}
 
-passed-ended : (kind : CallKind) (number : ℕ) (stage : Stage) (end : Option ℕ) (replies : List Taken) → IsSome end
-    → passed kind number stage end replies ≡ after kind number stage replies
-passed-ended kind number stage None replies some = absurd (cc)
-passed-ended kind number stage (Some end) replies some = refl
+passed-ended : (kind : CallKind) (number : ℕ) (stage : Stage) (end : Option ℕ) (replies : List Taken) (lacks : Bool)
+    → IsSome end → passed kind number stage end replies lacks ≡ after kind number stage replies lacks
+passed-ended kind number stage None replies lacks some = absurd (cc)
+passed-ended kind number stage (Some end) replies lacks some = refl
 
 -- what a status leads to
 
@@ -39,7 +39,7 @@ again_of-found_at last tag Final position finalized = refl
 -- a complete phase that was next leads a call as it leads the reading
 
 first_after : (kind : CallKind) (number : ℕ) (reading : Reading) (phase : Phase) → next_of reading ≡ Some (phase.kind, phase.position)
-    → after kind number (first_of reading) phase.replies ≡ first_of (led_on reading (greatest_status phase.replies))
+    → after kind number (first_of reading) phase.replies (lacks_pieces phase) ≡ first_of (led_on reading (greatest_status phase.replies))
 first_after kind number (Next position finalized) phase asks = first_of-found_at (greatest_status phase.replies) position finalized
 first_after kind number (Spread position finalized Unset) phase asks = refl
 first_after kind number (Spread position finalized Pending) phase asks = refl
@@ -48,7 +48,8 @@ first_after kind number (Ended last finalized) phase asks = absurd (cc)
 
 again_after : (kind : CallKind) (number last : ℕ) (tag : Tag) (reading : Reading) (phase : Phase)
     → next_of reading ≡ Some (phase.kind, phase.position)
-    → after kind number (again_of last tag reading) phase.replies ≡ again_of last tag (led_on reading (greatest_status phase.replies))
+    → after kind number (again_of last tag reading) phase.replies (lacks_pieces phase)
+    ≡ again_of last tag (led_on reading (greatest_status phase.replies))
 again_after kind number last tag (Next position finalized) phase asks =
     again_of-found_at last tag (greatest_status phase.replies) position finalized
 again_after kind number last tag (Spread position finalized status) phase asks = refl
@@ -58,7 +59,7 @@ first_stages : (kind : CallKind) (number : ℕ) (reading to : Reading) (phases :
     → AreComplete phases → stage_after kind number (first_of reading) phases ≡ first_of to
 first_stages kind number reading to [] leads ended = ap first_of leads
 first_stages kind number reading to (phase ∷ phases) leads ended =
-    let passes = passed-ended kind number (first_of reading) phase.end phase.replies ended.0 in
+    let passes = passed-ended kind number (first_of reading) phase.end phase.replies (lacks_pieces phase) ended.0 in
     ap (λ stage. stage_after kind number stage phases) (passes ∙ first_after kind number reading phase leads.0)
     ∙ first_stages kind number (led_on reading (greatest_status phase.replies)) to phases leads.1 ended.1
 
@@ -66,7 +67,7 @@ again_stages : (kind : CallKind) (number last : ℕ) (tag : Tag) (reading to : R
     → AreComplete phases → stage_after kind number (again_of last tag reading) phases ≡ again_of last tag to
 again_stages kind number last tag reading to [] leads ended = ap (again_of last tag) leads
 again_stages kind number last tag reading to (phase ∷ phases) leads ended =
-    let passes = passed-ended kind number (again_of last tag reading) phase.end phase.replies ended.0 in
+    let passes = passed-ended kind number (again_of last tag reading) phase.end phase.replies (lacks_pieces phase) ended.0 in
     ap (λ stage. stage_after kind number stage phases) (passes ∙ again_after kind number last tag reading phase leads.0)
     ∙ again_stages kind number last tag (led_on reading (greatest_status phase.replies)) to phases leads.1 ended.1
 

@@ -1,17 +1,19 @@
 -- The order of a move's phases.
-use Rattle.std.specs.Prelude.{◌≡◌, ℕ, suc, List, [], ◌∷◌, map, None}
+use Rattle.std.specs.Prelude.{◌≡◌, ℕ, suc, Bool, if◌then◌else◌, List, [], ◌∷◌, drop, map, None}
+use Rattle.std.specs.List.{AllByRecursion}
 use Rattle.tag.specs.declared.tag.Tag.{Tag}
 use Rattle.tag.specs.Tag.{opening_tag}
 use Rattle.bank.specs.declared.status.Status.TheVariants.{Pending, Final}
 use Rattle.bank.specs.declared.kind.Kind.{Kind}
 use Rattle.bank.specs.declared.kind.Kind.TheVariants.{Spread, Query, PreWrite, Finalize, Fetch}
 use Rattle.phase.specs.declared.phase.Taken.{Taken}
-use Rattle.phase.specs.Phase.{Phase}
+use Rattle.phase.specs.Phase.{Phase, lacks_pieces}
 use Rattle.record.specs.declared.call.CallKind.TheVariants.{Move}
 use Rattle.record.specs.declared.stage.Stage.{Stage}
 use Rattle.record.specs.declared.stage.Stage.TheVariants.{MoveSpread, MoveQuery, MoveFetch, MovePreWrite, MoveFinalize}
 use Rattle.record.specs.declared.stage.Stage.TheVariants.{MoveFinal, Moved}
 use Rattle.record.specs.Courses.{greatest_tag, due, stage_after, IsCourse}
+use Rattle.record.specs.Grammar.{IsMoveAttempt}
 use Rattle.successor.specs.Laws.{AreComplete}
 
 -- the phases of a move from a position to the next one, with the positions that are asked. It says that the next
@@ -27,20 +29,37 @@ queried_tag [] = opening_tag
 queried_tag (spread ∷ []) = opening_tag
 queried_tag (spread ∷ query ∷ later) = greatest_tag query.replies
 
--- a move that may be answered has completed these phases in this order, and has made no others
+-- a move's phases from its last query on
+abbrev pub last_attempt : List Phase → List Phase
+last_attempt (query ∷ fetch ∷ later) = if lacks_pieces fetch then last_attempt later else query ∷ fetch ∷ later
+last_attempt phases = phases
+
+-- the attempts that a move gave up: queries, each with a fetch that lacks pieces
+abbrev pub given_up : List Phase → List (Phase × Phase)
+given_up (query ∷ fetch ∷ later) = if lacks_pieces fetch then (query, fetch) ∷ given_up later else []
+given_up phases = []
+
+-- a move's phases without those of the attempts that it gave up
+abbrev pub last_phases : List Phase → List Phase
+last_phases [] = []
+last_phases (spread ∷ later) = spread ∷ last_attempt later
+
+-- a move that may be answered has completed its phases; but for the attempts that it gave up, they are these in this
+-- order, and there are no others
 abbrev pub MovesAreInOrder : Type 0
 MovesAreInOrder =
     (number from : ℕ) (phases : List Phase)
     → IsCourse Move number (MoveSpread from) phases → due (stage_after Move number (MoveSpread from) phases) ≡ None
-    → AreComplete phases × (map (λ (phase : Phase). (phase.kind, phase.position)) phases
-    ≡ move_phases from (queried_tag phases))
+    → AreComplete phases × AllByRecursion (IsMoveAttempt from) (given_up (drop 1 phases))
+    × (map (λ (phase : Phase). (phase.kind, phase.position)) (last_phases phases)
+    ≡ move_phases from (queried_tag (last_phases phases)))
 
 -- where the replies of a move's phase lead; any other stage is left as it is
-abbrev pub after_move : Stage → List Taken → Stage
-after_move (MoveSpread position) replies = MoveQuery position
-after_move (MoveQuery position) replies = MoveFetch position (greatest_tag replies)
-after_move (MoveFetch position tag) replies = MovePreWrite position tag
-after_move (MovePreWrite position tag) replies = MoveFinalize position tag
-after_move (MoveFinalize position tag) replies = MoveFinal position tag
-after_move (MoveFinal position tag) replies = Moved position tag
-after_move stage replies = stage
+abbrev pub after_move : Stage → List Taken → (lacks : Bool) → Stage
+after_move (MoveSpread position) replies lacks = MoveQuery position
+after_move (MoveQuery position) replies lacks = MoveFetch position (greatest_tag replies)
+after_move (MoveFetch position tag) replies lacks = if lacks then MoveQuery position else MovePreWrite position tag
+after_move (MovePreWrite position tag) replies lacks = MoveFinalize position tag
+after_move (MoveFinalize position tag) replies lacks = MoveFinal position tag
+after_move (MoveFinal position tag) replies lacks = Moved position tag
+after_move stage replies lacks = stage

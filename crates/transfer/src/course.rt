@@ -1,6 +1,7 @@
 //! The stages of a call, one after another.
 
 ghost use Rattle.std.specs.Prelude.{◌≡◌};
+ghost use Rattle.phase.specs.Phase.{lacks_pieces};
 ghost use Rattle.record.specs.Courses.{due, passed};
 ghost use Rattle.record.specs.Legal.{first_stage};
 ghost use Rattle.record.specs.Journals.{stage_tag};
@@ -59,10 +60,11 @@ pub fn due(stage: Stage) -> Option<(Kind, u32)>
 pub fn passed(kind: &CallKind, number: u64, stage: Stage, phase: &Phase) -> Stage
     requires room { IsBelowLimit stage }
     requires tags { HasNextTag kind.now stage phase.now.replies }
-    ensures { result ≡ passed kind.now number stage phase.now.end phase.now.replies }
+    ensures { result ≡ passed kind.now number stage phase.now.end phase.now.replies (lacks_pieces phase.now) }
 {
     if phase.complete() {
-        after(kind, number, stage, phase.replies())
+        let lacks = phase.lacks_pieces();
+        after(kind, number, stage, phase.replies(), lacks)
     } else {
         stage
     }

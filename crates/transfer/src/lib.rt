@@ -11,7 +11,8 @@ mod order;
 mod replies;
 
 /// A move that may be answered has made six phases: it spread that the next position is pending, asked for the greatest
-/// tag, fetched it, pre-wrote and finalized it at the next position, and spread that this is final.
+/// tag, fetched it, pre-wrote and finalized it at the next position, and spread that this is final. Any others are
+/// queries between these, each with a fetch that lacked pieces.
 pub fn moves_are_in_order()
     ensures { MovesAreInOrder }
 {}

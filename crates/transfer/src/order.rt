@@ -3,7 +3,7 @@ ghost use Rattle.record.specs.declared.call.CallKind.TheVariants.{Move};
 ghost use Rattle.record.specs.declared.stage.Stage.TheVariants.{MoveSpread};
 ghost use Rattle.record.specs.Courses.{due, stage_after};
 ghost use Rattle.successor.specs.Laws.{AreComplete};
-ghost use Rattle.transfer.specs.Moves.{move_phases, queried_tag};
+ghost use Rattle.transfer.specs.Moves.{last_phases, move_phases, queried_tag};
 
 use crate::course::{due, passed};
 use bank::Kind;
@@ -11,12 +11,13 @@ use phase::Phase;
 use record::{CallKind, Stage};
 
 /// The phase that is next, with its position, in a move from the position `from` to the one after it that has made the
-/// phases `done`; none where all six are made. A phase that is not complete leads nowhere.
+/// phases `done`; none where all six are made. A phase that is not complete leads nowhere, and a fetch that lacks
+/// pieces leads back to the query.
 pub fn next_phase(from: u32, done: &[Phase]) -> Option<(Kind, u32)>
     requires { from + 2 < 2 ^ 32 }
     ensures stage { (number : ℕ) → result ≡ due (stage_after Move number (MoveSpread from) done.now) }
     ensures order { AreComplete done.now
-        → result ≡ slice_get (move_phases from (queried_tag done.now)) (length done.now) }
+        → result ≡ slice_get (move_phases from (queried_tag (last_phases done.now))) (length (last_phases done.now)) }
 {
     let mut stage = Stage::MoveSpread { position: from };
     for phase in done {

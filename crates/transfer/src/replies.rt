@@ -1,9 +1,10 @@
 //! Where the replies of a complete phase lead.
 
-ghost use Rattle.std.specs.Prelude.{◌≡◌, ◌+◌, ◌<◌, ◌^◌};
+ghost use Rattle.std.specs.Prelude.{◌≡◌, ◌+◌, ◌<◌, ◌^◌, if◌then◌else◌};
 ghost use Rattle.tag.specs.Tag.{later_tag};
 ghost use Rattle.record.specs.Courses.{after, after_next, after_spread, after_query, after_fetch, after_again};
 ghost use Rattle.record.specs.Courses.{greatest_status, greatest_tag, tagged};
+ghost use Rattle.record.specs.declared.stage.Stage.TheVariants.{ReadNext};
 ghost use Rattle.successor.specs.Reading.{first_of, again_of, spread_by};
 ghost use Rattle.successor.specs.declared.reading.Reading.TheVariants.{Spread};
 ghost use Rattle.transfer.specs.Limits.{IsBelowLimit, IsTaggable, HasNextTag};
@@ -15,11 +16,17 @@ use record::{CallKind, Stage};
 use successor::{Reading, greatest_status, greatest_tag};
 use tag::Tag;
 
-/// Where the replies of a complete phase lead call number `number`.
-pub(crate) fn after(kind: &CallKind, number: u64, stage: Stage, replies: &[Taken]) -> Stage
+/// Where the replies of a complete phase lead call number `number`. A fetch that lacks pieces leads back.
+pub(crate) fn after(
+    kind: &CallKind,
+    number: u64,
+    stage: Stage,
+    replies: &[Taken],
+    lacks: bool,
+) -> Stage
     requires room { IsBelowLimit stage }
     requires tags { HasNextTag kind.now stage replies.now }
-    ensures { result ≡ after kind.now number stage replies.now }
+    ensures { result ≡ after kind.now number stage replies.now lacks }
 {
     match stage {
         Stage::ReadNext {
@@ -41,7 +48,7 @@ pub(crate) fn after(kind: &CallKind, number: u64, stage: Stage, replies: &[Taken
             shown_at,
             last,
             tag,
-        } => after_fetch(shown_at, last, tag),
+        } => after_fetch(shown_at, last, tag, lacks),
         Stage::PreWriteAt { last, tag } => Stage::FinalizeAt { last, tag },
         Stage::FinalizeAt { last, tag } => again(last, tag, Reading::start(last)),
         Stage::AgainNext {
@@ -55,13 +62,13 @@ pub(crate) fn after(kind: &CallKind, number: u64, stage: Stage, replies: &[Taken
             tag,
             status,
         } => again(last, tag, spread(position, last, status)),
-        _ => after_move(stage, replies),
+        _ => after_move(stage, replies, lacks),
     }
 }
 
 // Where the replies of a move's phase lead. Any other stage is left as it is.
-fn after_move(stage: Stage, replies: &[Taken]) -> Stage
-    ensures { result ≡ after_move stage replies.now }
+fn after_move(stage: Stage, replies: &[Taken], lacks: bool) -> Stage
+    ensures { result ≡ after_move stage replies.now lacks }
 {
     match stage {
         Stage::MoveSpread { position } => Stage::MoveQuery { position },
@@ -69,7 +76,13 @@ fn after_move(stage: Stage, replies: &[Taken]) -> Stage
             position,
             tag: greatest_tag(replies),
         },
-        Stage::MoveFetch { position, tag } => Stage::MovePreWrite { position, tag },
+        Stage::MoveFetch { position, tag } => {
+            if lacks {
+                Stage::MoveQuery { position }
+            } else {
+                Stage::MovePreWrite { position, tag }
+            }
+        }
         Stage::MovePreWrite { position, tag } => Stage::MoveFinalize { position, tag },
         Stage::MoveFinalize { position, tag } => Stage::MoveFinal { position, tag },
         Stage::MoveFinal { position, tag } => Stage::Moved { position, tag },
@@ -134,11 +147,14 @@ fn after_query(
     }
 }
 
-// What the last position's own quorum finalized by its fetch need not be put there again.
-fn after_fetch(shown_at: u32, last: u32, tag: Tag) -> Stage
-    ensures { result ≡ after_fetch shown_at last tag }
+// Where pieces are lacking, the first reading begins anew. What the last position's own quorum finalized by its fetch
+// need not be put there again.
+fn after_fetch(shown_at: u32, last: u32, tag: Tag, lacks: bool) -> Stage
+    ensures { result ≡ (if lacks then ReadNext 0 0 else after_fetch shown_at last tag) }
 {
-    if shown_at == last {
+    if lacks {
+        first(Reading::start(0))
+    } else if shown_at == last {
         again(last, tag, Reading::start(last))
     } else {
         Stage::PreWriteAt { last, tag }

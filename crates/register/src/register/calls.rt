@@ -99,7 +99,7 @@ impl Register {
     {
         self.may_move(now)?;
         let alloc = *self.calls.allocator();
-        let next = Position::new(alloc, layout, now)?;
+        let next = Position::new(alloc, layout, self.delta, now)?;
         let last = self.positions.len() - 1;
         let position = last as u32;
         let number = self.calls.len() as u64 + 1;

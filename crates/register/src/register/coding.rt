@@ -129,14 +129,17 @@ impl Register {
 
     /// Of the pieces that the call's current phase took, the k of least points.
     ///
-    /// `NoCall` where there is no such call, and `NotNow` unless it wants to settle a value.
+    /// `NoCall` where there is no such call, `NotNow` unless it wants to settle a value, and `Collected` where its
+    /// fetch lacks pieces.
     pub fn pieces(&self, call: u64) -> Result<Vec<Piece>, Refusal>
         ensures pieces { IfOk result (λ ps. ps.items ≡ pieces_at self.now.object call) }
         ensures cause { IsByCause (pieces_cause self.now.object call) result }
     {
         let index = index_of(&self.calls, call)?;
-        let Want::Settle { k, len: _ } = want_of(&self.positions, &self.calls[index]) else {
-            return Err(Refusal::NotNow);
+        let k = match want_of(&self.positions, &self.calls[index]) {
+            Want::Settle { k, len: _ } => k,
+            Want::Again => return Err(Refusal::Collected),
+            _ => return Err(Refusal::NotNow),
         };
         let Some(phase) = self.calls[index].current() else {
             unreachable!();
@@ -155,9 +158,9 @@ impl Register {
 
     /// The call of this number settles the value that was decoded from pieces of its current phase.
     ///
-    /// `NoCall` where there is no such call, `NotNow` unless it wants to settle a value, `WrongCode` unless the value
-    /// was decoded from k pieces that were all recorded in that phase, and `Full` where the limit of steps is met. It
-    /// takes no memory.
+    /// `NoCall` where there is no such call, `NotNow` unless it wants to settle a value, `Collected` where its fetch
+    /// lacks pieces, `WrongCode` unless the value was decoded from k pieces that were all recorded in that phase, and
+    /// `Full` where the limit of steps is met. It takes no memory.
     pub fn settle(&mut self, call: u64, decoded: Decoded, now: Stamp) -> Result<(), Refusal>
         requires after { self.old.last < now }
         ensures step { OnOk result (self.new ≡ made (Step.Settle (pred call) decoded.value) now self.old) }
@@ -168,8 +171,10 @@ impl Register {
             Ok(index) => index,
             Err(refusal) => return Err(refusal),
         };
-        let Want::Settle { k, len: _ } = want_of(&self.positions, &self.calls[index]) else {
-            return Err(Refusal::NotNow);
+        let k = match want_of(&self.positions, &self.calls[index]) {
+            Want::Settle { k, len: _ } => k,
+            Want::Again => return Err(Refusal::Collected),
+            _ => return Err(Refusal::NotNow),
         };
         let Some(phase) = self.calls[index].current() else {
             unreachable!();
@@ -190,7 +195,7 @@ impl Register {
 fn pieces_position(positions: &[Position], call: &Call) -> Option<u32>
     requires count { length positions.now ≤ MOST_POSITIONS }
     requires below { IsBelow (length positions.now) call.now }
-    ensures { result ≡ pieces_position (tracked_want (object_of positions.now [] []) call.now) (due call.now.stage)
+    ensures { result ≡ pieces_position (tracked_want (object_of None positions.now [] []) call.now) (due call.now.stage)
         (current_phase call.now.call.phases) }
 {
     match want_of(positions, call) {

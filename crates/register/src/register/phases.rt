@@ -1,7 +1,7 @@
 //! What calls want, and how they go on.
 
 ghost use Rattle.std.specs.Prelude.{◌≡◌, ◌≤◌, ◌⊎◌, ◌<◌, suc, pred, [], length, option_copied, OnOk, OnErr, IfOk, IfErr};
-ghost use Rattle.std.specs.Prelude.{Some};
+ghost use Rattle.std.specs.Prelude.{Some, None};
 ghost use Rattle.tag.specs.Refusal.{IsByCause, IsExactlyByCause};
 ghost use Rattle.tag.specs.declared.refusal.Refusal.TheVariants.{NoCall};
 ghost use Rattle.record.specs.Steps.{Step};
@@ -10,7 +10,8 @@ ghost use Rattle.register.specs.Coding.{is_pre_write};
 ghost use Rattle.tag.specs.declared.limits.TheConstants.{MOST_POSITIONS};
 ghost use Rattle.register.specs.Tracked.{IsBelow, tracked_want};
 ghost use Rattle.register.specs.State.{made, object_of};
-ghost use Rattle.register.specs.Causes.{number_cause, advance_cause, post_cause, is_plain};
+ghost use Rattle.register.specs.Causes.{number_cause, advance_cause, again_cause, post_cause, is_plain};
+ghost use Rattle.register.specs.Causes.{due_step, due_cause, wants_due};
 ghost use Rattle.register.specs.View.{want_at};
 
 use crate::call::Call;
@@ -44,10 +45,33 @@ impl Register {
         ensures cause { IsByCause (advance_cause now self.old.object call) result }
         ensures unchanged { OnErr result (self.new ≡ self.old) }
     {
+        self.begin_due(call, false, now)
+    }
+
+    /// The call of this number, whose fetch lacks pieces, begins anew: a read its first reading, a move its query. Its
+    /// phases are numbered on.
+    ///
+    /// `NoCall` where there is no such call, `NotNow` unless it wants to begin anew, and `Full` as for `advance`.
+    pub fn again(&mut self, call: u64, now: Stamp) -> Result<(), Refusal>
+        requires after { self.old.last < now }
+        ensures step { OnOk result (self.new ≡ made (Step.Again (pred call)) now self.old) }
+        ensures cause { IsByCause (again_cause now self.old.object call) result }
+        ensures unchanged { OnErr result (self.new ≡ self.old) }
+    {
+        self.begin_due(call, true, now)
+    }
+
+    // The call of this number begins the phase that is due, where it wants to advance or, `anew`, to begin anew.
+    fn begin_due(&mut self, call: u64, anew: bool, now: Stamp) -> Result<(), Refusal>
+        requires after { self.old.last < now }
+        ensures step { OnOk result (self.new ≡ made (due_step anew (pred call)) now self.old) }
+        ensures cause { IsByCause (due_cause anew now self.old.object call) result }
+        ensures unchanged { OnErr result (self.new ≡ self.old) }
+    {
         let index = index_of(&self.calls, call)?;
-        let Want::Advance = want_of(&self.positions, &self.calls[index]) else {
+        if !wants_due(anew, want_of(&self.positions, &self.calls[index])) {
             return Err(Refusal::NotNow);
-        };
+        }
         if now > MOST_STEPS {
             return Err(Refusal::Full);
         }
@@ -117,7 +141,7 @@ pub fn index_of(calls: &[Call], call: u64) -> Result<usize, Refusal>
 pub fn want_of(positions: &[Position], call: &Call) -> Want
     requires count { length positions.now ≤ MOST_POSITIONS }
     requires below { IsBelow (length positions.now) call.now }
-    ensures { result ≡ tracked_want (object_of positions.now [] []) call.now }
+    ensures { result ≡ tracked_want (object_of None positions.now [] []) call.now }
 {
     if call.is_answered() {
         return Want::Done;
@@ -129,6 +153,9 @@ pub fn want_of(positions: &[Position], call: &Call) -> Want
         return Want::Replies;
     }
     if is_fetch(phase.kind()) && !call.is_settled() {
+        if phase.lacks_pieces() {
+            return Want::Again;
+        }
         return Want::Settle {
             k: positions[phase.position() as usize].layout().k(),
             len: value_len(phase.replies()),
@@ -144,6 +171,17 @@ pub fn want_of(positions: &[Position], call: &Call) -> Want
         }
         Some(_) => Want::Advance,
         None => Want::Answer,
+    }
+}
+
+// Whether a call that wants this is to begin the phase that is due, as it is or `anew`.
+fn wants_due(anew: bool, wanted: Want) -> bool
+    ensures { result ≡ wants_due anew wanted }
+{
+    match wanted {
+        Want::Advance => !anew,
+        Want::Again => anew,
+        _ => false,
     }
 }
 

@@ -5,8 +5,9 @@ ghost use Rattle.tag.specs.declared.limits.TheConstants.{MOST_BYTES};
 ghost use Rattle.tag.specs.declared.refusal.Refusal.TheVariants.{NoMemory};
 ghost use Rattle.tag.specs.Refusal.{IsByCause, IsExactlyByCause};
 ghost use Rattle.record.specs.Accounts.{stored, mailed};
-ghost use Rattle.record.specs.Journals.{entries, entry_of};
+ghost use Rattle.record.specs.Journals.{entries, entry_of, stage_tag};
 ghost use Rattle.record.specs.Records.{layout_at};
+ghost use Rattle.record.specs.Wants.{fetched_or};
 ghost use Rattle.encoder.specs.Fragment.{fragment};
 ghost use Rattle.record.specs.Sound.{IsSound};
 ghost use Rattle.register.specs.Kept.{IsWithinLimits, has_open_move};
@@ -17,11 +18,11 @@ ghost use Rattle.register.specs.View.{view_at, value_at, phases_at, tag_at, bank
 use crate::receipt::CallView;
 use crate::register::Register;
 use crate::register::phases::{index_of, want_of};
-use bank::Bank;
+use bank::{Bank, Kind};
 use bytes::Bytes;
 use mail::Mail;
 use phase::Phase;
-use record::Entry;
+use record::{Entry, Stage};
 use tag::{Refusal, Tag};
 use transfer::stage_tag;
 
@@ -114,7 +115,7 @@ impl Register {
             position: phase.position(),
             replies: phase.replies().len() as u8,
             quorum: phase.quorum(),
-            tag: stage_tag(tracked.stage()),
+            tag: viewed_tag(phase.kind(), tracked.stage()),
             want: want_of(&self.positions, tracked),
         })
     }
@@ -177,5 +178,15 @@ impl Register {
             Ok(index) => self.calls[index].value(),
             Err(_) => None,
         }
+    }
+}
+
+// The tag that a phase of this kind fetches, or else that of the stage.
+fn viewed_tag(kind: Kind, stage: Stage) -> Option<Tag>
+    ensures { result ≡ fetched_or kind (stage_tag stage) }
+{
+    match kind {
+        Kind::Fetch(tag) => Some(tag),
+        _ => stage_tag(stage),
     }
 }

@@ -1,4 +1,4 @@
-use Rattle.std.proofs.Common.{◌≡◌, ℕ, List, refl, ◌∙◌}
+use Rattle.std.proofs.Common.{◌≡◌, ℕ, Bool, List, refl, ◌∙◌}
 use Rattle.tag.specs.declared.tag.Tag.{Tag}
 use Rattle.bank.specs.declared.status.Status.{Status}
 use Rattle.phase.specs.declared.phase.Taken.{Taken}
@@ -12,7 +12,7 @@ use Rattle.transfer.specs.Moves.{after_move}
 use Rattle.transfer.proofs.replies.after.Goals as goal
 
 -- a stage that is none of a read's or a write's, but its end
-after_move_is : (kind : CallKind) (number : ℕ) (stage : Stage) (replies : List Taken)
+after_move_is : (kind : CallKind) (number : ℕ) (stage : Stage) (replies : List Taken) (lacks : Bool)
     → ((position finalized : ℕ) → stage ≡ ReadNext position finalized → ⊥)
     → ((position finalized : ℕ) (status : Status) → stage ≡ ReadSpread position finalized status → ⊥)
     → ((position last : ℕ) (tag : Tag) (shown_at : ℕ) → stage ≡ QueryFrom position last tag shown_at → ⊥)
@@ -21,28 +21,28 @@ after_move_is : (kind : CallKind) (number : ℕ) (stage : Stage) (replies : List
     → ((last : ℕ) (tag : Tag) → stage ≡ FinalizeAt last tag → ⊥)
     → ((last position : ℕ) (tag : Tag) → stage ≡ AgainNext last position tag → ⊥)
     → ((last position : ℕ) (tag : Tag) (status : Status) → stage ≡ AgainSpread last position tag status → ⊥)
-    → after_move stage replies ≡ after kind number stage replies
-after_move_is kind number (ReadNext position finalized) replies n _ _ _ _ _ _ _ = absurd (n position finalized refl)
-after_move_is kind number (ReadSpread position finalized status) replies _ n _ _ _ _ _ _ = absurd (n position finalized status refl)
-after_move_is kind number (QueryFrom position last tag shown_at) replies _ _ n _ _ _ _ _ = absurd (n position last tag shown_at refl)
-after_move_is kind number (FetchAt shown_at last tag) replies _ _ _ n _ _ _ _ = absurd (n shown_at last tag refl)
-after_move_is kind number (PreWriteAt last tag) replies _ _ _ _ n _ _ _ = absurd (n last tag refl)
-after_move_is kind number (FinalizeAt last tag) replies _ _ _ _ _ n _ _ = absurd (n last tag refl)
-after_move_is kind number (AgainNext last position tag) replies _ _ _ _ _ _ n _ = absurd (n last position tag refl)
-after_move_is kind number (AgainSpread last position tag status) replies _ _ _ _ _ _ _ n = absurd (n last position tag status refl)
-after_move_is kind number (MoveSpread position) replies _ _ _ _ _ _ _ _ = refl
-after_move_is kind number (MoveQuery position) replies _ _ _ _ _ _ _ _ = refl
-after_move_is kind number (MoveFetch position tag) replies _ _ _ _ _ _ _ _ = refl
-after_move_is kind number (MovePreWrite position tag) replies _ _ _ _ _ _ _ _ = refl
-after_move_is kind number (MoveFinalize position tag) replies _ _ _ _ _ _ _ _ = refl
-after_move_is kind number (MoveFinal position tag) replies _ _ _ _ _ _ _ _ = refl
-after_move_is kind number (Ended last tag) replies _ _ _ _ _ _ _ _ = refl
-after_move_is kind number (Moved position tag) replies _ _ _ _ _ _ _ _ = refl
+    → after_move stage replies lacks ≡ after kind number stage replies lacks
+after_move_is kind number (ReadNext position finalized) replies lacks n _ _ _ _ _ _ _ = absurd (n position finalized refl)
+after_move_is kind number (ReadSpread position finalized status) replies lacks _ n _ _ _ _ _ _ = absurd (n position finalized status refl)
+after_move_is kind number (QueryFrom position last tag shown_at) replies lacks _ _ n _ _ _ _ _ = absurd (n position last tag shown_at refl)
+after_move_is kind number (FetchAt shown_at last tag) replies lacks _ _ _ n _ _ _ _ = absurd (n shown_at last tag refl)
+after_move_is kind number (PreWriteAt last tag) replies lacks _ _ _ _ n _ _ _ = absurd (n last tag refl)
+after_move_is kind number (FinalizeAt last tag) replies lacks _ _ _ _ _ n _ _ = absurd (n last tag refl)
+after_move_is kind number (AgainNext last position tag) replies lacks _ _ _ _ _ _ n _ = absurd (n last position tag refl)
+after_move_is kind number (AgainSpread last position tag status) replies lacks _ _ _ _ _ _ _ n = absurd (n last position tag status refl)
+after_move_is kind number (MoveSpread position) replies lacks _ _ _ _ _ _ _ _ = refl
+after_move_is kind number (MoveQuery position) replies lacks _ _ _ _ _ _ _ _ = refl
+after_move_is kind number (MoveFetch position tag) replies lacks _ _ _ _ _ _ _ _ = refl
+after_move_is kind number (MovePreWrite position tag) replies lacks _ _ _ _ _ _ _ _ = refl
+after_move_is kind number (MoveFinalize position tag) replies lacks _ _ _ _ _ _ _ _ = refl
+after_move_is kind number (MoveFinal position tag) replies lacks _ _ _ _ _ _ _ _ = refl
+after_move_is kind number (Ended last tag) replies lacks _ _ _ _ _ _ _ _ = refl
+after_move_is kind number (Moved position tag) replies lacks _ _ _ _ _ _ _ _ = refl
 
 pub returns-in_default : goal.returns-in_default
 returns-in_default c =
     let others = c.in_default in
     c.after_move.ensures
-    ∙ after_move_is c.args.kind.now c.args.number c.args.stage c.args.replies.now others.not-ReadNext others.not-ReadSpread
+    ∙ after_move_is c.args.kind.now c.args.number c.args.stage c.args.replies.now c.args.lacks others.not-ReadNext others.not-ReadSpread
     others.not-QueryFrom
     others.not-FetchAt others.not-PreWriteAt others.not-FinalizeAt others.not-AgainNext others.not-AgainSpread
