@@ -1,5 +1,5 @@
 -- What each step makes of a cluster. Each raises the counter by one.
-use Rattle.std.specs.Prelude.{ℕ, suc, Bool, List, [], ◌∷◌, ◌++◌, slice_set}
+use Rattle.std.specs.Prelude.{ℕ, suc, Bool, List, [], ◌∷◌, ◌++◌, Option, slice_set}
 use Rattle.layout.specs.Layout.{Layout}
 use Rattle.record.specs.Steps.{Step, opened_object}
 use Rattle.register.specs.State.{made}
@@ -18,12 +18,12 @@ abbrev pub with_layout : Cluster → Layout → Cluster
 with_layout cluster layout =
     record cluster { layouts = cluster.layouts ++ layout ∷ []; counter = suc cluster.counter }
 
--- one more object, opened with this layout
-abbrev pub with_object : Cluster → (name : List ℕ) → Layout → Cluster
-with_object cluster name layout = record cluster {
+-- one more object, opened with this layout, whose banks keep `delta` finalized versions beside the newest
+abbrev pub with_object : Cluster → (name : List ℕ) → Layout → (delta : Option ℕ) → Cluster
+with_object cluster name layout delta = record cluster {
   objects = cluster.objects ++ record {
     name = name;
-    state = record { object = opened_object layout (suc cluster.counter); last = suc cluster.counter };
+    state = record { object = opened_object layout delta (suc cluster.counter); last = suc cluster.counter };
   } ∷ [];
   counter = suc cluster.counter;
 }
@@ -37,6 +37,6 @@ with_server cluster server up =
 abbrev pub moved : Cluster → (name : List ℕ) → (id : ℕ) → Cluster
 moved cluster name id = stepped cluster name (Step.CallMove (layout_of cluster id))
 
--- an object of this name with the layout of this number
-abbrev pub created : Cluster → (name : List ℕ) → (id : ℕ) → Cluster
-created cluster name id = with_object cluster name (layout_of cluster id)
+-- an object of this name with the layout of this number, whose banks keep `delta` finalized versions beside the newest
+abbrev pub created : Cluster → (name : List ℕ) → (id : ℕ) → (delta : Option ℕ) → Cluster
+created cluster name id delta = with_object cluster name (layout_of cluster id) delta

@@ -4,6 +4,7 @@ ghost use Rattle.cluster.specs.Cluster.{all_up};
 
 use crate::loads::Loads;
 use crate::servers::Servers;
+pub use accounts::Accounts;
 use indexmap::IndexMap;
 use layout::Layout;
 use register::Register;

@@ -1,5 +1,5 @@
 //! What each server stores.
-ghost use Rattle.std.specs.Prelude.{◌≡◌, ◌+◌, ◌≤◌, ◌<◌, length, get_or, slice_set};
+ghost use Rattle.std.specs.Prelude.{◌≡◌, ◌+◌, ◌-◌, ◌*◌, ◌≤◌, ◌<◌, length, get_or, slice_set};
 ghost use Rattle.tag.specs.declared.limits.TheConstants.{MOST_BYTES};
 ghost use Rattle.cluster.specs.Summed.{all_none};
 
@@ -41,12 +41,14 @@ impl Loads {
         self.bytes[usize::from(server)]
     }
 
-    /// A server stores so many bytes more.
-    pub fn add(&mut self, server: u8, more: u64)
+    /// One part of what a server stores weighs `new` bytes in place of `old`.
+    pub fn exchange(&mut self, server: u8, old: u64, new: u64)
         requires there { server < length self.old }
-        requires within { get_or self.old server 0 + more ≤ MOST_BYTES }
-        ensures { self.new ≡ slice_set self.old server (get_or self.old server 0 + more) }
+        requires part { old ≤ get_or self.old server 0 + new }
+        requires within { get_or self.old server 0 + new ≤ 2 * MOST_BYTES }
+        ensures { self.new ≡ slice_set self.old server (get_or self.old server 0 + new - old) }
     {
-        self.bytes[usize::from(server)] += more;
+        let place = usize::from(server);
+        self.bytes[place] = self.bytes[place] + new - old;
     }
 }

@@ -38,7 +38,7 @@ fn main(rt: HostRuntime) -> ExitCode {
 fn write_and_read(alloc: Global) -> Result<Bytes, Refusal> {
     let mut cluster = Cluster::new(alloc, 4);
     let layout = cluster.add_layout(Layout::new(2, &[0, 1, 2, 3])?)?;
-    cluster.create(alloc, NAME, layout)?;
+    cluster.create(NAME, layout)?;
     let write = cluster.call_write(NAME, Bytes::from_static(b"hello"))?;
     bring_to_answer(alloc, &mut cluster, write)?;
     let read = cluster.call_read(NAME)?;
@@ -70,6 +70,7 @@ fn make_turns(alloc: Global, cluster: &mut Cluster, call: u64) -> Result<Receipt
                 let decoded = decode(alloc, k, len, cluster.pieces(NAME, call)?)?;
                 cluster.settle(NAME, call, decoded)?;
             }
+            Want::Again => cluster.again(NAME, call)?,
             Want::Answer => return cluster.answer(NAME, call),
             Want::Done => return Err(Refusal::NotNow),
         }

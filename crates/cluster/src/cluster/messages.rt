@@ -48,9 +48,9 @@ impl Cluster {
         let waited = waiting(register);
         match register.serve(place, now) {
             Ok(()) => {
-                let more = register.stored_in_all() - before;
-                self.stored += more;
-                self.loads.add(server, more);
+                let after = register.stored_in_all();
+                self.stored = exchanged(self.stored, before, after);
+                self.loads.exchange(server, before, after);
                 self.mailed = exchanged(self.mailed, waited, waiting(register));
                 self.counter = now;
                 Ok(())

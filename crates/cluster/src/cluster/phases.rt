@@ -3,7 +3,7 @@
 ghost use Rattle.std.specs.Prelude.{◌≡◌, pred, Some, IfOk, OnOk, OnErr};
 ghost use Rattle.tag.specs.Refusal.{IsByCause, IsExactlyByCause};
 ghost use Rattle.record.specs.Steps.{Step};
-ghost use Rattle.register.specs.Causes.{number_cause, advance_cause, post_cause, value_cause};
+ghost use Rattle.register.specs.Causes.{number_cause, advance_cause, again_cause, post_cause, value_cause};
 ghost use Rattle.register.specs.Causes.{supply_cause, pieces_cause, settle_cause};
 ghost use Rattle.register.specs.View.{want_at, coding_at, pieces_at};
 ghost use Rattle.cluster.specs.Cluster.{if_named};
@@ -41,6 +41,22 @@ impl Cluster {
         ensures unchanged { OnErr result (self.new ≡ self.old) }
     {
         match self.act(name, Act::Advance(call)) {
+            Ok(_) => Ok(()),
+            Err(refusal) => Err(refusal),
+        }
+    }
+
+    /// The call of this number, whose fetch lacks pieces, begins anew: a read its first reading, a move its query. Its
+    /// phases are numbered on.
+    ///
+    /// `NoObject` or `NoCall` where there is none, `NotNow` unless it wants to begin anew, and `Full` as for `advance`.
+    pub fn again(&mut self, name: &str, call: u64) -> Result<(), Refusal>
+        ensures step { OnOk result (self.new ≡ stepped self.old name.entry.now (Step.Again (pred call))) }
+        ensures cause { IsByCause
+            (object_cause self.old name.entry.now (λ object. again_cause (next self.old) object call)) result }
+        ensures unchanged { OnErr result (self.new ≡ self.old) }
+    {
+        match self.act(name, Act::Again(call)) {
             Ok(_) => Ok(()),
             Err(refusal) => Err(refusal),
         }
@@ -96,7 +112,8 @@ impl Cluster {
 
     /// Of the pieces that the call's current phase took, the k of least points.
     ///
-    /// `NoObject` or `NoCall` where there is none, and `NotNow` unless it wants to settle a value.
+    /// `NoObject` or `NoCall` where there is none, `NotNow` unless it wants to settle a value, and `Collected` where
+    /// its fetch lacks pieces.
     pub fn pieces(&self, name: &str, call: u64) -> Result<Vec<Piece>, Refusal>
         ensures pieces { IfOk result
             (λ ps. if_named self.now name.now (λ object. Some (pieces_at object call)) ≡ Some ps.items) }
@@ -110,9 +127,9 @@ impl Cluster {
 
     /// The call of this number settles the value that was decoded from pieces of its current phase.
     ///
-    /// `NoObject` or `NoCall` where there is none, `NotNow` unless it wants to settle a value, `WrongCode` unless the
-    /// value was decoded from k pieces that were all recorded in that phase, and `Full` where the limit of steps is
-    /// met. It takes no memory.
+    /// `NoObject` or `NoCall` where there is none, `NotNow` unless it wants to settle a value, `Collected` where its
+    /// fetch lacks pieces, `WrongCode` unless the value was decoded from k pieces that were all recorded in that phase,
+    /// and `Full` where the limit of steps is met. It takes no memory.
     pub fn settle(&mut self, name: &str, call: u64, decoded: Decoded) -> Result<(), Refusal>
         ensures step { OnOk result
             (self.new ≡ stepped self.old name.entry.now (Step.Settle (pred call) decoded.value)) }

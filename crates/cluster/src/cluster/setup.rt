@@ -1,6 +1,6 @@
 //! Layouts, objects and servers.
 
-ghost use Rattle.std.specs.Prelude.{◌≡◌, nat_lt, length, IfOk, OnOk, OnErr};
+ghost use Rattle.std.specs.Prelude.{◌≡◌, nat_lt, length, None, IfOk, OnOk, OnErr};
 ghost use Rattle.std.specs.List.{list_all};
 ghost use Rattle.tag.specs.Refusal.{IsByCause, IsExactlyByCause};
 ghost use Rattle.cluster.specs.Steps.{with_layout, with_server, created};
@@ -9,7 +9,6 @@ ghost use Rattle.cluster.specs.Causes.{layout_cause, create_cause, server_cause}
 use crate::cluster::{Cluster, LayoutId};
 use layout::Layout;
 use register::Register;
-use std::alloc::Global;
 use tag::{LONGEST_NAME, MOST_LAYOUTS, MOST_OBJECTS, MOST_STEPS, Refusal};
 
 impl Cluster {
@@ -34,12 +33,29 @@ impl Cluster {
         Ok(id)
     }
 
-    /// One more object, with one position of this layout and no calls.
+    /// One more object, with one position of this layout and no calls, whose banks keep every piece.
+    ///
+    /// It is refused as `create_with` is.
+    pub fn create(&mut self, name: &str, id: LayoutId) -> Result<(), Refusal>
+        ensures step { OnOk result (self.new ≡ created self.old name.now id None) }
+        ensures cause { IsByCause (create_cause self.old name.now id) result }
+        ensures unchanged { OnErr result (self.new ≡ self.old) }
+    {
+        self.create_with(name, id, None)
+    }
+
+    /// One more object, with one position of this layout and no calls. The banks of all its positions keep the pieces
+    /// of the newest finalized version and of `delta` others; all where there is no `delta`.
     ///
     /// `ObjectExists` where an object has this name, `BadLayout` where there is no such layout, `TooLong` where the
     /// name is longer than `LONGEST_NAME` bytes, and `Full` where the limit of steps or of objects is met.
-    pub fn create(&mut self, alloc: Global, name: &str, id: LayoutId) -> Result<(), Refusal>
-        ensures step { OnOk result (self.new ≡ created self.old name.now id) }
+    pub fn create_with(
+        &mut self,
+        name: &str,
+        id: LayoutId,
+        delta: Option<u32>,
+    ) -> Result<(), Refusal>
+        ensures step { OnOk result (self.new ≡ created self.old name.now id delta) }
         ensures cause { IsByCause (create_cause self.old name.now id) result }
         ensures unchanged { OnErr result (self.new ≡ self.old) }
     {
@@ -56,7 +72,8 @@ impl Cluster {
             return Err(Refusal::Full);
         }
         let now = self.counter + 1;
-        let register = Register::new(alloc, layout.clone()?, now)?;
+        let alloc = *self.layouts.allocator();
+        let register = Register::new(alloc, layout.clone()?, delta, now)?;
         let name = String::from_str(alloc, name)?;
         self.objects.insert(name, register)?;
         self.counter = now;
