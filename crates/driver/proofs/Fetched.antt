@@ -1,5 +1,5 @@
 -- The pieces of a complete fetch: they are k pieces of one value.
-use Rattle.std.proofs.Common.{◌≡◌, ℕ, pred, ◌<◌, ◌≤◌, true, cond, is_some, List, [], ◌∷◌}
+use Rattle.std.proofs.Common.{◌≡◌, ℕ, pred, ◌<◌, ◌≤◌, true, false, cond, is_some, List, [], ◌∷◌}
 use Rattle.std.proofs.Common.{length, take, Option, Some, slice_get, sym, ap, subst, subst₂, ◌∙◌}
 use Rattle.std.proofs.Common.{arith}
 use Rattle.std.specs.List.{AllByRecursion}
@@ -14,6 +14,7 @@ use Rattle.decoder.specs.Pieces.{ArePiecesOf, points_of}
 use Rattle.bank.specs.declared.kind.Kind.{Kind}
 use Rattle.bank.specs.declared.kind.Kind.TheVariants.{Fetch}
 use Rattle.phase.specs.declared.phase.Taken.{Taken}
+use Rattle.phase.specs.Phase.{lacks_pieces}
 use Rattle.record.specs.Records.{Call, Object, layout_at}
 use Rattle.record.specs.Fragments.{IsValue, IfCoded, answer_piece, answer_tag, TookPiece, HasEnough}
 use Rattle.record.specs.Journals.{IsJournaled}
@@ -24,7 +25,7 @@ use Rattle.record.specs.Legal.{stage_of}
 use Rattle.record.specs.Wants.{current_phase, is_fetch, value_len, want_for, want_after, want_of}
 use Rattle.record.specs.declared.stage.Want.{Want}
 use Rattle.record.specs.declared.stage.Want.TheVariants as want
-use Rattle.record.proofs.Sound.Enough.Fetches.{fetch_has_enough}
+use Rattle.record.proofs.Sound.Enough.Counting.{not_lacking_enough}
 use Rattle.record.proofs.Lists.{all_get}
 use Rattle.record.proofs.Atomic.Quorums.Meeting.{lawful_at}
 use Rattle.record.proofs.Atomic.Values.Coded.{journal_unique}
@@ -39,22 +40,26 @@ use Rattle.driver.proofs.Brought.{len_is, brought_of, some_is, piece_there, code
 use Rattle.driver.proofs.Apart.{apart_below, apart_take, points_apart}
 
 -- what a call wants that is to settle a value
-pub settles_is : (object : Object) (index : ℕ) (call : Call) (u : Unsettled call)
+pub settles_is : (object : Object) (index : ℕ) (call : Call) (u : Unsettled call false)
     → want_of object index call ≡ want.Settle (layout_at object u.phase.position).k (value_len u.phase.replies)
 settles_is object index call u =
     ap (λ a. cond (is_some a) want.Done (want_after object next call.settled (current_phase call.phases))) u.open_call
     ∙ ap (λ p. want_after object next call.settled p) u.current
     ∙ ap (λ e. cond (is_some e)
-    (cond (is_fetch u.phase.kind) (cond (is_some call.settled) (want_for object next) settle) (want_for object next)) want.Replies)
+    (cond (is_fetch u.phase.kind) (cond (is_some call.settled) (want_for object next) fetched) (want_for object next)) want.Replies)
     u.ended
-    ∙ ap (λ k. cond (is_fetch k) (cond (is_some call.settled) (want_for object next) settle) (want_for object next)) u.fetch.1
-    ∙ ap (λ s. cond (is_some s) (want_for object next) settle) u.none
+    ∙ ap (λ k. cond (is_fetch k) (cond (is_some call.settled) (want_for object next) fetched) (want_for object next)) u.fetch.1
+    ∙ ap (λ s. cond (is_some s) (want_for object next) fetched) u.none
+    ∙ ap (λ b. cond b want.Again settle) u.lacking
   where
     next : Option (Kind × ℕ)
     next = due (stage_of object index call)
 
     settle : Want
     settle = want.Settle (layout_at object u.phase.position).k (value_len u.phase.replies)
+
+    fetched : Want
+    fetched = cond (lacks_pieces u.phase) want.Again settle
 
 pub settle_parts : (a b c d : ℕ) → want.Settle a b ≡ want.Settle c d → (a ≡ c) × (b ≡ d)
 settle_parts a b c d e = (cc, cc)
@@ -65,7 +70,7 @@ record IsBrought (replies : List Taken) (n member : ℕ) : Type 0 where
   brought : is_some (piece_by replies member) ≡ true
 
 module _ (object : Object) (last index : ℕ) (call : Call) (sound : IsSound fragment object last)
-    (at : slice_get object.calls index ≡ Some call) (u : Unsettled call) where
+    (at : slice_get object.calls index ≡ Some call) (u : Unsettled call false) where
   abbrev layout : Layout
   layout = layout_at object u.phase.position
 
@@ -86,8 +91,7 @@ module _ (object : Object) (last index : ℕ) (call : Call) (sound : IsSound fra
   lawful = lawful_at object u.phase.position sound.legal.layouts truth.placed
 
   enough : HasEnough object u.phase
-  enough = fetch_has_enough object sound.legal sound.open_banks sound.shape.keeps_all index place call u.phase at within truth u.fetch u.end
-      u.ended
+  enough = not_lacking_enough object u.phase truth u.lacking
 
   coded : AllByRecursion
       (λ t. IfCoded fragment object u.phase.position t.member (answer_tag (Fetch tag) t.reply.answer) (answer_piece t.reply.answer))

@@ -114,6 +114,7 @@ module _ {C : Type 0} (chooses : C → ℕ → ℕ → C → Type 0) (name : Lis
         go NoCall refused = no_call NoCall refused.0 refused.1
         go NotNow refused = done_at refused.0 refused.1
         go Stuck refused = by Stuck refused
+        go Collected refused = by Collected refused
         go Full refused = by Full refused
         go NoMemory refused = by NoMemory refused
         go BadLayout refused = absurd refused
@@ -125,7 +126,6 @@ module _ {C : Type 0} (chooses : C → ℕ → ℕ → C → Type 0) (name : Lis
         go MovePending refused = absurd refused
         go GaveUp refused = absurd refused
         go BadPieces refused = absurd refused
-        go Collected refused = absurd refused
         go Stranger refused = absurd refused
 
     -- there is no such object, or no such call

@@ -1,5 +1,5 @@
 -- What a call does next is refused for a limit alone.
-use Rattle.std.proofs.Common.{◌≡◌, ℕ, pred, ◌⊎◌, nat_le, nat_lt, Bool, is_some, List}
+use Rattle.std.proofs.Common.{◌≡◌, ℕ, pred, ◌⊎◌, nat_le, nat_lt, Bool, true, false, is_some, List}
 use Rattle.std.proofs.Common.{length, Option, Some, None, option_map, Result, Ok, Err, IsErrAnd, IfErr, inl, inr, refl, sym}
 use Rattle.std.proofs.Common.{ap, subst, ◌∙◌}
 use Rattle.std.proofs.lemmas.Bool.{cond_both}
@@ -15,10 +15,12 @@ use Rattle.record.specs.Legal.{stage_of}
 use Rattle.record.specs.Courses.{due}
 use Rattle.record.specs.Steps.{Step, stepped}
 use Rattle.record.specs.Wants.{current_phase, want_of}
+use Rattle.record.specs.declared.stage.Want.{Want}
 use Rattle.record.specs.declared.stage.Want.TheVariants as want
 use Rattle.record.proofs.Sound.Sending.{supply_counts}
-use Rattle.register.specs.Causes.{call_at, if_call, if_step, unless, is_advance, is_answer, is_settle, is_replied}
-use Rattle.register.specs.Causes.{advance_cause, answer_cause, value_cause, new_phase_cause, supply_room_cause, supplying_cause}
+use Rattle.register.specs.Causes.{call_at, if_call, if_step, unless, wants_due, due_step, due_cause, is_answer, is_replied, if_settle}
+use Rattle.register.specs.Causes.{advance_cause, again_cause, answer_cause, value_cause, new_phase_cause}
+use Rattle.register.specs.Causes.{supply_room_cause, supplying_cause}
 use Rattle.register.specs.Coding.{pieces_due, pieces_position}
 use Rattle.register.specs.View.{want_at, coding_at}
 use Rattle.driver.specs.Coding.{settling_cause}
@@ -54,16 +56,25 @@ full_room now object index call =
 pub same_full : (a b : Option Refusal) → a ≡ b → OnlyFull b → OnlyFull a
 same_full a b e only = subst OnlyFull (sym e) only
 
-pub advance_full : (object : Object) (number now : ℕ) → want_at object number ≡ Some want.Advance
-    → OnlyFull (advance_cause now object number)
-advance_full object number now e =
-    let w = wants_at object number want.Advance e in
+-- a call that wants the phase that is due
+due_full : (anew : Bool) (object : Object) (number now : ℕ) (wanted : Want) → wants_due anew wanted ≡ true
+    → want_at object number ≡ Some wanted → OnlyFull (due_cause anew now object number)
+due_full anew object number now wanted due e =
+    let w = wants_at object number wanted e in
     same_full _ _
     (ap (λ o. if_call o
-    (λ call. unless (is_advance (want_of object (pred number) call)) NotNow
-    (new_phase_cause (Step.Advance (pred number)) now object call))) w.at
-    ∙ ap (λ v. unless (is_advance v) NotNow (new_phase_cause (Step.Advance (pred number)) now object w.call)) w.wants)
-    (full_phase (Step.Advance (pred number)) now object w.call)
+    (λ call. unless (wants_due anew (want_of object (pred number) call)) NotNow
+    (new_phase_cause (due_step anew (pred number)) now object call))) w.at
+    ∙ ap (λ v. unless (wants_due anew v) NotNow (new_phase_cause (due_step anew (pred number)) now object w.call)) w.wants
+    ∙ ap (λ b. unless b NotNow (new_phase_cause (due_step anew (pred number)) now object w.call)) due)
+    (full_phase (due_step anew (pred number)) now object w.call)
+
+pub advance_full : (object : Object) (number now : ℕ) → want_at object number ≡ Some want.Advance
+    → OnlyFull (advance_cause now object number)
+advance_full object number now e = due_full false object number now want.Advance refl e
+
+pub again_full : (object : Object) (number now : ℕ) → want_at object number ≡ Some want.Again → OnlyFull (again_cause now object number)
+again_full object number now e = due_full true object number now want.Again refl e
 
 pub answer_full : (object : Object) (number now : ℕ) → want_at object number ≡ Some want.Answer → OnlyFull (answer_cause now object number)
 answer_full object number now e =
@@ -76,8 +87,8 @@ pub settling_full : (object : Object) (number k len now : ℕ) → want_at objec
     → OnlyFull (settling_cause now object number)
 settling_full object number k len now e =
     let w = wants_at object number (want.Settle k len) e in
-    same_full _ _ (ap (λ o. if_call o (λ call. unless (is_settle (want_of object (pred number) call)) NotNow (if_step now None))) w.at
-    ∙ ap (λ v. unless (is_settle v) NotNow (if_step now None)) w.wants)
+    same_full _ _ (ap (λ o. if_call o (λ call. if_settle (want_of object (pred number) call) (if_step now None))) w.at
+    ∙ ap (λ v. if_settle v (if_step now None)) w.wants)
     (full_or (nat_le now MOST_STEPS) None (inl refl))
 
 pub supplying_full : (object : Object) (number k n now : ℕ) (value : List ℕ) → coding_at object number ≡ Some (value, k, n)

@@ -9,13 +9,13 @@ use Rattle.layout.specs.Layout.{Layout}
 use Rattle.mail.specs.declared.message.Message.{Message}
 use Rattle.mail.specs.declared.message.Body.{Body}
 use Rattle.mail.specs.declared.message.Body.TheVariants as body
-use Rattle.phase.specs.Phase.{Phase}
+use Rattle.phase.specs.Phase.{Phase, lacks_pieces}
 use Rattle.record.specs.Records.{Call, Object, layout_at}
 use Rattle.record.specs.Courses.{due}
 use Rattle.record.specs.Legal.{stage_of}
 use Rattle.record.specs.Steps.{Step, stepped, on_call, on_message, begun_object, supplied_by, asked_again, advanced_object, served_by}
 use Rattle.record.specs.Steps.{taken_by, taken_calls}
-use Rattle.record.specs.Wants.{current_phase, is_fetch, value_len, want_to_begin, want_for, want_after, want_of}
+use Rattle.record.specs.Wants.{current_phase, is_fetch, value_len, want_to_begin, want_for, want_of_fetch, want_after, want_of}
 use Rattle.record.specs.declared.stage.Want.{Want}
 use Rattle.record.specs.declared.stage.Want.TheVariants as want
 use Rattle.register.specs.Causes.{call_at, is_plain}
@@ -55,6 +55,7 @@ set_keeps (c ∷ calls) (suc i) (suc j) a b call at same there =
 -- the steps by which a call goes on, but for its answer
 abbrev pub IsCarry : Step → Type 0
 IsCarry (Step.Advance index) = Unit {0}
+IsCarry (Step.Again index) = Unit {0}
 IsCarry (Step.Supply index) = Unit {0}
 IsCarry (Step.Post index) = Unit {0}
 IsCarry (Step.Settle index value) = Unit {0}
@@ -113,6 +114,9 @@ module _ (object : Object) (index now : ℕ) (call : Call) (there : slice_get ob
   kept (Step.Advance i) carry =
       on_call_kept i (λ a. advanced_object fragment object i a now) (λ a at. begun_kept i a at (due (stage_of object i a)))
       (slice_get object.calls i) refl
+  kept (Step.Again i) carry =
+      on_call_kept i (λ a. advanced_object fragment object i a now) (λ a at. begun_kept i a at (due (stage_of object i a)))
+      (slice_get object.calls i) refl
   kept (Step.Supply i) carry = on_call_kept i _ (λ a at. supplied_kept i a at (current_phase a.phases)) (slice_get object.calls i) refl
   kept (Step.Post i) carry = on_call_kept i _ (λ a at. asked_kept a (current_phase a.phases)) (slice_get object.calls i) refl
   kept (Step.Settle i value) carry =
@@ -143,17 +147,23 @@ module _ (object : Object) (next : Option (Kind × ℕ)) (settled : Option (List
   abbrev settle : Want
   settle = want.Settle (layout_at object phase.position).k (value_len phase.replies)
 
-  fetched : cond (is_some settled) (want_for object next) settle ≢ want.Done
-  fetched = cond_both (is_some settled) (want_for object next) settle (λ w. w ≢ want.Done) (λ _. for_some object next) (λ _ e. cc)
+  unsettled : want_of_fetch object phase ≢ want.Done
+  unsettled = cond_both (lacks_pieces phase) want.Again settle (λ w. w ≢ want.Done) (λ _ e. cc) (λ _ e. cc)
 
-  ended : cond (is_fetch phase.kind) (cond (is_some settled) (want_for object next) settle) (want_for object next) ≢ want.Done
-  ended = cond_both (is_fetch phase.kind) (cond (is_some settled) (want_for object next) settle) (want_for object next) (λ w. w ≢ want.Done)
-      (λ _. fetched) (λ _. for_some object next)
+  fetched : cond (is_some settled) (want_for object next) (want_of_fetch object phase) ≢ want.Done
+  fetched = cond_both (is_some settled) (want_for object next) (want_of_fetch object phase) (λ w. w ≢ want.Done)
+      (λ _. for_some object next) (λ _. unsettled)
+
+  ended : cond (is_fetch phase.kind) (cond (is_some settled) (want_for object next) (want_of_fetch object phase)) (want_for object next)
+      ≢ want.Done
+  ended = cond_both (is_fetch phase.kind) (cond (is_some settled) (want_for object next) (want_of_fetch object phase))
+      (want_for object next) (λ w. w ≢ want.Done) (λ _. fetched) (λ _. for_some object next)
 
   current_some : want_after object next settled (Some phase) ≢ want.Done
   current_some =
       cond_both (is_some phase.end)
-      (cond (is_fetch phase.kind) (cond (is_some settled) (want_for object next) settle) (want_for object next)) want.Replies
+      (cond (is_fetch phase.kind) (cond (is_some settled) (want_for object next) (want_of_fetch object phase)) (want_for object next))
+      want.Replies
       (λ w. w ≢ want.Done) (λ _. ended) (λ _ e. cc)
 
 after_some : (object : Object) (next : Option (Kind × ℕ)) (settled : Option (List ℕ)) (o : Option Phase)
@@ -197,6 +207,7 @@ module _ {C : Type 0} (chooses : C → ℕ → ℕ → C → Type 0) (name : Lis
   carry_of cluster object again before after step want.Advance other next = subst IsCarry (sym next.1) tt
   carry_of cluster object again before after step (want.Supply k n) other next = subst IsCarry (sym next.1) tt
   carry_of cluster object again before after step (want.Settle k len) other next = subst IsCarry (sym next.1.1) tt
+  carry_of cluster object again before after step want.Again other next = subst IsCarry (sym next.2) tt
   carry_of cluster object again before after step want.Answer other next = absurd (other refl)
   carry_of cluster object again before after step want.Done other next = absurd next
 
@@ -206,6 +217,7 @@ module _ {C : Type 0} (chooses : C → ℕ → ℕ → C → Type 0) (name : Lis
   not_done cluster object again before after step want.Advance next e = cc
   not_done cluster object again before after step (want.Supply k n) next e = cc
   not_done cluster object again before after step (want.Settle k len) next e = cc
+  not_done cluster object again before after step want.Again next e = cc
   not_done cluster object again before after step want.Answer next e = cc
   not_done cluster object again before after step want.Done next e = next
 

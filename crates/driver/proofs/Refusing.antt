@@ -1,5 +1,5 @@
 -- A step that comes next is refused for a limit or for want of memory, and for nothing else.
-use Rattle.std.proofs.Common.{◌≡◌, ℕ, pred, ◌⊎◌, Bool, List}
+use Rattle.std.proofs.Common.{◌≡◌, ℕ, pred, ◌⊎◌, Bool, true, List}
 use Rattle.std.proofs.Common.{Option, Some, None, inl, inr, refl, sym}
 use Rattle.std.proofs.Common.{subst, ◌∙◌}
 use Rattle.tag.specs.declared.refusal.Refusal.{Refusal}
@@ -10,7 +10,7 @@ use Rattle.record.specs.Courses.{due}
 use Rattle.record.specs.Steps.{Step}
 use Rattle.record.specs.declared.stage.Want.{Want}
 use Rattle.record.specs.declared.stage.Want.TheVariants as want
-use Rattle.register.specs.Causes.{advance_cause, answer_cause, supplying_cause}
+use Rattle.register.specs.Causes.{advance_cause, again_cause, answer_cause, supplying_cause}
 use Rattle.register.specs.State.{State}
 use Rattle.register.specs.View.{want_at, coding_at, pieces_at}
 use Rattle.cluster.specs.Cluster.{Cluster, named, if_named}
@@ -18,7 +18,7 @@ use Rattle.cluster.specs.Causes.{next, object_cause}
 use Rattle.driver.specs.Coding.{settling_cause}
 use Rattle.driver.specs.Driver.{wanted, turn_cause, IsNext, IsDue, IsRefused}
 use Rattle.driver.proofs.Named.{cause_there, is_there}
-use Rattle.driver.proofs.Limits.{OnlyFull, same_full, advance_full, answer_full, settling_full, supplying_full, sending_full}
+use Rattle.driver.proofs.Limits.{OnlyFull, same_full, advance_full, again_full, answer_full, settling_full, supplying_full, sending_full}
 use Rattle.driver.proofs.Limits.{value_none}
 
 module _ {C : Type 0} (chooses : C → ℕ → ℕ → C → Type 0) (name : List ℕ) (call : ℕ) (cluster : Cluster) (again : Bool)
@@ -61,6 +61,15 @@ module _ {C : Type 0} (chooses : C → ℕ → ℕ → C → Type 0) (name : Lis
       (due_of want.Advance (Step.Advance (pred call)) e (λ object w. (refl, refl)))
       (full_of want.Advance (λ object. advance_cause (next cluster) object call) e (λ object w. advance_full object call (next cluster) w))
       r by
+
+  pub again_refused : (r : Refusal) → again ≡ true → wanted cluster name call ≡ Some want.Again
+      → By (object_cause cluster name (λ object. again_cause (next cluster) object call)) r
+      → IsRefused chooses name call cluster again c c r
+  again_refused r anew e by =
+      refused_by chooses name call cluster again c c (Step.Again (pred call))
+      (due_of want.Again (Step.Again (pred call)) e (λ object w. (anew, refl, refl)))
+      (full_of want.Again (λ object. again_cause (next cluster) object call) e (λ object w. again_full object call (next cluster) w)) r
+      by
 
   pub answer_refused : (r : Refusal) → wanted cluster name call ≡ Some want.Answer
       → By (object_cause cluster name (λ object. answer_cause (next cluster) object call)) r

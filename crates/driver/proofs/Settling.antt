@@ -4,7 +4,7 @@ use Rattle.std.proofs.Common.{length, take, Option, Some, None, sym, ap, ◌∙�
 use Rattle.std.specs.List.{list_all}
 use Rattle.std.proofs.lemmas.Bool.{eq-eqb}
 use Rattle.tag.specs.declared.limits.TheConstants.{MOST_STEPS}
-use Rattle.tag.specs.declared.refusal.Refusal.TheVariants.{NotNow, WrongCode}
+use Rattle.tag.specs.declared.refusal.Refusal.TheVariants.{WrongCode}
 use Rattle.layout.specs.Layout.{Layout}
 use Rattle.encoder.specs.declared.fragment.Piece.{Piece}
 use Rattle.decoder.specs.Decoded.{Decoding}
@@ -15,7 +15,7 @@ use Rattle.record.specs.Wants.{current_phase, value_len, want_of}
 use Rattle.record.specs.declared.stage.Want.TheVariants as want
 use Rattle.record.proofs.Sound.Waiting.{Unsettled}
 use Rattle.record.proofs.Sound.Wanting.{unsettled_of}
-use Rattle.register.specs.Causes.{if_call, if_step, unless, is_settle, is_decoded_in}
+use Rattle.register.specs.Causes.{if_call, if_step, unless, if_settle, is_decoded_in}
 use Rattle.register.specs.Causes.{settle_cause}
 use Rattle.register.specs.Coding.{same_piece, has_piece, is_recorded, piece_by, listed}
 use Rattle.register.specs.Coding.{pieces_below, least_of}
@@ -85,15 +85,15 @@ pub settle_is : (object : Object) (number k len now : ℕ) (decoded : Decoding) 
     → decoded.k ≡ k
     → decoded.pieces ≡ pieces_at object number → settle_cause now object number decoded ≡ settling_cause now object number
 settle_is object number k len now decoded e same_k same_pieces =
-    ap (λ o. if_call o (λ call. unless (is_settle (want_of object (pred number) call)) NotNow
+    ap (λ o. if_call o (λ call. if_settle (want_of object (pred number) call)
     (unless (is_decoded_in object (current_phase call.phases) decoded) WrongCode (if_step now None)))) w.at
-    ∙ ap (λ b. unless (is_settle (want_of object (pred number) w.call)) NotNow (unless b WrongCode (if_step now None))) right
-    ∙ sym (ap (λ o. if_call o (λ call. unless (is_settle (want_of object (pred number) call)) NotNow (if_step now None))) w.at)
+    ∙ ap (λ b. if_settle (want_of object (pred number) w.call) (unless b WrongCode (if_step now None))) right
+    ∙ sym (ap (λ o. if_call o (λ call. if_settle (want_of object (pred number) call) (if_step now None))) w.at)
   where
     w : WantsAt object number (want.Settle k len)
     w = wants_at object number (want.Settle k len) e
 
-    u : Unsettled w.call
+    u : Unsettled w.call false
     u = unsettled_of object (pred number) w.call k len w.wants
 
     here : Layout
@@ -118,6 +118,6 @@ pub settling_none : (object : Object) (number k len now : ℕ) → want_at objec
     → settling_cause now object number ≡ None
 settling_none object number k len now e within =
     let w = wants_at object number (want.Settle k len) e in
-    ap (λ o. if_call o (λ call. unless (is_settle (want_of object (pred number) call)) NotNow (if_step now None))) w.at
-    ∙ ap (λ v. unless (is_settle v) NotNow (if_step now None)) w.wants
+    ap (λ o. if_call o (λ call. if_settle (want_of object (pred number) call) (if_step now None))) w.at
+    ∙ ap (λ v. if_settle v (if_step now None)) w.wants
     ∙ step_within now None within

@@ -64,6 +64,7 @@ sent_there object last index position call sound at = go (want_of object index c
         subst (λ p. p < length object.layouts) s.same
         (all_get (IsTruePhase object) call.phases l.place s.phase (sound.legal.calls index call at).phases l.within).placed
     go want.Advance e = absurd (cc)
+    go want.Again e = absurd (cc)
     go (want.Settle k len) e = absurd (cc)
     go want.Answer e = absurd (cc)
     go want.Done e = absurd (cc)

@@ -1,7 +1,6 @@
 -- Values that are decoded for a call: why its settling is refused, and what it settles.
 use Rattle.std.specs.Prelude.{◌≡◌, ℕ, pred, List, length, Option, None}
 use Rattle.tag.specs.declared.refusal.Refusal.{Refusal}
-use Rattle.tag.specs.declared.refusal.Refusal.TheVariants.{NotNow}
 use Rattle.encoder.specs.declared.fragment.Piece.{Piece}
 use Rattle.decoder.specs.Pieces.{ArePiecesOf, IsInterpolated}
 use Rattle.record.specs.Records.{Object}
@@ -9,14 +8,15 @@ use Rattle.record.specs.Steps.{Step}
 use Rattle.record.specs.Wants.{want_of}
 use Rattle.record.specs.declared.stage.Want.{Want}
 use Rattle.record.specs.declared.stage.Want.TheVariants as want
-use Rattle.register.specs.Causes.{call_at, if_call, if_step, unless, is_settle}
+use Rattle.register.specs.Causes.{call_at, if_call, if_step, if_settle}
 use Rattle.register.specs.View.{pieces_at}
 
--- why a call does not settle the value of its own pieces: it wants none, or the limit of steps is met
+-- why a call does not settle the value of its own pieces: it wants none, they are collected, or the limit of steps is
+-- met
 abbrev pub settling_cause : (now : ℕ) → Object → (number : ℕ) → Option Refusal
 settling_cause now object number =
     if_call (call_at object number)
-    (λ call. unless (is_settle (want_of object (pred number) call)) NotNow (if_step now None))
+    (λ call. if_settle (want_of object (pred number) call) (if_step now None))
 
 -- any decoding of these pieces gives a value of this length
 abbrev pub GiveBack : (k len : ℕ) → List Piece → Type 0

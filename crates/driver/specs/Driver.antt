@@ -2,7 +2,8 @@
 use Rattle.std.specs.Prelude.{◌≡◌, ◌≢◌, ℕ, zero, suc, pred, ◌<◌, ◌==◌, ◌&&◌, Bool, true, false, if◌then◌else◌, List, []}
 use Rattle.std.specs.Prelude.{Option, Some, None, slice_get}
 use Rattle.tag.specs.declared.refusal.Refusal.{Refusal}
-use Rattle.tag.specs.declared.refusal.Refusal.TheVariants.{NoMemory, NoObject, NoCall, NotNow, Full, Stuck, GaveUp}
+use Rattle.tag.specs.declared.refusal.Refusal.TheVariants.{NoMemory, NoObject, NoCall, NotNow, Full}
+use Rattle.tag.specs.declared.refusal.Refusal.TheVariants.{Stuck, GaveUp, Collected}
 use Rattle.mail.specs.declared.message.Message.{Message}
 use Rattle.record.specs.Records.{Call, Object}
 use Rattle.record.specs.Steps.{Step}
@@ -10,7 +11,7 @@ use Rattle.record.specs.Wants.{current_phase}
 use Rattle.record.specs.declared.stage.Want.{Want}
 use Rattle.record.specs.declared.stage.Want.TheVariants as want
 use Rattle.register.specs.Causes.{call_at, number_cause, advance_cause, supplying_cause, post_cause, answer_cause}
-use Rattle.register.specs.Causes.{is_plain}
+use Rattle.register.specs.Causes.{again_cause, is_plain}
 use Rattle.register.specs.State.{State}
 use Rattle.register.specs.View.{want_at, receipt_at}
 use Rattle.register.specs.declared.receipt.Receipt.{Receipt}
@@ -39,6 +40,7 @@ IsAsking object number step = (call : Call) × (call_at object number ≡ Some c
 -- why the step of a call that comes next is refused
 abbrev pub due_cause : Cluster → (number : ℕ) → Step → Object → Option Refusal
 due_cause cluster number (Step.Advance index) object = advance_cause (next cluster) object number
+due_cause cluster number (Step.Again index) object = again_cause (next cluster) object number
 due_cause cluster number (Step.Post index) object = post_cause (next cluster) object number
 due_cause cluster number (Step.Supply index) object = supplying_cause (next cluster) object number
 due_cause cluster number (Step.Settle index value) object = settling_cause (next cluster) object number
@@ -62,13 +64,15 @@ module _ {C : Type 0} (chooses : C → ℕ → ℕ → C → Type 0) (name : Lis
       (place : ℕ) × (message : Message) × Picks chooses (choices cluster call object) before after place
       × (slice_get object.mail place ≡ Some message) × (step ≡ handling place message.body)
 
-  -- the step that comes next for a call that wants this
+  -- the step that comes next for a call that wants this; only a turn that asks again begins anew
   abbrev pub IsNext : Cluster → Object → (again : Bool) → (before after : C) → Step → Want → Type 0
   IsNext cluster object again before after step want.Replies = IsWaitingStep cluster object again before after step
   IsNext cluster object again before after step want.Advance = (after ≡ before) × (step ≡ Step.Advance (pred call))
   IsNext cluster object again before after step (want.Supply k n) = (after ≡ before) × (step ≡ Step.Supply (pred call))
   IsNext cluster object again before after step (want.Settle k len) =
       (after ≡ before) × Settles object call step (want.Settle k len)
+  IsNext cluster object again before after step want.Again =
+      (again ≡ true) × (after ≡ before) × (step ≡ Step.Again (pred call))
   IsNext cluster object again before after step want.Answer = (after ≡ before) × (step ≡ Step.AnswerCall (pred call))
   IsNext cluster object again before after step want.Done = ⊥
 
@@ -109,6 +113,8 @@ module _ {C : Type 0} (chooses : C → ℕ → ℕ → C → Type 0) (name : Lis
       (after ≡ before) × (object_cause cluster name (λ object. number_cause object call) ≡ Some NoCall)
   IsRefused cluster again before after NotNow = (after ≡ before) × (wanted cluster name call ≡ Some want.Done)
   IsRefused cluster again before after Stuck = (after ≡ before) × IsStuck cluster again
+  IsRefused cluster again before after Collected =
+      (after ≡ before) × (again ≡ false) × (wanted cluster name call ≡ Some want.Again)
   IsRefused cluster again before after Full =
       (step : Step) × IsDue cluster again before after step × (turn_cause cluster name call step ≡ Some Full)
   IsRefused cluster again before after NoMemory =
@@ -158,6 +164,8 @@ module _ {C : Type 0} (chooses : C → ℕ → ℕ → C → Type 0) (name : Lis
   IsUnfinished resumed turns old before new after GaveUp =
       Drives resumed turns old before new after × IsOpen new name call
   IsUnfinished resumed turns old before new after Stuck = IsStopped resumed turns old before new after Stuck
+  IsUnfinished resumed turns old before new after Collected =
+      IsStopped resumed turns old before new after Collected
   IsUnfinished resumed turns old before new after Full = IsStopped resumed turns old before new after Full
   IsUnfinished resumed turns old before new after NoMemory = IsStopped resumed turns old before new after NoMemory
   IsUnfinished resumed turns old before new after _ = ⊥

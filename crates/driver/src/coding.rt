@@ -38,8 +38,8 @@ pub fn supply(alloc: Global, cluster: &mut Cluster, name: &str, call: u64) -> Re
 
 /// The value that the call of this number is to settle is decoded from the pieces that it took, and settled.
 ///
-/// `NoObject` or `NoCall` where there is none, `NotNow` unless it wants to settle a value, and `Full` where the limit
-/// of steps is met.
+/// `NoObject` or `NoCall` where there is none, `NotNow` unless it wants to settle a value, `Collected` where its fetch
+/// lacks pieces, and `Full` where the limit of steps is met.
 pub fn settle(alloc: Global, cluster: &mut Cluster, name: &str, call: u64) -> Result<(), Refusal>
     ensures step { OnOk result (SettlesOwn cluster.old name.entry.now call cluster.new) }
     ensures cause { IsByCause
@@ -51,6 +51,7 @@ pub fn settle(alloc: Global, cluster: &mut Cluster, name: &str, call: u64) -> Re
             let pieces = pieces_to_decode(cluster, name, call, k, len)?;
             settle_pieces(alloc, cluster, name, call, k, len, pieces)
         }
+        Want::Again => Err(Refusal::Collected),
         _ => Err(Refusal::NotNow),
     }
 }

@@ -13,11 +13,12 @@ use tag::Refusal;
 
 /// Carries the call of this number on to its answer, in at most `turns` steps: each handles one of the call's messages,
 /// where it wants replies, or is the one that the call wants. With `resumed` the first step of a call that wants
-/// replies is that its current phase asks again.
+/// replies is that its current phase asks again, and that of a call whose fetch lacks pieces is to begin anew.
 ///
 /// `NoObject` or `NoCall` where there is none; `NotNow` where the call is answered; `GaveUp` once the turns are used
-/// up; `Stuck` where the call wants replies and none of its messages can be handled; and `Full` as the step that comes
-/// next. The steps before a refusal stay made, and the call stays open.
+/// up; `Stuck` where the call wants replies and none of its messages can be handled; `Collected` where its fetch lacks
+/// pieces, but in the first step with `resumed`; and `Full` as the step that comes next. The steps before a refusal
+/// stay made, and the call stays open.
 pub fn finish<C: Chooser>(
     alloc: Global,
     cluster: &mut Cluster,

@@ -33,7 +33,7 @@ pub enum Round {
 /// One round for the call of this number, which wants this, but for the coding.
 ///
 /// Where the call wants replies one of its messages is handled, or, where it `asks_again`, its current phase asks
-/// again.
+/// again. Where its fetch lacks pieces it begins anew if it `asks_again`, and is answered `Collected` if not.
 pub fn make_round<C: Chooser>(
     cluster: &mut Cluster,
     name: &str,
@@ -68,6 +68,13 @@ pub fn make_round<C: Chooser>(
         Want::Settle { k, len } => {
             let pieces = pieces_to_decode(cluster, name, call, k, len)?;
             Ok(Round::Decode { pieces, k, len })
+        }
+        Want::Again => {
+            if !asks_again {
+                return Err(Refusal::Collected);
+            }
+            cluster.again(name, call)?;
+            Ok(Round::Stepped)
         }
         Want::Answer => Ok(Round::Answered(cluster.answer(name, call)?)),
         Want::Done => Err(Refusal::NotNow),
