@@ -123,6 +123,11 @@ count_stepped (Step.Advance index) now object =
     on_call_quiet object index (slice_get object.calls index) (λ call. advanced_object fragment object index call now) refl
     (λ call at. begun_quiet object index call (due (stage_of object index call)) now at) in
     omega (arith, same)
+count_stepped (Step.Again index) now object =
+    let same =
+    on_call_quiet object index (slice_get object.calls index) (λ call. advanced_object fragment object index call now) refl
+    (λ call at. begun_quiet object index call (due (stage_of object index call)) now at) in
+    omega (arith, same)
 count_stepped (Step.Supply index) now object =
     let same =
     on_call_quiet object index (slice_get object.calls index) (λ call. supplied_object fragment object index call now) refl
@@ -222,12 +227,12 @@ sum_pushed [] o = omega arith
 sum_pushed (x ∷ xs) o = let rest = sum_pushed xs o in omega (arith, rest)
 
 -- one more object
-pub calls_created : (cluster : Cluster) (name : List ℕ) (layout : Layout)
-    → client_calls (of.with_object cluster name layout) ≡ client_calls cluster
-calls_created cluster name layout =
+pub calls_created : (cluster : Cluster) (name : List ℕ) (layout : Layout) (delta : Option ℕ)
+    → client_calls (of.with_object cluster name layout delta) ≡ client_calls cluster
+calls_created cluster name layout delta =
     let all =
     sum_pushed cluster.objects
-    (record { name = name; state = record { object = opened_object layout (suc cluster.counter); last = suc cluster.counter } }) in
+    (record { name = name; state = record { object = opened_object layout delta (suc cluster.counter); last = suc cluster.counter } }) in
     omega (arith, all)
 
 count_most : (calls : List Call) → client_count calls ≤ length calls

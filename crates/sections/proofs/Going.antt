@@ -75,6 +75,7 @@ module _ {C : Type 0} (chooses : C → ℕ → ℕ → C → Type 0) (name : Lis
   quiet_next cluster object again before after step want.Advance n = ap begins n.1
   quiet_next cluster object again before after step (want.Supply k m) n = ap begins n.1
   quiet_next cluster object again before after step (want.Settle k len) n = ap begins n.1.1
+  quiet_next cluster object again before after step want.Again n = ap begins n.2
   quiet_next cluster object again before after step want.Answer n = ap begins n.1
   quiet_next cluster object again before after step want.Done n = absurd n
 

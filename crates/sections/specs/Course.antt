@@ -1,5 +1,5 @@
 -- What becomes of a cluster, step by step.
-use Rattle.std.specs.Prelude.{◌≡◌, ◌⊎◌, ℕ, zero, suc, Bool, List}
+use Rattle.std.specs.Prelude.{◌≡◌, ◌⊎◌, ℕ, zero, suc, Bool, List, Option}
 use Rattle.layout.specs.Layout.{Layout}
 use Rattle.record.specs.Steps.{Step}
 use Rattle.cluster.specs.Cluster.{Cluster}
@@ -11,7 +11,7 @@ abbrev pub IsStep : (old new : Cluster) → Type 0
 IsStep old new =
     ((name : List ℕ) × ((step : Step) × (new ≡ stepped old name step)))
     ⊎ (((layout : Layout) × (new ≡ with_layout old layout))
-    ⊎ (((name : List ℕ) × ((id : ℕ) × (new ≡ created old name id)))
+    ⊎ (((name : List ℕ) × ((id : ℕ) × ((delta : Option ℕ) × (new ≡ created old name id delta))))
     ⊎ ((server : ℕ) × ((up : Bool) × (new ≡ with_server old server up)))))
 
 -- so many steps lead from one cluster to another

@@ -195,7 +195,7 @@ module _ {C : Type 0} (chooses : C → ℕ → ℕ → C → Type 0) (name : Lis
 -- what an order makes of a cluster
 abbrev pub ordered : Cluster → Order → Cluster
 ordered cluster (order.AddLayout layout) = with_layout cluster layout
-ordered cluster (order.Create name layout) = created cluster name.now layout
+ordered cluster (order.Create name layout delta) = created cluster name.now layout delta
 ordered cluster (order.SetServer server up) = with_server cluster server up
 
 -- the number of a layout that is added
@@ -205,7 +205,7 @@ ordered_id cluster _ = None
 
 abbrev pub order_cause : Cluster → Order → Option Refusal
 order_cause cluster (order.AddLayout layout) = layout_cause cluster layout
-order_cause cluster (order.Create name layout) = create_cause cluster name.now layout
+order_cause cluster (order.Create name layout delta) = create_cause cluster name.now layout
 order_cause cluster (order.SetServer server up) = server_cause cluster server
 
 -- why a move does not begin

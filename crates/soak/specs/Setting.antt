@@ -1,5 +1,5 @@
 -- The cluster of a soak.
-use Rattle.std.specs.Prelude.{[], ◌∷◌, codes}
+use Rattle.std.specs.Prelude.{[], ◌∷◌, None, codes}
 use Rattle.cluster.specs.Cluster.{Cluster, all_up}
 use Rattle.cluster.specs.Steps.{with_layout, created}
 
@@ -15,4 +15,4 @@ with_layouts = with_layout (with_layout (with_layout five_servers
 
 -- with the objects `a` and `b`, which have the first layout
 abbrev pub setting : Cluster
-setting = created (created with_layouts (codes "a") 0) (codes "b") 0
+setting = created (created with_layouts (codes "a") 0 None) (codes "b") 0 None

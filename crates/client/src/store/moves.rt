@@ -28,16 +28,15 @@ impl<L: StoreName> Store<L> {
         ensures { AddsLayout L.first admin.old layout result admin.new }
     {
         let order = Order::AddLayout(layout);
-        match admin_in(self.alloc, &mut *self.booked.lock(rt), admin, order)? {
+        match admin_in(&mut *self.booked.lock(rt), admin, order)? {
             Some(id) => Ok(id),
             None => unreachable!(),
         }
     }
 
-    /// One more object, with one position of this layout.
+    /// One more object, with one position of this layout, whose banks keep every piece.
     ///
-    /// `ObjectExists` where an object has this name, `BadLayout` where there is no such layout, `TooLong` where the
-    /// name is too long, and `Full` where the limit of steps or of objects is met.
+    /// It is refused as `create_with` is.
     pub fn create<R: Wait>(
         &self,
         rt: &R,
@@ -45,10 +44,32 @@ impl<L: StoreName> Store<L> {
         name: &str,
         layout: LayoutId,
     ) -> Result<(), Refusal>
-        ensures { Creates L.first admin.old name.now layout result admin.new }
+        ensures { Creates L.first admin.old name.now layout None result admin.new }
     {
-        let order = Order::Create { name, layout };
-        admin_in(self.alloc, &mut *self.booked.lock(rt), admin, order)?;
+        self.create_with(rt, admin, name, layout, None)
+    }
+
+    /// One more object, with one position of this layout. The banks of all its positions keep the pieces of the newest
+    /// finalized version and of `delta` others; all where there is no `delta`.
+    ///
+    /// `ObjectExists` where an object has this name, `BadLayout` where there is no such layout, `TooLong` where the
+    /// name is too long, and `Full` where the limit of steps or of objects is met.
+    pub fn create_with<R: Wait>(
+        &self,
+        rt: &R,
+        admin: &mut Admin<L>,
+        name: &str,
+        layout: LayoutId,
+        delta: Option<u32>,
+    ) -> Result<(), Refusal>
+        ensures { Creates L.first admin.old name.now layout delta result admin.new }
+    {
+        let order = Order::Create {
+            name,
+            layout,
+            delta,
+        };
+        admin_in(&mut *self.booked.lock(rt), admin, order)?;
         Ok(())
     }
 
@@ -63,7 +84,7 @@ impl<L: StoreName> Store<L> {
         ensures { SetsServer L.first admin.old server up result admin.new }
     {
         let order = Order::SetServer { server, up };
-        admin_in(self.alloc, &mut *self.booked.lock(rt), admin, order)?;
+        admin_in(&mut *self.booked.lock(rt), admin, order)?;
         Ok(())
     }
 

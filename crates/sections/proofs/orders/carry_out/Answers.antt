@@ -10,18 +10,19 @@ returns-in_ok-add_layout-in-AddLayout-clause-course c =
     let made = c.in_ok-add_layout-in-AddLayout.ensures.step in
     goes_on _ _ (inr (inl (c.in-AddLayout.layout, made)))
 
-pub returns-in_ok-create-in-Create-clause-count : goal.returns-in_ok-create-in-Create-clause-count
-returns-in_ok-create-in-Create-clause-count c =
-    let made = c.in_ok-create-in-Create.ensures.step in
+pub returns-in_ok-create_with-in-Create-clause-count : goal.returns-in_ok-create_with-in-Create-clause-count
+returns-in_ok-create_with-in-Create-clause-count c =
+    let made = c.in_ok-create_with-in-Create.ensures.step in
     ap client_calls made
-    ∙ calls_created c.args.cluster.now c.in-Create.name.now (layout_of c.args.cluster.now c.in-Create.layout)
+    ∙ calls_created c.args.cluster.now c.in-Create.name.now (layout_of c.args.cluster.now c.in-Create.layout) c.in-Create.delta
 
-pub returns-in_ok-create-in-Create-clause-course : goal.returns-in_ok-create-in-Create-clause-course
-returns-in_ok-create-in-Create-clause-course c =
-    let made = c.in_ok-create-in-Create.ensures.step in
+pub returns-in_ok-create_with-in-Create-clause-course : goal.returns-in_ok-create_with-in-Create-clause-course
+returns-in_ok-create_with-in-Create-clause-course c =
+    let made = c.in_ok-create_with-in-Create.ensures.step in
     let name = c.in-Create.name.now in
     let layout = c.in-Create.layout in
-    goes_on _ _ (inr (inr (inl (name, (layout, made)))))
+    let delta = c.in-Create.delta in
+    goes_on _ _ (inr (inr (inl (name, (layout, (delta, made))))))
 
 pub returns-in_ok-set_server-in-SetServer-clause-course : goal.returns-in_ok-set_server-in-SetServer-clause-course
 returns-in_ok-set_server-in-SetServer-clause-course c =
