@@ -34,6 +34,7 @@ word_of_want want.Replies = codes "replies"
 word_of_want want.Advance = codes "advance"
 word_of_want (want.Supply k n) = codes "supply"
 word_of_want (want.Settle k len) = codes "settle"
+word_of_want want.Again = codes "again"
 word_of_want want.Answer = codes "answer"
 word_of_want want.Done = codes "done"
 

@@ -41,6 +41,7 @@ pub fn want_word(want: Want) -> &'static str
         Want::Advance => "advance",
         Want::Supply { k: _, n: _ } => "supply",
         Want::Settle { k: _, len: _ } => "settle",
+        Want::Again => "again",
         Want::Answer => "answer",
         Want::Done => "done",
     }

@@ -1,11 +1,11 @@
 -- Words that spell no command, by the text that they begin with.
 use Rattle.std.proofs.Common.{◌≡◌, ◌==◌, ℕ, Bool, true, false, List, [], ◌∷◌, codes, sym, ◌∙◌, subst, ◌⊎◌, inl, inr}
 use Rattle.std.proofs.Common.{refl}
-use Rattle.std.specs.Prelude.{Result, Ok, Err, IsErrAnd, ◌&&◌}
+use Rattle.std.specs.Prelude.{Option, Result, Ok, Err, IsErrAnd, ◌&&◌}
 use Rattle.std.proofs.lemmas.Bool.{eq-eqb}
 use Rattle.script.specs.Arguments.{Word, AreServers, AreNumberAndMembers, AreNumber, AreNameAndNumber, AreNameAndTwoNumbers}
 use Rattle.script.specs.Arguments.{AreNameAndNumbers, AreNameAndBytes, AreNameNumberAndBytes, AreNameAndTurns}
-use Rattle.script.specs.Arguments.{AreNameBytesAndTurns, AreNameNumberAndTurns}
+use Rattle.script.specs.Arguments.{AreNameBytesAndTurns, AreNameNumberAndDelta, AreNameNumberAndTurns}
 use Rattle.script.specs.Command.{Spells, IsErrorOf, IsReading}
 use Rattle.script.specs.declared.command.Command.{Command}
 use Rattle.script.specs.declared.command.Command.TheVariants as of
@@ -51,9 +51,10 @@ pub none-Layout : (rest : List Word) → ((n : ℕ) (ns : List ℕ) → ¬ (AreN
 none-Layout rest none (of.Layout k members) s = none k members.items s.1
 none-Layout rest none _ s = apart (codes "layout") _ s.0 refl
 
-pub none-Object : (rest : List Word) → ((name : Word) (n : ℕ) → ¬ (AreNameAndNumber name n rest)) → (c : Command)
+pub none-Object : (rest : List Word)
+    → ((name : Word) (n : ℕ) (d : Option ℕ) → ¬ (AreNameNumberAndDelta name n d rest)) → (c : Command)
     → ¬ (Spells (codes "object" ∷ rest) c)
-none-Object rest none (of.Object name layout) s = none name.now layout s.1
+none-Object rest none (of.Object name layout delta) s = none name.now layout delta s.1
 none-Object rest none _ s = apart (codes "object") _ s.0 refl
 
 pub none-Down : (rest : List Word) → ((n : ℕ) → ¬ (AreNumber n rest)) → (c : Command)
@@ -105,6 +106,11 @@ pub none-Post : (rest : List Word) → ((name : Word) (n : ℕ) → ¬ (AreNameA
     → ¬ (Spells (codes "post" ∷ rest) c)
 none-Post rest none (of.Post name call) s = none name.now call s.1
 none-Post rest none _ s = apart (codes "post") _ s.0 refl
+
+pub none-Again : (rest : List Word) → ((name : Word) (n : ℕ) → ¬ (AreNameAndNumber name n rest)) → (c : Command)
+    → ¬ (Spells (codes "again" ∷ rest) c)
+none-Again rest none (of.Again name call) s = none name.now call s.1
+none-Again rest none _ s = apart (codes "again") _ s.0 refl
 
 pub none-Answer : (rest : List Word) → ((name : Word) (n : ℕ) → ¬ (AreNameAndNumber name n rest)) → (c : Command)
     → ¬ (Spells (codes "answer" ∷ rest) c)

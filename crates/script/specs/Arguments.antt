@@ -1,5 +1,5 @@
 -- The words of a command after those that name it.
-use Rattle.std.specs.Prelude.{◌≡◌, ◌<◌, ◌^◌, ℕ, List, [], ◌∷◌, ⊤}
+use Rattle.std.specs.Prelude.{◌≡◌, ◌<◌, ◌^◌, ℕ, List, [], ◌∷◌, ⊤, Option, Some, None}
 use Rattle.words.specs.Number.{IsNumber}
 use Rattle.words.specs.Hexadecimal.{IsHexadecimal}
 
@@ -19,6 +19,12 @@ abbrev pub AreTurns : List Word → ℕ → Type 0
 AreTurns [] turns = turns ≡ 100000
 AreTurns (w ∷ []) turns = IsNumber w turns
 AreTurns (w ∷ x ∷ ws) turns = ⊥
+
+-- how many more than the newest finalized pieces are kept: a number below 2^32, or all of them where there is no word
+abbrev pub AreDelta : List Word → Option ℕ → Type 0
+AreDelta [] delta = delta ≡ None
+AreDelta (w ∷ []) delta = (n : ℕ) × (delta ≡ Some n) × IsNumber w n × (n < 2 ^ 32)
+AreDelta (w ∷ x ∷ ws) delta = ⊥
 
 -- no word
 abbrev pub AreNone : List Word → Type 0
@@ -76,3 +82,8 @@ AreNameBytesAndTurns name bytes turns words = (w : Word) × (rest : List Word)
 abbrev pub AreNameNumberAndTurns : Word → ℕ → ℕ → List Word → Type 0
 AreNameNumberAndTurns name n turns words = (w : Word) × (rest : List Word)
     × (words ≡ name ∷ w ∷ rest) × IsNumber w n × AreTurns rest turns
+
+-- a name and a number, and then a delta
+abbrev pub AreNameNumberAndDelta : Word → ℕ → Option ℕ → List Word → Type 0
+AreNameNumberAndDelta name n delta words = (w : Word) × (rest : List Word)
+    × (words ≡ name ∷ w ∷ rest) × IsNumber w n × AreDelta rest delta

@@ -2,7 +2,7 @@
 use Rattle.std.specs.Prelude.{◌≡◌, List, [], ◌∷◌, ⊤, codes, Result, MatchResult}
 use Rattle.script.specs.Arguments.{Word, AreNone, AreNumber, AreServers, AreNumberAndMembers, AreName, AreNameAndNumber}
 use Rattle.script.specs.Arguments.{AreNameAndTwoNumbers, AreNameAndNumbers, AreNameAndBytes, AreNameNumberAndBytes}
-use Rattle.script.specs.Arguments.{AreNameAndTurns, AreNameBytesAndTurns, AreNameNumberAndTurns}
+use Rattle.script.specs.Arguments.{AreNameAndTurns, AreNameBytesAndTurns, AreNameNumberAndDelta, AreNameNumberAndTurns}
 use Rattle.script.specs.declared.command.Command.{Command}
 use Rattle.script.specs.declared.command.Command.TheVariants as of
 use Rattle.script.specs.declared.error.LineError.{LineError}
@@ -17,7 +17,8 @@ Says text Rest (word ∷ words) = (word ≡ text) × Rest words
 abbrev pub Spells : List Word → Command → Type 0
 Spells words (of.Servers count) = Says (codes "servers") (AreServers count) words
 Spells words (of.Layout k members) = Says (codes "layout") (AreNumberAndMembers k members.items) words
-Spells words (of.Object name layout) = Says (codes "object") (AreNameAndNumber name.now layout) words
+Spells words (of.Object name layout delta) =
+    Says (codes "object") (AreNameNumberAndDelta name.now layout delta) words
 Spells words (of.Down server) = Says (codes "down") (AreNumber server) words
 Spells words (of.Up server) = Says (codes "up") (AreNumber server) words
 Spells words (of.CallRead name) = Says (codes "call") (Says (codes "read") (AreName name.now)) words
@@ -30,6 +31,7 @@ Spells words (of.Supply name call) = Says (codes "supply") (AreNameAndNumber nam
 Spells words (of.SupplyAs name call value) = Says (codes "supply-as") (AreNameNumberAndBytes name.now call value) words
 Spells words (of.Settle name call) = Says (codes "settle") (AreNameAndNumber name.now call) words
 Spells words (of.Post name call) = Says (codes "post") (AreNameAndNumber name.now call) words
+Spells words (of.Again name call) = Says (codes "again") (AreNameAndNumber name.now call) words
 Spells words (of.Answer name call) = Says (codes "answer") (AreNameAndNumber name.now call) words
 Spells words (of.Serve name place) = Says (codes "serve") (AreNameAndNumber name.now place) words
 Spells words (of.Take name place) = Says (codes "take") (AreNameAndNumber name.now place) words

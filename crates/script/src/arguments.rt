@@ -1,21 +1,16 @@
 //! The words of a command after those that name it. Each function reads all the words that it is given. It fails with
 //! `Bad` where they have another form, and with `NoMemory` where their numbers or bytes find no memory.
-ghost use Rattle.std.specs.Prelude.{◌≡◌, ◌⊎◌, ℕ, List, IfErr, IfOk, map};
-ghost use Rattle.words.specs.Hexadecimal.{IsHexadecimal};
-ghost use Rattle.words.specs.Number.{IsNumber};
+ghost use Rattle.std.specs.Prelude.{◌≡◌, ◌⊎◌, ℕ, List, Option, IfErr, IfOk, map};
 ghost use Rattle.script.specs.Arguments.{AreName, AreNameAndBytes, AreNameAndNumber, AreNameAndNumbers};
 ghost use Rattle.script.specs.Arguments.{AreNameAndTurns, AreNameAndTwoNumbers, AreNameBytesAndTurns};
-ghost use Rattle.script.specs.Arguments.{AreNameNumberAndBytes, AreNameNumberAndTurns, AreNone, AreNumber};
-ghost use Rattle.script.specs.Arguments.{AreNumberAndMembers, AreNumbers, AreServers, AreTurns, Word};
+ghost use Rattle.script.specs.Arguments.{AreNameNumberAndBytes, AreNameNumberAndDelta, AreNameNumberAndTurns};
+ghost use Rattle.script.specs.Arguments.{AreNone, AreNumber, AreNumberAndMembers, AreServers, Word};
 ghost use Rattle.script.specs.declared.error.LineError.TheVariants.{Bad, NoMemory};
 
 use crate::error::LineError;
+use crate::values::{bytes, delta, number, numbers, turns};
 use bytes::Bytes;
 use std::alloc::Global;
-use words::{parse_bytes, parse_number};
-
-/// The turns of a whole call where a line names none.
-const TURNS: u64 = 100_000;
 
 pub(crate) fn no_words(words: &[&str]) -> Result<(), LineError>
     ensures ok { IfOk result (λ r. AreNone (map (λ w. w.now) words.now)) }
@@ -182,44 +177,15 @@ pub(crate) fn name_number_and_turns<'a>(words: &[&'a str]) -> Result<(&'a str, u
     }
 }
 
-fn number(word: &str) -> Result<u64, LineError>
-    ensures ok { IfOk result (IsNumber word.now) }
-    ensures err { IfErr result (λ e. (e ≡ Bad) × ((n : ℕ) → ¬ (IsNumber word.now n))) }
-{
-    parse_number(word).ok_or(LineError::Bad)
-}
-
-fn numbers(alloc: Global, words: &[&str]) -> Result<Vec<u64>, LineError>
-    ensures ok { IfOk result (λ ns. AreNumbers ns.items (map (λ w. w.now) words.now)) }
-    ensures err { IfErr result (λ e. (e ≡ NoMemory) ⊎ ((e ≡ Bad)
-        × ((ns : List ℕ) → ¬ (AreNumbers ns (map (λ w. w.now) words.now))))) }
-{
-    let mut numbers = Vec::new(alloc);
-    for word in words {
-        numbers.push(number(word)?)?;
-    }
-    Ok(numbers)
-}
-
-fn turns(words: &[&str]) -> Result<u64, LineError>
-    ensures ok { IfOk result (AreTurns (map (λ w. w.now) words.now)) }
+pub(crate) fn name_number_and_delta<'a>(
+    words: &[&'a str],
+) -> Result<(&'a str, u64, Option<u32>), LineError>
+    ensures ok { IfOk result (λ r. AreNameNumberAndDelta r.0.now r.1 r.2 (map (λ w. w.now) words.now)) }
     ensures err { IfErr result (λ e. (e ≡ Bad)
-        × ((n : ℕ) → ¬ (AreTurns (map (λ w. w.now) words.now) n))) }
+        × ((name : Word) (n : ℕ) (d : Option ℕ) → ¬ (AreNameNumberAndDelta name n d (map (λ w. w.now) words.now)))) }
 {
     match words {
-        [] => Ok(TURNS),
-        [word] => number(word),
+        [name, word, rest @ ..] => Ok((*name, number(word)?, delta(rest)?)),
         _ => Err(LineError::Bad),
-    }
-}
-
-fn bytes(alloc: Global, word: &str) -> Result<Bytes, LineError>
-    ensures ok { IfOk result (IsHexadecimal word.now) }
-    ensures err { IfErr result (λ e. (e ≡ NoMemory) ⊎ ((e ≡ Bad)
-        × ((bytes : List ℕ) → ¬ (IsHexadecimal word.now bytes)))) }
-{
-    match parse_bytes(alloc, word)? {
-        Some(bytes) => Ok(bytes),
-        None => Err(LineError::Bad),
     }
 }

@@ -79,6 +79,13 @@ pub(crate) fn post<'a>(words: &[&'a str]) -> Result<Command<'a>, LineError>
     Ok(Command::Post { name, call })
 }
 
+pub(crate) fn again<'a>(words: &[&'a str]) -> Result<Command<'a>, LineError>
+    ensures { IsReading (codes "again" ∷ map (λ w. w.now) words.now) result }
+{
+    let (name, call) = name_and_number(words)?;
+    Ok(Command::Again { name, call })
+}
+
 pub(crate) fn answer<'a>(words: &[&'a str]) -> Result<Command<'a>, LineError>
     ensures { IsReading (codes "answer" ∷ map (λ w. w.now) words.now) result }
 {

@@ -3,7 +3,9 @@
 ghost use Rattle.std.specs.Prelude.{◌∷◌, codes, map};
 ghost use Rattle.script.specs.Command.{IsReading};
 
-use crate::arguments::{name_and_number, no_words, number_and_members, one_number, servers_count};
+use crate::arguments::{
+    name_number_and_delta, no_words, number_and_members, one_number, servers_count,
+};
 use crate::command::Command;
 use crate::error::LineError;
 use std::alloc::Global;
@@ -25,8 +27,12 @@ pub(crate) fn layout(alloc: Global, words: &[&str]) -> Result<Command<'static>, 
 pub(crate) fn object<'a>(words: &[&'a str]) -> Result<Command<'a>, LineError>
     ensures { IsReading (codes "object" ∷ map (λ w. w.now) words.now) result }
 {
-    let (name, layout) = name_and_number(words)?;
-    Ok(Command::Object { name, layout })
+    let (name, layout, delta) = name_number_and_delta(words)?;
+    Ok(Command::Object {
+        name,
+        layout,
+        delta,
+    })
 }
 
 pub(crate) fn down(words: &[&str]) -> Result<Command<'static>, LineError>

@@ -20,10 +20,11 @@ pub enum Command<'a> {
         k: u64,
         members: Vec<u64>,
     },
-    /// `object NAME ID`: an object under a layout.
+    /// `object NAME ID [DELTA]`: an object under a layout, whose banks keep all pieces where no `delta` is named.
     Object {
         name: &'a str,
         layout: u64,
+        delta: Option<u32>,
     },
     /// `down S`: a server goes down.
     Down {
@@ -70,6 +71,11 @@ pub enum Command<'a> {
     },
     /// `post NAME C`: a call posts its requests anew.
     Post {
+        name: &'a str,
+        call: u64,
+    },
+    /// `again NAME C`: a call whose pieces are collected begins its reading anew.
+    Again {
         name: &'a str,
         call: u64,
     },
@@ -177,6 +183,7 @@ pub fn parse_command<'a>(alloc: Global, words: &[&'a str]) -> Result<Command<'a>
         "supply-as" => call_commands::supply_as(alloc, rest),
         "settle" => call_commands::settle(rest),
         "post" => call_commands::post(rest),
+        "again" => call_commands::again(rest),
         "answer" => call_commands::answer(rest),
         "serve" => mail_commands::serve(rest),
         "take" => mail_commands::take(rest),

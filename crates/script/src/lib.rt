@@ -15,3 +15,4 @@ mod line;
 mod lines;
 mod mail_commands;
 mod object_commands;
+mod values;

@@ -1,6 +1,6 @@
 use Rattle.std.proofs.Common.{arith, inr, refl}
 use Rattle.script.proofs.ArgumentsLemmas.{AreNumbers-more, AreNumbers-none, err_of}
-use Rattle.script.proofs.arguments.numbers.Goals as goal
+use Rattle.script.proofs.values.numbers.Goals as goal
 
 pub returns-in_err-number-clause-err : goal.returns-in_err-number-clause-err
 returns-in_err-number-clause-err c =
