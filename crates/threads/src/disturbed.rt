@@ -3,7 +3,8 @@
 ghost use Rattle.std.specs.Prelude.{◌≡◌, ◌+◌};
 
 use crate::acts::{Answer, close, four_servers, open_store, put_both, take_seat};
-use crate::tally::{MOST_RESUMES, Tally};
+use crate::insisting::{insist, read, write};
+use crate::tally::Tally;
 use crate::varied::Varied;
 use bytes::Bytes;
 use client::{Seat, Store, StoreName};
@@ -26,37 +27,6 @@ const DISTURBANCES: u64 = 1_000;
 /// The least number of them that find a message.
 const LEAST_FOUND: u64 = 100;
 
-/// Fewer than a call takes, so that each is resumed.
-const FEW_TURNS: u64 = 20;
-
-fn write<L: StoreName, R: Threads + Wait + Sync>(
-    rt: &R,
-    store: &Store<L>,
-    seat: &mut Seat<L>,
-    value: Bytes,
-    chooser: &mut Varied,
-) -> Answer {
-    store.write(rt, seat, "a", value, chooser, FEW_TURNS)
-}
-
-fn read<L: StoreName, R: Threads + Wait + Sync>(
-    rt: &R,
-    store: &Store<L>,
-    seat: &mut Seat<L>,
-    chooser: &mut Varied,
-) -> Answer {
-    store.read(rt, seat, "a", chooser, FEW_TURNS)
-}
-
-fn resume<L: StoreName, R: Threads + Wait + Sync>(
-    rt: &R,
-    store: &Store<L>,
-    seat: &mut Seat<L>,
-    chooser: &mut Varied,
-) -> Answer {
-    store.resume(rt, seat, chooser, FEW_TURNS)
-}
-
 // A write of its client's number and its own where that is even, and else a read.
 fn begins<L: StoreName, R: Threads + Wait + Sync>(
     rt: &R,
@@ -75,25 +45,6 @@ fn begins<L: StoreName, R: Threads + Wait + Sync>(
     }
 }
 
-// Resumes a call until it is answered, or refused for another cause.
-fn insists<L: StoreName, R: Threads + Wait + Sync>(
-    rt: &R,
-    store: &Store<L>,
-    seat: &mut Seat<L>,
-    begun: Answer,
-    chooser: &mut Varied,
-    tally: &Tally,
-) -> Answer {
-    let mut answer = begun;
-    for _ in 0..MOST_RESUMES {
-        if !tally.is_resumed(&answer) {
-            return answer;
-        }
-        answer = resume(rt, store, seat, chooser);
-    }
-    answer
-}
-
 // Writes and reads in turn, each by one of the first four messages that it can handle.
 fn makes_calls<L: StoreName, R: Threads + Wait + Sync>(
     rt: &R,
@@ -109,7 +60,7 @@ fn makes_calls<L: StoreName, R: Threads + Wait + Sync>(
     for number in 0..CALLS {
         tally.count_call();
         let begun = begins(rt, alloc, store, &mut seat, number, &mut chooser);
-        if let Err(refusal) = insists(rt, store, &mut seat, begun, &mut chooser, tally) {
+        if let Err(refusal) = insist(rt, store, &mut seat, begun, &mut chooser, tally) {
             return (seat, Err(refusal));
         }
     }

@@ -5,11 +5,21 @@
 #[cfg(test)]
 mod acts;
 #[cfg(test)]
+mod anew;
+#[cfg(test)]
 mod choosing;
 #[cfg(test)]
 mod coding;
 #[cfg(test)]
+mod collected;
+#[cfg(test)]
 mod disturbed;
+#[cfg(test)]
+mod greatest;
+#[cfg(test)]
+mod insisting;
+#[cfg(test)]
+mod kept;
 #[cfg(test)]
 mod limits;
 #[cfg(test)]

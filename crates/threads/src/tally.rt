@@ -26,10 +26,10 @@ impl Tally {
         self.begun.fetch_add(1, Ordering::SeqCst);
     }
 
-    /// Whether a call is to be resumed: it is stuck or gave up, and resumes are left.
+    /// Whether a call is to be resumed: it is stuck, gave up or is to begin anew, and resumes are left.
     pub(crate) fn is_resumed(&self, answer: &Answer) -> bool {
         match answer {
-            Err(Refusal::Stuck) | Err(Refusal::GaveUp) => {
+            Err(Refusal::Stuck) | Err(Refusal::GaveUp) | Err(Refusal::Collected) => {
                 self.resumed.fetch_add(1, Ordering::SeqCst) < MOST_RESUMES
             }
             _ => false,
