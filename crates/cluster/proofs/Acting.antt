@@ -16,7 +16,8 @@ use Rattle.cluster.specs.Acts.{IsReady, begun_by}
 use Rattle.cluster.specs.Cluster.{Cluster}
 use Rattle.cluster.specs.Kept.{IsKeptCluster}
 use Rattle.cluster.proofs.Allowed.{act_few}
-use Rattle.cluster.proofs.Parts.{read_called, write_called, move_moved, advance_quiet, supply_quiet, post_quiet, settle_quiet, answer_quiet}
+use Rattle.cluster.proofs.Parts.{read_called, write_called, move_moved, advance_quiet, again_quiet, supply_quiet}
+use Rattle.cluster.proofs.Parts.{post_quiet, settle_quiet, answer_quiet}
 use Rattle.cluster.proofs.Parts.{take_quiet, lose_quiet, repeat_quiet}
 use Rattle.cluster.proofs.Places.{Entry, IsAt}
 use Rattle.cluster.proofs.Stepping.{cluster_of, call_at, move_at, quiet_at}
@@ -43,11 +44,16 @@ pub act_by : {T : Type 0} {cause own : Option Refusal} (answer : Result T Refusa
     → IsActCause a cause answer
 act_by answer a same by = subst (λ c. IsActCause a c answer) (sym same) by
 
--- no server stores more
+-- no server stores more, or less
 pub no_more : (servers : ℕ) (object : Object) (a : Act) → IsReady servers a → (server : ℕ) →
     of.stored_by object (step_of a) server ≡ 0
 no_more servers object (act.Serve place) ready server = absurd ready
 no_more servers object _ ready server = refl
+
+pub no_less : (servers : ℕ) (object : Object) (a : Act) → IsReady servers a → (now server : ℕ) →
+    of.freed_by object (step_of a) now server ≡ 0
+no_less servers object (act.Serve place) ready now server = absurd ready
+no_less servers object _ ready now server = refl
 
 no_call : {cluster : Cluster} {bytes count : ℕ} → IsKeptCluster cluster bytes count → IsKeptCluster cluster bytes (count + 0)
 no_call {cluster} {bytes} {count} kept = subst (λ n. IsKeptCluster cluster bytes n) (omega arith) kept
@@ -63,6 +69,7 @@ module _ {servers : List Bool} {layouts : List Layout} {counter : ℕ} {entries 
   kept_at kept at (act.CallWrite v) ready is few = call_at kept at (Step.CallWrite v) is few (write_called v)
   kept_at kept at (act.CallMove l) ready is few = move_at kept at l is few (move_moved l) ready
   kept_at kept at (act.Advance n) ready is few = no_call (quiet_at kept at (Step.Advance (pred n)) is few (advance_quiet (pred n)))
+  kept_at kept at (act.Again n) ready is few = no_call (quiet_at kept at (Step.Again (pred n)) is few (again_quiet (pred n)))
   kept_at kept at (act.Supply n coded) ready is few = no_call (quiet_at kept at (Step.Supply (pred n)) is few (supply_quiet (pred n)))
   kept_at kept at (act.Post n) ready is few = no_call (quiet_at kept at (Step.Post (pred n)) is few (post_quiet (pred n)))
   kept_at kept at (act.Settle n decoded) ready is few =

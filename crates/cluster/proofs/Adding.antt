@@ -1,7 +1,7 @@
 -- What a cluster keeps once a layout or an object is added to it.
 use Rattle.std.proofs.Common.{◌≡◌, ℕ, suc, ◌+◌, ◌≤◌, ◌<◌, ◌&&◌, nat_lt, Bool}
 use Rattle.std.proofs.Common.{true, false, true≢false, if◌then◌else◌, List, [], ◌∷◌, ◌++◌}
-use Rattle.std.proofs.Common.{length, Some, None, String, Global, bytes_eq, refl, sym, ap, ◌∙◌, arith}
+use Rattle.std.proofs.Common.{length, Option, Some, None, String, Global, bytes_eq, refl, sym, ap, ◌∙◌, arith}
 use Rattle.std.specs.List.{AllByRecursion, list_all}
 use Rattle.std.specs.String.{string_bytes, string_eq}
 use Rattle.std.proofs.lemmas.Bool.{false_from_ne_true}
@@ -94,26 +94,27 @@ apart_pushed (o ∷ objects) object none apart =
     pick false other rest none = (apart_from o.name objects object other apart.0, rest none)
 
 -- an object that was just opened stores nothing
-opened_nothing : (members : List ℕ) (now : ℕ) → all_bytes (opened_banks members 0 now ∷ []) ≡ 0
-opened_nothing members now = sum_by-cons banks_bytes (opened_banks members 0 now) [] ∙ ap (λ n. n + 0) (opened_banks_bytes members 0 now)
+opened_nothing : (members : List ℕ) (delta : Option ℕ) (now : ℕ) → all_bytes (opened_banks members 0 delta now ∷ []) ≡ 0
+opened_nothing members delta now =
+    sum_by-cons banks_bytes (opened_banks members 0 delta now) [] ∙ ap (λ n. n + 0) (opened_banks_bytes members 0 delta now)
 
-module _ (cluster : Cluster) (bytes count : ℕ) (name : List ℕ) (layout : Layout) (kept : IsKeptCluster cluster bytes count)
-    (below : HasMembersBelow (length cluster.servers) layout) (fresh : named cluster.objects name ≡ None)
+module _ (cluster : Cluster) (bytes count : ℕ) (name : List ℕ) (layout : Layout) (delta : Option ℕ)
+    (kept : IsKeptCluster cluster bytes count) (below : HasMembersBelow (length cluster.servers) layout) (fresh : named cluster.objects name ≡ None)
     (few : suc cluster.counter ≤ MOST_STEPS) (few_objects : length cluster.objects < MOST_OBJECTS) where
   abbrev object : Named
-  object = record { name = name; state = record { object = opened_object layout (suc cluster.counter); last = suc cluster.counter } }
+  object = record { name = name; state = record { object = opened_object layout delta (suc cluster.counter); last = suc cluster.counter } }
 
-  pub object_kept : IsKeptCluster (with_object cluster name layout) bytes count
+  pub object_kept : IsKeptCluster (with_object cluster name layout delta) bytes count
   object_kept = record {
     layouts = kept.layouts;
     objects = all_pushed (IsPlaced (length cluster.servers) (suc cluster.counter)) cluster.objects object
         (placed_later (length cluster.servers) cluster.counter cluster.objects kept.objects)
-        (record { layouts = (below, tt); banked = (opened_length layout.members 0 (suc cluster.counter), tt); past = omega arith });
+        (record { layouts = (below, tt); banked = (opened_length layout.members 0 delta (suc cluster.counter), tt); past = omega arith });
     apart = apart_pushed cluster.objects object fresh kept.apart;
     few_objects = let more = length_push cluster.objects object in omega (arith, more, few_objects);
     few_steps = few;
     stored = let all = sum_pushed (λ o. all_bytes o.state.object.banks) cluster.objects object in
-        let none = opened_nothing layout.members (suc cluster.counter) in
+        let none = opened_nothing layout.members delta (suc cluster.counter) in
         let before = kept.stored in
         omega (arith, all, none, before);
     within = kept.within;

@@ -132,45 +132,46 @@ pub length_objects : (entries : List Entry) → length (objects_of entries) ≡ 
 length_objects entries = length_map object_of entries
 
 -- the entries once an object with this layout is added under this name
-pub record IsAdded (entries : List Entry) (counter : ℕ) (later : List Entry) (name : List ℕ) (layout : Layout) : Type 0 where
+pub record IsAdded (entries : List Entry) (counter : ℕ) (later : List Entry) (name : List ℕ) (layout : Layout)
+    (delta : Option ℕ) : Type 0 where
   pub key : String Global
   pub value : State
   pub inserted : later ≡ insert_entry string_eq entries key value
   pub called : string_bytes key ≡ name
-  pub opened : value ≡ record { object = opened_object layout (counter + 1); last = counter + 1 }
+  pub opened : value ≡ record { object = opened_object layout delta (counter + 1); last = counter + 1 }
   pub fresh : is_some (lookup (is_name name) entries) ≡ false
 
 module _ {entries : List Entry} {counter : ℕ} {later : List Entry} {name : List ℕ} {layout : Layout}
-    (added : IsAdded entries counter later name layout) where
+    (delta : Option ℕ) (added : IsAdded entries counter later name layout delta) where
   no_object : named (objects_of entries) name ≡ None
   no_object = named_none entries name (sym added.fresh)
 
   object_is : object_of (added.key, added.value)
-      ≡ record { name = name; state = record { object = opened_object layout (suc counter); last = suc counter } }
+      ≡ record { name = name; state = record { object = opened_object layout delta (suc counter); last = suc counter } }
   object_is =
       ap (λ n. record { name = n; state = added.value }) added.called
       ∙ ap (λ (s : State). record { name = name; state = s })
-      (added.opened ∙ ap (λ n. record { object = opened_object layout n; last = n }) (add-one counter))
+      (added.opened ∙ ap (λ n. record { object = opened_object layout delta n; last = n }) (add-one counter))
 
   objects_are : objects_of later ≡ objects_of entries
-      ++ record { name = name; state = record { object = opened_object layout (suc counter); last = suc counter } } ∷ []
+      ++ record { name = name; state = record { object = opened_object layout delta (suc counter); last = suc counter } } ∷ []
   objects_are =
       ap objects_of added.inserted
       ∙ inserted_last entries added.key added.value (subst (λ n. named (objects_of entries) n ≡ None) (sym added.called) no_object)
       ∙ ap (λ (o : Named). objects_of entries ++ o ∷ []) object_is
 
   cluster_is : (servers : List Bool) (layouts : List Layout)
-      → cluster_of servers layouts later (counter + 1) ≡ with_object (cluster_of servers layouts entries counter) name layout
+      → cluster_of servers layouts later (counter + 1) ≡ with_object (cluster_of servers layouts entries counter) name layout delta
   cluster_is servers layouts =
       ap (λ n. cluster_of servers layouts later n) (add-one counter)
       ∙ ap (λ (os : List Named). record { servers = servers; layouts = layouts; objects = os; counter = suc counter }) objects_are
 
   pub created_is : {servers : List Bool} {layouts : List Layout} {now : Cluster} (id : ℕ) →
       cluster_of servers layouts entries counter ≡ now → IsLayout layouts id layout →
-      cluster_of servers layouts later (counter + 1) ≡ created now name id
+      cluster_of servers layouts later (counter + 1) ≡ created now name id delta
   created_is {servers} {layouts} {now} id same found =
-      cluster_is servers layouts ∙ ap (λ (k : Cluster). with_object k name layout) same
-      ∙ ap (λ (l : Layout). with_object now name l) (sym (layout_found same found))
+      cluster_is servers layouts ∙ ap (λ (k : Cluster). with_object k name layout delta) same
+      ∙ ap (λ (l : Layout). with_object now name l delta) (sym (layout_found same found))
 
   pub created_counted : {servers : List Bool} {layouts : List Layout} {bytes count waiting : ℕ} {loads : List ℕ} (id : ℕ) →
       IsLayout layouts id layout → counter < MOST_STEPS → length (objects_of entries) < MOST_OBJECTS →
@@ -179,8 +180,8 @@ module _ {entries : List Entry} {counter : ℕ} {later : List Entry} {name : Lis
   created_counted {servers} {layouts} {bytes} {count} {waiting} {loads} id found few few_objects counted =
       subst (λ (k : Cluster). IsCounted k bytes count waiting loads) (sym (cluster_is servers layouts))
       (record {
-        kept = object_kept (cluster_of servers layouts entries counter) bytes count name layout counted.kept
+        kept = object_kept (cluster_of servers layouts entries counter) bytes count name layout delta counted.kept
             (all_found (HasMembersBelow (length servers)) layouts id layout counted.kept.layouts found.here) no_object
             (omega (arith, few)) few_objects;
-        summed = object_summed (cluster_of servers layouts entries counter) waiting loads name layout counted.summed;
+        summed = object_summed (cluster_of servers layouts entries counter) waiting loads name layout delta counted.summed;
       })

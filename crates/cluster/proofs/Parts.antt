@@ -84,6 +84,10 @@ pub advance_quiet : (index : ℕ) (object : Object) (now : ℕ) → IsQuiet obje
 advance_quiet index object now =
     on_call_quiet object (slice_get object.calls index) _ (λ call. begun_quiet object index call (due (stage_of object index call)) now)
 
+pub again_quiet : (index : ℕ) (object : Object) (now : ℕ) → IsQuiet object (stepped fragment (Step.Again index) now object)
+again_quiet index object now =
+    on_call_quiet object (slice_get object.calls index) _ (λ call. begun_quiet object index call (due (stage_of object index call)) now)
+
 pub supply_quiet : (index : ℕ) (object : Object) (now : ℕ) → IsQuiet object (stepped fragment (Step.Supply index) now object)
 supply_quiet index object now =
     on_call_quiet object (slice_get object.calls index) _ (λ call. supplied_quiet object index call now (current_phase call.phases))
@@ -141,9 +145,10 @@ bytes_pushed : (banks : List (List Bank)) (more : List Bank) → banks_bytes mor
     all_bytes (banks ++ more ∷ []) ≡ all_bytes banks
 bytes_pushed banks more none = let all = sum_by_push banks_bytes banks more in omega (arith, none, all)
 
-pub opened_length : (members : List ℕ) (member now : ℕ) → length (opened_banks members member now) ≡ length members
-opened_length [] member now = refl
-opened_length (m ∷ members) member now = ap suc (opened_length members (suc member) now)
+pub opened_length : (members : List ℕ) (member : ℕ) (delta : Option ℕ) (now : ℕ)
+    → length (opened_banks members member delta now) ≡ length members
+opened_length [] member delta now = refl
+opened_length (m ∷ members) member delta now = ap suc (opened_length members (suc member) delta now)
 
 banked_pushed : (layouts : List Layout) (banks : List (List Bank)) (layout : Layout) (more : List Bank) → AreBanked layouts banks
     → length more ≡ length layout.members → AreBanked (layouts ++ layout ∷ []) (banks ++ more ∷ [])
@@ -156,9 +161,9 @@ pub move_moved : (layout : Layout) (object : Object) (now : ℕ) →
     IsMoved object layout (stepped fragment (Step.CallMove layout) now object)
 move_moved layout object now = record {
   layouts = refl;
-  banks = bytes_pushed object.banks (opened_banks layout.members 0 now) (opened_banks_bytes layout.members 0 now);
-  banked = λ all. banked_pushed object.layouts object.banks layout (opened_banks layout.members 0 now) all
-      (opened_length layout.members 0 now);
+  banks = bytes_pushed object.banks (opened_banks layout.members 0 object.delta now) (opened_banks_bytes layout.members 0 object.delta now);
+  banked = λ all. banked_pushed object.layouts object.banks layout (opened_banks layout.members 0 object.delta now) all
+      (opened_length layout.members 0 object.delta now);
   calls = one_more object.calls (length object.calls) _ _;
 }
 

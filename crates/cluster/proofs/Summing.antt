@@ -1,6 +1,6 @@
 -- The running sums over a step of one object, and over one more object.
 use Rattle.std.proofs.Common.{◌≡◌, ℕ, zero, suc, ◌+◌, ◌*◌, ◌≤◌, ◌<◌, Bool, List, []}
-use Rattle.std.proofs.Common.{◌∷◌, length, get_or, Some, refl, sym, ap, subst, ◌∙◌, arith, add-one}
+use Rattle.std.proofs.Common.{◌∷◌, length, get_or, Option, Some, refl, sym, ap, subst, ◌∙◌, arith, add-one}
 use Rattle.std.specs.List.{AllByRecursion}
 use Rattle.tag.specs.declared.limits.TheConstants.{LONGEST_VALUE, MOST_BYTES, MOST_MESSAGES, MOST_OBJECTS}
 use Rattle.indexmap.specs.IndexMap.{set_value_at}
@@ -10,7 +10,7 @@ use Rattle.record.specs.Accounts as of
 use Rattle.record.specs.Sound.{IsSound}
 use Rattle.record.specs.Steps.{Step, opened_object}
 use Rattle.record.proofs.Accounting.Mailed.{stored-opened}
-use Rattle.record.proofs.Accounting.StoredBySteps.{stored-stepped}
+use Rattle.record.proofs.Accounting.StoredBySteps.{stored-changed}
 use Rattle.register.specs.State.{State, made}
 use Rattle.register.proofs.Lists.{all_pushed}
 use Rattle.cluster.specs.Accounts.{object_sum}
@@ -51,7 +51,8 @@ module _ (cluster : Cluster) (waiting : ℕ) (loads : List ℕ) (name : List ℕ
 
   pub step_summed : (later : ℕ) → later + of.mailed old.object ≡ waiting + of.mailed new.object →
       of.mailed new.object ≤ MOST_MESSAGES * LONGEST_VALUE → (more : List ℕ) → length more ≡ length loads → ((server : ℕ) →
-      server < length cluster.servers → get_or more server 0 ≡ get_or loads server 0 + of.stored_by old.object step server) →
+      server < length cluster.servers → get_or more server 0 + of.freed_by old.object step (suc cluster.counter) server
+      ≡ get_or loads server 0 + of.stored_by old.object step server) →
       AreSummed (stepped cluster name step) later more
   step_summed later same few more servers grown = record {
     mailed = let all = sum_changed name (made step (suc cluster.counter)) old (λ s. of.mailed s.object) cluster.objects here in
@@ -63,7 +64,7 @@ module _ (cluster : Cluster) (waiting : ℕ) (loads : List ℕ) (name : List ℕ
     servers = servers ∙ summed.servers;
     stored = λ server there.
         let all = sum_changed name (made step (suc cluster.counter)) old (λ s. of.stored s.object server) cluster.objects here in
-        let own = stored-stepped fragment old.object old.last (suc cluster.counter) step server sound in
+        let own = stored-changed fragment old.object old.last (suc cluster.counter) step server sound in
         let before = summed.stored server there in
         let now = grown server there in
         omega (arith, all, own, before, now);
@@ -88,7 +89,8 @@ module _ {servers : List Bool} {layouts : List Layout} {counter : ℕ} {entries 
       IsSound fragment old.object old.last → (step : Step) → new ≡ made step (counter + 1) old → (before after later : ℕ) →
       before ≡ of.mailed old.object → after ≡ of.mailed new.object → after ≤ MOST_MESSAGES * LONGEST_VALUE →
       later + before ≡ waiting + after → (more : List ℕ) → length more ≡ length loads → ((server : ℕ) →
-      server < length servers → get_or more server 0 ≡ get_or loads server 0 + of.stored_by old.object step server) →
+      server < length servers → get_or more server 0 + of.freed_by old.object step (suc counter) server
+      ≡ get_or loads server 0 + of.stored_by old.object step server) →
       AreSummed (cluster_of servers layouts (set_value_at entries place new) (counter + 1)) later more
   loaded_at {new} {waiting} {loads} summed at sound step is before after later was now few same more all grown =
       let own : of.mailed new.object ≡ of.mailed (made step (suc counter) old).object =
@@ -97,16 +99,17 @@ module _ {servers : List Bool} {layouts : List Layout} {counter : ℕ} {entries 
       (step_summed (cluster_of servers layouts entries counter) waiting loads name step old summed (named_at at) sound later
       (omega (arith, same, was, now, own)) (omega (arith, few, now, own)) more all grown)
 
-  -- where no server stores more
+  -- where no server stores more, or less
   pub summed_at : {new : State} {waiting : ℕ} {loads : List ℕ} →
       AreSummed (cluster_of servers layouts entries counter) waiting loads → IsAt entries name place old →
       IsSound fragment old.object old.last → (step : Step) → ((server : ℕ) → of.stored_by old.object step server ≡ 0) →
+      ((server : ℕ) → of.freed_by old.object step (suc counter) server ≡ 0) →
       new ≡ made step (counter + 1) old → (before after later : ℕ) → before ≡ of.mailed old.object →
       after ≡ of.mailed new.object → after ≤ MOST_MESSAGES * LONGEST_VALUE → later + before ≡ waiting + after →
       AreSummed (cluster_of servers layouts (set_value_at entries place new) (counter + 1)) later loads
-  summed_at {loads = loads} summed at sound step none is before after later was now few same =
+  summed_at {loads = loads} summed at sound step none no_less is before after later was now few same =
       loaded_at summed at sound step is before after later was now few same loads refl
-      (λ server there. let zero_more = none server in omega (arith, zero_more))
+      (λ server there. let zero_more = none server in let zero_less = no_less server in omega (arith, zero_more, zero_less))
 
   -- where the step is refused
   pub refused_counted : {bytes count waiting : ℕ} {loads : List ℕ} {new : State}
@@ -116,11 +119,11 @@ module _ {servers : List Bool} {layouts : List Layout} {counter : ℕ} {entries 
       subst (λ k. IsCounted k bytes count waiting loads) (sym (unchanged_at at is)) counted
 
 -- One more object, which was just opened
-pub object_summed : (cluster : Cluster) (waiting : ℕ) (loads : List ℕ) (name : List ℕ) (layout : Layout) →
-    AreSummed cluster waiting loads → AreSummed (with_object cluster name layout) waiting loads
-object_summed cluster waiting loads name layout summed =
+pub object_summed : (cluster : Cluster) (waiting : ℕ) (loads : List ℕ) (name : List ℕ) (layout : Layout) (delta : Option ℕ) →
+    AreSummed cluster waiting loads → AreSummed (with_object cluster name layout delta) waiting loads
+object_summed cluster waiting loads name layout delta summed =
     let object : Named =
-    record { name = name; state = record { object = opened_object layout (suc cluster.counter); last = suc cluster.counter } } in
+    record { name = name; state = record { object = opened_object layout delta (suc cluster.counter); last = suc cluster.counter } } in
     record {
       mailed = let all = sum_pushed (λ o. of.mailed o.state.object) cluster.objects object in
           let before = summed.mailed in
@@ -131,7 +134,7 @@ object_summed cluster waiting loads name layout summed =
       stored = λ server there.
           let all = sum_pushed (λ o. of.stored o.state.object server) cluster.objects object in
           let before = summed.stored server there in
-          let none = stored-opened layout (suc cluster.counter) server in
+          let none = stored-opened layout delta (suc cluster.counter) server in
           omega (arith, all, before, none);
     }
 

@@ -34,6 +34,7 @@ use Rattle.register.proofs.Found.{IsFound, IsWanting, at, at_place, at_number, s
 not_answer : (w : Want) → (w ≡ want.Answer → ⊥) → is_answer w ≡ false
 not_answer want.Replies other = refl
 not_answer want.Advance other = refl
+not_answer want.Again other = refl
 not_answer (want.Supply k n) other = refl
 not_answer (want.Settle k len) other = refl
 not_answer want.Answer other = absurd (other refl)
@@ -92,7 +93,7 @@ module _ {c : Contents} {number index : ℕ} {t : Tracked} (wanted : IsWanting c
       (subst (λ n. stepped fragment (Step.AnswerCall (pred n)) now object ≡ stepped fragment (Step.AnswerCall index) now object)
       wanted.found.named refl
       ∙ ap (λ o. on_call object o (λ call. answered_object object index call now)) there
-      ∙ ap (λ cs. record { layouts = layouts_of c.positions; banks = banks_of c.positions; mail = c.mail; calls = cs })
+      ∙ ap (λ cs. record { delta = c.delta; layouts = layouts_of c.positions; banks = banks_of c.positions; mail = c.mail; calls = cs })
       (sym (map_set (λ (u : Tracked). u.call) c.calls index new)))
 
   as_set : calls_of (set c.calls index new) ≡ set (calls_of c.calls) index new.call

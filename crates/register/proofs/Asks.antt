@@ -1,6 +1,6 @@
 -- Lists that a loop over the members makes.
 use Rattle.std.proofs.Common.{◌≡◌, ◌≢◌, ℕ, zero, suc, ◌+◌, ◌≤◌, ◌==◌, ◌&&◌, ◌||◌, Bool, true, false, cond, List, [], ◌∷◌, ◌++◌, length, drop}
-use Rattle.std.proofs.Common.{slice_get, Some, None, sym, ap, ◌∙◌, refl, arith}
+use Rattle.std.proofs.Common.{slice_get, Option, Some, None, sym, ap, ◌∙◌, refl, arith}
 use Rattle.std.proofs.lemmas.Bool.{eqb-true}
 use Rattle.encoder.specs.declared.fragment.Piece.{Piece}
 use Rattle.bank.specs.declared.kind.Kind.{Kind}
@@ -45,15 +45,16 @@ each_from-zero f ss = let same : 0 + length ss ≡ length ss = omega arith in fi
 
 -- Banks
 
-abbrev pub bank_for : (now : ℕ) → (member : ℕ) → List Bank
-bank_for now member = opened_bank member None now ∷ []
+abbrev pub bank_for : (delta : Option ℕ) → (now : ℕ) → (member : ℕ) → List Bank
+bank_for delta now member = opened_bank member delta now ∷ []
 
-opened_from : (ss : List ℕ) (member now : ℕ) → opened_banks ss member now ≡ each_from (bank_for now) ss member
-opened_from [] member now = refl
-opened_from (s ∷ ss) member now = ap (λ bs. opened_bank member None now ∷ bs) (opened_from ss (suc member) now)
+opened_from : (ss : List ℕ) (member : ℕ) (delta : Option ℕ) (now : ℕ)
+    → opened_banks ss member delta now ≡ each_from (bank_for delta now) ss member
+opened_from [] member delta now = refl
+opened_from (s ∷ ss) member delta now = ap (λ bs. opened_bank member delta now ∷ bs) (opened_from ss (suc member) delta now)
 
-pub opened_first : (ss : List ℕ) (now : ℕ) → opened_banks ss 0 now ≡ first_of (bank_for now) (length ss)
-opened_first ss now = opened_from ss 0 now ∙ each_from-zero (bank_for now) ss
+pub opened_first : (ss : List ℕ) (delta : Option ℕ) (now : ℕ) → opened_banks ss 0 delta now ≡ first_of (bank_for delta now) (length ss)
+opened_first ss delta now = opened_from ss 0 delta now ∙ each_from-zero (bank_for delta now) ss
 
 -- Requests
 

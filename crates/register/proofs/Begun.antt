@@ -41,7 +41,7 @@ begun {c = c} kind now {here = here} kept reads read is_layout counted staged ma
   kept = kept;
   reads = reads;
   placed =
-      layout_is c.positions c.mail c.calls 0 here
+      layout_is c.delta c.positions c.mail c.calls 0 here
       (slice_get_read c.positions (length c.positions) 0 here refl (some_position c kept) read) ∙ sym is_layout;
   numbered = omega (arith, counted);
   is_fresh =

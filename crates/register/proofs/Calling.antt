@@ -14,7 +14,7 @@ use Rattle.encoder.specs.declared.fragment.Piece.{Piece}
 use Rattle.bank.specs.declared.kind.Kind.{Kind}
 use Rattle.bank.specs.declared.kind.Kind.TheVariants.{Next, Spread, Query, PreWrite, Finalize, Fetch}
 use Rattle.mail.specs.declared.message.Message.{Message}
-use Rattle.phase.specs.Phase.{Phase}
+use Rattle.phase.specs.Phase.{Phase, lacks_pieces}
 use Rattle.record.specs.declared.call.CallKind.{CallKind}
 use Rattle.record.specs.declared.stage.Stage.{Stage}
 use Rattle.record.specs.Records.{Call, Object, no_layout, layout_at}
@@ -36,10 +36,10 @@ use Rattle.tag.specs.declared.refusal.Refusal.TheVariants.{NoCall, Full}
 
 -- Parts that are read
 
-pub layout_is : (positions : List Position) (mail : List Message) (calls : List Tracked) (position : ℕ) (p : Position)
+pub layout_is : (delta : Option ℕ) (positions : List Position) (mail : List Message) (calls : List Tracked) (position : ℕ) (p : Position)
     → slice_get positions position ≡ Some p →
-    layout_at (object_of positions mail calls) position ≡ p.layout
-layout_is positions mail calls position p at =
+    layout_at (object_of delta positions mail calls) position ≡ p.layout
+layout_is delta positions mail calls position p at =
     get_or_from_slice_get (layouts_of positions) position p.layout no_layout
     (slice_get-map (λ p. p.layout) positions position ∙ ap (λ (o : Option Position). option_map (λ p. p.layout) o) at)
 
@@ -114,9 +114,9 @@ any_push p (x ∷ xs) y = ap (λ b. p x || b) (any_push p xs y) ∙ go (p x) (li
 -- a phase that has begun leaves the stage as it is
 pub stage_push : (kind : CallKind) (number : ℕ) (phases : List Phase) (stage : Stage) (next : Phase) → next.end ≡ None →
     stage_after kind number stage (phases ++ next ∷ []) ≡ stage_after kind number stage phases
-stage_push kind number [] stage next none = ap (λ o. passed kind number stage o next.replies) none
+stage_push kind number [] stage next none = ap (λ o. passed kind number stage o next.replies (lacks_pieces next)) none
 stage_push kind number (phase ∷ phases) stage next none =
-    stage_push kind number phases (passed kind number stage phase.end phase.replies) next none
+    stage_push kind number phases (passed kind number stage phase.end phase.replies (lacks_pieces phase)) next none
 
 -- the call begins the phase that is due
 abbrev pub with_due : Contents → (index : ℕ) → Tracked → Kind → (position : ℕ) → Layout → (now : ℕ) → (ℕ → Piece) → Contents
@@ -132,6 +132,7 @@ pub with_due_is : (c : Contents) (index : ℕ) (t : Tracked) (kind : Kind) (posi
     ≡ (state_of (with_due c index t kind position layout now piece)).object
 with_due_is c index t kind position layout now piece same =
     ap (λ (l : Layout). record {
+      delta = c.delta;
       layouts = layouts_of c.positions;
       banks = banks_of c.positions;
       mail = c.mail ++ requests (suc index) (suc (length t.call.phases)) kind position l.members 0 piece;
@@ -139,6 +140,7 @@ with_due_is c index t kind position layout now piece same =
           { phases = t.call.phases ++ new_phase (suc index) (suc (length t.call.phases)) kind position l now ∷ [] });
     }) same
     ∙ ap (λ cs. record {
+      delta = c.delta;
       layouts = layouts_of c.positions;
       banks = banks_of c.positions;
       mail = c.mail ++ requests (suc index) (suc (length t.call.phases)) kind position layout.members 0 piece;

@@ -11,8 +11,9 @@ use Rattle.record.specs.declared.stage.Want.{Want}
 use Rattle.record.specs.declared.stage.Want.TheVariants as want
 use Rattle.tag.specs.declared.limits.TheConstants.{MOST_POSITIONS}
 use Rattle.tag.specs.declared.refusal.Refusal.{Refusal}
+use Rattle.tag.specs.declared.refusal.Refusal.TheVariants.{NotNow}
 use Rattle.record.specs.Records.{Call}
-use Rattle.register.specs.Causes.{call_at, if_call, is_settle}
+use Rattle.register.specs.Causes.{call_at, if_call, if_settle}
 use Rattle.register.specs.Position.{Position}
 use Rattle.register.specs.Kept.{IsKept}
 use Rattle.register.specs.State.{Contents, State, object_of, state_of}
@@ -43,7 +44,7 @@ module _ {c : Contents} {number index : ℕ} {t : Tracked} (found : IsFound c nu
   pub staged : t.stage ≡ stage_of (state_of c).object (pred number) t.call
   staged = found.kept.staged index t found.there ∙ ap (λ i. stage_of (state_of c).object i t.call) place
 
-  pub wants : tracked_want (object_of c.positions [] []) t ≡ want_of (state_of c).object (pred number) t.call
+  pub wants : tracked_want (object_of None c.positions [] []) t ≡ want_of (state_of c).object (pred number) t.call
   wants = ap (λ (s : Stage). cond (is_some t.call.answered) want.Done
       (want_after (state_of c).object (due s) t.call.settled (current_phase t.call.phases))) staged
 
@@ -76,9 +77,9 @@ module _ {c : Contents} {number index : ℕ} {t : Tracked} (found : IsFound c nu
   caused cause = ap (λ o. if_call o cause) at_number
 
   -- what is said to be wanted by the kept stage is what the record says
-  pub wanted : {positions : List Position} {w : Want} → w ≡ tracked_want (object_of positions [] []) t → positions ≡ c.positions
+  pub wanted : {positions : List Position} {w : Want} → w ≡ tracked_want (object_of None positions [] []) t → positions ≡ c.positions
       → want_of (state_of c).object (pred number) t.call ≡ w
-  wanted is same = sym (is ∙ ap (λ ps. tracked_want (object_of ps [] []) t) same ∙ wants)
+  wanted is same = sym (is ∙ ap (λ ps. tracked_want (object_of None ps [] []) t) same ∙ wants)
 
   pub current_again : {old : Tracked} {current : Option Phase} → old ≡ get_or c.calls index old → current ≡ current_phase old.call.phases
       → current_phase t.call.phases ≡ current
@@ -93,7 +94,7 @@ pub record IsWanting (c : Contents) (number index : ℕ) (t : Tracked) (w : Want
   pub wants : want_of (state_of c).object (pred number) t.call ≡ w
 
 pub wanting : {c : Contents} {number index : ℕ} {t : Tracked} {positions : List Position} {v w : Want} → IsFound c number index t
-    → v ≡ tracked_want (object_of positions [] []) t → positions ≡ c.positions → v ≡ w → IsWanting c number index t w
+    → v ≡ tracked_want (object_of None positions [] []) t → positions ≡ c.positions → v ≡ w → IsWanting c number index t w
 wanting found is same matched = record { found = found; wants = wanted found is same ∙ matched }
 
 pub want_at_is : {c : Contents} {number index : ℕ} {t : Tracked} {w : Want} → IsWanting c number index t w
@@ -115,13 +116,16 @@ is_found {c = c} {index = index} {t = t} kept place calls_are read = record {
 pub few_those : {c : Contents} {positions : List Position} → IsKept c → positions ≡ c.positions → length positions ≤ MOST_POSITIONS
 few_those {c = c} kept same = subst (λ (ps : List Position). length ps ≤ MOST_POSITIONS) (sym same) (few_positions c kept)
 
-pub not_settle : (w : Want) → ((k len : ℕ) → w ≡ want.Settle k len → ⊥) → is_settle w ≡ false
-not_settle want.Replies no_settle = refl
-not_settle want.Advance no_settle = refl
-not_settle (want.Supply k n) no_settle = refl
-not_settle (want.Settle k len) no_settle = absurd (no_settle k len refl)
-not_settle want.Answer no_settle = refl
-not_settle want.Done no_settle = refl
+-- a call that wants neither to settle nor to begin anew
+pub not_settle : (w : Want) (later : Option Refusal) → ((k len : ℕ) → w ≡ want.Settle k len → ⊥) → (w ≡ want.Again → ⊥)
+    → if_settle w later ≡ Some NotNow
+not_settle want.Replies later no_settle no_again = refl
+not_settle want.Advance later no_settle no_again = refl
+not_settle want.Again later no_settle no_again = absurd (no_again refl)
+not_settle (want.Supply k n) later no_settle no_again = refl
+not_settle (want.Settle k len) later no_settle no_again = absurd (no_settle k len refl)
+not_settle want.Answer later no_settle no_again = refl
+not_settle want.Done later no_settle no_again = refl
 
 pub not_some : {X : Type 0} (o : Option X) → ((x : X) → o ≡ Some x → ⊥) → is_some o ≡ false
 not_some None no_some = refl

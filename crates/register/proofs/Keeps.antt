@@ -37,7 +37,7 @@ pub call_found : (calls : List Tracked) (index : ℕ) (t : Tracked) → slice_ge
 call_found calls index t at = found_map (λ (t : Tracked). t.call) calls index t at
 
 -- a step that changes the mail alone
-pub mail_kept : (c : Contents) (mail : List Message) (now : ℕ) → IsKept c → IsSound fragment (object_of c.positions mail c.calls) now
+pub mail_kept : (c : Contents) (mail : List Message) (now : ℕ) → IsKept c → IsSound fragment (object_of c.delta c.positions mail c.calls) now
     → IsKept (record c { mail = mail; last = now })
 mail_kept c mail now kept sound = record {
   sound = sound;
@@ -53,24 +53,24 @@ mail_kept c mail now kept sound = record {
 }
 
 -- a call that is changed leaves the stages of the others
-pub staged_set : (layouts : List Position) (mail later : List Message) (calls : List Tracked) (index : ℕ) (t new : Tracked)
+pub staged_set : (delta : Option ℕ) (layouts : List Position) (mail later : List Message) (calls : List Tracked) (index : ℕ) (t new : Tracked)
     → slice_get calls index ≡ Some t → new.call.kind ≡ t.call.kind
-    → AreStaged (object_of layouts mail calls) calls → new.stage ≡ stage_of (object_of layouts mail calls) index new.call
-    → AreStaged (object_of layouts later (set calls index new)) (set calls index new)
-staged_set layouts mail later calls index t new at same staged stage j u e = go (get_set calls index j t new u at e)
+    → AreStaged (object_of delta layouts mail calls) calls → new.stage ≡ stage_of (object_of delta layouts mail calls) index new.call
+    → AreStaged (object_of delta layouts later (set calls index new)) (set calls index new)
+staged_set delta layouts mail later calls index t new at same staged stage j u e = go (get_set calls index j t new u at e)
   where
     sources : (n : ℕ) → moves_in (take n (calls_of (set calls index new))) ≡ moves_in (take n (calls_of calls))
     sources n = ap (λ cs. moves_in (take n cs)) (map_set (λ (t : Tracked). t.call) calls index new)
         ∙ moves_set (calls_of calls) index n t.call new.call (call_found calls index t at) same
 
-    moved : (j : ℕ) (u : Call) → stage_of (object_of layouts mail calls) j u ≡ stage_of (object_of layouts later (set calls index new)) j u
+    moved : (j : ℕ) (u : Call) → stage_of (object_of delta layouts mail calls) j u ≡ stage_of (object_of delta layouts later (set calls index new)) j u
     moved j u = ap (λ m. Rattle.record.specs.Courses.stage_after u.kind (suc j) (Rattle.record.specs.Legal.first_stage u.kind m) u.phases)
         (sym (sources j))
 
     go : ((j ≡ index) × (new ≡ u)) ⊎ (slice_get calls j ≡ Some u)
-        → u.stage ≡ stage_of (object_of layouts later (set calls index new)) j u.call
-    go (inl here) = subst (λ (u : Tracked). u.stage ≡ stage_of (object_of layouts later (set calls index new)) j u.call) here.1
-        (subst (λ j. new.stage ≡ stage_of (object_of layouts later (set calls index new)) j new.call) (sym here.0)
+        → u.stage ≡ stage_of (object_of delta layouts later (set calls index new)) j u.call
+    go (inl here) = subst (λ (u : Tracked). u.stage ≡ stage_of (object_of delta layouts later (set calls index new)) j u.call) here.1
+        (subst (λ j. new.stage ≡ stage_of (object_of delta layouts later (set calls index new)) j new.call) (sym here.0)
         (stage ∙ moved index new.call))
     go (inr there) = staged j u there ∙ moved j u.call
 
@@ -79,7 +79,7 @@ pub call_kept : (c : Contents) (index now : ℕ) (t new : Tracked) (mail : List 
     → slice_get c.calls index ≡ Some t
     → new.call.kind ≡ t.call.kind → new.stage ≡ stage_of (state_of c).object index new.call → length new.call.phases ≤ MOST_PHASES
     → is_moving ≡ has_open_move (calls_of (set c.calls index new))
-    → IsSound fragment (object_of c.positions mail (set c.calls index new)) now
+    → IsSound fragment (object_of c.delta c.positions mail (set c.calls index new)) now
     → IsKept (record c { mail = mail; calls = set c.calls index new; is_moving = is_moving; last = now })
 call_kept c index now t new mail is_moving kept at kind stage few moving sound = record {
   sound = sound;
@@ -90,7 +90,7 @@ call_kept c index now t new mail is_moving kept at kind stage few moving sound =
         (all_put (λ (call : Call). length call.phases ≤ MOST_PHASES) (calls_of c.calls) index new.call kept.limits.phases few);
     stored = kept.limits.stored;
   };
-  staged = staged_set c.positions c.mail mail c.calls index t new at kind kept.staged stage;
+  staged = staged_set c.delta c.positions c.mail mail c.calls index t new at kind kept.staged stage;
   moving = moving;
   stored = kept.stored;
 }

@@ -1,7 +1,6 @@
 -- Of the pieces that a phase took, those of least points.
 use Rattle.std.proofs.Common.{◌≡◌, ℕ, zero, suc, ◌<◌, ◌≤◌, List, [], ◌∷◌, ◌++◌, length, take, Some, None, sym, ap, subst, ◌∙◌, refl}
 use Rattle.std.proofs.Common.{arith}
-use Rattle.tag.specs.declared.refusal.Refusal.TheVariants.{NotNow}
 use Rattle.encoder.specs.declared.fragment.Piece.{Piece}
 use Rattle.phase.specs.declared.phase.Taken.{Taken}
 use Rattle.phase.specs.Phase.{Phase}
@@ -9,7 +8,7 @@ use Rattle.record.specs.Records.{layout_at}
 use Rattle.record.specs.Wants.{current_phase}
 use Rattle.record.specs.declared.stage.Want.{Want}
 use Rattle.record.specs.declared.stage.Want.TheVariants as want
-use Rattle.register.specs.Causes.{pieces_cause, unless, is_settle}
+use Rattle.register.specs.Causes.{pieces_cause, if_settle}
 use Rattle.register.specs.Coding.{piece_by, listed, pieces_below, least_of}
 use Rattle.register.specs.State.{Contents, state_of}
 use Rattle.register.specs.Tracked.{Tracked}
@@ -60,8 +59,8 @@ least_none k member replies items is none =
     is ∙ ap (take k) (sym (nil_end (pieces_below replies member))) ∙ ap (λ o. take k (pieces_below replies member ++ listed o)) none
 
 pub pieces_cause_is : {c : Contents} {number index : ℕ} {t : Tracked} {w : Want} → IsWanting c number index t w
-    → pieces_cause (state_of c).object number ≡ unless (is_settle w) NotNow None
-pieces_cause_is wanted = caused wanted.found _ ∙ ap (λ v. unless (is_settle v) NotNow None) wanted.wants
+    → pieces_cause (state_of c).object number ≡ if_settle w None
+pieces_cause_is wanted = caused wanted.found _ ∙ ap (λ v. if_settle v None) wanted.wants
 
 pub pieces_are : {c : Contents} {number index : ℕ} {t : Tracked} {k len : ℕ} {phase : Phase}
     → IsWanting c number index t (want.Settle k len)

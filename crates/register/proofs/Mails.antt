@@ -25,11 +25,11 @@ repeated_is : (mail : List Message) (place : ℕ) (m : Message) → slice_get ma
 repeated_is mail place m there = ap (repeated_message mail) there
 
 pub repeating_is : (c : Contents) (place : ℕ) → place < length c.mail
-    → object_of c.positions (repeated c.mail place) c.calls
+    → object_of c.delta c.positions (repeated c.mail place) c.calls
     ≡ on_message (state_of c).object (slice_get c.mail place) (λ message. repeated_object (state_of c).object message)
 repeating_is c place within =
     let there = found c.mail place within in
-    ap (λ ms. object_of c.positions ms c.calls) (repeated_is c.mail place there.0 there.1)
+    ap (λ ms. object_of c.delta c.positions ms c.calls) (repeated_is c.mail place there.0 there.1)
     ∙ sym (ap (λ m. on_message (state_of c).object m (λ message. repeated_object (state_of c).object message)) there.1)
 
 pub repeating_keeps : (c : Contents) (place now : ℕ) → c.last < now → IsKept c → place < length c.mail

@@ -64,11 +64,11 @@ module _ {c : Contents} {now number from : ℕ} {source : Layout} {call : Tracke
   -- what the positions, the mail and the calls are made
   module _ {layout : Layout} {next : Position} {held positions : List Position} {mail : List Message} {reserved pushed : List Tracked}
       {new : Tracked}
-      (next_is : next ≡ next_position layout now) (held_is : held ≡ c.positions) (positions_is : positions ≡ held ++ next ∷ [])
+      (next_is : next ≡ next_position layout c.delta now) (held_is : held ≡ c.positions) (positions_is : positions ≡ held ++ next ∷ [])
       (mail_is : mail ≡ asked call) (new_is : new ≡ with_begun call number (Spread Pending) from source now)
       (reserved_is : reserved ≡ c.calls) (pushed_is : pushed ≡ reserved ++ new ∷ []) where
     abbrev made_of : Contents
-    made_of = record { positions = positions; mail = mail; calls = pushed; is_moving = true; stored = c.stored; last = now }
+    made_of = record { delta = c.delta; positions = positions; mail = mail; calls = pushed; is_moving = true; stored = c.stored; last = now }
 
     same : made_of ≡ with_moving c number from source layout now
     same =

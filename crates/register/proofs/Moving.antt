@@ -40,8 +40,8 @@ fresh_move from now = record { call = new_call Move now; stage = MoveSpread from
 abbrev pub mover : (number from : ℕ) → Layout → (now : ℕ) → Tracked
 mover number from source now = with_begun (fresh_move from now) number (Spread Pending) from source now
 
-abbrev pub next_position : Layout → (now : ℕ) → Position
-next_position layout now = record { layout = layout; banks = opened_banks layout.members 0 now }
+abbrev pub next_position : Layout → (delta : Option ℕ) → (now : ℕ) → Position
+next_position layout delta now = record { layout = layout; banks = opened_banks layout.members 0 delta now }
 
 abbrev pub moving_mail : Contents → (number from : ℕ) → Layout → List Message
 moving_mail c number from source = c.mail ++ requests number 1 (Spread Pending) from source.members 0 empty_piece
@@ -49,7 +49,8 @@ moving_mail c number from source = c.mail ++ requests number 1 (Spread Pending) 
 -- `source` is the layout of the last position
 abbrev pub with_moving : Contents → (number from : ℕ) → (source layout : Layout) → (now : ℕ) → Contents
 with_moving c number from source layout now = record {
-  positions = c.positions ++ next_position layout now ∷ [];
+  delta = c.delta;
+  positions = c.positions ++ next_position layout c.delta now ∷ [];
   mail = moving_mail c number from source;
   calls = c.calls ++ mover number from source now ∷ [];
   is_moving = true;
@@ -60,6 +61,7 @@ with_moving c number from source layout now = record {
 -- a register with these parts, where a move is open
 abbrev moved_parts : Contents → (now : ℕ) → List Position → List Message → List Tracked → Contents
 moved_parts c now positions mail calls = record {
+  delta = c.delta;
   positions = positions;
   mail = mail;
   calls = calls;
@@ -70,14 +72,14 @@ moved_parts c now positions mail calls = record {
 
 pub with_moving_is : (c : Contents) (number from : ℕ) (source layout : Layout) (now : ℕ) (next : Position) (begun : Tracked)
     (positions : List Position) (mail : List Message)
-    (calls : List Tracked) → next ≡ next_position layout now → begun ≡ mover number from source now → positions ≡ c.positions ++ next ∷ [] →
+    (calls : List Tracked) → next ≡ next_position layout c.delta now → begun ≡ mover number from source now → positions ≡ c.positions ++ next ∷ [] →
     mail ≡ moving_mail c number from source → calls ≡ c.calls ++ begun ∷ [] →
-    record { positions = positions; mail = mail; calls = calls; is_moving = true; stored = c.stored; last = now }
+    record { delta = c.delta; positions = positions; mail = mail; calls = calls; is_moving = true; stored = c.stored; last = now }
     ≡ with_moving c number from source layout now
 with_moving_is c number from source layout now next begun positions mail calls is_next is_begun is_positions is_mail is_calls =
     ap (λ ps. moved_parts c now ps mail calls) (is_positions ∙ ap (λ p. c.positions ++ p ∷ []) is_next)
-    ∙ ap (λ ms. moved_parts c now (c.positions ++ next_position layout now ∷ []) ms calls) is_mail
-    ∙ ap (λ cs. moved_parts c now (c.positions ++ next_position layout now ∷ []) (moving_mail c number from source) cs)
+    ∙ ap (λ ms. moved_parts c now (c.positions ++ next_position layout c.delta now ∷ []) ms calls) is_mail
+    ∙ ap (λ cs. moved_parts c now (c.positions ++ next_position layout c.delta now ∷ []) (moving_mail c number from source) cs)
     (is_calls ∙ ap (λ u. c.calls ++ u ∷ []) is_begun)
 
 -- the last position of a register
@@ -113,8 +115,9 @@ pred_is (suc n) from e = omega (arith, e)
 -- the record with a move numbered `number` from position `from`, whose layout is `source`
 abbrev built : Contents → (layout : Layout) → (now from : ℕ) → (source : Layout) → (number : ℕ) → Object
 built c layout now from source number = record {
+  delta = c.delta;
   layouts = layouts_of c.positions ++ layout ∷ [];
-  banks = banks_of c.positions ++ opened_banks layout.members 0 now ∷ [];
+  banks = banks_of c.positions ++ opened_banks layout.members 0 c.delta now ∷ [];
   mail = moving_mail c number from source;
   calls = set (calls_of c.calls ++ new_call Move now ∷ []) (length (calls_of c.calls)) (mover number from source now).call;
 }
@@ -126,24 +129,27 @@ moved_is c now number from source layout is_last is =
     ∙ ap (λ l. built c layout now from l (suc (length (calls_of c.calls)))) source_is
     ∙ ap (λ n. built c layout now from source n) (ap suc (length_map (λ (u : Tracked). u.call) c.calls) ∙ sym is)
     ∙ ap (λ cs. record {
+      delta = c.delta;
       layouts = layouts_of c.positions ++ layout ∷ [];
-      banks = banks_of c.positions ++ opened_banks layout.members 0 now ∷ [];
+      banks = banks_of c.positions ++ opened_banks layout.members 0 c.delta now ∷ [];
       mail = moving_mail c number from source;
       calls = cs;
     }) (set_push (calls_of c.calls) (new_call Move now) (mover number from source now).call
     ∙ sym (map_push (λ (u : Tracked). u.call) c.calls (mover number from source now)))
     ∙ ap (λ ls. record {
+      delta = c.delta;
       layouts = ls;
-      banks = banks_of c.positions ++ opened_banks layout.members 0 now ∷ [];
+      banks = banks_of c.positions ++ opened_banks layout.members 0 c.delta now ∷ [];
       mail = moving_mail c number from source;
       calls = calls_of (c.calls ++ mover number from source now ∷ []);
-    }) (sym (map_push (λ (p : Position). p.layout) c.positions (next_position layout now)))
+    }) (sym (map_push (λ (p : Position). p.layout) c.positions (next_position layout c.delta now)))
     ∙ ap (λ bs. record {
-      layouts = layouts_of (c.positions ++ next_position layout now ∷ []);
+      delta = c.delta;
+      layouts = layouts_of (c.positions ++ next_position layout c.delta now ∷ []);
       banks = bs;
       mail = moving_mail c number from source;
       calls = calls_of (c.calls ++ mover number from source now ∷ []);
-    }) (sym (map_push (λ (p : Position). p.banks) c.positions (next_position layout now)))
+    }) (sym (map_push (λ (p : Position). p.banks) c.positions (next_position layout c.delta now)))
   where
     from_is : pred (length (layouts_of c.positions)) ≡ from
     from_is = pred_is (length (layouts_of c.positions)) from (is_last.last ∙ sym (length_map (λ (p : Position). p.layout) c.positions))
@@ -223,16 +229,16 @@ module _ (c : Contents) (now number from : ℕ) (source layout : Layout) (kept :
 
   stored_same : all_bytes later.banks ≡ all_bytes (state_of c).object.banks
   stored_same =
-      ap all_bytes (map_push (λ (p : Position). p.banks) c.positions (next_position layout now))
-      ∙ bytes_push (banks_of c.positions) (opened_banks layout.members 0 now) (opened_banks_bytes layout.members 0 now)
+      ap all_bytes (map_push (λ (p : Position). p.banks) c.positions (next_position layout c.delta now))
+      ∙ bytes_push (banks_of c.positions) (opened_banks layout.members 0 c.delta now) (opened_banks_bytes layout.members 0 c.delta now)
 
   pub moved_kept : length c.positions < MOST_POSITIONS → length c.calls < MOST_CALLS → IsKept (with_moving c number from source layout now)
   moved_kept few_positions few = record {
     sound = moved_sound;
     limits = record {
       positions = subst (λ n. n ≤ MOST_POSITIONS)
-          (sym (length_map (λ (p : Position). p.layout) (c.positions ++ next_position layout now ∷ [])
-          ∙ length_push c.positions (next_position layout now))) (omega (arith, few_positions));
+          (sym (length_map (λ (p : Position). p.layout) (c.positions ++ next_position layout c.delta now ∷ [])
+          ∙ length_push c.positions (next_position layout c.delta now))) (omega (arith, few_positions));
       calls = subst (λ n. n ≤ MOST_CALLS) (sym (length_map (λ (u : Tracked). u.call) (c.calls ++ new ∷ []) ∙ length_push c.calls new))
           (omega (arith, few));
       phases = subst (λ cs. AllByRecursion (λ (call : Call). length call.phases ≤ MOST_PHASES) cs) (sym pushed)

@@ -30,6 +30,7 @@ use Rattle.register.proofs.Rooms.{step_past}
 pub not_replies : (w : Want) → (w ≡ want.Replies → ⊥) → is_replies w ≡ false
 not_replies want.Replies other = absurd (other refl)
 not_replies want.Advance other = refl
+not_replies want.Again other = refl
 not_replies (want.Supply k n) other = refl
 not_replies (want.Settle k len) other = refl
 not_replies want.Answer other = refl
@@ -112,6 +113,7 @@ module _ {c : Contents} {number index : ℕ} {t : Tracked}
         ∙ ap (λ o. on_call object o (λ call. steps.asked_again fragment object call (current_phase call.phases))) (at f)
         ∙ ap (λ q. steps.asked_again fragment object t.call q) there
         ∙ ap (λ rs. record {
+          delta = c.delta;
           layouts = layouts_of c.positions;
           banks = banks_of c.positions;
           mail = c.mail ++ missing c.mail (members_of p.replies) rs;

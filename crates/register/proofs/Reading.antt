@@ -56,6 +56,7 @@ pub called_is : (c : Contents) (kind : CallKind) (now number : ℕ) (layout : La
     called_object (state_of c).object kind now ≡ (state_of (with_reading c kind number layout now)).object
 called_is c kind now number layout same is =
     ap (λ (l : Layout). record {
+      delta = c.delta;
       layouts = layouts_of c.positions;
       banks = banks_of c.positions;
       mail = c.mail ++ requests (suc (length (calls_of c.calls))) 1 Next 0 l.members 0 empty_piece;
@@ -63,12 +64,14 @@ called_is c kind now number layout same is =
           (reading kind (suc (length (calls_of c.calls))) l now).call;
     }) same
     ∙ ap (λ n. record {
+      delta = c.delta;
       layouts = layouts_of c.positions;
       banks = banks_of c.positions;
       mail = c.mail ++ requests n 1 Next 0 layout.members 0 empty_piece;
       calls = set (calls_of c.calls ++ new_call kind now ∷ []) (length (calls_of c.calls)) (reading kind n layout now).call;
     }) (ap suc (length_map (λ (u : Tracked). u.call) c.calls) ∙ sym is)
     ∙ ap (λ cs. record {
+      delta = c.delta;
       layouts = layouts_of c.positions;
       banks = banks_of c.positions;
       mail = c.mail ++ requests number 1 Next 0 layout.members 0 empty_piece;

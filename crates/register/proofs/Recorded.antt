@@ -12,7 +12,7 @@ use Rattle.bank.specs.declared.reply.Answer.TheVariants as answer
 use Rattle.encoder.specs.Fragment.{fragment}
 use Rattle.encoder.specs.declared.fragment.Piece.{Piece}
 use Rattle.phase.specs.declared.phase.Taken.{Taken}
-use Rattle.phase.specs.Phase.{Phase}
+use Rattle.phase.specs.Phase.{Phase, lacks_pieces}
 use Rattle.record.specs.Records.{Call, Object, layout_at}
 use Rattle.record.specs.Fragments.{answer_piece, answer_tag, IfCoded}
 use Rattle.record.specs.Courses.{due}
@@ -90,15 +90,16 @@ pub same_phase : (p q : Phase) → Some p ≡ Some q → p ≡ q
 same_phase p q e = cc
 
 -- what a call wants that is to settle a value
-settles_is : (object : Object) (index : ℕ) (call : Call) (u : Unsettled call)
+settles_is : (object : Object) (index : ℕ) (call : Call) (u : Unsettled call false)
     → want_of object index call ≡ want.Settle (layout_at object u.phase.position).k (value_len u.phase.replies)
 settles_is object index call u =
     ap (λ a. cond (is_some a) want.Done (want_after object next call.settled (current_phase call.phases))) u.open_call
     ∙ ap (λ p. want_after object next call.settled p) u.current
-    ∙ ap (λ e. cond (is_some e) (cond (is_fetch u.phase.kind) (cond (is_some call.settled) (want_for object next) settle)
+    ∙ ap (λ e. cond (is_some e) (cond (is_fetch u.phase.kind) (cond (is_some call.settled) (want_for object next) fetched)
     (want_for object next)) want.Replies) u.ended
-    ∙ ap (λ k. cond (is_fetch k) (cond (is_some call.settled) (want_for object next) settle) (want_for object next)) u.fetch.1
-    ∙ ap (λ s. cond (is_some s) (want_for object next) settle) u.none
+    ∙ ap (λ k. cond (is_fetch k) (cond (is_some call.settled) (want_for object next) fetched) (want_for object next)) u.fetch.1
+    ∙ ap (λ s. cond (is_some s) (want_for object next) fetched) u.none
+    ∙ ap (λ b. cond b want.Again settle) u.lacking
   where
     next : Option (Kind × ℕ)
     next = due (stage_of object index call)
@@ -106,8 +107,11 @@ settles_is object index call u =
     settle : Want
     settle = want.Settle (layout_at object u.phase.position).k (value_len u.phase.replies)
 
+    fetched : Want
+    fetched = cond (lacks_pieces u.phase) want.Again settle
+
 pub settles_with : (object : Object) (index : ℕ) (call : Call) (phase : Phase) → current_phase call.phases ≡ Some phase
-    → (u : Unsettled call)
+    → (u : Unsettled call false)
     → want_of object index call ≡ want.Settle (layout_at object phase.position).k (value_len phase.replies)
 settles_with object index call phase current u =
     settles_is object index call u

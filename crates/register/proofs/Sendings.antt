@@ -85,14 +85,14 @@ pub record IsSendingTo (c : Contents) (number index : ℕ) (t : Tracked) (to : O
   pub due : pieces_due (state_of c).object (pred number) t.call ≡ to
 
 pub sending : {c : Contents} {number index : ℕ} {t : Tracked} {positions : List Position} {v to : Option ℕ} → IsFound c number index t
-    → v ≡ pieces_position (tracked_want (object_of positions [] []) t) (due t.stage) (current_phase t.call.phases) → positions ≡ c.positions
+    → v ≡ pieces_position (tracked_want (object_of None positions [] []) t) (due t.stage) (current_phase t.call.phases) → positions ≡ c.positions
     → v ≡ to → IsSendingTo c number index t to
 sending {c = c} {number = number} {t = t} {positions = positions} f is same matched = record {
   found = f;
   due =
       ap (λ w. pieces_position w (due (stage_of (state_of c).object (pred number) t.call)) (current_phase t.call.phases))
       (wanted f refl same)
-      ∙ ap (λ (s : Stage). pieces_position (tracked_want (object_of positions [] []) t) (due s) (current_phase t.call.phases))
+      ∙ ap (λ (s : Stage). pieces_position (tracked_want (object_of None positions [] []) t) (due s) (current_phase t.call.phases))
       (sym (staged f))
       ∙ sym is ∙ matched;
 }
@@ -118,6 +118,7 @@ module _ {c : Contents} {number index : ℕ} {t : Tracked} {position : ℕ} (s :
           let here = sending_of (current_phase t.call.phases) position e in
           inr (here.phase, record { wants = (at_place s.found, is); current = here.is }, here.kind)
       go want.Advance is e = absurd (cc)
+      go want.Again is e = absurd (cc)
       go (want.Settle k len) is e = absurd (cc)
       go want.Answer is e = absurd (cc)
       go want.Done is e = absurd (cc)
@@ -133,6 +134,7 @@ module _ {c : Contents} {number index : ℕ} {t : Tracked} {position : ℕ} (s :
           let here = sending_of (current_phase t.call.phases) position e in
           subst (λ p. p < length c.positions) here.same ((below s.found).current here.phase here.is)
       go want.Advance e = absurd (cc)
+      go want.Again e = absurd (cc)
       go (want.Settle k len) e = absurd (cc)
       go want.Answer e = absurd (cc)
       go want.Done e = absurd (cc)

@@ -51,8 +51,8 @@ added_few b (request.Fetch tag) = omega arith
 pub served_few : (b : Bank) (q : Request) (now : ℕ) → bank_bytes (served_bank b q now) ≤ bank_bytes b + request_bytes q
 served_few b q now = let sum = served_bytes b q now in let few = added_few b q in omega (arith, sum, few)
 
-abbrev parts : List Layout → List (List Bank) → List Message → List Call → Object
-parts layouts banks mail calls = record { layouts = layouts; banks = banks; mail = mail; calls = calls }
+abbrev parts : Option ℕ → List Layout → List (List Bank) → List Message → List Call → Object
+parts delta layouts banks mail calls = record { delta = delta; layouts = layouts; banks = banks; mail = mail; calls = calls }
 
 -- the request that waits at a place, and the bank to which it goes, as they were read
 pub record IsServing (c : Contents) (place : ℕ) (m : Message) (p : Position) (q : Request) : Type 0 where
@@ -181,16 +181,16 @@ module _ {c : Contents} {place : ℕ} {m : Message} {p : Position} {q : Request}
     mail_is : replied c.mail place (reply_to b q now) ≡ set c.mail place (answered m (reply_to b q now))
     mail_is = ap (replied_message c.mail place (reply_to b q now)) waits
 
-    pub serving_is : object_of (set c.positions m.position new) (replied c.mail place (reply_to b q now)) c.calls
+    pub serving_is : object_of c.delta (set c.positions m.position new) (replied c.mail place (reply_to b q now)) c.calls
         ≡ (made (Step.Serve place) now (state_of c)).object
     serving_is =
-        ap (λ ls. parts ls (banks_of (set c.positions m.position new)) (replied c.mail place (reply_to b q now)) (state_of c).object.calls)
+        ap (λ ls. parts c.delta ls (banks_of (set c.positions m.position new)) (replied c.mail place (reply_to b q now)) (state_of c).object.calls)
         layouts_are
-        ∙ ap (λ bs. parts (layouts_of c.positions) bs (replied c.mail place (reply_to b q now)) (state_of c).object.calls) banks_are
-        ∙ ap (λ ms. parts (layouts_of c.positions)
+        ∙ ap (λ bs. parts c.delta (layouts_of c.positions) bs (replied c.mail place (reply_to b q now)) (state_of c).object.calls) banks_are
+        ∙ ap (λ ms. parts c.delta (layouts_of c.positions)
         (set (banks_of c.positions) m.position (set (get_or (banks_of c.positions) m.position []) m.member (served_bank b q now))) ms
         (state_of c).object.calls) mail_is
-        ∙ sym (ap (λ (b : Bank). parts (layouts_of c.positions)
+        ∙ sym (ap (λ (b : Bank). parts c.delta (layouts_of c.positions)
         (set (banks_of c.positions) m.position (set (get_or (banks_of c.positions) m.position []) m.member (served_bank b q now)))
         (set c.mail place (answered m (reply_to b q now))) (state_of c).object.calls) bank_is)
         ∙ sym (ap (λ b. served_by (state_of c).object place m b now) s.is)

@@ -1,12 +1,13 @@
 -- A call settles a value that was decoded from pieces of its current phase.
 use Rattle.std.proofs.Common.{◌≡◌, ℕ, pred, ◌<◌, ◌≤◌, nat_eq, Bool, true, false, List, [], ◌∷◌, length}
-use Rattle.std.proofs.Common.{get_or, set, Some, None, sym, ap, subst, ◌∙◌, refl, arith}
+use Rattle.std.proofs.Common.{get_or, set, Option, Some, None, sym, ap, subst, ◌∙◌, refl, arith}
 use Rattle.std.specs.List.{AllByRecursion, list_all}
 use Rattle.std.proofs.lemmas.Bool.{eqb-true}
 use Rattle.std.proofs.lemmas.Bool.Decides.{Decides-eqb}
 use Rattle.std.proofs.lemmas.Map.Made.{IsDistinct-from_AllPairs}
 use Rattle.tag.specs.declared.limits.TheConstants.{MOST_PHASES, MOST_STEPS}
-use Rattle.tag.specs.declared.refusal.Refusal.TheVariants.{NotNow, WrongCode, Full}
+use Rattle.tag.specs.declared.refusal.Refusal.{Refusal}
+use Rattle.tag.specs.declared.refusal.Refusal.TheVariants.{WrongCode, Full}
 use Rattle.bank.specs.declared.reply.Answer.TheVariants as answer
 use Rattle.encoder.specs.Fragment.{fragment}
 use Rattle.encoder.specs.declared.fragment.Piece.{Piece}
@@ -24,12 +25,12 @@ use Rattle.record.specs.Wants.{current_phase, value_len}
 use Rattle.record.specs.declared.stage.Want.TheVariants as want
 use Rattle.record.proofs.Sound.Waiting.{Unsettled, last_at}
 use Rattle.record.proofs.Sound.Wanting.{unsettled_of}
-use Rattle.register.specs.Causes.{settle_cause, unless, if_step, is_settle, is_decoded_in}
+use Rattle.register.specs.Causes.{settle_cause, unless, if_step, if_settle, is_decoded_in}
 use Rattle.register.specs.Coding.{is_recorded, is_decoded_from}
 use Rattle.register.specs.Kept.{IsKept}
 use Rattle.register.specs.State.{Contents, State, state_of, made}
 use Rattle.register.specs.Tracked.{Tracked, calls_of}
-use Rattle.register.proofs.Found.{IsFound, IsWanting, at, at_place, place, same, caused, later, not_settle}
+use Rattle.register.proofs.Found.{IsFound, IsWanting, at, at_place, place, same, caused, later}
 use Rattle.register.proofs.Keeps.{steps_on, call_kept, open_moves_set}
 use Rattle.register.proofs.Lists.{all_found, map_set, length_map}
 use Rattle.register.proofs.Rooms.{step_within, step_past}
@@ -41,19 +42,17 @@ module _ {c : Contents} {number index : ℕ} {t : Tracked} {w : Want} (wanted : 
   object = (state_of c).object
 
   cause_with : (now : ℕ) (decodes : Bool) → is_decoded_in object (current_phase t.call.phases) decoded ≡ decodes
-      → settle_cause now object number decoded ≡ unless (is_settle w) NotNow (unless decodes WrongCode (if_step now None))
+      → settle_cause now object number decoded ≡ if_settle w (unless decodes WrongCode (if_step now None))
   cause_with now decodes e =
       caused wanted.found _
-      ∙ ap (λ v. unless (is_settle v) NotNow
+      ∙ ap (λ v. if_settle v
       (unless (is_decoded_in object (current_phase t.call.phases) decoded) WrongCode (if_step now None))) wanted.wants
-      ∙ ap (λ d. unless (is_settle w) NotNow (unless d WrongCode (if_step now None))) e
+      ∙ ap (λ d. if_settle w (unless d WrongCode (if_step now None))) e
 
-  pub settle_not_now : (now : ℕ) → ((k len : ℕ) → w ≡ want.Settle k len → ⊥)
-      → settle_cause now object number decoded ≡ Some NotNow
-  settle_not_now now other =
-      cause_with now _ refl
-      ∙ ap (λ s. unless s NotNow
-      (unless (is_decoded_in object (current_phase t.call.phases) decoded) WrongCode (if_step now None))) (not_settle w other)
+  -- one that does not want to settle is refused by what it wants
+  pub settle_refused : (now : ℕ) (refusal : Refusal) → ((later : Option Refusal) → if_settle w later ≡ Some refusal)
+      → settle_cause now object number decoded ≡ Some refusal
+  settle_refused now refusal refused = cause_with now _ refl ∙ refused _
 
 -- a call that is to settle a value, by its current phase
 module _ {c : Contents} {number index : ℕ} {t : Tracked} {k len : ℕ} (wanted : IsWanting c number index t (want.Settle k len))
@@ -166,7 +165,7 @@ module _ {c : Contents} {number index : ℕ} {t : Tracked} {k len : ℕ} (wanted
       answered : taken.reply.reply.answer ≡ answer.Piece (Some p)
       answered = is_answer taken.reply.reply.answer p taken.brought
 
-      unsettled : Unsettled t.call
+      unsettled : Unsettled t.call false
       unsettled = unsettled_of o (pred number) t.call k len wanted.wants
 
       fetch : IsFetch phase.kind

@@ -14,7 +14,7 @@ use Rattle.mail.specs.declared.message.Message.{Message}
 use Rattle.mail.specs.declared.message.Body.{Body}
 use Rattle.mail.specs.declared.message.Body.TheVariants as body
 use Rattle.phase.specs.declared.phase.Taken.{Taken}
-use Rattle.phase.specs.Phase.{Phase, is_current, has_taken, with_reply, after_body, after_take}
+use Rattle.phase.specs.Phase.{Phase, is_current, has_taken, with_reply, after_body, after_take, lacks_pieces}
 use Rattle.record.specs.declared.call.CallKind.{CallKind}
 use Rattle.record.specs.declared.call.CallKind.TheVariants.{Read, Write, Move}
 use Rattle.record.specs.declared.stage.Stage.{Stage}
@@ -47,21 +47,21 @@ pub greatest_up_to : (n : ℕ) (replies : List Taken) → AllByRecursion (ShownU
 greatest_up_to n [] shown = omega arith
 greatest_up_to n (t ∷ ts) shown = later_up_to n (shown_tag t.reply.answer) (greatest_tag ts) shown.0 (greatest_up_to n ts shown.1)
 
-after_up_to : (n : ℕ) (kind : CallKind) (number : ℕ) (stage : Stage) (replies : List Taken) → AllByRecursion (ShownUpTo n) replies
-    → FoundUpTo n stage → FoundUpTo n (after kind number stage replies)
-after_up_to n kind number (ReadNext position finalized) replies shown so_far = go (greatest_status replies)
+after_up_to : (n : ℕ) (kind : CallKind) (number : ℕ) (stage : Stage) (replies : List Taken) (lacks : Bool)
+    → AllByRecursion (ShownUpTo n) replies → FoundUpTo n stage → FoundUpTo n (after kind number stage replies lacks)
+after_up_to n kind number (ReadNext position finalized) replies lacks shown so_far = go (greatest_status replies)
   where
     go : (status : Status) → FoundUpTo n (after_next status position finalized)
     go Unset = omega arith
     go Pending = tt
     go Final = tt
-after_up_to n kind number (ReadSpread position finalized status) replies shown so_far = go status
+after_up_to n kind number (ReadSpread position finalized status) replies lacks shown so_far = go status
   where
     go : (status : Status) → FoundUpTo n (after_spread status position finalized)
     go Unset = tt
     go Pending = tt
     go Final = tt
-after_up_to n kind number (QueryFrom position last greatest shown_at) replies shown so_far =
+after_up_to n kind number (QueryFrom position last greatest shown_at) replies lacks shown so_far =
     go (tag_lt (greatest_tag replies) greatest) (position == last) kind
   where
     later : Tag
@@ -76,14 +76,15 @@ after_up_to n kind number (QueryFrom position last greatest shown_at) replies sh
     go b true (Write value) = tt
     go b true Move = tt
     go b false kind = up_to
-after_up_to n kind number (FetchAt shown_at last tag) replies shown so_far = go (shown_at == last)
+after_up_to n kind number (FetchAt shown_at last tag) replies lacks shown so_far = go lacks (shown_at == last)
   where
-    go : (b : Bool) → FoundUpTo n (cond b (AgainNext last last tag) (PreWriteAt last tag))
-    go true = tt
-    go false = tt
-after_up_to n kind number (PreWriteAt last tag) replies shown so_far = tt
-after_up_to n kind number (FinalizeAt last tag) replies shown so_far = tt
-after_up_to n kind number (AgainNext last position tag) replies shown so_far = go (greatest_status replies) (position == last)
+    go : (lacks b : Bool) → FoundUpTo n (cond lacks (ReadNext 0 0) (cond b (AgainNext last last tag) (PreWriteAt last tag)))
+    go true b = tt
+    go false true = tt
+    go false false = tt
+after_up_to n kind number (PreWriteAt last tag) replies lacks shown so_far = tt
+after_up_to n kind number (FinalizeAt last tag) replies lacks shown so_far = tt
+after_up_to n kind number (AgainNext last position tag) replies lacks shown so_far = go (greatest_status replies) (position == last)
   where
     ends : (b : Bool) → FoundUpTo n (cond b (Ended last tag) (PreWriteAt position tag))
     ends true = tt
@@ -93,29 +94,33 @@ after_up_to n kind number (AgainNext last position tag) replies shown so_far = g
     go Unset b = ends (position == last)
     go Pending b = tt
     go Final b = tt
-after_up_to n kind number (AgainSpread last position tag status) replies shown so_far = tt
-after_up_to n kind number (MoveSpread position) replies shown so_far = tt
-after_up_to n kind number (MoveQuery position) replies shown so_far = tt
-after_up_to n kind number (MoveFetch position tag) replies shown so_far = tt
-after_up_to n kind number (MovePreWrite position tag) replies shown so_far = tt
-after_up_to n kind number (MoveFinalize position tag) replies shown so_far = tt
-after_up_to n kind number (MoveFinal position tag) replies shown so_far = tt
-after_up_to n kind number (Ended last tag) replies shown so_far = tt
-after_up_to n kind number (Moved position tag) replies shown so_far = tt
+after_up_to n kind number (AgainSpread last position tag status) replies lacks shown so_far = tt
+after_up_to n kind number (MoveSpread position) replies lacks shown so_far = tt
+after_up_to n kind number (MoveQuery position) replies lacks shown so_far = tt
+after_up_to n kind number (MoveFetch position tag) replies lacks shown so_far = go lacks
+  where
+    go : (lacks : Bool) → FoundUpTo n (cond lacks (MoveQuery position) (MovePreWrite position tag))
+    go true = tt
+    go false = tt
+after_up_to n kind number (MovePreWrite position tag) replies lacks shown so_far = tt
+after_up_to n kind number (MoveFinalize position tag) replies lacks shown so_far = tt
+after_up_to n kind number (MoveFinal position tag) replies lacks shown so_far = tt
+after_up_to n kind number (Ended last tag) replies lacks shown so_far = tt
+after_up_to n kind number (Moved position tag) replies lacks shown so_far = tt
 
 passed_up_to : (n : ℕ) (kind : CallKind) (number : ℕ) (stage : Stage) (end : Option ℕ) (replies : List Taken)
-    → AllByRecursion (ShownUpTo n) replies → FoundUpTo n stage
-    → FoundUpTo n (passed kind number stage end replies)
-passed_up_to n kind number stage None replies shown so_far = so_far
-passed_up_to n kind number stage (Some end) replies shown so_far = after_up_to n kind number stage replies shown so_far
+    (lacks : Bool) → AllByRecursion (ShownUpTo n) replies → FoundUpTo n stage
+    → FoundUpTo n (passed kind number stage end replies lacks)
+passed_up_to n kind number stage None replies lacks shown so_far = so_far
+passed_up_to n kind number stage (Some end) replies lacks shown so_far = after_up_to n kind number stage replies lacks shown so_far
 
 stage_up_to : (n : ℕ) (kind : CallKind) (number : ℕ) (stage : Stage) (phases : List Phase)
     → AllByRecursion (λ (phase : Phase). AllByRecursion (ShownUpTo n) phase.replies) phases → FoundUpTo n stage
     → FoundUpTo n (stage_after kind number stage phases)
 stage_up_to n kind number stage [] shown so_far = so_far
 stage_up_to n kind number stage (p ∷ ps) shown so_far =
-    stage_up_to n kind number (passed kind number stage p.end p.replies) ps shown.1
-    (passed_up_to n kind number stage p.end p.replies shown.0 so_far)
+    stage_up_to n kind number (passed kind number stage p.end p.replies (lacks_pieces p)) ps shown.1
+    (passed_up_to n kind number stage p.end p.replies (lacks_pieces p) shown.0 so_far)
 
 first_up_to : (n : ℕ) (kind : CallKind) (from : ℕ) → FoundUpTo n (first_stage kind from)
 first_up_to n Read from = tt

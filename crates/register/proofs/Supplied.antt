@@ -128,6 +128,7 @@ module _ {c : Contents} {number index : ℕ} {t : Tracked} {coded : Coding} {pos
         ap (λ o. record { object = o; last = now })
         (step_is s now p current.is false (ap is_replied (sym current.is) ∙ lacks)
         ∙ ap (λ rs. record {
+          delta = c.delta;
           layouts = layouts_of c.positions;
           banks = banks_of c.positions;
           mail = c.mail ++ missing c.mail (members_of p.replies) rs;

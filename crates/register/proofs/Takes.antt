@@ -6,7 +6,7 @@ use Rattle.mail.specs.declared.message.Message.{Message}
 use Rattle.mail.specs.declared.message.Body.{Body}
 use Rattle.mail.specs.declared.message.Body.TheVariants as body
 use Rattle.phase.specs.declared.phase.Took.TheVariants as took
-use Rattle.phase.specs.Phase.{Phase, is_current, has_taken, makes_quorum, with_reply, after_body, after_take, took_body, took_by}
+use Rattle.phase.specs.Phase.{Phase, is_current, has_taken, makes_quorum, with_reply, after_body, after_take, took_body, took_by, lacks_pieces}
 use Rattle.record.specs.declared.call.CallKind.{CallKind}
 use Rattle.record.specs.declared.stage.Stage.{Stage}
 use Rattle.record.specs.Courses.{passed, stage_after}
@@ -68,14 +68,16 @@ stage_taking kind s [] m now = refl
 stage_taking kind s (p ∷ []) m now = step p.end refl
   where
     step : (o : Option ℕ) → p.end ≡ o
-        → cond (is_some o) (passed kind m.call s o p.replies)
-        (passed kind m.call (passed kind m.call s o p.replies) (after_take p m now).end (after_take p m now).replies)
-        ≡ passed kind m.call s (after_take p m now).end (after_take p m now).replies
+        → cond (is_some o) (passed kind m.call s o p.replies (lacks_pieces p))
+        (passed kind m.call (passed kind m.call s o p.replies (lacks_pieces p)) (after_take p m now).end (after_take p m now).replies
+        (lacks_pieces (after_take p m now)))
+        ≡ passed kind m.call s (after_take p m now).end (after_take p m now).replies (lacks_pieces (after_take p m now))
     step None e = refl
     step (Some end) e =
-        ap (λ o. passed kind m.call s o p.replies) (sym e)
-        ∙ ap (λ (x : Phase). passed kind m.call s x.end x.replies) (sym (ended_same p m now (ap is_some e)))
-stage_taking kind s (p ∷ q ∷ ps) m now = stage_taking kind (passed kind m.call s p.end p.replies) (q ∷ ps) m now
+        ap (λ o. passed kind m.call s o p.replies (lacks_pieces p)) (sym e)
+        ∙ ap (λ (x : Phase). passed kind m.call s x.end x.replies (lacks_pieces x)) (sym (ended_same p m now (ap is_some e)))
+stage_taking kind s (p ∷ q ∷ ps) m now =
+    stage_taking kind (passed kind m.call s p.end p.replies (lacks_pieces p)) (q ∷ ps) m now
 
 -- a call that has begun no phase takes nothing
 pub taking_none : (ps : List Phase) (m : Message) (now : ℕ) → length ps ≡ 0 → taking_phases ps m now ≡ ps
@@ -97,9 +99,12 @@ taken_same t m now phases stage =
 
 pub stage_ended : (kind : CallKind) (s : Stage) (p : Phase) (m : Message) (now : ℕ) → is_some p.end ≡ true
     → stage_taken kind s (Some p) m now ≡ s
-stage_ended kind s p m now ended = ap (λ b. cond b s (passed kind m.call s (after_take p m now).end (after_take p m now).replies)) ended
+stage_ended kind s p m now ended =
+    ap (λ b. cond b s (passed kind m.call s (after_take p m now).end (after_take p m now).replies (lacks_pieces (after_take p m now)))) ended
 
 pub stage_open : (kind : CallKind) (s : Stage) (p : Phase) (m : Message) (now : ℕ) → is_some p.end ≡ false
-    → stage_taken kind s (Some p) m now ≡ passed kind m.call s (after_take p m now).end (after_take p m now).replies
-stage_open kind s p m now open_yet = ap (λ b. cond b s (passed kind m.call s (after_take p m now).end (after_take p m now).replies))
+    → stage_taken kind s (Some p) m now
+    ≡ passed kind m.call s (after_take p m now).end (after_take p m now).replies (lacks_pieces (after_take p m now))
+stage_open kind s p m now open_yet =
+    ap (λ b. cond b s (passed kind m.call s (after_take p m now).end (after_take p m now).replies (lacks_pieces (after_take p m now))))
     open_yet

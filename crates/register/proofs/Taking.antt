@@ -123,7 +123,7 @@ module _ {c : Contents} {place : ℕ} {m : Message} {t : Tracked} (taken : IsTak
       ∙ sym (ap (taken_calls (calls_of c.calls) m now) (ap (slice_get (calls_of c.calls)) pred_is ∙ here))
 
   module _ {kind : Kind} {reply : Reply} (is : m.body ≡ body.Reply kind reply) where
-    taking_is : object_of c.positions (remove c.mail place) (set c.calls (m.call - 1) (taken_tracked m now t))
+    taking_is : object_of c.delta c.positions (remove c.mail place) (set c.calls (m.call - 1) (taken_tracked m now t))
         ≡ (made (Step.Take place) now (state_of c)).object
     taking_is =
         ap (with_calls (state_of c).object (remove c.mail place)) calls_is

@@ -1,5 +1,5 @@
 -- What is shown of a call.
-use Rattle.std.proofs.Common.{◌≡◌, ℕ, ◌<◌, Bool, true, false, ◌||◌, List, [], ◌∷◌, length, Some, option_map, sym, ap, ◌∙◌, refl}
+use Rattle.std.proofs.Common.{◌≡◌, ℕ, pred, ◌<◌, Bool, true, false, ◌||◌, List, [], ◌∷◌, length, Some, option_map, sym, ap, ◌∙◌, refl}
 use Rattle.std.proofs.Common.{arith, lit<}
 use Rattle.std.proofs.Math.Dec.{eqb}
 use Rattle.std.specs.List.{AllByRecursion, list_any}
@@ -10,13 +10,14 @@ use Rattle.tag.specs.declared.limits.TheConstants.{MOST_MEMBERS}
 use Rattle.layout.specs.Layout.{IsLawful}
 use Rattle.phase.specs.declared.phase.Taken.{Taken}
 use Rattle.phase.specs.Phase.{Phase, members_of}
-use Rattle.record.specs.Journals.{stage_tag, operation_of}
+use Rattle.record.specs.Journals.{stage_tag, tag_of, operation_of}
 use Rattle.record.specs.Knowledge.{IsTrueReply, IsTruePhase}
 use Rattle.record.specs.Records.{Object, layout_at, no_layout}
-use Rattle.record.specs.Wants.{current_phase}
+use Rattle.record.specs.Wants.{current_phase, fetched_or, phase_tag, viewed_tag}
 use Rattle.record.proofs.Atomic.Quorums.Replies.{all_get_or}
 use Rattle.record.proofs.Sound.Waiting.{last_at}
 use Rattle.register.specs.State.{Contents, state_of}
+use Rattle.record.specs.declared.stage.Stage.{Stage}
 use Rattle.record.specs.declared.stage.Want.{Want}
 use Rattle.register.specs.Tracked.{Tracked}
 use Rattle.register.specs.View.{view_at, viewed, phase_view}
@@ -56,6 +57,11 @@ module _ {c : Contents} {number index : ℕ} {t : Tracked} (found : IsFound c nu
       let limit : MOST_MEMBERS < 256 = lit< tt in
       omega (arith, few, same, most, limit)
 
+  tag_is : viewed_tag (state_of c).object (pred number) t.call ≡ fetched_or phase.kind (stage_tag t.stage)
+  tag_is =
+      ap (λ p. phase_tag p (tag_of (state_of c).object (pred number) t.call)) current
+      ∙ ap (λ (s : Stage). fetched_or phase.kind (stage_tag s)) (sym (staged found))
+
   pub view_is : {w : Want} → IsWanting c number index t w → view_at (state_of c).object number ≡ Some (record {
     kind = operation_of t.call.kind;
     number = phase.number;
@@ -63,7 +69,7 @@ module _ {c : Contents} {number index : ℕ} {t : Tracked} (found : IsFound c nu
     position = phase.position;
     replies = length phase.replies;
     quorum = phase.quorum;
-    tag = stage_tag t.stage;
+    tag = fetched_or phase.kind (stage_tag t.stage);
     want = w;
   })
   view_is w =
@@ -76,6 +82,6 @@ module _ {c : Contents} {number index : ℕ} {t : Tracked} (found : IsFound c nu
         position = phase.position;
         replies = length phase.replies;
         quorum = phase.quorum;
-        tag = sym (ap stage_tag (staged found)) j;
+        tag = tag_is j;
         want = w.wants j;
       }))

@@ -1,10 +1,10 @@
-use Rattle.std.proofs.Common.{◌≡◌, length, Ok, Err, subst, ap, sym, ◌∙◌}
+use Rattle.std.proofs.Common.{◌≡◌, suc, length, Ok, Err, subst, ap, sym, ◌∙◌}
 use Rattle.register.specs.declared.act.Answered.{Answered}
 use Rattle.cluster.specs.Acts.{IsReady}
 use Rattle.register.specs.Act.{act_cause, answered_by, step_of}
 use Rattle.cluster.specs.Causes.{next}
 use Rattle.cluster.specs.Cluster.{Cluster, place_of}
-use Rattle.cluster.proofs.Acting.{act_at, act_by, act_none, act_some, no_more}
+use Rattle.cluster.proofs.Acting.{act_at, act_by, act_none, act_some, no_more, no_less}
 use Rattle.cluster.proofs.Places.{at_place, place_at}
 use Rattle.cluster.proofs.Stepping.{stepped_at, unchanged_at, last_before, cause_at, no_object, next_is, read_at}
 use Rattle.cluster.proofs.Summing.{part_mailed, refused_counted, summed_at}
@@ -30,7 +30,9 @@ invariant_of-self c =
           (act_none c.in-Ok.answered c.args.act c.in-Ok.ensures.cause)
           c.begun-begun.ensures.count;
       summed = summed_at c.self.invariant.summed at c.waiting-waited.ensures.sound (step_of c.args.act)
-          (no_more (length c.self.inside.servers) c.index_mut-register.result.now.object c.args.act ready) c.in-Ok.ensures.step
+          (no_more (length c.self.inside.servers) c.index_mut-register.result.now.object c.args.act ready)
+          (no_less (length c.self.inside.servers) c.index_mut-register.result.now.object c.args.act ready (suc c.self.inside.counter))
+          c.in-Ok.ensures.step
           c.waiting-waited.result c.waiting.result c.exchanged-self-inside.result c.waiting-waited.ensures.value c.waiting.ensures.value
           c.waiting.ensures.within c.exchanged-self-inside.ensures;
     }

@@ -3,7 +3,7 @@ use Rattle.tag.specs.declared.limits.TheConstants.{MOST_STEPS}
 use Rattle.record.specs.Steps.{Step}
 use Rattle.cluster.specs.Causes.{serving_cause}
 use Rattle.cluster.proofs.Growing.{part_at}
-use Rattle.cluster.proofs.Loading.{served_grows, serve_counted}
+use Rattle.cluster.proofs.Loading.{served_exchanges, serve_counted}
 use Rattle.cluster.proofs.Places.{at_place}
 use Rattle.cluster.proofs.Serving.{has_room, own_none, own_of, is_of, memory_left}
 use Rattle.cluster.proofs.Stepping.{cluster_of, stepped_at, unchanged_at, last_before, own_cause_at, no_object}
@@ -52,10 +52,10 @@ invariant_of-self-in-Ok-serve c =
     let few : c.self.inside.counter + 1 ≤ MOST_STEPS = omega (arith, next) in
     serve_counted c.self.invariant at room c.in-Ok.server c.in-Ok.ensures.server c.waiting-waited.ensures.sound c.serve.new.self
     c.in-Ok-serve.ensures.step few
-    c.stored_in_all-before.result c.stored_in_all.result c.stored_in_all-before.ensures.value c.stored_in_all.ensures.value
-    c.add.new.self c.add.ensures
-    c.waiting-waited.result c.waiting.result c.exchanged-self-inside.result c.waiting-waited.ensures.value c.waiting.ensures.value
-    c.waiting.ensures.within c.exchanged-self-inside.ensures
+    c.stored_in_all-before.result c.stored_in_all-after.result c.stored_in_all-before.ensures.value c.stored_in_all-after.ensures.value
+    c.exchanged-self-inside.result c.exchanged-self-inside.ensures c.exchange.new.self c.exchange.ensures
+    c.waiting-waited.result c.waiting.result c.exchanged-self-inside-2.result c.waiting-waited.ensures.value c.waiting.ensures.value
+    c.waiting.ensures.within c.exchanged-self-inside-2.ensures
 
 pub invariant_of-self-in-Err-serve : goal.invariant_of-self-in-Err-serve
 invariant_of-self-in-Err-serve c =
@@ -99,50 +99,36 @@ returns-in-Err-serve-clause-unchanged c =
     c.index_mut-register.ensures.value in
     unchanged_at at c.in-Err-serve.ensures.unchanged ∙ c.self.view_is
 
-pub overflow_sub-more : goal.overflow_sub-more
-overflow_sub-more c =
-    let at = at_place c.self.inside.objects.entries c.args.name.now c.in-Some.index c.index_mut-register.result.now c.in-Some.ensures.index
-    c.index_mut-register.ensures.value in
-    let here = c.in-Ok.ensures.cause
-    (cluster_of c.self.inside.servers c.self.inside.layouts.items c.self.inside.objects.entries c.self.inside.counter)
-    (own_of c.self.invariant.kept) in
-    let room = has_room (cluster_of c.self.inside.servers c.self.inside.layouts.items c.self.inside.objects.entries c.self.inside.counter)
-    c.args.place c.index_mut-register.result.now.object here in
-    let grows = served_grows c.self.invariant at room c.in-Ok.server c.in-Ok.ensures.server c.waiting-waited.ensures.sound c.serve.new.self
-    c.in-Ok-serve.ensures.step
-    c.stored_in_all-before.result c.stored_in_all.result c.stored_in_all-before.ensures.value c.stored_in_all.ensures.value in
-    let less = grows.less in omega (arith, less)
-
-pub overflow_add-self : goal.overflow_add-self
-overflow_add-self c =
-    let at = at_place c.self.inside.objects.entries c.args.name.now c.in-Some.index c.index_mut-register.result.now c.in-Some.ensures.index
-    c.index_mut-register.ensures.value in
-    let here = c.in-Ok.ensures.cause
-    (cluster_of c.self.inside.servers c.self.inside.layouts.items c.self.inside.objects.entries c.self.inside.counter)
-    (own_of c.self.invariant.kept) in
-    let room = has_room (cluster_of c.self.inside.servers c.self.inside.layouts.items c.self.inside.objects.entries c.self.inside.counter)
-    c.args.place c.index_mut-register.result.now.object here in
-    let grows = served_grows c.self.invariant at room c.in-Ok.server c.in-Ok.ensures.server c.waiting-waited.ensures.sound c.serve.new.self
-    c.in-Ok-serve.ensures.step
-    c.stored_in_all-before.result c.stored_in_all.result c.stored_in_all-before.ensures.value c.stored_in_all.ensures.value in
-    let within = grows.within in omega (arith, within)
-
-pub add-requires : goal.add-requires
-add-requires c =
-    let at = at_place c.self.inside.objects.entries c.args.name.now c.in-Some.index c.index_mut-register.result.now c.in-Some.ensures.index
-    c.index_mut-register.ensures.value in
-    let here = c.in-Ok.ensures.cause
-    (cluster_of c.self.inside.servers c.self.inside.layouts.items c.self.inside.objects.entries c.self.inside.counter)
-    (own_of c.self.invariant.kept) in
-    let room = has_room (cluster_of c.self.inside.servers c.self.inside.layouts.items c.self.inside.objects.entries c.self.inside.counter)
-    c.args.place c.index_mut-register.result.now.object here in
-    let grows = served_grows c.self.invariant at room c.in-Ok.server c.in-Ok.ensures.server c.waiting-waited.ensures.sound c.serve.new.self
-    c.in-Ok-serve.ensures.step
-    c.stored_in_all-before.result c.stored_in_all.result c.stored_in_all-before.ensures.value c.stored_in_all.ensures.value in
-    record { there = grows.there; within = grows.load }
-
 pub exchanged-self-inside-requires : goal.exchanged-self-inside-requires
 exchanged-self-inside-requires c =
+    let at = at_place c.self.inside.objects.entries c.args.name.now c.in-Some.index c.index_mut-register.result.now c.in-Some.ensures.index
+    c.index_mut-register.ensures.value in
+    let here = c.in-Ok.ensures.cause
+    (cluster_of c.self.inside.servers c.self.inside.layouts.items c.self.inside.objects.entries c.self.inside.counter)
+    (own_of c.self.invariant.kept) in
+    let room = has_room (cluster_of c.self.inside.servers c.self.inside.layouts.items c.self.inside.objects.entries c.self.inside.counter)
+    c.args.place c.index_mut-register.result.now.object here in
+    let sums = served_exchanges c.self.invariant at room c.in-Ok.server c.in-Ok.ensures.server c.waiting-waited.ensures.sound
+    c.serve.new.self c.in-Ok-serve.ensures.step
+    c.stored_in_all-before.result c.stored_in_all-after.result c.stored_in_all-before.ensures.value c.stored_in_all-after.ensures.value in
+    record { part = sums.within.0; within = sums.within.1 }
+
+pub exchange-requires : goal.exchange-requires
+exchange-requires c =
+    let at = at_place c.self.inside.objects.entries c.args.name.now c.in-Some.index c.index_mut-register.result.now c.in-Some.ensures.index
+    c.index_mut-register.ensures.value in
+    let here = c.in-Ok.ensures.cause
+    (cluster_of c.self.inside.servers c.self.inside.layouts.items c.self.inside.objects.entries c.self.inside.counter)
+    (own_of c.self.invariant.kept) in
+    let room = has_room (cluster_of c.self.inside.servers c.self.inside.layouts.items c.self.inside.objects.entries c.self.inside.counter)
+    c.args.place c.index_mut-register.result.now.object here in
+    let sums = served_exchanges c.self.invariant at room c.in-Ok.server c.in-Ok.ensures.server c.waiting-waited.ensures.sound
+    c.serve.new.self c.in-Ok-serve.ensures.step
+    c.stored_in_all-before.result c.stored_in_all-after.result c.stored_in_all-before.ensures.value c.stored_in_all-after.ensures.value in
+    record { there = sums.there; part = sums.part; within = sums.load }
+
+pub exchanged-self-inside-2-requires : goal.exchanged-self-inside-2-requires
+exchanged-self-inside-2-requires c =
     let at = at_place c.self.inside.objects.entries c.args.name.now c.in-Some.index c.index_mut-register.result.now c.in-Some.ensures.index
     c.index_mut-register.ensures.value in
     let room = part_mailed c.self.invariant at c.waiting-waited.result c.waiting.result c.waiting-waited.ensures.value

@@ -1,6 +1,6 @@
 use Rattle.std.proofs.Common.{◌≡◌, ℕ, Option, ◌+◌, ◌-◌, ◌<◌, List, length, is_some, true, false, Some, sym, ap, subst, ◌∙◌, arith}
 use Rattle.std.proofs.lemmas.List.{get_or_read, get_or-set_same}
-use Rattle.phase.specs.Phase.{Phase, after_take}
+use Rattle.phase.specs.Phase.{Phase, after_take, lacks_pieces}
 use Rattle.record.specs.declared.call.CallKind.{CallKind}
 use Rattle.record.specs.declared.stage.Stage.{Stage}
 use Rattle.record.specs.Courses.{passed}
@@ -99,7 +99,7 @@ returns-clause-call c =
     ∙ c.if-complete.false in
     let new : c.index-2.result.now ≡ q = c.index-2.ensures ∙ get_or-set_same ps i q c.index-2.result.now within in
     let stage = c.passed-self-inside.ensures
-    ∙ ap (λ (x : Phase). passed k.kind m.call k.stage x.end x.replies) (new ∙ c.take-took.ensures.phase)
+    ∙ ap (λ (x : Phase). passed k.kind m.call k.stage x.end x.replies (lacks_pieces x)) (new ∙ c.take-took.ensures.phase)
     ∙ sym (ap (λ o. stage_taken k.kind k.stage o m now) (current_at ps i p last c.index_mut.ensures.value)
     ∙ stage_open k.kind k.stage p m now open_yet) in
     ap (λ qs. tracked_of k.kind k.called k.answered k.settled qs c.passed-self-inside.result)

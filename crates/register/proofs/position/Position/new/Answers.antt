@@ -13,5 +13,5 @@ returns-clause-opened c =
     let members = c.args.layout.members in
     let all : c.loop-member.member ≡ length members =
     omega (arith, c.loop-member-test.false, c.loop-member.auto.member-end, c.n-member-end.ensures.value) in
-    ap (with_banks c.args.layout) (c.loop-member.invariant ∙ ap (first_of (bank_for c.args.now)) all
-    ∙ sym (opened_first members c.args.now))
+    ap (with_banks c.args.layout) (c.loop-member.invariant ∙ ap (first_of (bank_for c.args.delta c.args.now)) all
+    ∙ sym (opened_first members c.args.delta c.args.now))

@@ -1,5 +1,6 @@
 use Rattle.std.proofs.Common.{length, Some, sym, ap, ◌∙◌, refl, arith}
 use Rattle.record.specs.Journals.{stage_tag}
+use Rattle.record.specs.Wants.{fetched_or}
 use Rattle.register.proofs.Found.{is_found, wanting, below_those, few_those, begun, caused}
 use Rattle.register.proofs.Viewed.{replies_few, view_is}
 use Rattle.register.proofs.register.Register.call_view.Goals as goal
@@ -36,7 +37,7 @@ returns-clause-view c =
       position = sym c.position.ensures j;
       replies = length (sym c.replies.ensures j);
       quorum = sym c.quorum.ensures j;
-      tag = sym (c.stage_tag.ensures ∙ ap stage_tag c.stage.ensures) j;
+      tag = sym (c.viewed_tag.ensures ∙ (λ i. fetched_or (c.kind-2.ensures i) (stage_tag (c.stage.ensures i)))) j;
       want = c.want_of.result;
     })))
 

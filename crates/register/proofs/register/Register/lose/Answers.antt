@@ -8,6 +8,7 @@ pub invariant_of-self : goal.invariant_of-self
 invariant_of-self c =
     let r = c.self.inside in
     let o : Contents = record {
+      delta = r.delta;
       positions = r.positions.items;
       mail = r.mail;
       calls = r.calls.items;

@@ -18,6 +18,7 @@ pub returns-then-len-ge-MOST_CALLS : goal.returns-then-len-ge-MOST_CALLS
 returns-then-len-ge-MOST_CALLS c =
     let r = c.self.inside in
     let o : Contents = record {
+      delta = r.delta;
       positions = r.positions.items;
       mail = r.mail;
       calls = r.calls.items;
@@ -36,6 +37,7 @@ pub returns-then-not-has_room : goal.returns-then-not-has_room
 returns-then-not-has_room c =
     let r = c.self.inside in
     let o : Contents = record {
+      delta = r.delta;
       positions = r.positions.items;
       mail = r.mail;
       calls = r.calls.items;
@@ -46,7 +48,7 @@ returns-then-not-has_room c =
     let view : reading_cause c.args.self.now.object Read c.args.now ≡ reading_cause (state_of o).object Read c.args.now =
     ap (λ (s : State). reading_cause s.object Read c.args.now) (sym c.self.view_is) in
     let layout = c.layout.result.now in
-    let same : layout_at (state_of o).object 0 ≡ layout = layout_is o.positions o.mail o.calls 0 c.index.result.now
+    let same : layout_at (state_of o).object 0 ≡ layout = layout_is o.delta o.positions o.mail o.calls 0 c.index.result.now
     (slice_get_read o.positions (length o.positions) 0 c.index.result.now refl (some_position o c.self.invariant) c.index.ensures)
     ∙ sym c.layout.ensures in
     let few : length o.calls < MOST_CALLS = omega (arith, c.len.ensures, c.if-len-ge-MOST_CALLS.false) in
@@ -62,6 +64,7 @@ pub returns : goal.returns
 returns c =
     let r = c.self.inside in
     let o : Contents = record {
+      delta = r.delta;
       positions = r.positions.items;
       mail = r.mail;
       calls = r.calls.items;
@@ -72,7 +75,7 @@ returns c =
     let view : reading_cause c.args.self.now.object Read c.args.now ≡ reading_cause (state_of o).object Read c.args.now =
     ap (λ (s : State). reading_cause s.object Read c.args.now) (sym c.self.view_is) in
     let layout = c.layout.result.now in
-    let same : layout_at (state_of o).object 0 ≡ layout = layout_is o.positions o.mail o.calls 0 c.index.result.now
+    let same : layout_at (state_of o).object 0 ≡ layout = layout_is o.delta o.positions o.mail o.calls 0 c.index.result.now
     (slice_get_read o.positions (length o.positions) 0 c.index.result.now refl (some_position o c.self.invariant) c.index.ensures)
     ∙ sym c.layout.ensures in
     let few : length o.calls < MOST_CALLS = omega (arith, c.len.ensures, c.if-len-ge-MOST_CALLS.false) in

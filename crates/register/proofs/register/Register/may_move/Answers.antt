@@ -11,6 +11,7 @@ pub returns-then-not-has_room : goal.returns-then-not-has_room
 returns-then-not-has_room c =
     let r = c.self.inside in
     let o : Contents = record {
+      delta = r.delta;
       positions = r.positions.items;
       mail = r.mail;
       calls = r.calls.items;
@@ -37,6 +38,7 @@ pub returns : goal.returns
 returns c =
     let r = c.self.inside in
     let o : Contents = record {
+      delta = r.delta;
       positions = r.positions.items;
       mail = r.mail;
       calls = r.calls.items;

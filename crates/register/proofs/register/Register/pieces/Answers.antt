@@ -1,8 +1,6 @@
 use Rattle.std.proofs.Common.{[], ◌≡◌, ℕ, suc, ◌+◌, length, take, None, Some, sym, ap, subst, ◌∙◌, inl, refl, arith, rules, Vec, Global}
 use Rattle.std.proofs.Common.{vec_len}
-use Rattle.tag.specs.declared.refusal.Refusal.TheVariants.{NotNow}
 use Rattle.encoder.specs.declared.fragment.Piece.{Piece}
-use Rattle.register.specs.Causes.{unless}
 use Rattle.register.specs.Coding.{pieces_below, piece_by}
 use Rattle.register.proofs.Found.{is_found, wanting, below_those, few_those, current_again, not_settle}
 use Rattle.register.proofs.Least.{take_none, least_pushed, least_full, pieces_cause_is, pieces_are}
@@ -26,8 +24,14 @@ returns-in_default c =
     record {
       pieces = tt;
       cause = inl (rw (← c.self.view_is)
-          (pieces_cause_is w ∙ ap (λ b. unless b NotNow None) (not_settle c.want_of.result c.in_default.not-Settle)));
+          (pieces_cause_is w ∙ not_settle c.want_of.result None c.in_default.not-Settle c.in_default.not-Again));
     }
+
+pub returns-in-Again : goal.returns-in-Again
+returns-in-Again c =
+    let f = is_found c.self.invariant c.in_ok-index.ensures.place c.deref.ensures.value c.index.ensures in
+    let w = wanting f c.want_of.ensures c.deref-2.ensures.value c.in-Again.is in
+    record { pieces = tt; cause = inl (rw (← c.self.view_is) (pieces_cause_is w)) }
 
 pub returns-in_err-pieces-clause-cause : goal.returns-in_err-pieces-clause-cause
 returns-in_err-pieces-clause-cause c =

@@ -19,6 +19,7 @@ pub invariant_of-self : goal.invariant_of-self
 invariant_of-self c =
     let r = c.self.inside in
     let o : Contents = record {
+      delta = r.delta;
       positions = r.positions.items;
       mail = r.mail;
       calls = r.calls.items;
@@ -35,6 +36,7 @@ pub returns-in-Ok-clause-step : goal.returns-in-Ok-clause-step
 returns-in-Ok-clause-step c =
     let r = c.self.inside in
     let o : Contents = record {
+      delta = r.delta;
       positions = r.positions.items;
       mail = r.mail;
       calls = r.calls.items;
@@ -43,7 +45,7 @@ returns-in-Ok-clause-step c =
       last = r.last;
     } in
     let within : c.args.place < length o.mail = omega (arith, c.len.ensures.value, c.if-len-place.false) in
-    ap (λ ms. at_step (object_of o.positions ms o.calls) c.args.now) c.in-Ok.ensures.posted
+    ap (λ ms. at_step (object_of o.delta o.positions ms o.calls) c.args.now) c.in-Ok.ensures.posted
     ∙ ap (λ x. at_step x c.args.now) (repeating_is o c.args.place within)
     ∙ ap (made (Step.Repeat c.args.place) c.args.now) c.self.view_is
 

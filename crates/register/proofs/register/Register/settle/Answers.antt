@@ -1,7 +1,8 @@
 use Rattle.std.proofs.Common.{sym, subst, ◌∙◌, refl}
+use Rattle.tag.specs.declared.refusal.Refusal.TheVariants.{NotNow, Collected}
 use Rattle.decoder.specs.Decoded.{IsDecoded}
-use Rattle.register.proofs.Found.{is_found, wanting, below_those, few_those, current_again}
-use Rattle.register.proofs.Settling.{settle_not_now, settle_wrong, settle_none, settle_past, settle_is, settle_kept, settled_as, told}
+use Rattle.register.proofs.Found.{is_found, wanting, below_those, few_those, current_again, not_settle}
+use Rattle.register.proofs.Settling.{settle_refused, settle_wrong, settle_none, settle_past, settle_is, settle_kept, settled_as, told}
 use Rattle.register.proofs.Settling.{may_settle}
 use Rattle.register.proofs.register.Register.settle.Goals as goal
 
@@ -19,7 +20,18 @@ returns-in_default c =
     let w = wanting f c.want_of.ensures c.deref-2.ensures.value refl in
     record {
       step = tt;
-      cause = rw (← c.self.view_is) (settle_not_now w c.args.decoded c.args.now c.in_default.not-Settle);
+      cause = rw (← c.self.view_is) (settle_refused w c.args.decoded c.args.now NotNow
+          (λ later. not_settle c.want_of.result later c.in_default.not-Settle c.in_default.not-Again));
+      unchanged = refl;
+    }
+
+pub returns-in-Again : goal.returns-in-Again
+returns-in-Again c =
+    let f = is_found c.self.invariant c.in-Ok.ensures.place c.deref.ensures.value c.index.ensures in
+    let w = wanting f c.want_of.ensures c.deref-2.ensures.value c.in-Again.is in
+    record {
+      step = tt;
+      cause = rw (← c.self.view_is) (settle_refused w c.args.decoded c.args.now Collected (λ later. refl));
       unchanged = refl;
     }
 

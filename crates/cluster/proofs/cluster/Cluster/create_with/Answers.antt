@@ -5,9 +5,9 @@ use Rattle.cluster.proofs.Moves.{is_layout}
 use Rattle.cluster.proofs.Opening.{is_named, length_objects, name_taken, no_layout_here, long_name}
 use Rattle.cluster.proofs.Opening.{no_step_for_object, many_objects, may_create, created_is, created_counted}
 use Rattle.cluster.proofs.Places.{objects_of}
-use Rattle.cluster.proofs.cluster.Cluster.create.Goals as goal
-use Rattle.cluster.proofs.cluster.Cluster.create.Goals.{then-self-ge-MOST_STEPS-via-then-self-ge-MOST_STEPS}
-use Rattle.cluster.proofs.cluster.Cluster.create.Goals.{then-self-ge-MOST_STEPS-via-else-self-ge-MOST_STEPS+then-len-ge-MOST_OBJECTS}
+use Rattle.cluster.proofs.cluster.Cluster.create_with.Goals as goal
+use Rattle.cluster.proofs.cluster.Cluster.create_with.Goals.{then-self-ge-MOST_STEPS-via-then-self-ge-MOST_STEPS}
+use Rattle.cluster.proofs.cluster.Cluster.create_with.Goals.{then-self-ge-MOST_STEPS-via-else-self-ge-MOST_STEPS+then-len-ge-MOST_OBJECTS}
 
 pub returns-then-is_some-clause-cause : goal.returns-then-is_some-clause-cause
 returns-then-is_some-clause-cause c =
@@ -94,7 +94,7 @@ invariant_of-self-2 c =
     let found = is_layout c.deref.ensures.value c.in-Some.ensures.lookup.3.0 c.in-Some.ensures.lookup.1 c.in_ok-clone.ensures.cases in
     let few_objects : length (objects_of c.self.inside.objects.entries) < MOST_OBJECTS =
     omega (arith, length_objects c.self.inside.objects.entries, c.len.ensures.len, c.if-len-ge-MOST_OBJECTS.false) in
-    created_counted (record {
+    created_counted c.args.delta (record {
       key = c.in_ok-name.name;
       value = c.in_ok-register.register;
       inserted = c.in_ok-insert.ensures.entries;
@@ -107,7 +107,7 @@ pub returns-clause-step : goal.returns-clause-step
 returns-clause-step c =
     let none = sym c.get_index_of.ensures.found ∙ sym c.is_some.ensures ∙ c.if-is_some.false in
     let found = is_layout c.deref.ensures.value c.in-Some.ensures.lookup.3.0 c.in-Some.ensures.lookup.1 c.in_ok-clone.ensures.cases in
-    created_is (record {
+    created_is c.args.delta (record {
       key = c.in_ok-name.name;
       value = c.in_ok-register.register;
       inserted = c.in_ok-insert.ensures.entries;

@@ -1,9 +1,9 @@
-use Rattle.std.proofs.Common.{length, inl, refl, ap, arith, ◌∙◌}
-use Rattle.register.proofs.Advancing.{stage_below, due_read, due_there, advance_refused, advance_past, advancing}
+use Rattle.std.proofs.Common.{length, inl, refl, sym, ap, arith, ◌∙◌}
+use Rattle.register.proofs.Advancing.{stage_below, due_read, due_there, due_refused, due_past, some_due, needs_none, beginning}
 use Rattle.register.proofs.Beginning.{begin_room, begin_cause, begin_step, begin_kept}
 use Rattle.register.proofs.Found.{is_found, again, wanting, below_those, few_those}
 use Rattle.register.proofs.Rooms.{by_cause}
-use Rattle.register.proofs.register.Register.advance.Goals as goal
+use Rattle.register.proofs.register.Register.begin_due.Goals as goal
 
 pub want_of-requires-clause-below : goal.want_of-requires-clause-below
 want_of-requires-clause-below c =
@@ -13,21 +13,25 @@ want_of-requires-clause-below c =
 pub want_of-requires-clause-count : goal.want_of-requires-clause-count
 want_of-requires-clause-count c = few_those c.self.invariant c.deref-2.ensures.value
 
-pub returns-in_default : goal.returns-in_default
-returns-in_default c =
+pub returns-then-not-wants_due-clause-cause : goal.returns-then-not-wants_due-clause-cause
+returns-then-not-wants_due-clause-cause c =
     let f = is_found c.self.invariant c.in_ok-index.ensures.place c.deref.ensures.value c.index.ensures in
     let w = wanting f c.want_of.ensures c.deref-2.ensures.value refl in
-    record {
-      step = tt;
-      cause = inl (rw (← c.self.view_is) (advance_refused w c.args.now c.in_default.not-Advance));
-      unchanged = refl;
-    }
+    inl (rw (← c.self.view_is) (due_refused c.args.anew w c.args.now (sym c.wants_due.ensures ∙ c.if-not-wants_due.true)))
 
 pub returns-then-now-gt-MOST_STEPS-clause-cause : goal.returns-then-now-gt-MOST_STEPS-clause-cause
 returns-then-now-gt-MOST_STEPS-clause-cause c =
     let f = is_found c.self.invariant c.in_ok-index.ensures.place c.deref.ensures.value c.index.ensures in
-    let w = wanting f c.want_of.ensures c.deref-2.ensures.value c.in-Advance.is in
-    inl (rw (← c.self.view_is) (advance_past w c.if-now-gt-MOST_STEPS.true))
+    let w = wanting f c.want_of.ensures c.deref-2.ensures.value refl in
+    inl (rw (← c.self.view_is)
+    (due_past c.args.anew w c.args.now (sym c.wants_due.ensures ∙ c.if-not-wants_due.false) c.if-now-gt-MOST_STEPS.true))
+
+pub unreachable-requires : goal.unreachable-requires
+unreachable-requires c =
+    let f = is_found c.self.invariant c.in_ok-index.ensures.place c.deref.ensures.value c.index.ensures in
+    let w = wanting f c.want_of.ensures c.deref-2.ensures.value refl in
+    let is = sym c.wants_due.ensures ∙ c.if-not-wants_due.false in
+    some_due c.args.anew w is (due_read f c.index-2.ensures c.stage.ensures c.in_default.ensures refl)
 
 pub due-requires : goal.due-requires
 due-requires c =
@@ -41,42 +45,55 @@ index-requires-3 c =
     let there = due_there f d in
     omega (arith, there, c.deref-2.ensures.len, ap length c.deref-2.ensures.value)
 
+pub begin-requires-clause-pieces : goal.begin-requires-clause-pieces
+begin-requires-clause-pieces c =
+    let f = is_found c.self.invariant c.in_ok-index.ensures.place c.deref.ensures.value c.index.ensures in
+    let w = wanting f c.want_of.ensures c.deref-2.ensures.value refl in
+    let is = sym c.wants_due.ensures ∙ c.if-not-wants_due.false in
+    let d = due_read f c.index-2.ensures c.stage.ensures c.due.ensures c.in-Some.is in
+    needs_none c.args.anew w is d _
+
 pub begin-requires-clause-room : goal.begin-requires-clause-room
 begin-requires-clause-room c =
     let f = is_found c.self.invariant c.in_ok-index.ensures.place c.deref.ensures.value c.index.ensures in
-    let w = wanting f c.want_of.ensures c.deref-2.ensures.value c.in-Advance.is in
+    let w = wanting f c.want_of.ensures c.deref-2.ensures.value refl in
     let d = due_read f c.index-2.ensures c.stage.ensures c.due.ensures c.in-Some.is in
-    let b = advancing w d c.index-3.ensures c.layout.ensures c.index_mut.ensures.value in
+    let is = sym c.wants_due.ensures ∙ c.if-not-wants_due.false in
+    let b = beginning c.args.anew w is d c.index-3.ensures c.layout.ensures c.index_mut.ensures.value in
     begin_room b c.args.now c.self.view_is c.requires.after
 
 pub invariant_of-self : goal.invariant_of-self
 invariant_of-self c =
     let f = is_found c.self.invariant c.in_ok-index.ensures.place c.deref.ensures.value c.index.ensures in
-    let w = wanting f c.want_of.ensures c.deref-2.ensures.value c.in-Advance.is in
+    let w = wanting f c.want_of.ensures c.deref-2.ensures.value refl in
     let d = due_read f c.index-2.ensures c.stage.ensures c.due.ensures c.in-Some.is in
-    let b = advancing w d c.index-3.ensures c.layout.ensures c.index_mut.ensures.value in
+    let is = sym c.wants_due.ensures ∙ c.if-not-wants_due.false in
+    let b = beginning c.args.anew w is d c.index-3.ensures c.layout.ensures c.index_mut.ensures.value in
     begin_kept b c.args.now c.in-Ok.ensures.mail c.in-Ok.ensures.call c.self.view_is c.requires.after c.in-Ok.ensures.cause
 
 pub returns-in-Ok-clause-step : goal.returns-in-Ok-clause-step
 returns-in-Ok-clause-step c =
     let f = is_found c.self.invariant c.in_ok-index.ensures.place c.deref.ensures.value c.index.ensures in
-    let w = wanting f c.want_of.ensures c.deref-2.ensures.value c.in-Advance.is in
+    let w = wanting f c.want_of.ensures c.deref-2.ensures.value refl in
     let d = due_read f c.index-2.ensures c.stage.ensures c.due.ensures c.in-Some.is in
-    let b = advancing w d c.index-3.ensures c.layout.ensures c.index_mut.ensures.value in
+    let is = sym c.wants_due.ensures ∙ c.if-not-wants_due.false in
+    let b = beginning c.args.anew w is d c.index-3.ensures c.layout.ensures c.index_mut.ensures.value in
     rw (← c.self.view_is) (begin_step b c.args.now c.in-Ok.ensures.mail c.in-Ok.ensures.call)
 
 pub returns-in-Ok-clause-cause : goal.returns-in-Ok-clause-cause
 returns-in-Ok-clause-cause c =
     let f = is_found c.self.invariant c.in_ok-index.ensures.place c.deref.ensures.value c.index.ensures in
-    let w = wanting f c.want_of.ensures c.deref-2.ensures.value c.in-Advance.is in
+    let w = wanting f c.want_of.ensures c.deref-2.ensures.value refl in
     let d = due_read f c.index-2.ensures c.stage.ensures c.due.ensures c.in-Some.is in
-    let b = advancing w d c.index-3.ensures c.layout.ensures c.index_mut.ensures.value in
+    let is = sym c.wants_due.ensures ∙ c.if-not-wants_due.false in
+    let b = beginning c.args.anew w is d c.index-3.ensures c.layout.ensures c.index_mut.ensures.value in
     rw (← c.self.view_is) (begin_cause b c.args.now c.if-now-gt-MOST_STEPS.false ∙ c.in-Ok.ensures.cause)
 
 pub returns-in-Err-clause-cause : goal.returns-in-Err-clause-cause
 returns-in-Err-clause-cause c =
     let f = is_found c.self.invariant c.in_ok-index.ensures.place c.deref.ensures.value c.index.ensures in
-    let w = wanting f c.want_of.ensures c.deref-2.ensures.value c.in-Advance.is in
+    let w = wanting f c.want_of.ensures c.deref-2.ensures.value refl in
     let d = due_read f c.index-2.ensures c.stage.ensures c.due.ensures c.in-Some.is in
-    let b = advancing w d c.index-3.ensures c.layout.ensures c.index_mut.ensures.value in
+    let is = sym c.wants_due.ensures ∙ c.if-not-wants_due.false in
+    let b = beginning c.args.anew w is d c.index-3.ensures c.layout.ensures c.index_mut.ensures.value in
     rw (← c.self.view_is) (by_cause (begin_cause b c.args.now c.if-now-gt-MOST_STEPS.false) c.in-Err.ensures.cause)
