@@ -57,7 +57,7 @@ may_change command none = tt
 -- the command is none of those that may change the cluster
 pub record ChangesNothing (command : Command) : Type 0 where
   pub layout : (k : ℕ) (members : Vec ℕ Global) → command ≡ of.Layout k members → ⊥
-  pub object : (name : Bor (List ℕ)) (layout : ℕ) → command ≡ of.Object name layout → ⊥
+  pub object : (name : Bor (List ℕ)) (layout : ℕ) (delta : Option ℕ) → command ≡ of.Object name layout delta → ⊥
   pub down : (server : ℕ) → command ≡ of.Down server → ⊥
   pub up : (server : ℕ) → command ≡ of.Up server → ⊥
   pub call_read : (name : Bor (List ℕ)) → command ≡ of.CallRead name → ⊥
@@ -68,6 +68,7 @@ pub record ChangesNothing (command : Command) : Type 0 where
   pub supply_as : (name : Bor (List ℕ)) (call : ℕ) (value : List ℕ) → command ≡ of.SupplyAs name call value → ⊥
   pub settle : (name : Bor (List ℕ)) (call : ℕ) → command ≡ of.Settle name call → ⊥
   pub post : (name : Bor (List ℕ)) (call : ℕ) → command ≡ of.Post name call → ⊥
+  pub again : (name : Bor (List ℕ)) (call : ℕ) → command ≡ of.Again name call → ⊥
   pub answer : (name : Bor (List ℕ)) (call : ℕ) → command ≡ of.Answer name call → ⊥
   pub serve : (name : Bor (List ℕ)) (place : ℕ) → command ≡ of.Serve name place → ⊥
   pub take : (name : Bor (List ℕ)) (place : ℕ) → command ≡ of.Take name place → ⊥
@@ -81,7 +82,7 @@ pub record ChangesNothing (command : Command) : Type 0 where
 
 pub no_other : (command : Command) → MayChange command → ChangesNothing command → ⊥
 no_other (of.Layout k members) may none = none.layout k members refl
-no_other (of.Object name layout) may none = none.object name layout refl
+no_other (of.Object name layout delta) may none = none.object name layout delta refl
 no_other (of.Down server) may none = none.down server refl
 no_other (of.Up server) may none = none.up server refl
 no_other (of.CallRead name) may none = none.call_read name refl
@@ -92,6 +93,7 @@ no_other (of.Supply name call) may none = none.supply name call refl
 no_other (of.SupplyAs name call value) may none = none.supply_as name call value refl
 no_other (of.Settle name call) may none = none.settle name call refl
 no_other (of.Post name call) may none = none.post name call refl
+no_other (of.Again name call) may none = none.again name call refl
 no_other (of.Answer name call) may none = none.answer name call refl
 no_other (of.Serve name place) may none = none.serve name place refl
 no_other (of.Take name place) may none = none.take name place refl

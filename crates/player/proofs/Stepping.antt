@@ -46,8 +46,9 @@ pub moved_to : (old new : Cluster) (name : List ℕ) (id number : ℕ) (told : O
 moved_to old new name id number told report same =
     subst (λ n. IsGrowth old (moved old name n) (object_cause old name (moving_cause old n)) told new report) same
 
-pub created_with : (old new : Cluster) (name : List ℕ) (id number : ℕ) (told : Option Report) (report : Report) → id ≡ number
-    → IsGrowth old (created old name id) (create_cause old name id) told new report
-    → IsGrowth old (created old name number) (create_cause old name number) told new report
-created_with old new name id number told report same =
-    subst (λ n. IsGrowth old (created old name n) (create_cause old name n) told new report) same
+pub created_with : (old new : Cluster) (name : List ℕ) (id number : ℕ) (delta : Option ℕ) (told : Option Report)
+    (report : Report) → id ≡ number
+    → IsGrowth old (created old name id delta) (create_cause old name id) told new report
+    → IsGrowth old (created old name number delta) (create_cause old name number) told new report
+created_with old new name id number delta told report same =
+    subst (λ n. IsGrowth old (created old name n delta) (create_cause old name n) told new report) same

@@ -1,7 +1,7 @@
 -- The commands that make one step of a call.
 use Rattle.std.specs.Prelude.{ℕ, suc, pred, List, length, Option, Some, option_map}
 use Rattle.record.specs.Steps.{Step}
-use Rattle.register.specs.Causes.{read_cause, write_cause, advance_cause, post_cause, answer_cause}
+use Rattle.register.specs.Causes.{read_cause, write_cause, advance_cause, again_cause, post_cause, answer_cause}
 use Rattle.register.specs.View.{receipt_at}
 use Rattle.cluster.specs.Cluster.{Cluster, if_named, place_of}
 use Rattle.cluster.specs.Steps.{stepped, moved}
@@ -40,6 +40,13 @@ abbrev pub Advances : Cluster → (name : List ℕ) → (call : ℕ) → Cluster
 Advances old name call new report =
     IsGrowth old (stepped old name (Step.Advance (pred call)))
     (object_cause old name (λ object. advance_cause (next old) object call))
+    (Some done) new report
+
+-- the call of this number, whose fetch lacks pieces, begins anew
+abbrev pub BeginsAnew : Cluster → (name : List ℕ) → (call : ℕ) → Cluster → Report → Type 0
+BeginsAnew old name call new report =
+    IsGrowth old (stepped old name (Step.Again (pred call)))
+    (object_cause old name (λ object. again_cause (next old) object call))
     (Some done) new report
 
 -- the current phase of the call of this number asks again

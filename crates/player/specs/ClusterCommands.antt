@@ -1,5 +1,5 @@
 -- The commands on layouts, objects and servers.
-use Rattle.std.specs.Prelude.{◌≡◌, ◌⊎◌, ℕ, ◌-◌, ◌^◌, ◌<◌, min, nat_lt, Bool, false, List, length, Some}
+use Rattle.std.specs.Prelude.{◌≡◌, ◌⊎◌, ℕ, ◌-◌, ◌^◌, ◌<◌, min, nat_lt, Bool, false, List, length, Option, Some}
 use Rattle.std.specs.List.{list_all}
 use Rattle.tag.specs.declared.limits.TheConstants.{MOST_MEMBERS}
 use Rattle.tag.specs.declared.refusal.Refusal.TheVariants.{BadLayout}
@@ -33,9 +33,10 @@ AddsLayout old k members new report =
 abbrev pub layout_number : (number : ℕ) → ℕ
 layout_number number = min number (2 ^ 32 - 1)
 
--- an object of this name is made, with the layout of this number
-abbrev pub MakesObject : Cluster → (name : List ℕ) → (layout : ℕ) → Cluster → Report → Type 0
-MakesObject old name layout new report = IsGrowth old (created old name (layout_number layout))
+-- an object of this name is made, with the layout of this number, whose banks
+-- keep `delta` finalized versions beside the newest
+abbrev pub MakesObject : Cluster → (name : List ℕ) → (layout : ℕ) → (delta : Option ℕ) → Cluster → Report → Type 0
+MakesObject old name layout delta new report = IsGrowth old (created old name (layout_number layout) delta)
     (create_cause old name (layout_number layout)) (Some done) new report
 
 -- the server of this number goes up or down

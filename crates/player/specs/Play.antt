@@ -11,7 +11,7 @@ use Rattle.player.specs.declared.player.Stop.TheVariants as stop
 use Rattle.player.specs.declared.report.Report.{Report}
 use Rattle.player.specs.Report.{report_text}
 use Rattle.player.specs.ClusterCommands.{AddsLayout, MakesObject, SetsServer}
-use Rattle.player.specs.CallCommands.{CallsRead, CallsWrite, CallsMove, Advances, Posts, Answers}
+use Rattle.player.specs.CallCommands.{CallsRead, CallsWrite, CallsMove, Advances, BeginsAnew, Posts, Answers}
 use Rattle.player.specs.CodingCommands.{Supplies, SuppliesAs, SettlesValue}
 use Rattle.player.specs.MailCommands.{Serves, Takes, Loses, Repeats}
 use Rattle.player.specs.Deliver.{DeliversAll}
@@ -38,7 +38,7 @@ Tells Is text = (report : Report) × Is report × (text ≡ line_of (report_text
 -- a command makes this cluster of that one, and tells this
 abbrev pub Changes : Cluster → Command → Cluster → Report → Type 0
 Changes old (of.Layout k members) new report = AddsLayout old k members.items new report
-Changes old (of.Object name layout) new report = MakesObject old name.now layout new report
+Changes old (of.Object name layout delta) new report = MakesObject old name.now layout delta new report
 Changes old (of.Down server) new report = SetsServer old server false new report
 Changes old (of.Up server) new report = SetsServer old server true new report
 Changes old (of.CallRead name) new report = CallsRead old name.now new report
@@ -49,6 +49,7 @@ Changes old (of.Supply name call) new report = Supplies old name.now call new re
 Changes old (of.SupplyAs name call value) new report = SuppliesAs old name.now call value new report
 Changes old (of.Settle name call) new report = SettlesValue old name.now call new report
 Changes old (of.Post name call) new report = Posts old name.now call new report
+Changes old (of.Again name call) new report = BeginsAnew old name.now call new report
 Changes old (of.Answer name call) new report = Answers old name.now call new report
 Changes old (of.Serve name place) new report = Serves old name.now place new report
 Changes old (of.Take name place) new report = Takes old name.now place new report

@@ -6,7 +6,7 @@ ghost use Rattle.record.specs.Sending.{value_or_empty};
 ghost use Rattle.register.specs.Causes.{supplying_cause};
 ghost use Rattle.cluster.specs.Causes.{next, object_cause};
 ghost use Rattle.cluster.specs.Steps.{stepped};
-ghost use Rattle.player.specs.CallCommands.{CallsRead, CallsWrite, CallsMove, Advances, Posts, Answers};
+ghost use Rattle.player.specs.CallCommands.{CallsRead, CallsWrite, CallsMove, Advances, BeginsAnew, Posts, Answers};
 ghost use Rattle.player.specs.CodingCommands.{Supplies, SuppliesAs, SettlesValue, supplying_as_cause};
 
 use crate::cluster_commands::layout_id;
@@ -124,6 +124,13 @@ pub(crate) fn post(cluster: &mut Cluster, name: &str, call: u64) -> Report
     ensures { Posts cluster.old name.entry.now call cluster.new result }
 {
     Report::of_step(cluster.post(name, call))
+}
+
+/// The beginning of a call once more, where its fetch lacks pieces.
+pub(crate) fn again(cluster: &mut Cluster, name: &str, call: u64) -> Report
+    ensures { BeginsAnew cluster.old name.entry.now call cluster.new result }
+{
+    Report::of_step(cluster.again(name, call))
 }
 
 /// The answer of a call.

@@ -57,10 +57,16 @@ fn members_of(members: &[u64], servers: u8) -> Result<ArrayVec<u8, MOST_MEMBERS>
 }
 
 /// Makes an object.
-pub(crate) fn object(alloc: Global, cluster: &mut Cluster, name: &str, layout: u64) -> Report
-    ensures { MakesObject cluster.old name.now layout cluster.new result }
+pub(crate) fn object(
+    alloc: Global,
+    cluster: &mut Cluster,
+    name: &str,
+    layout: u64,
+    delta: Option<u32>,
+) -> Report
+    ensures { MakesObject cluster.old name.now layout delta cluster.new result }
 {
-    Report::of_step(cluster.create(alloc, name, layout_id(layout)))
+    Report::of_step(cluster.create_with(alloc, name, layout_id(layout), delta))
 }
 
 /// A number that no layout can have is that of an unknown one.

@@ -82,7 +82,11 @@ fn change(alloc: Global, cluster: &mut Cluster, command: Command) -> Report
 {
     match command {
         Command::Layout { k, members } => cluster_commands::layout(cluster, k, &members),
-        Command::Object { name, layout } => cluster_commands::object(alloc, cluster, name, layout),
+        Command::Object {
+            name,
+            layout,
+            delta,
+        } => cluster_commands::object(alloc, cluster, name, layout, delta),
         Command::Down { server } => cluster_commands::server(cluster, server, false),
         Command::Up { server } => cluster_commands::server(cluster, server, true),
         Command::CallRead { name } => call_commands::call_read(cluster, name),
@@ -95,6 +99,7 @@ fn change(alloc: Global, cluster: &mut Cluster, command: Command) -> Report
         ),
         Command::Settle { name, call } => call_commands::settle(alloc, cluster, name, call),
         Command::Post { name, call } => call_commands::post(cluster, name, call),
+        Command::Again { name, call } => call_commands::again(cluster, name, call),
         Command::Answer { name, call } => call_commands::answer(cluster, name, call),
         Command::Serve { name, place } => mail_commands::serve(cluster, name, place),
         Command::Take { name, place } => mail_commands::take(cluster, name, place),

@@ -2,5 +2,6 @@ use Rattle.player.proofs.Stepping.{growth_done, created_with}
 use Rattle.player.proofs.cluster_commands.object.Goals as goal
 
 pub returns : goal.returns
-returns c = created_with _ _ _ c.layout_id.result _ _ _ c.layout_id.ensures
-    (growth_done _ _ _ _ c.create.result _ c.create.ensures.step c.create.ensures.cause c.create.ensures.unchanged c.of_step.ensures)
+returns c = created_with _ _ _ c.layout_id.result _ _ _ _ c.layout_id.ensures
+    (growth_done _ _ _ _ c.create_with.result _ c.create_with.ensures.step c.create_with.ensures.cause
+    c.create_with.ensures.unchanged c.of_step.ensures)

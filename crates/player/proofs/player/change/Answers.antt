@@ -15,6 +15,7 @@ unreachable-requires c = no_other c.args.command c.requires (record {
   supply_as = c.in_default.not-SupplyAs;
   settle = c.in_default.not-Settle;
   post = c.in_default.not-Post;
+  again = c.in_default.not-Again;
   answer = c.in_default.not-Answer;
   serve = c.in_default.not-Serve;
   take = c.in_default.not-Take;
