@@ -86,7 +86,8 @@ module _ (object : Object) (last index : ℕ) (call : Call) (sound : IsSound fra
   lawful = lawful_at object u.phase.position sound.legal.layouts truth.placed
 
   enough : HasEnough object u.phase
-  enough = fetch_has_enough object sound.legal sound.open_banks sound.shape.keeps_all index place call u.phase at within truth u.fetch u.end u.ended
+  enough = fetch_has_enough object sound.legal sound.open_banks sound.shape.keeps_all index place call u.phase at within truth u.fetch u.end
+      u.ended
 
   coded : AllByRecursion
       (λ t. IfCoded fragment object u.phase.position t.member (answer_tag (Fetch tag) t.reply.answer) (answer_piece t.reply.answer))

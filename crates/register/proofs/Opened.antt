@@ -20,7 +20,12 @@ pub opened_banks_bytes : (servers : List ℕ) (member now : ℕ) → banks_bytes
 opened_banks_bytes [] member now = refl
 opened_banks_bytes (s ∷ ss) member now =
     let rest = opened_banks_bytes ss (suc member) now in
-    omega (arith, rest, opened_bytes member None now, sum_by-cons bank_bytes (opened_bank member None now) (opened_banks ss (suc member) now))
+    omega (
+      arith,
+      rest,
+      opened_bytes member None now,
+      sum_by-cons bank_bytes (opened_bank member None now) (opened_banks ss (suc member) now),
+    )
 
 pub opened_keeps : (layout : Layout) (now : ℕ) → IsLawful layout
     → IsKept (record {

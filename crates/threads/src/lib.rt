@@ -25,4 +25,6 @@ mod seats;
 #[cfg(test)]
 mod tally;
 #[cfg(test)]
+mod turns;
+#[cfg(test)]
 mod varied;

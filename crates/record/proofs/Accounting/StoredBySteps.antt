@@ -14,7 +14,8 @@ use Rattle.record.specs.Wants.{current_phase}
 use Rattle.record.specs.Sound.{IsPosted, IsSound}
 use Rattle.record.specs.Knowledge.{IsTruePhase}
 use Rattle.mail.specs.declared.message.Body.TheVariants as body
-use Rattle.record.proofs.Accounting.Stored.{none_freed, stored-handled, stored-begun, stored-asked_again, stored-supplied, stored-taken, stored-moving}
+use Rattle.record.proofs.Accounting.Stored.{none_freed, stored-handled, stored-begun, stored-asked_again, stored-supplied}
+use Rattle.record.proofs.Accounting.Stored.{stored-taken, stored-moving}
 use Rattle.record.proofs.Lists.{all_get}
 
 -- Each step, by its name

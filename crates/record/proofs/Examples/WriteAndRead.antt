@@ -59,7 +59,8 @@ final_row point wrote final = record { label = Finalized final; arrival = Some (
 
 abbrev stored_rows : (point opened wrote final : ℕ) → finmap.FinMap tag_cmp Row
 stored_rows point opened wrote final =
-    finmap.insert (finmap.insert (opened_bank point None opened).rows first_tag (wrote_row point wrote)) first_tag (final_row point wrote final)
+    finmap.insert (finmap.insert (opened_bank point None opened).rows first_tag (wrote_row point wrote)) first_tag
+    (final_row point wrote final)
 
 -- nothing is dropped there
 abbrev plain : (point opened wrote final : ℕ) → Bank

@@ -62,7 +62,8 @@ reply_place P (reply ∷ replies) i all h =
     go (inr e) rest = let found = rest e in (suc found.0, found.1, found.2, found.3, found.4)
 
 took_of : (object : Object) (phase : Phase) (tag : Tag) (members : List ℕ) (shared : List ℕ) → phase.kind ≡ Fetch tag →
-    IsTruePhase object phase → KeepAll object phase.position → AllByRecursion (λ i. HadPiece (bank_at object phase.position i) tag phase.start) members →
+    IsTruePhase object phase → KeepAll object phase.position →
+    AllByRecursion (λ i. HadPiece (bank_at object phase.position i) tag phase.start) members →
     AllByRecursion (λ i. has members i ≡ true) shared → AllByRecursion (λ i. has (members_of phase.replies) i ≡ true) shared →
     AllByRecursion (TookPiece phase) shared
 took_of object phase tag members [] k truth keep had a b = tt
