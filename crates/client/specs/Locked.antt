@@ -1,5 +1,5 @@
 -- What a call through the lock does in some state of the cluster: others change the cluster before and after it.
-use Rattle.std.specs.Prelude.{◌≡◌, ◌⊎◌, ℕ, Bool, List, length, Option, Some, None, Result, IfOk}
+use Rattle.std.specs.Prelude.{◌≡◌, ◌⊎◌, ℕ, Bool, List, length, Option, Some, None, Result, MatchResult}
 use Rattle.tag.specs.Refusal.{IsByCause}
 use Rattle.tag.specs.declared.refusal.Refusal.{Refusal}
 use Rattle.tag.specs.declared.refusal.Refusal.TheVariants.{NoMemory}
@@ -7,7 +7,9 @@ use Rattle.layout.specs.Layout.{Layout}
 use Rattle.register.specs.declared.receipt.Receipt.{Receipt}
 use Rattle.cluster.specs.Cluster.{Cluster}
 use Rattle.cluster.specs.Causes.{layout_cause, create_cause, server_cause}
-use Rattle.sections.specs.Moves.{Moving, Ends}
+use Rattle.cluster.specs.Steps.{created, with_layout, with_server}
+use Rattle.sections.specs.Course.{IsStateOf}
+use Rattle.sections.specs.Moves.{AdminState, Ends, ordered_by}
 use Rattle.sections.specs.Sections.{Stirs, StirsNot, Disturbs, DisturbsNot, begin_move_cause, move_begun}
 
 module _ {C : Type 0} (chooses : C → ℕ → ℕ → C → Type 0) (name : List ℕ) (before : C) where
@@ -27,36 +29,56 @@ module _ {C : Type 0} (chooses : C → ℕ → ℕ → C → Type 0) (name : Lis
   abbrev pub DisturbsNotThen : (after : C) → Refusal → Type 0
   DisturbsNotThen after r = (old : Cluster) × DisturbsNot chooses name old before after r
 
--- a layout gets the next number, or is refused
-abbrev pub AddsLayout : Layout → Result ℕ Refusal → Type 0
-AddsLayout layout answer =
+-- an order is carried out in some state of the cluster, and left this one of it, which the administrator keeps; or it
+-- is refused for its cause there, or for want of memory, and the administrator is as before
+abbrev pub CarriesOut : {T : Type 0} → (first : Cluster) → (cause : Cluster → Option Refusal) → (Cluster → Cluster)
+    → AdminState → Result T Refusal → AdminState → Type 0
+CarriesOut first cause makes old answer new =
     (cluster : Cluster)
-    × (IsByCause (layout_cause cluster layout) answer × IfOk answer (λ id. id ≡ length cluster.layouts))
+    × (IsStateOf first cluster
+    × (IsByCause (cause cluster) answer
+    × MatchResult answer (λ x. new ≡ ordered_by old (makes cluster)) (λ r. new ≡ old)))
+
+-- a layout gets the next number, or is refused
+abbrev pub AddsLayout : (first : Cluster) → AdminState → Layout → Result ℕ Refusal → AdminState → Type 0
+AddsLayout first old layout answer new =
+    (cluster : Cluster)
+    × (IsStateOf first cluster
+    × (IsByCause (layout_cause cluster layout) answer
+    × MatchResult answer
+    (λ id. (id ≡ length cluster.layouts) × (new ≡ ordered_by old (with_layout cluster layout)))
+    (λ r. new ≡ old)))
 
 -- an object is created, or refused
-abbrev pub Creates : {T : Type 0} → (name : List ℕ) → (id : ℕ) → Result T Refusal → Type 0
-Creates name id answer = (cluster : Cluster) × IsByCause (create_cause cluster name id) answer
+abbrev pub Creates : {T : Type 0} → (first : Cluster) → AdminState → (name : List ℕ) → (id : ℕ) → Result T Refusal
+    → AdminState → Type 0
+Creates first old name id answer new =
+    CarriesOut first (λ c. create_cause c name id) (λ c. created c name id) old answer new
 
 -- a server goes up or down, or is refused
-abbrev pub SetsServer : {T : Type 0} → (server : ℕ) → Result T Refusal → Type 0
-SetsServer server answer = (cluster : Cluster) × IsByCause (server_cause cluster server) answer
+abbrev pub SetsServer : {T : Type 0} → (first : Cluster) → AdminState → (server : ℕ) → (up : Bool) → Result T Refusal
+    → AdminState → Type 0
+SetsServer first old server up answer new =
+    CarriesOut first (λ c. server_cause c server) (λ c. with_server c server up) old answer new
 
 -- a move to this layout began, where none was open, and is over with this receipt
-abbrev pub Moves : Option Moving → (name : List ℕ) → (layout : ℕ) → Receipt → Option Moving → Type 0
-Moves old name layout receipt new =
-    (old ≡ None)
-    × ((cluster : Cluster) × (begin_move_cause cluster old name layout ≡ None)
-    × Ends (move_begun cluster name) receipt new)
+abbrev pub Moves : (first : Cluster) → AdminState → (name : List ℕ) → (layout : ℕ) → Receipt → AdminState → Type 0
+Moves first old name layout receipt new =
+    (old.moving ≡ None)
+    × ((cluster : Cluster) × (IsStateOf first cluster × (begin_move_cause cluster old.moving name layout ≡ None)
+    × Ends (move_begun cluster old name layout) receipt new))
 
 -- a move to this layout began, where none was open, and stays open
-abbrev pub BeginsMove : Option Moving → (name : List ℕ) → (layout : ℕ) → Option Moving → Type 0
-BeginsMove old name layout new =
-    (old ≡ None)
-    × ((cluster : Cluster) × (begin_move_cause cluster old name layout ≡ None) × (new ≡ move_begun cluster name))
+abbrev pub BeginsMove : (first : Cluster) → AdminState → (name : List ℕ) → (layout : ℕ) → AdminState → Type 0
+BeginsMove first old name layout new =
+    (old.moving ≡ None)
+    × ((cluster : Cluster) × (IsStateOf first cluster × (begin_move_cause cluster old.moving name layout ≡ None)
+    × (new ≡ move_begun cluster old name layout)))
 
 -- there is a state of the cluster in which the move does not begin for this cause
-abbrev pub MovesNot : Option Moving → (name : List ℕ) → (layout : ℕ) → Refusal → Type 0
-MovesNot old name layout r =
+abbrev pub MovesNot : (first : Cluster) → AdminState → (name : List ℕ) → (layout : ℕ) → Refusal → Type 0
+MovesNot first old name layout r =
     (cluster : Cluster)
-    × ((begin_move_cause cluster old name layout ≡ Some r)
-    ⊎ ((begin_move_cause cluster old name layout ≡ None) × (r ≡ NoMemory)))
+    × (IsStateOf first cluster
+    × ((begin_move_cause cluster old.moving name layout ≡ Some r)
+    ⊎ ((begin_move_cause cluster old.moving name layout ≡ None) × (r ≡ NoMemory))))

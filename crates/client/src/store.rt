@@ -4,6 +4,7 @@ ghost use Rattle.std.specs.Prelude.{◌≡◌, ◌+◌, ◌⊎◌, ◌<◌, None
 ghost use Rattle.tag.specs.Refusal.{IsByCause};
 ghost use Rattle.sections.specs.Closing.{Fit, IsAccounted, all_records, receipts_of};
 ghost use Rattle.sections.specs.Course.{HasBecome};
+ghost use Rattle.sections.specs.Moves.{new_admin};
 ghost use Rattle.sections.specs.Seats.{new_seats};
 ghost use Rattle.client.specs.Locked.{DisturbsNotThen, DisturbsThen, StirsNotThen, StirsThen};
 ghost use Rattle.client.specs.Opening.{open_store_cause};
@@ -50,7 +51,7 @@ impl<L: StoreName> Store<L> {
         requires name { blank.name ≡ L.name }
         requires parts { (blank.parts ≡ L.parts) × (blank.parts ≡ L.seats + 1) × (seats ≡ L.seats) }
         ensures seats { IfOk result (λ opened. opened.1.items ≡ new_seats seats) }
-        ensures admin { IfOk result (λ opened. opened.2 ≡ None) }
+        ensures admin { IfOk result (λ opened. opened.2 ≡ new_admin cluster) }
         ensures workers { IfOk result (λ opened. opened.0.workers ≡ workers) }
         ensures cause { IsByCause (open_store_cause cluster seats workers) result }
     {

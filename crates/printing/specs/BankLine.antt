@@ -15,7 +15,8 @@ use Rattle.printing.specs.Words.{in_words, text_or_dash}
 abbrev pub row_text : Tag → Row → List ℕ
 row_text tag row =
     in_words
-    (tag_text tag ∷ word_of_label row.label ∷ text_or_dash (λ p. decimal (length p.bytes)) (piece_of_row (Some row)) ∷ [])
+    (tag_text tag ∷ word_of_label row.label
+    ∷ text_or_dash (λ p. decimal (length p.bytes)) (piece_of_row (Some row)) ∷ [])
 
 -- what is kept for a tag, after a semicolon and a space
 abbrev pub kept_text : Tag × Row → List ℕ

@@ -21,8 +21,12 @@ pub opened_banks_bytes : (servers : List ℕ) (member : ℕ) (delta : Option ℕ
 opened_banks_bytes [] member delta now = refl
 opened_banks_bytes (s ∷ ss) member delta now =
     let rest = opened_banks_bytes ss (suc member) delta now in
-    omega (arith, rest, opened_bytes member delta now,
-    sum_by-cons bank_bytes (opened_bank member delta now) (opened_banks ss (suc member) delta now))
+    omega (
+      arith,
+      rest,
+      opened_bytes member delta now,
+      sum_by-cons bank_bytes (opened_bank member delta now) (opened_banks ss (suc member) delta now),
+    )
 
 pub opened_keeps : (layout : Layout) (delta : Option ℕ) (now : ℕ) → IsLawful layout
     → IsKept (record {

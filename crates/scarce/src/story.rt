@@ -17,7 +17,8 @@ const TURNS: u64 = 100_000;
 
 const HELLO: &[u8] = b"hello";
 
-/// Opens a store of one seat and no workers over a cluster, writes and reads, and closes it. Answers the receipts of the close.
+/// Opens a store of one seat and no workers over a cluster, writes and reads, and closes it. Answers the receipts of
+/// the close.
 ///
 /// `NoMemory` where the store could not be opened or closed, or memory was refused twice to one call; `WrongCode` where
 /// what was read is not what was written.

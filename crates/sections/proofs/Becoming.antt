@@ -10,14 +10,14 @@ use Rattle.driver.specs.declared.round.Round.{Round}
 use Rattle.driver.specs.declared.round.Round.TheVariants as round
 use Rattle.sections.specs.Course.{IsStep, HasBecome, GoesOn}
 
-pub became_next : (first old new : Cluster) → HasBecome first old → IsStep old new → HasBecome first new
-became_next first old new h step = (suc h.0, (old, (h.1, step)))
+pub goes_on : (old new : Cluster) → IsStep old new → GoesOn old new
+goes_on old new step first h = (suc h.0, (old, (h.1, step)))
 
 pub goes_on_same : (old new : Cluster) → new ≡ old → GoesOn old new
 goes_on_same old new same first h = subst (HasBecome first) (sym same) h
 
 pub goes_on_step : (old new : Cluster) (name : List ℕ) (step : Step) → new ≡ stepped old name step → GoesOn old new
-goes_on_step old new name step made first h = became_next first old new h (inl (name, (step, made)))
+goes_on_step old new name step made = goes_on old new (inl (name, (step, made)))
 
 -- a step that was made or refused
 pub goes_on_both : {T : Type 0} (answer : Result T Refusal) (old new : Cluster) (name : List ℕ) (step : Step)

@@ -3,6 +3,7 @@ use Rattle.std.specs.Prelude.{◌≡◌, ◌⊎◌, ℕ, zero, suc, Bool, List, 
 use Rattle.layout.specs.Layout.{Layout}
 use Rattle.record.specs.Steps.{Step}
 use Rattle.cluster.specs.Cluster.{Cluster}
+use Rattle.cluster.specs.Kept.{IsKeptCluster}
 use Rattle.cluster.specs.Steps.{stepped, with_layout, with_server, created}
 
 -- one step: of an object, or of the administrator
@@ -25,3 +26,7 @@ HasBecome first now = (count : ℕ) × Leads count first now
 -- whatever the one has become of, the other has too
 abbrev pub GoesOn : (old new : Cluster) → Type 0
 GoesOn old new = (first : Cluster) → HasBecome first old → HasBecome first new
+
+-- a cluster that a store can have which was opened with the first: steps lead to it, and it is as every step keeps it
+abbrev pub IsStateOf : (first now : Cluster) → Type 0
+IsStateOf first now = HasBecome first now × ((bytes : ℕ) × ((count : ℕ) × IsKeptCluster now bytes count))

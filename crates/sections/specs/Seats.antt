@@ -13,6 +13,7 @@ use Rattle.register.specs.State.{State}
 use Rattle.register.specs.declared.receipt.Receipt.{Receipt}
 use Rattle.cluster.specs.Cluster.{Cluster, named, place_of}
 use Rattle.cluster.specs.Causes.{next, object_cause}
+use Rattle.sections.specs.Moves.{one_more}
 use Rattle.sections.specs.declared.call_record.CallRecord.{CallRecord}
 use Rattle.sections.specs.declared.call_record.Begin.{Begin}
 use Rattle.sections.specs.declared.call_record.Begin.TheVariants as begin
@@ -22,11 +23,12 @@ pub record Pending : Type 0 where
   pub name : List ℕ
   pub kept : CallRecord
 
--- a seat: its number, the greatest answer step that it has seen, its calls that were answered or abandoned, and then
--- the one that is neither
+-- a seat: its number, the greatest answer step that it has seen, how often its calls have asked again, its calls that
+-- were answered or abandoned, and then the one that is neither
 pub record SeatState : Type 0 where
   pub number : ℕ
   pub floor : ℕ
+  pub asked : ℕ
   pub records : List CallRecord
   pub pending : Option Pending
 
@@ -129,6 +131,10 @@ Settles (Some p) s receipt t =
     (receipt.call ≡ p.kept.call) × (receipt.called < receipt.answered) × (s.floor < receipt.answered)
     × (t ≡ settled s p.kept receipt)
 
+-- its call has asked again
+abbrev pub asked_once : SeatState → SeatState
+asked_once s = record s { asked = one_more s.asked }
+
 abbrev pub abandoned : SeatState → SeatState
 abandoned s = record s { records = records_of s; pending = None }
 
@@ -136,7 +142,7 @@ abbrev pub learnt : SeatState → Receipt → SeatState
 learnt s t = record s { floor = max s.floor t.answered }
 
 abbrev pub new_seat : ℕ → SeatState
-new_seat number = record { number = number; floor = 0; records = []; pending = None }
+new_seat number = record { number = number; floor = 0; asked = 0; records = []; pending = None }
 
 -- the seats of a new store
 abbrev pub new_seats : ℕ → List SeatState

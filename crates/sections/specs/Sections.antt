@@ -13,12 +13,12 @@ use Rattle.register.specs.State.{State}
 use Rattle.register.specs.View.{want_at}
 use Rattle.cluster.specs.Cluster.{Cluster, named}
 use Rattle.cluster.specs.Causes.{next, object_cause, can_handle, layout_cause, create_cause, server_cause, moving_cause}
-use Rattle.cluster.specs.Steps.{stepped, with_layout, with_server, created}
+use Rattle.cluster.specs.Steps.{stepped, with_layout, with_server, created, moved}
 use Rattle.driver.specs.Choices.{places, Picks, handling, handling_cause}
 use Rattle.driver.specs.Driver.{IsRefused}
-use Rattle.sections.specs.Moves.{Moving, Ends}
+use Rattle.sections.specs.Moves.{Moving, AdminState, Ends, asked_if, has_asked, ordered_by}
 use Rattle.driver.specs.Rounds.{IsRound}
-use Rattle.sections.specs.Seats.{SeatState, Pending, Settles, unless_stranger, call_count}
+use Rattle.sections.specs.Seats.{SeatState, Pending, Settles, asked_once, unless_stranger, call_count}
 use Rattle.sections.specs.declared.admin.Order.{Order}
 use Rattle.sections.specs.declared.admin.Order.TheVariants as order
 use Rattle.driver.specs.declared.round.Round.{Round}
@@ -101,10 +101,14 @@ module _ {C : Type 0} (chooses : C → ℕ → ℕ → C → Type 0) where
   SeatGoesNot None h again old before after r = ⊥
   SeatGoesNot (Some p) h again old before after r = GoesNot p.name p.kept.call h again old before after r
 
--- what a round leaves in the seat
-abbrev pub SeatLeaves : SeatState → Round → SeatState → Type 0
-SeatLeaves s (round.Answered receipt) t = Settles s.pending s receipt t
-SeatLeaves s _ t = t ≡ s
+-- what a round leaves in the seat that has asked again if it does
+abbrev pub SeatKeeps : SeatState → Round → SeatState → Type 0
+SeatKeeps s (round.Answered receipt) t = Settles s.pending s receipt t
+SeatKeeps s _ t = t ≡ s
+
+-- what a round leaves in the seat; one that asks again is counted
+abbrev pub SeatLeaves : (again : Bool) → SeatState → Round → SeatState → Type 0
+SeatLeaves again s r t = SeatKeeps (asked_if asked_once again s) r t
 
 -- whether a round answered its call and told a value
 abbrev pub tells : Round → Bool
@@ -209,9 +213,12 @@ abbrev pub begin_move_cause : Cluster → Option Moving → (name : List ℕ) �
 begin_move_cause cluster pending name id =
     object_cause cluster name (λ object. unless (not (is_some pending)) MovePending (moving_cause cluster id object))
 
--- the move that begins now
-abbrev pub move_begun : Cluster → (name : List ℕ) → Option Moving
-move_begun cluster name = Some (record { name = name; call = suc (call_count (named cluster.objects name)) })
+-- the administrator whose move to the layout of this number begins now
+abbrev pub move_begun : Cluster → AdminState → (name : List ℕ) → (id : ℕ) → AdminState
+move_begun cluster a name id =
+    record (ordered_by a (moved cluster name id)) {
+      moving = Some (record { name = name; call = suc (call_count (named cluster.objects name)) });
+    }
 
 abbrev pub move_cause_of : Cluster → Option Moving → (turns : ℕ) → Option Refusal
 move_cause_of cluster None turns = Some NoCall
@@ -228,7 +235,11 @@ module _ {C : Type 0} (chooses : C → ℕ → ℕ → C → Type 0) where
   MoveGoesNot None h again old before after r = ⊥
   MoveGoesNot (Some m) h again old before after r = GoesNot chooses m.name m.call h again old before after r
 
--- what a round leaves of the administrator's move
-abbrev pub MoveLeaves : Option Moving → Round → Option Moving → Type 0
-MoveLeaves m (round.Answered receipt) n = Ends m receipt n
-MoveLeaves m _ n = n ≡ m
+-- what a round leaves of the administrator
+abbrev pub RoundLeaves : AdminState → Round → AdminState → Type 0
+RoundLeaves a (round.Answered receipt) new = Ends a receipt new
+RoundLeaves a _ new = new ≡ a
+
+-- a round that asks again is counted
+abbrev pub MoveLeaves : (again : Bool) → AdminState → Round → AdminState → Type 0
+MoveLeaves again a r new = RoundLeaves (asked_if has_asked again a) r new

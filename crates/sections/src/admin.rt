@@ -1,13 +1,17 @@
 //! The one administrator of a store.
 
-ghost use Rattle.std.specs.Prelude.{◌≡◌, ◌↔◌, IsTrue, IsSome, IfErr};
+ghost use Rattle.std.specs.Prelude.{◌≡◌, ◌<◌, ◌↔◌, IsTrue, IsSome, IfErr};
 ghost use Rattle.tag.specs.declared.refusal.Refusal.TheVariants.{NoMemory};
+ghost use Rattle.sections.specs.Moves.{Ends, IsOfMove, has_asked, new_admin, ordered_by};
 
 use crate::booked::StoreName;
 use crate::seat::hold;
-use cluster::LayoutId;
+use cluster::{Cluster, LayoutId};
 use layout::Layout;
+use register::Receipt;
+use std::alloc::Global;
 use std::marker::{Model, PhantomData};
+use std::snapshot::Snapshot;
 use tag::Refusal;
 
 /// The right to add layouts, to create and move objects and to turn servers on and off.
@@ -16,6 +20,12 @@ pub struct Admin<L: StoreName> {
     // The number of the move that is not answered, and the name of its object.
     pub(crate) pending: Option<u64>,
     pub(crate) name: String,
+    // How many orders were carried out. A store has fewer steps than would bring it round.
+    pub(crate) orders: u64,
+    // How often a move has asked again.
+    pub(crate) asked: u64,
+    // The cluster as the last order left it, for clauses alone.
+    pub(crate) left: Snapshot<Cluster>,
     pub(crate) of: PhantomData<L>,
 }
 
@@ -28,21 +38,56 @@ pub enum Order<'a> {
 }
 
 impl<L: StoreName> Model for Admin<L> {
-    ghost use Rattle.std.specs.Prelude.{Option};
     ghost use Rattle.std.specs.String.{string_bytes};
-    ghost use Rattle.sections.specs.Moves.{Moving, moving_of};
+    ghost use Rattle.cluster.specs.contracts.cluster.Cluster as whole;
+    ghost use Rattle.sections.specs.Moves.{AdminState, admin_code, moving_of};
 
-    ghost Value = { Option Moving };
+    ghost Value = { AdminState };
 
-    ghost view = { λ a. moving_of (string_bytes a.name) a.pending };
+    ghost coded = { admin_code whole.the_row.coded };
+
+    ghost view = { λ a. record {
+      moving = moving_of (string_bytes a.name) a.pending;
+      orders = a.orders;
+      asked = a.asked;
+      left = a.left.value;
+    } };
 }
 
 impl<L: StoreName> Admin<L> {
+    /// Of a store that is opened with this cluster. It takes no memory.
+    pub(crate) fn new(alloc: Global, cluster: &Cluster) -> Admin<L>
+        ensures { result ≡ new_admin cluster.now }
+    {
+        Admin {
+            pending: None,
+            name: String::new(alloc),
+            orders: 0,
+            asked: 0,
+            left: Snapshot::of(cluster),
+            of: PhantomData,
+        }
+    }
+
     /// Whether it has a move without an answer, which `resume_move` goes on with.
     pub fn is_pending(&self) -> bool
-        ensures { IsTrue result ↔ IsSome self.now }
+        ensures { IsTrue result ↔ IsSome self.now.moving }
     {
         self.pending.is_some()
+    }
+
+    /// How many orders were carried out for it: layouts, objects, servers, and moves that began.
+    pub fn orders(&self) -> u64
+        ensures { result ≡ self.now.orders }
+    {
+        self.orders
+    }
+
+    /// How often its moves have asked again.
+    pub fn asked(&self) -> u64
+        ensures { result ≡ self.now.asked }
+    {
+        self.asked
     }
 
     /// Takes down the name of the object that is to be moved, where no move is pending. `NoMemory` is the only refusal.
@@ -54,5 +99,29 @@ impl<L: StoreName> Admin<L> {
             return Ok(());
         }
         hold(&mut self.name, name)
+    }
+
+    /// Counts an order, which left this cluster.
+    pub(crate) fn note_order(&mut self, cluster: &Cluster)
+        ensures { self.new ≡ ordered_by self.old cluster.now }
+    {
+        self.orders = self.orders.wrapping_add(1);
+        self.left = Snapshot::of(cluster);
+    }
+
+    /// Its move is answered with a receipt.
+    pub(crate) fn end_move(&mut self, receipt: &Receipt)
+        requires call { IsOfMove self.old.moving receipt.now }
+        requires later { receipt.now.called < receipt.now.answered }
+        ensures { Ends self.old receipt.now self.new }
+    {
+        self.pending = None;
+    }
+
+    /// Counts a round of its move that asked again.
+    pub(crate) fn note_asked(&mut self)
+        ensures { self.new ≡ has_asked self.old }
+    {
+        self.asked = self.asked.wrapping_add(1);
     }
 }

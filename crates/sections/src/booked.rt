@@ -24,8 +24,8 @@ impl StoreName for Brand {
     ghost first = { record { servers = []; layouts = []; objects = []; counter = 0 } };
 }
 
-/// A cluster with the book of its calls: the total is the number of its reads and writes. It has become what it is, step
-/// by step, of the cluster that the store was opened with.
+/// A cluster with the book of its calls: the total is the number of its reads and writes. It has become what it is,
+/// step by step, of the cluster that the store was opened with.
 #[derive(Drop)]
 pub struct Booked<L: StoreName> {
     pub(crate) cluster: Cluster,

@@ -153,6 +153,7 @@ fn share_of<L: StoreName>(seat: Seat<L>) -> Share<L>
     let Seat {
         number: _,
         floor: _,
+        asked: _,
         records: _,
         pending: _,
         name: _,

@@ -6,14 +6,14 @@ ghost use Rattle.cluster.specs.Causes.{moving_cause, object_cause};
 ghost use Rattle.cluster.specs.Cluster.{named};
 ghost use Rattle.cluster.specs.Steps.{moved};
 ghost use Rattle.sections.specs.Calls.{client_calls};
-ghost use Rattle.sections.specs.Course.{GoesOn};
+ghost use Rattle.sections.specs.Course.{GoesOn, IsStateOf};
 ghost use Rattle.sections.specs.Seats.{call_count};
 ghost use Rattle.sections.specs.Sections.{MoveGoes, MoveGoesNot, MoveLeaves, begin_move_cause, move_begun};
 ghost use Rattle.sections.specs.Sections.{move_cause_of};
 
 use crate::admin::Admin;
 use crate::booked::{Booked, StoreName};
-use crate::rounds::{Hand, past_calls, round_with, want_to_go};
+use crate::rounds::{Hand, round_with_copy};
 use cluster::{Cluster, LayoutId};
 use driver::{Chooser, Round};
 use tag::Refusal;
@@ -29,13 +29,15 @@ pub fn begin_move_in<L: StoreName>(
     name: &str,
     layout: LayoutId,
 ) -> Result<(), Refusal>
+    ensures state { IsStateOf L.first booked.old }
     ensures step { OnOk result (booked.new ≡ moved booked.old name.now layout) }
-    ensures free { OnOk result (admin.old ≡ None) }
-    ensures admin { OnOk result (admin.new ≡ move_begun booked.old name.now) }
-    ensures cause { IsByCause (begin_move_cause booked.old admin.old name.now layout) result }
+    ensures free { OnOk result (admin.old.moving ≡ None) }
+    ensures admin { OnOk result (admin.new ≡ move_begun booked.old admin.old name.now layout) }
+    ensures cause { IsByCause (begin_move_cause booked.old admin.old.moving name.now layout) result }
     ensures unchanged { OnErr result (booked.new ≡ booked.old) }
     ensures kept { OnErr result (admin.new ≡ admin.old) }
 {
+    booked.cluster.keeping();
     booked.cluster.place(name)?;
     if admin.pending.is_some() {
         return Err(Refusal::MovePending);
@@ -46,6 +48,7 @@ pub fn begin_move_in<L: StoreName>(
     }
     let call = call_move(&mut booked.cluster, name, layout)?;
     admin.pending = Some(call);
+    admin.note_order(&booked.cluster);
     Ok(())
 }
 
@@ -61,7 +64,8 @@ fn call_move(cluster: &mut Cluster, name: &str, layout: LayoutId) -> Result<u64,
     cluster.call_move(name, layout)
 }
 
-/// One round of the administrator's move, as `round_in` makes it of a seat's call. At the answer the move is over.
+/// One round of the administrator's move, as `round_in` makes it of a seat's call; one that asks again is counted. At
+/// the answer the move is over.
 pub fn move_round_in<L: StoreName, C: Chooser>(
     booked: &mut Booked<L>,
     admin: &mut Admin<L>,
@@ -71,12 +75,12 @@ pub fn move_round_in<L: StoreName, C: Chooser>(
     turns: u64,
 ) -> Result<Round, Refusal>
     ensures steps { IfOk result
-        (λ r. MoveGoes C.chooses admin.old hand asks_again booked.old chooser.old booked.new chooser.new r) }
-    ensures admin { IfOk result (λ r. MoveLeaves admin.old r admin.new) }
-    ensures cause { MatchResult result (λ r. move_cause_of booked.old admin.old turns ≡ None) (λ e.
-        ((move_cause_of booked.old admin.old turns ≡ Some e) × (chooser.new ≡ chooser.old))
-        ⊎ ((move_cause_of booked.old admin.old turns ≡ None)
-        × MoveGoesNot C.chooses admin.old hand asks_again booked.old chooser.old chooser.new e)) }
+        (λ r. MoveGoes C.chooses admin.old.moving hand asks_again booked.old chooser.old booked.new chooser.new r) }
+    ensures admin { IfOk result (λ r. MoveLeaves asks_again admin.old r admin.new) }
+    ensures cause { MatchResult result (λ r. move_cause_of booked.old admin.old.moving turns ≡ None) (λ e.
+        ((move_cause_of booked.old admin.old.moving turns ≡ Some e) × (chooser.new ≡ chooser.old))
+        ⊎ ((move_cause_of booked.old admin.old.moving turns ≡ None)
+        × MoveGoesNot C.chooses admin.old.moving hand asks_again booked.old chooser.old chooser.new e)) }
 
     ensures unchanged { OnErr result (booked.new ≡ booked.old) }
     ensures kept { OnErr result (admin.new ≡ admin.old) }
@@ -84,20 +88,20 @@ pub fn move_round_in<L: StoreName, C: Chooser>(
     let Some(call) = admin.pending else {
         return Err(Refusal::NoCall);
     };
-    let name = admin.name.as_str();
-    let want = want_to_go(&booked.cluster, name, call, turns)?;
-    past_calls(&booked.cluster, name);
-    let round = round_with(
+    let (round, _copy) = round_with_copy(
         &mut booked.cluster,
-        name,
+        admin.name.as_str(),
         call,
-        want,
         hand,
         asks_again,
+        turns,
         chooser,
     )?;
-    if let Round::Answered(_) = &round {
-        admin.pending = None;
+    if asks_again {
+        admin.note_asked();
+    }
+    if let Round::Answered(receipt) = &round {
+        admin.end_move(receipt);
     }
     Ok(round)
 }

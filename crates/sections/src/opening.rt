@@ -1,8 +1,9 @@
 //! What a new store consists of.
 
-ghost use Rattle.std.specs.Prelude.{◌≡◌, ◌+◌, None, IfOk, IfErr};
+ghost use Rattle.std.specs.Prelude.{◌≡◌, ◌+◌, IfOk, IfErr};
 ghost use Rattle.tag.specs.declared.refusal.Refusal.TheVariants.{NoMemory};
 ghost use Rattle.cluster.specs.Accounts.{calls};
+ghost use Rattle.sections.specs.Moves.{new_admin};
 ghost use Rattle.sections.specs.Seats.{new_seats};
 
 use crate::admin::Admin;
@@ -10,7 +11,6 @@ use crate::booked::{Booked, StoreName};
 use crate::seat::{Seat, empty_seat};
 use cluster::Cluster;
 use std::alloc::Global;
-use std::marker::PhantomData;
 use std::sync::ledger::Blank;
 use tag::Refusal;
 
@@ -32,7 +32,7 @@ pub fn open_in<L: StoreName>(
     requires parts { (blank.parts ≡ L.parts) × (blank.parts ≡ L.seats + 1) × (seats ≡ L.seats) }
     ensures cluster { IfOk result (λ parts. parts.0 ≡ cluster) }
     ensures seats { IfOk result (λ parts. parts.1.items ≡ new_seats seats) }
-    ensures admin { IfOk result (λ parts. parts.2 ≡ None) }
+    ensures admin { IfOk result (λ parts. parts.2 ≡ new_admin cluster) }
     ensures refused { IfErr result (λ e. e ≡ NoMemory) }
 {
     let (book, mut own) = blank.open::<L>();
@@ -41,11 +41,7 @@ pub fn open_in<L: StoreName>(
         let share = own.split_off(1, 0);
         list.push_reserved(empty_seat(alloc, number, share));
     }
+    let admin = Admin::new(alloc, &cluster);
     let booked = Booked::new(cluster, book, own, seats);
-    let admin = Admin {
-        pending: None,
-        name: String::new(alloc),
-        of: PhantomData,
-    };
     Ok((booked, list, admin))
 }

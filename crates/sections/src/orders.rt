@@ -2,36 +2,60 @@
 
 ghost use Rattle.std.specs.Prelude.{◌≡◌, IfOk, OnOk, OnErr};
 ghost use Rattle.tag.specs.Refusal.{IsByCause};
+ghost use Rattle.sections.specs.Calls.{client_calls};
+ghost use Rattle.sections.specs.Course.{GoesOn, IsStateOf};
+ghost use Rattle.sections.specs.Moves.{ordered_by};
 ghost use Rattle.sections.specs.Sections.{order_cause, ordered, ordered_id};
 
 use crate::admin::{Admin, Order};
 use crate::booked::{Booked, StoreName};
-use cluster::LayoutId;
+use cluster::{Cluster, LayoutId};
 use std::alloc::Global;
 use tag::Refusal;
 
-/// The order is carried out in one step. It answers the number of a layout that is added.
+/// The order is carried out in one step, which the administrator counts. It answers the number of a layout that is
+/// added.
 pub fn admin_in<L: StoreName>(
     alloc: Global,
     booked: &mut Booked<L>,
     admin: &mut Admin<L>,
     order: Order,
 ) -> Result<Option<LayoutId>, Refusal>
+    ensures state { IsStateOf L.first booked.old }
     ensures step { OnOk result (booked.new ≡ ordered booked.old order.entry) }
     ensures id { IfOk result (λ id. id ≡ ordered_id booked.old order.entry) }
+    ensures admin { OnOk result (admin.new ≡ ordered_by admin.old (ordered booked.old order.entry)) }
     ensures cause { IsByCause (order_cause booked.old order.entry) result }
     ensures unchanged { OnErr result (booked.new ≡ booked.old) }
-    ensures admin { admin.new ≡ admin.old }
+    ensures kept { OnErr result (admin.new ≡ admin.old) }
 {
-    let _ = &admin.pending;
+    booked.cluster.keeping();
+    let id = carry_out(alloc, &mut booked.cluster, order)?;
+    admin.note_order(&booked.cluster);
+    Ok(id)
+}
+
+// The same of the cluster alone.
+fn carry_out(
+    alloc: Global,
+    cluster: &mut Cluster,
+    order: Order,
+) -> Result<Option<LayoutId>, Refusal>
+    ensures step { OnOk result (cluster.new ≡ ordered cluster.old order.entry) }
+    ensures id { IfOk result (λ id. id ≡ ordered_id cluster.old order.entry) }
+    ensures cause { IsByCause (order_cause cluster.old order.entry) result }
+    ensures unchanged { OnErr result (cluster.new ≡ cluster.old) }
+    ensures count { client_calls cluster.new ≡ client_calls cluster.old }
+    ensures course { GoesOn cluster.old cluster.new }
+{
     match order {
-        Order::AddLayout(layout) => Ok(Some(booked.cluster.add_layout(layout)?)),
+        Order::AddLayout(layout) => Ok(Some(cluster.add_layout(layout)?)),
         Order::Create { name, layout, delta } => {
-            booked.cluster.create_with(alloc, name, layout, delta)?;
+            cluster.create_with(alloc, name, layout, delta)?;
             Ok(None)
         }
         Order::SetServer { server, up } => {
-            booked.cluster.set_server(server, up)?;
+            cluster.set_server(server, up)?;
             Ok(None)
         }
     }

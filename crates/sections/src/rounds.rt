@@ -46,7 +46,8 @@ impl Hand {
 }
 
 /// One round of the seat's pending call: one step of the call, or of one of its messages; or none and a copy of what is
-/// to be coded or decoded for the next round, or none where what is handed in came too late.
+/// to be coded or decoded for the next round, or none where what is handed in came too late. The seat counts the rounds
+/// that ask again.
 ///
 /// `Stranger` where the seat has seen a later step than there was, `NoCall` where it has no pending call, `NotNow`
 /// where that is answered, `GaveUp` where no turns are left, and else as `make_round`, `supply` and `settle` are
@@ -61,7 +62,7 @@ pub fn round_in<L: StoreName, C: Chooser>(
 ) -> Result<Round, Refusal>
     ensures steps { IfOk result
         (λ r. SeatGoes C.chooses seat.old.pending hand asks_again booked.old chooser.old booked.new chooser.new r) }
-    ensures seat { IfOk result (λ r. SeatLeaves seat.old r seat.new) }
+    ensures seat { IfOk result (λ r. SeatLeaves asks_again seat.old r seat.new) }
     ensures cause { MatchResult result (λ r. round_cause booked.old seat.old turns ≡ None) (λ e.
         ((round_cause booked.old seat.old turns ≡ Some e) × (chooser.new ≡ chooser.old))
         ⊎ ((round_cause booked.old seat.old turns ≡ None)
@@ -86,15 +87,18 @@ pub fn round_in<L: StoreName, C: Chooser>(
         turns,
         chooser,
     )?;
+    if asks_again {
+        seat.note_asked();
+    }
     if let Round::Answered(receipt) = &round {
         seat.settle(receipt, copy);
     }
     Ok(round)
 }
 
-// One round of a call, and, where that answers it, a second copy of the value that it tells, which is had before the
-// step.
-fn round_with_copy<C: Chooser>(
+/// One round of a call, and, where that answers it, a second copy of the value that it tells, which is had before the
+/// step.
+pub(crate) fn round_with_copy<C: Chooser>(
     cluster: &mut Cluster,
     name: &str,
     call: u64,
@@ -158,8 +162,8 @@ fn copy_to_keep(
     }
 }
 
-/// The calls of an object were made by the last step. It does nothing.
-pub(crate) fn past_calls(cluster: &Cluster, name: &str)
+// The calls of an object were made by the last step. It does nothing.
+fn past_calls(cluster: &Cluster, name: &str)
     ensures { (state : State) → named cluster.now.objects name.now ≡ Some state
         → AllByRecursion (λ call. call.called ≤ cluster.now.counter) state.object.calls }
 {
@@ -190,13 +194,8 @@ fn kept_value(round: &Round, copy: Option<Bytes>) -> Option<Bytes>
     }
 }
 
-/// What a call wants that may go on.
-pub(crate) fn want_to_go(
-    cluster: &Cluster,
-    name: &str,
-    call: u64,
-    turns: u64,
-) -> Result<Want, Refusal>
+// What a call wants that may go on.
+fn want_to_go(cluster: &Cluster, name: &str, call: u64, turns: u64) -> Result<Want, Refusal>
     ensures want { IfOk result (λ w. wanted cluster.now name.now call ≡ Some w) }
     ensures cause { MatchResult result (λ w. going_cause cluster.now name.now call turns ≡ None)
         (λ e. going_cause cluster.now name.now call turns ≡ Some e) }
@@ -211,8 +210,8 @@ pub(crate) fn want_to_go(
     Ok(want)
 }
 
-/// One round of a call that wants this, which answers it only where it wants to be answered and nothing is handed in.
-pub(crate) fn round_with<C: Chooser>(
+// One round of a call that wants this, which answers it only where it wants to be answered and nothing is handed in.
+fn round_with<C: Chooser>(
     cluster: &mut Cluster,
     name: &str,
     call: u64,

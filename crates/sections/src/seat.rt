@@ -3,7 +3,7 @@
 ghost use Rattle.std.specs.Prelude.{◌≡◌, ◌<◌, ◌↔◌, IsTrue, IsSome, IfErr, OnOk};
 ghost use Rattle.std.specs.String.{string_bytes};
 ghost use Rattle.tag.specs.declared.refusal.Refusal.TheVariants.{NoMemory};
-ghost use Rattle.sections.specs.Seats.{IsOf, Settles, abandoned, learnt, new_seat};
+ghost use Rattle.sections.specs.Seats.{IsOf, Settles, abandoned, asked_once, learnt, new_seat};
 
 use crate::booked::StoreName;
 use crate::call_record::CallRecord;
@@ -19,6 +19,8 @@ use tag::{Refusal, Stamp};
 pub struct Seat<L: StoreName> {
     pub(crate) number: u32,
     pub(crate) floor: Stamp,
+    // How often its calls have asked again. A store has fewer steps than would bring it round.
+    pub(crate) asked: u64,
     // The calls that are answered or abandoned. There is room for the pending one.
     pub(crate) records: Vec<CallRecord>,
     pub(crate) pending: Option<CallRecord>,
@@ -38,6 +40,7 @@ impl<L: StoreName> Model for Seat<L> {
     ghost view = { λ s. record {
       number = s.number;
       floor = s.floor;
+      asked = s.asked;
       records = s.records.items;
       pending = pending_of (string_bytes s.name) s.pending;
     } };
@@ -68,6 +71,20 @@ impl<L: StoreName> Seat<L> {
         ensures { result ≡ self.now.floor }
     {
         self.floor
+    }
+
+    /// How often its calls have asked again.
+    pub fn asked(&self) -> u64
+        ensures { result ≡ self.now.asked }
+    {
+        self.asked
+    }
+
+    /// Counts a round that asked again.
+    pub(crate) fn note_asked(&mut self)
+        ensures { self.new ≡ asked_once self.old }
+    {
+        self.asked = self.asked.wrapping_add(1);
     }
 
     /// Sees another seat's receipt: calls of this seat begin later from now on. It takes no memory.
@@ -135,6 +152,7 @@ pub(crate) fn empty_seat<L: StoreName>(alloc: Global, number: u32, share: Share<
     Seat {
         number,
         floor: 0,
+        asked: 0,
         records: Vec::new(alloc),
         pending: None,
         name: String::new(alloc),

@@ -53,7 +53,8 @@ pub fn run_load<R: Threads + Wait + Clock + CpuClock + Sync>(
         return Err(Refusal::Full);
     }
     let parts = load.clients as u64 + 1;
-    let cost = load_named::<Brand, R>(rt, alloc, Blank::new(parts), load)?;
+    let cluster = five_servers(alloc)?;
+    let cost = load_named::<Brand, R>(rt, alloc, Blank::new(parts), cluster, load)?;
     match (load.clients as u64).checked_mul(load.calls) {
         Some(all) if all == cost.calls => Ok(cost),
         _ => Err(Refusal::NotNow),
@@ -65,19 +66,15 @@ fn load_named<L: StoreName + Send + Sync, R: Threads + Wait + Clock + CpuClock +
     rt: &R,
     alloc: Global,
     blank: Blank,
+    cluster: Cluster,
     load: Load,
 ) -> Result<Cost, Refusal>
+    requires first { cluster ≡ L.first }
     requires name { blank.name ≡ L.name }
     requires parts { (blank.parts ≡ L.parts) × (blank.parts ≡ L.seats + 1) × (load.clients ≡ L.seats) }
 {
     let value = value_of(alloc, load.length)?;
-    let (store, seats, _admin) = Store::<L>::open(
-        alloc,
-        blank,
-        five_servers(alloc)?,
-        load.clients,
-        0,
-    )?;
+    let (store, seats, _admin) = Store::<L>::open(alloc, blank, cluster, load.clients, 0)?;
     let (clock, processors) = times(rt);
     let seats = call_all(rt, alloc, &store, seats, &value, load)?;
     let (clock_after, processors_after) = times(rt);

@@ -1,6 +1,6 @@
-//! What calls of a store cost: `steps CLIENTS CALLS LENGTH LATE` lets clients make calls with values of a length through
-//! one store, and handle so many messages after each call. It prints how many calls were made, and on standard error the
-//! nanoseconds that they took: by the clock, and of the processors.
+//! What calls of a store cost: `steps CLIENTS CALLS LENGTH LATE` lets clients make calls with values of a length
+//! through one store, and handle so many messages after each call. It prints how many calls were made, and on standard
+//! error the nanoseconds that they took: by the clock, and of the processors.
 #![tactic(auto)]
 
 use soak::{Load, run_load};

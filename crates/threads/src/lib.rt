@@ -33,4 +33,6 @@ mod seats;
 #[cfg(test)]
 mod tally;
 #[cfg(test)]
+mod turns;
+#[cfg(test)]
 mod varied;

@@ -4,8 +4,8 @@ ghost use Rattle.std.specs.Prelude.{◌≡◌, ◌⊎◌, None, IfErr, IfOk, OnE
 ghost use Rattle.tag.specs.declared.refusal.Refusal.{Refusal as RefusalOf};
 ghost use Rattle.tag.specs.declared.refusal.Refusal.TheVariants.{NoCall, Stranger};
 ghost use Rattle.register.specs.declared.receipt.Receipt.{Receipt as ReceiptOf};
-ghost use Rattle.sections.specs.Moves.{Ends};
-ghost use Rattle.sections.specs.Seats.{Settles};
+ghost use Rattle.sections.specs.Moves.{Ends, asked_if, has_asked};
+ghost use Rattle.sections.specs.Seats.{Settles, asked_once};
 ghost use Rattle.client.specs.Callers.{LeavesBy};
 
 use driver::{Chooser, Round};
@@ -16,6 +16,9 @@ use tag::Refusal;
 pub(crate) trait Caller<L: StoreName> {
     /// Itself before the answer, the receipt, and itself after.
     ghost ends: { Self → ReceiptOf → Self → Type 0 };
+
+    /// What a round that asks again makes of it, beside the answer.
+    ghost asks: { Self → Self };
 
     /// It has no call to carry on.
     ghost is_free: { Self → Type 0 };
@@ -32,7 +35,7 @@ pub(crate) trait Caller<L: StoreName> {
         asks_again: bool,
         turns: u64,
     ) -> Result<Round, Refusal>
-        ensures leaves { IfOk result (λ r. LeavesBy ends self.old r self.new) }
+        ensures leaves { IfOk result (λ r. LeavesBy ends (asked_if asks asks_again self.old) r self.new) }
         ensures called { OnOk result (is_free self.old → ⊥) }
         ensures kept { OnErr result (self.new ≡ self.old) }
         ensures free { IfErr result (λ e. is_free self.old → refused_free e) };
@@ -40,6 +43,8 @@ pub(crate) trait Caller<L: StoreName> {
 
 impl<L: StoreName> Caller<L> for Seat<L> {
     ghost ends = { λ before receipt after. Settles before.pending before receipt after };
+
+    ghost asks = { λ seat. asked_once seat };
 
     ghost is_free = { λ seat. seat.pending ≡ None };
 
@@ -60,7 +65,9 @@ impl<L: StoreName> Caller<L> for Seat<L> {
 impl<L: StoreName> Caller<L> for Admin<L> {
     ghost ends = { λ before receipt after. Ends before receipt after };
 
-    ghost is_free = { λ admin. admin ≡ None };
+    ghost asks = { λ admin. has_asked admin };
+
+    ghost is_free = { λ admin. admin.moving ≡ None };
 
     ghost refused_free = { λ e. e ≡ NoCall };
 

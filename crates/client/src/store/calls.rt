@@ -1,7 +1,7 @@
 //! Whole reads and writes.
 
 ghost use Rattle.std.specs.Prelude.{◌≡◌, ◌⊎◌, None, IfErr, IfOk, OnErr};
-ghost use Rattle.sections.specs.Seats.{AddsAnswered, AddsPending, BeginsNot, Settles};
+ghost use Rattle.sections.specs.Seats.{AddsAnswered, AddsPending, BeginsNot, Settles, asked_once};
 ghost use Rattle.sections.specs.declared.call_record.Begin.TheVariants as begins;
 
 use crate::store::Store;
@@ -66,8 +66,9 @@ impl<L: StoreName> Store<L> {
         chooser: &mut C,
         turns: u64,
     ) -> Result<Receipt, Refusal>
-        ensures ok { IfOk result (λ receipt. Settles seat.old.pending seat.old receipt seat.new) }
-        ensures err { OnErr result (seat.new ≡ seat.old) }
+        ensures ok { IfOk result
+            (λ receipt. Settles seat.old.pending (asked_once seat.old) receipt seat.new) }
+        ensures err { OnErr result ((seat.new ≡ seat.old) ⊎ (seat.new ≡ asked_once seat.old)) }
         ensures without_call { IfErr result
             (λ r. (seat.old.pending ≡ None) → (r ≡ Refusal.NoCall) ⊎ (r ≡ Refusal.Stranger)) }
     {

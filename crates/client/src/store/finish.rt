@@ -1,6 +1,8 @@
 //! Whole calls through the lock.
 
-ghost use Rattle.std.specs.Prelude.{◌≡◌, IfErr, IfOk, OnErr};
+ghost use Rattle.std.specs.Prelude.{IfErr, IfOk, OnErr};
+ghost use Rattle.client.specs.Callers.{StaysOpen};
+ghost use Rattle.sections.specs.Moves.{asked_if};
 
 use crate::store::Store;
 use crate::store::caller::Caller;
@@ -24,8 +26,9 @@ impl<L: StoreName> Store<L> {
         chooser: &mut C,
         turns: u64,
     ) -> Result<Receipt, Refusal>
-        ensures ok { IfOk result (λ receipt. K.ends caller.old receipt caller.new) }
-        ensures err { OnErr result (caller.new ≡ caller.old) }
+        ensures ok { IfOk result
+            (λ receipt. K.ends (asked_if K.asks resumed caller.old) receipt caller.new) }
+        ensures err { OnErr result (StaysOpen K.asks resumed caller.old caller.new) }
         ensures free { IfErr result (λ e. K.is_free caller.old → K.refused_free e) }
     {
         let mut asks_again = resumed;

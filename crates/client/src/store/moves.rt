@@ -2,7 +2,7 @@
 
 ghost use Rattle.std.specs.Prelude.{◌≡◌, ◌⊎◌, None, IfErr, IfOk, OnErr};
 ghost use Rattle.client.specs.Locked.{AddsLayout, BeginsMove, Creates, Moves, MovesNot, SetsServer};
-ghost use Rattle.sections.specs.Moves.{Ends};
+ghost use Rattle.sections.specs.Moves.{Ends, has_asked};
 
 use crate::store::Store;
 use cluster::LayoutId;
@@ -25,8 +25,7 @@ impl<L: StoreName> Store<L> {
         admin: &mut Admin<L>,
         layout: Layout,
     ) -> Result<LayoutId, Refusal>
-        ensures added { AddsLayout layout result }
-        ensures same { admin.new ≡ admin.old }
+        ensures { AddsLayout L.first admin.old layout result admin.new }
     {
         let order = Order::AddLayout(layout);
         match admin_in(self.alloc, &mut *self.booked.lock(rt), admin, order)? {
@@ -45,8 +44,7 @@ impl<L: StoreName> Store<L> {
         name: &str,
         layout: LayoutId,
     ) -> Result<(), Refusal>
-        ensures created { Creates name.now layout result }
-        ensures same { admin.new ≡ admin.old }
+        ensures { Creates L.first admin.old name.now layout result admin.new }
     {
         self.create_with(rt, admin, name, layout, None)
     }
@@ -80,8 +78,7 @@ impl<L: StoreName> Store<L> {
         server: u8,
         up: bool,
     ) -> Result<(), Refusal>
-        ensures set { SetsServer server result }
-        ensures same { admin.new ≡ admin.old }
+        ensures { SetsServer L.first admin.old server up result admin.new }
     {
         let order = Order::SetServer { server, up };
         admin_in(self.alloc, &mut *self.booked.lock(rt), admin, order)?;
@@ -102,9 +99,9 @@ impl<L: StoreName> Store<L> {
         chooser: &mut C,
         turns: u64,
     ) -> Result<Receipt, Refusal>
-        ensures ok { IfOk result (λ receipt. Moves admin.old name.now layout receipt admin.new) }
-        ensures err { IfErr result (λ r. ((admin.new ≡ admin.old) × MovesNot admin.old name.now layout r)
-            ⊎ BeginsMove admin.old name.now layout admin.new) }
+        ensures ok { IfOk result (λ receipt. Moves L.first admin.old name.now layout receipt admin.new) }
+        ensures err { IfErr result (λ r. ((admin.new ≡ admin.old) × MovesNot L.first admin.old name.now layout r)
+            ⊎ BeginsMove L.first admin.old name.now layout admin.new) }
     {
         let _ = admin.make_room(name);
         begin_move_in(&mut *self.booked.lock(rt), admin, name, layout)?;
@@ -120,9 +117,9 @@ impl<L: StoreName> Store<L> {
         chooser: &mut C,
         turns: u64,
     ) -> Result<Receipt, Refusal>
-        ensures ok { IfOk result (λ receipt. Ends admin.old receipt admin.new) }
-        ensures err { OnErr result (admin.new ≡ admin.old) }
-        ensures without_move { IfErr result (λ r. (admin.old ≡ None) → r ≡ Refusal.NoCall) }
+        ensures ok { IfOk result (λ receipt. Ends (has_asked admin.old) receipt admin.new) }
+        ensures err { OnErr result ((admin.new ≡ admin.old) ⊎ (admin.new ≡ has_asked admin.old)) }
+        ensures without_move { IfErr result (λ r. (admin.old.moving ≡ None) → r ≡ Refusal.NoCall) }
     {
         self.finish(rt, &NoGate, admin, true, chooser, turns)
     }

@@ -95,22 +95,22 @@ pub served_gives : (bank : Bank) (asked : Request) (now : ℕ) (tag : Tag) (labe
 served_gives bank request.Next now tag label e = inl e
 served_gives bank (request.Spread status) now tag label e = inl e
 served_gives bank request.Query now tag label e = inl e
-served_gives bank (request.PreWrite asked piece) now tag label e =
-    go (pre_written_gives bank asked piece now tag label (sym (label-collected (pre_written bank asked piece now) tag) ∙ e))
+served_gives bank (request.PreWrite asked piece) now tag label e = go
+    (pre_written_gives bank asked piece now tag label (sym (label-collected (pre_written bank asked piece now) tag) ∙ e))
   where
     go : (label_at bank tag ≡ Some label) ⊎ ((asked ≡ tag) × (label ≡ PreWritten now)) →
         (label_at bank tag ≡ Some label) ⊎ Gives (PreWrite asked) tag label now
     go (inl old) = inl old
     go (inr new) = inr (inl (ap PreWrite new.0, new.1))
-served_gives bank (request.Finalize asked) now tag label e =
-    go (finalized_gives bank asked now tag label (sym (label-collected (finalized bank asked now) tag) ∙ e))
+served_gives bank (request.Finalize asked) now tag label e = go
+    (finalized_gives bank asked now tag label (sym (label-collected (finalized bank asked now) tag) ∙ e))
   where
     go : (label_at bank tag ≡ Some label) ⊎ ((asked ≡ tag) × (label ≡ Finalized now)) →
         (label_at bank tag ≡ Some label) ⊎ Gives (Finalize asked) tag label now
     go (inl old) = inl old
     go (inr new) = inr (inr (inl (ap Finalize new.0), new.1))
-served_gives bank (request.Fetch asked) now tag label e =
-    go (finalized_gives bank asked now tag label (sym (label-collected (finalized bank asked now) tag) ∙ e))
+served_gives bank (request.Fetch asked) now tag label e = go
+    (finalized_gives bank asked now tag label (sym (label-collected (finalized bank asked now) tag) ∙ e))
   where
     go : (label_at bank tag ≡ Some label) ⊎ ((asked ≡ tag) × (label ≡ Finalized now)) →
         (label_at bank tag ≡ Some label) ⊎ Gives (Fetch asked) tag label now

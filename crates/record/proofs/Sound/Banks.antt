@@ -8,7 +8,8 @@ use Rattle.encoder.specs.declared.fragment.Piece.{Piece}
 use Rattle.bank.specs.declared.row.Arrival.{Arrival}
 use Rattle.bank.specs.declared.row.Row.{Row}
 use Rattle.bank.specs.declared.request.Request.{Request}
-use Rattle.bank.specs.Bank.{Bank, filled_arrival, row_after_pre_write, row_after_finalize, pre_written, finalized, piece_of, piece_that_came}
+use Rattle.bank.specs.Bank.{Bank, filled_arrival, row_after_pre_write, row_after_finalize, pre_written, finalized, piece_of}
+use Rattle.bank.specs.Bank.{piece_that_came}
 use Rattle.bank.specs.Bank.{piece_of_row, knows}
 use Rattle.bank.specs.Collect.{emptied_arrival, emptied_row, collected, IsCollected, is_outside, fetched_piece}
 use Rattle.bank.specs.Knowledge.{since, row_finalized, finalized_at, arrived_at, is_dropped, IsTrueAnswer}

@@ -1,5 +1,11 @@
 use Rattle.std.proofs.Common.{◌≡◌}
+use Rattle.sections.specs.Moves.{asked_if}
+use Rattle.client.specs.Callers.{StaysOpen}
 use Rattle.client.proofs.store.Store.finish.Given as goal
 
 abbrev pub invariant-loop : goal.invariant-loop
-invariant-loop g l = l.caller ≡ l.initial.caller
+invariant-loop g l = record {
+  asked : asked_if g.K.Caller.asks l.asks_again l.caller ≡ asked_if g.K.Caller.asks l.resumed l.initial.caller;
+  stays : StaysOpen g.K.Caller.asks l.resumed l.initial.caller l.caller;
+  free : g.K.Caller.is_free l.initial.caller → g.K.Caller.is_free l.caller;
+}

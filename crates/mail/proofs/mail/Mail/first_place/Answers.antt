@@ -6,7 +6,8 @@ use Rattle.mail.proofs.mail.Mail.first_place.Goals as goal
 
 pub first_at_least-requires : goal.first_at_least-requires
 first_at_least-requires c =
-    subst AreRising (sym c.deref.ensures.value) (bounds_rise 0 c.self.inside.messages.items c.self.inside.bounds.items c.self.invariant.bounded)
+    subst AreRising (sym c.deref.ensures.value)
+    (bounds_rise 0 c.self.inside.messages.items c.self.inside.bounds.items c.self.invariant.bounded)
 
 pub returns : goal.returns
 returns c =
