@@ -50,10 +50,10 @@ AddsLayout first old layout answer new =
     (λ r. new ≡ old)))
 
 -- an object is created, or refused
-abbrev pub Creates : {T : Type 0} → (first : Cluster) → AdminState → (name : List ℕ) → (id : ℕ) → Result T Refusal
-    → AdminState → Type 0
-Creates first old name id answer new =
-    CarriesOut first (λ c. create_cause c name id) (λ c. created c name id) old answer new
+abbrev pub Creates : {T : Type 0} → (first : Cluster) → AdminState → (name : List ℕ) → (id : ℕ) → (delta : Option ℕ)
+    → Result T Refusal → AdminState → Type 0
+Creates first old name id delta answer new =
+    CarriesOut first (λ c. create_cause c name id) (λ c. created c name id delta) old answer new
 
 -- a server goes up or down, or is refused
 abbrev pub SetsServer : {T : Type 0} → (first : Cluster) → AdminState → (server : ℕ) → (up : Bool) → Result T Refusal

@@ -4,7 +4,6 @@ use Rattle.std.specs.List.{AllByRecursion}
 use Rattle.std.specs.Map.{values_of}
 use Rattle.encoder.specs.Fragment.{fragment}
 use Rattle.record.specs.Atomic.{IsAtomic}
-use Rattle.record.specs.Fragments.{AreCoded}
 use Rattle.record.specs.Journals.{entries}
 use Rattle.record.specs.Sound.{IsSound}
 use Rattle.register.specs.Kept.{IsWithinLimits}
@@ -17,9 +16,9 @@ pub record IsObjectSound (state : State) : Type 0 where
   pub sound : IsSound fragment state.object state.last
   pub limits : IsWithinLimits state.object
 
--- the object's pieces are fragments, and its history is atomic
+-- the object is sound, and its history is atomic
 pub record IsObjectAtomic (state : State) : Type 0 where
-  pub coded : AreCoded fragment state.object
+  pub sound : IsSound fragment state.object state.last
   pub atomic : IsAtomic (entries state.object)
 
 -- what holds of each value holds of each object

@@ -1,12 +1,18 @@
 -- What holds of every cluster, whatever steps made it.
-use Rattle.std.specs.List.{AllByRecursion}
+use Rattle.std.specs.Prelude.{◌≡◌, ℕ, List, Some, length, map, slice_get}
+use Rattle.std.specs.List.{AllByRecursion, range_with_len}
+use Rattle.tag.specs.declared.tag.Tag.{Tag}
 use Rattle.encoder.specs.Fragment.{fragment}
+use Rattle.phase.specs.Phase.{Phase}
 use Rattle.record.specs.Atomic.{IsAtomic}
-use Rattle.record.specs.Fragments.{AreCoded}
-use Rattle.record.specs.Journals.{entries}
+use Rattle.record.specs.Fragments.{AreCoded, HasEnough, IsFetch}
+use Rattle.record.specs.Journals.{entries, IsJournaled, ReadsJournaled}
+use Rattle.record.specs.Records.{Call, Object}
 use Rattle.record.specs.Sound.{IsSound}
 use Rattle.register.specs.Kept.{IsWithinLimits}
+use Rattle.cluster.specs.Accounts as of
 use Rattle.cluster.specs.Cluster.{Cluster}
+use Rattle.cluster.specs.declared.cluster.accounts.Accounts.{Accounts}
 
 -- the record of each object is sound: it is legal, its messages are true, and its steps are past
 abbrev pub AreSound : Cluster → Type 0
@@ -25,3 +31,32 @@ AreFragments cluster = AllByRecursion (λ o. AreCoded fragment o.state.object) c
 -- writes, follow one register in an order that keeps answer before call
 abbrev pub AreAtomic : Cluster → Type 0
 AreAtomic cluster = AllByRecursion (λ o. IsAtomic (entries o.state.object)) cluster.objects
+
+-- each complete fetch has pieces of at least k distinct members
+abbrev pub FetchesHaveEnough : Object → Type 0
+FetchesHaveEnough object =
+    (index place end : ℕ) (call : Call) (phase : Phase) → slice_get object.calls index ≡ Some call →
+    slice_get call.phases place ≡ Some phase → IsFetch phase.kind → phase.end ≡ Some end → HasEnough object phase
+
+-- the journal has one value for a tag
+abbrev pub HasOneValue : Object → Type 0
+HasOneValue object = (tag : Tag) (v w : List ℕ) → IsJournaled object tag v → IsJournaled object tag w → v ≡ w
+
+-- so it is of each object
+abbrev pub HaveEnough : Cluster → Type 0
+HaveEnough cluster = AllByRecursion (λ o. FetchesHaveEnough o.state.object) cluster.objects
+
+-- each answered read of each object returns the journal's value of its tag
+abbrev pub AreJournaled : Cluster → Type 0
+AreJournaled cluster = AllByRecursion (λ o. ReadsJournaled o.state.object) cluster.objects
+
+-- the journal of each object has one value for a tag
+abbrev pub HaveOneValue : Cluster → Type 0
+HaveOneValue cluster = AllByRecursion (λ o. HasOneValue o.state.object) cluster.objects
+
+-- what is told of each server, of all and of the mail are the sums of the pieces' bytes
+pub record AreSums (cluster : Cluster) (told : Accounts) : Type 0 where
+  pub servers : told.servers.items ≡ map (of.stored cluster) (range_with_len 0 (length cluster.servers))
+  pub all : told.stored ≡ of.banks_all cluster.objects
+  pub together : told.stored ≡ of.stored_all cluster
+  pub mail : told.mailed ≡ of.mailed cluster

@@ -11,6 +11,8 @@ use std::alloc::Global;
 use std::marker::Model;
 use tag::{Refusal, Stamp};
 
+pub use accounts::Accounts;
+
 mod accounts;
 mod acts;
 mod calls;

@@ -2,7 +2,7 @@
 //! Each step is a step of one object or of the cluster itself, and raises one counter by one.
 #![tactic(auto)]
 
-pub use cluster::{Cluster, LayoutId};
+pub use cluster::{Accounts, Cluster, LayoutId};
 
 mod cluster;
 mod loads;

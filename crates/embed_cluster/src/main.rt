@@ -38,7 +38,7 @@ fn main(rt: HostRuntime) -> ExitCode {
 fn write_and_read(alloc: Global) -> Result<Bytes, Refusal> {
     let mut cluster = Cluster::new(alloc, 4);
     let layout = cluster.add_layout(Layout::new(2, &[0, 1, 2, 3])?)?;
-    cluster.create(alloc, NAME, layout)?;
+    cluster.create(NAME, layout)?;
     let write = cluster.call_write(NAME, Bytes::from_static(b"hello"))?;
     bring_to_answer(alloc, &mut cluster, write)?;
     let read = cluster.call_read(NAME)?;

@@ -88,6 +88,6 @@ fn write_move_and_read<L: StoreName, R: Threads + Wait + Sync>(
 fn four_servers(alloc: Global) -> Result<Cluster, Refusal> {
     let mut cluster = Cluster::new(alloc, 4);
     let layout = cluster.add_layout(Layout::new(2, &[0, 1, 2, 3])?)?;
-    cluster.create(alloc, NAME, layout)?;
+    cluster.create(NAME, layout)?;
     Ok(cluster)
 }

@@ -9,7 +9,6 @@ use crate::report::Report;
 use arrayvec::ArrayVec;
 use cluster::{Cluster, LayoutId};
 use layout::Layout;
-use std::alloc::Global;
 use tag::{MOST_MEMBERS, Refusal};
 
 /// Adds a layout.
@@ -58,7 +57,6 @@ fn members_of(members: &[u64], servers: u8) -> Result<ArrayVec<u8, MOST_MEMBERS>
 
 /// Makes an object.
 pub(crate) fn object(
-    alloc: Global,
     cluster: &mut Cluster,
     name: &str,
     layout: u64,
@@ -66,7 +64,7 @@ pub(crate) fn object(
 ) -> Report
     ensures { MakesObject cluster.old name.now layout delta cluster.new result }
 {
-    Report::of_step(cluster.create_with(alloc, name, layout_id(layout), delta))
+    Report::of_step(cluster.create_with(name, layout_id(layout), delta))
 }
 
 /// A number that no layout can have is that of an unknown one.

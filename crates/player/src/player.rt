@@ -86,7 +86,7 @@ fn change(alloc: Global, cluster: &mut Cluster, command: Command) -> Report
             name,
             layout,
             delta,
-        } => cluster_commands::object(alloc, cluster, name, layout, delta),
+        } => cluster_commands::object(cluster, name, layout, delta),
         Command::Down { server } => cluster_commands::server(cluster, server, false),
         Command::Up { server } => cluster_commands::server(cluster, server, true),
         Command::CallRead { name } => call_commands::call_read(cluster, name),

@@ -10,13 +10,11 @@ ghost use Rattle.sections.specs.Sections.{order_cause, ordered, ordered_id};
 use crate::admin::{Admin, Order};
 use crate::booked::{Booked, StoreName};
 use cluster::{Cluster, LayoutId};
-use std::alloc::Global;
 use tag::Refusal;
 
 /// The order is carried out in one step, which the administrator counts. It answers the number of a layout that is
 /// added.
 pub fn admin_in<L: StoreName>(
-    alloc: Global,
     booked: &mut Booked<L>,
     admin: &mut Admin<L>,
     order: Order,
@@ -30,17 +28,13 @@ pub fn admin_in<L: StoreName>(
     ensures kept { OnErr result (admin.new ≡ admin.old) }
 {
     booked.cluster.keeping();
-    let id = carry_out(alloc, &mut booked.cluster, order)?;
+    let id = carry_out(&mut booked.cluster, order)?;
     admin.note_order(&booked.cluster);
     Ok(id)
 }
 
 // The same of the cluster alone.
-fn carry_out(
-    alloc: Global,
-    cluster: &mut Cluster,
-    order: Order,
-) -> Result<Option<LayoutId>, Refusal>
+fn carry_out(cluster: &mut Cluster, order: Order) -> Result<Option<LayoutId>, Refusal>
     ensures step { OnOk result (cluster.new ≡ ordered cluster.old order.entry) }
     ensures id { IfOk result (λ id. id ≡ ordered_id cluster.old order.entry) }
     ensures cause { IsByCause (order_cause cluster.old order.entry) result }
@@ -51,7 +45,7 @@ fn carry_out(
     match order {
         Order::AddLayout(layout) => Ok(Some(cluster.add_layout(layout)?)),
         Order::Create { name, layout, delta } => {
-            cluster.create_with(alloc, name, layout, delta)?;
+            cluster.create_with(name, layout, delta)?;
             Ok(None)
         }
         Order::SetServer { server, up } => {

@@ -116,7 +116,7 @@ fn value_of(alloc: Global, length: usize) -> Result<Bytes, Refusal> {
 fn five_servers(alloc: Global) -> Result<Cluster, Refusal> {
     let mut cluster = Cluster::new(alloc, 5);
     let layout = cluster.add_layout(Layout::new(3, &[0, 1, 2, 3, 4])?)?;
-    cluster.create(alloc, NAME, layout)?;
+    cluster.create(NAME, layout)?;
     Ok(cluster)
 }
 

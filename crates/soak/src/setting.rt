@@ -18,8 +18,8 @@ pub fn make_setting(alloc: Global) -> Result<Cluster, Refusal>
 {
     let mut cluster = Cluster::new(alloc, SERVERS);
     add_layouts(&mut cluster)?;
-    cluster.create(alloc, "a", 0)?;
-    cluster.create(alloc, "b", 0)?;
+    cluster.create("a", 0)?;
+    cluster.create("b", 0)?;
     Ok(cluster)
 }
 

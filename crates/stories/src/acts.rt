@@ -23,7 +23,7 @@ pub(crate) fn one_object(
     let layout = Layout::new(k, members)?;
     let mut cluster = Cluster::new(alloc, servers);
     let id = cluster.add_layout(layout)?;
-    cluster.create(alloc, "a", id)?;
+    cluster.create("a", id)?;
     Ok(cluster)
 }
 
@@ -35,7 +35,7 @@ pub(crate) fn two_objects(
     members: &[u8],
 ) -> Result<Cluster, Refusal> {
     let mut cluster = one_object(alloc, servers, k, members)?;
-    cluster.create(alloc, "b", 0)?;
+    cluster.create("b", 0)?;
     Ok(cluster)
 }
 
@@ -102,7 +102,7 @@ pub(crate) fn create_objects(
 ) -> Result<(), Fail> {
     for number in 0..count {
         let name = format!(in alloc; "{number}")?;
-        cluster.create(alloc, &name, 0)?;
+        cluster.create(&name, 0)?;
     }
     Ok(())
 }

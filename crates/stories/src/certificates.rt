@@ -223,7 +223,7 @@ fn orders_by_tags(rt: HostRuntime) -> Result<(), Fail> {
 #[test]
 fn leaves_out_an_open_read(rt: HostRuntime) -> Result<(), Fail> {
     let alloc = rt.alloc();
-    let mut object = Register::new(alloc, Layout::new(1, &[0])?, 1)?;
+    let mut object = Register::new(alloc, Layout::new(1, &[0])?, None, 1)?;
     object.call_read(2)?;
     atomic(&object);
     let order = sequence(alloc, &object)?;

@@ -46,7 +46,7 @@ fn read_named(alloc: Global, cluster: &mut Cluster, len: usize) -> Result<u64, R
     for _ in 0..len {
         name.push_str("c")?;
     }
-    cluster.create(alloc, &name, 0)?;
+    cluster.create(&name, 0)?;
     cluster.call_read(&name)
 }
 
@@ -67,7 +67,7 @@ fn read_at(rt: &impl Abort, object: &mut Register, now: Stamp) -> Result<u64, Re
 
 #[test]
 fn a_step_at_2_to_the_62(rt: HostRuntime) -> Result<(), Fail> {
-    let mut object = Register::new(rt.alloc(), Layout::new(1, &[0])?, 1)?;
+    let mut object = Register::new(rt.alloc(), Layout::new(1, &[0])?, None, 1)?;
     let past = read_at(&rt, &mut object, (1 << 62) + 1);
     assert!(rt; past == Err(Refusal::Full) && object.last() == 1);
     assert!(rt; read_at(&rt, &mut object, 1 << 62) == Ok(1));

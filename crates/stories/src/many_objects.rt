@@ -95,11 +95,11 @@ fn refuses_objects_in_order(rt: HostRuntime) -> Result<(), Fail> {
     let alloc = rt.alloc();
     let mut cluster = two_objects(alloc, 4, 2, &[0, 1, 2, 3])?;
     let long = String::from_utf8(vec![in alloc; b'c'; LONGEST_NAME + 1]?)?;
-    let taken = cluster.create(alloc, "a", 1);
+    let taken = cluster.create("a", 1);
     assert!(rt; taken == Err(Refusal::ObjectExists));
-    let no_layout = cluster.create(alloc, &long, 1);
+    let no_layout = cluster.create(&long, 1);
     assert!(rt; no_layout == Err(Refusal::BadLayout));
-    let too_long = cluster.create(alloc, &long, 0);
+    let too_long = cluster.create(&long, 0);
     assert!(rt; too_long == Err(Refusal::TooLong));
     assert!(rt; cluster.lose("c", 9) == Err(Refusal::NoObject));
     Ok(())
@@ -144,7 +144,7 @@ fn is_full_of_objects(rt: HostRuntime) -> Result<(), Fail> {
     let alloc = rt.alloc();
     let mut cluster = two_objects(alloc, 1, 1, &[0])?;
     create_objects(alloc, &mut cluster, MOST_OBJECTS - 2)?;
-    assert!(rt; cluster.create(alloc, "c", 0) == Err(Refusal::Full));
+    assert!(rt; cluster.create("c", 0) == Err(Refusal::Full));
     Ok(())
 }
 

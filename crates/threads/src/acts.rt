@@ -27,7 +27,7 @@ pub(crate) type Answer = Result<Receipt, Refusal>;
 pub(crate) fn four_servers(alloc: Global) -> Result<Cluster, Refusal> {
     let mut cluster = Cluster::new(alloc, 4);
     let layout = cluster.add_layout(Layout::new(2, &[0, 1, 2, 3])?)?;
-    cluster.create(alloc, "a", layout)?;
+    cluster.create("a", layout)?;
     Ok(cluster)
 }
 

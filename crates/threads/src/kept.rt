@@ -15,7 +15,7 @@ const FRAGMENT: u64 = 1;
 pub(crate) fn collecting_servers(alloc: Global, delta: u32) -> Result<Cluster, Refusal> {
     let mut cluster = Cluster::new(alloc, 4);
     let layout = cluster.add_layout(Layout::new(2, &[0, 1, 2, 3])?)?;
-    cluster.create_with(alloc, "a", layout, Some(delta))?;
+    cluster.create_with("a", layout, Some(delta))?;
     Ok(cluster)
 }
 

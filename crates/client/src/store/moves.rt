@@ -28,7 +28,7 @@ impl<L: StoreName> Store<L> {
         ensures { AddsLayout L.first admin.old layout result admin.new }
     {
         let order = Order::AddLayout(layout);
-        match admin_in(self.alloc, &mut *self.booked.lock(rt), admin, order)? {
+        match admin_in(&mut *self.booked.lock(rt), admin, order)? {
             Some(id) => Ok(id),
             None => unreachable!(),
         }
@@ -44,7 +44,7 @@ impl<L: StoreName> Store<L> {
         name: &str,
         layout: LayoutId,
     ) -> Result<(), Refusal>
-        ensures { Creates L.first admin.old name.now layout result admin.new }
+        ensures { Creates L.first admin.old name.now layout None result admin.new }
     {
         self.create_with(rt, admin, name, layout, None)
     }
@@ -62,11 +62,10 @@ impl<L: StoreName> Store<L> {
         layout: LayoutId,
         delta: Option<u32>,
     ) -> Result<(), Refusal>
-        ensures created { Creates name.now layout result }
-        ensures same { admin.new ≡ admin.old }
+        ensures { Creates L.first admin.old name.now layout delta result admin.new }
     {
         let order = Order::Create { name, layout, delta };
-        admin_in(self.alloc, &mut *self.booked.lock(rt), admin, order)?;
+        admin_in(&mut *self.booked.lock(rt), admin, order)?;
         Ok(())
     }
 
@@ -81,7 +80,7 @@ impl<L: StoreName> Store<L> {
         ensures { SetsServer L.first admin.old server up result admin.new }
     {
         let order = Order::SetServer { server, up };
-        admin_in(self.alloc, &mut *self.booked.lock(rt), admin, order)?;
+        admin_in(&mut *self.booked.lock(rt), admin, order)?;
         Ok(())
     }
 

@@ -6,12 +6,25 @@ ghost use Rattle.tag.specs.declared.limits.TheConstants.{MOST_BYTES};
 ghost use Rattle.record.specs.Journals.{entries};
 ghost use Rattle.cluster.specs.Cluster.{if_named, named};
 ghost use Rattle.cluster.specs.Accounts.{stored, stored_all, mailed, calls};
+ghost use Rattle.cluster.specs.Atomic.{AreSums};
 ghost use Rattle.cluster.specs.Causes.{object_cause};
 
 use crate::cluster::Cluster;
+use arrayvec::ArrayVec;
 use record::Entry;
 use register::Register;
-use tag::Refusal;
+use tag::{MOST_SERVERS, Refusal};
+
+/// What a cluster answers of the bytes of its pieces.
+#[derive(Debug, PartialEq, Eq, Drop)]
+pub struct Accounts {
+    /// What `stored` answers of each server, from server 0 on.
+    pub servers: ArrayVec<u64, MOST_SERVERS>,
+    /// What `stored_all` answers.
+    pub stored: u64,
+    /// What `mailed` answers.
+    pub mailed: u64,
+}
 
 impl Cluster {
     /// How many bytes of pieces a server stores, of all objects.
@@ -36,6 +49,22 @@ impl Cluster {
         ensures within { result ≤ MOST_BYTES }
     {
         self.mailed
+    }
+
+    // What the accounts answer, one after another.
+    pub(crate) fn accounts(&self) -> Accounts
+        ensures { AreSums self.now result }
+    {
+        self.keeping();
+        let mut servers = ArrayVec::new();
+        for server in 0..self.servers() {
+            servers.push(self.stored(server));
+        }
+        Accounts {
+            servers,
+            stored: self.stored_all(),
+            mailed: self.mailed(),
+        }
     }
 
     /// How many calls all objects have.

@@ -1,28 +1,42 @@
 //! What holds of every cluster, whatever steps made it.
 
-ghost use Rattle.std.specs.Prelude.{◌≡◌};
-ghost use Rattle.cluster.specs.Accounts.{banks_all, calls, stored_all};
-ghost use Rattle.cluster.specs.Atomic.{AreAtomic, AreFragments, AreSound, AreWithinLimits};
+ghost use Rattle.cluster.specs.Accounts.{banks_all, calls};
+ghost use Rattle.cluster.specs.Atomic.{AreAtomic, AreFragments, AreJournaled, AreSound, AreSums, AreWithinLimits};
+ghost use Rattle.cluster.specs.Atomic.{HaveEnough, HaveOneValue};
 ghost use Rattle.cluster.specs.Kept.{IsKeptCluster};
 
-use crate::cluster::Cluster;
+use crate::cluster::{Accounts, Cluster};
 use history::atomic;
+use record::{
+    complete_fetches_have_enough, fragments_are_a_code, journaled_values_are_unique,
+    reads_return_journaled_values,
+};
 
 impl Cluster {
     /// Each object is atomic: its answered reads and writes, with some unanswered writes, follow one register in an
     /// order that keeps answer before call. Each piece in a bank or a message is its member's fragment of the value
-    /// that the object's journal has for its tag, and what the servers store, one by one, is what all banks store.
+    /// that the object's journal has for its tag, which is one; a complete fetch has enough of them, and an answered
+    /// read returns that value. What the accounts answer, which it tells, are the exact sums.
     ///
-    /// It does nothing, and takes no memory.
-    pub fn atomic(&self)
+    /// It changes nothing, and takes no memory.
+    pub fn atomic(&self) -> Accounts
         ensures atomic { AreAtomic self.now }
         ensures fragments { AreFragments self.now }
-        ensures accounts { stored_all self.now ≡ banks_all self.now.objects }
+        ensures enough { HaveEnough self.now }
+        ensures reads { AreJournaled self.now }
+        ensures journal { HaveOneValue self.now }
+        ensures accounts { AreSums self.now result }
     {
+        let told = self.accounts();
+        fragments_are_a_code();
+        complete_fetches_have_enough();
+        reads_return_journaled_values();
+        journaled_values_are_unique();
         for register in self.objects.values() {
             register.soundness();
             atomic(register);
         }
+        told
     }
 
     /// What every step keeps: the record of each object is sound and within the limits, and no step of it is later than

@@ -9,7 +9,6 @@ ghost use Rattle.cluster.specs.Causes.{layout_cause, create_cause, server_cause}
 use crate::cluster::{Cluster, LayoutId};
 use layout::Layout;
 use register::Register;
-use std::alloc::Global;
 use tag::{LONGEST_NAME, MOST_LAYOUTS, MOST_OBJECTS, MOST_STEPS, Refusal};
 
 impl Cluster {
@@ -37,12 +36,12 @@ impl Cluster {
     /// One more object, with one position of this layout and no calls, whose banks keep every piece.
     ///
     /// It is refused as `create_with` is.
-    pub fn create(&mut self, alloc: Global, name: &str, id: LayoutId) -> Result<(), Refusal>
+    pub fn create(&mut self, name: &str, id: LayoutId) -> Result<(), Refusal>
         ensures step { OnOk result (self.new ≡ created self.old name.now id None) }
         ensures cause { IsByCause (create_cause self.old name.now id) result }
         ensures unchanged { OnErr result (self.new ≡ self.old) }
     {
-        self.create_with(alloc, name, id, None)
+        self.create_with(name, id, None)
     }
 
     /// One more object, with one position of this layout and no calls. The banks of all its positions keep the pieces of
@@ -52,7 +51,6 @@ impl Cluster {
     /// name is longer than `LONGEST_NAME` bytes, and `Full` where the limit of steps or of objects is met.
     pub fn create_with(
         &mut self,
-        alloc: Global,
         name: &str,
         id: LayoutId,
         delta: Option<u32>,
@@ -74,6 +72,7 @@ impl Cluster {
             return Err(Refusal::Full);
         }
         let now = self.counter + 1;
+        let alloc = *self.layouts.allocator();
         let register = Register::new(alloc, layout.clone()?, delta, now)?;
         let name = String::from_str(alloc, name)?;
         self.objects.insert(name, register)?;

@@ -36,7 +36,7 @@ pub(crate) enum Act {
 
 // An object whose servers 0 to 3 hold a piece each, any two of which give the value.
 pub(crate) fn object(alloc: Global) -> Result<Register, Fail> {
-    Ok(Register::new(alloc, Layout::new(2, &[0, 1, 2, 3])?, 1)?)
+    Ok(Register::new(alloc, Layout::new(2, &[0, 1, 2, 3])?, None, 1)?)
 }
 
 // The number of the next step.

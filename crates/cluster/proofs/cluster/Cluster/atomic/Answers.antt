@@ -1,16 +1,13 @@
-use Rattle.std.proofs.Common.{◌≡◌, length, subst}
+use Rattle.std.proofs.Common.{◌≡◌, subst}
 use Rattle.std.specs.List.{AllByRecursion}
 use Rattle.std.specs.Map.{values_of}
 use Rattle.encoder.specs.Fragment.{fragment}
 use Rattle.record.specs.Atomic.{IsAtomic}
 use Rattle.record.specs.Fragments.{AreCoded}
-use Rattle.record.specs.Journals.{entries}
-use Rattle.cluster.specs.Accounts.{stored_all, banks_all}
-use Rattle.cluster.specs.Atomic.{AreAtomic, AreFragments}
-use Rattle.cluster.specs.Cluster.{Cluster}
+use Rattle.record.specs.Journals.{entries, ReadsJournaled}
+use Rattle.cluster.specs.Atomic.{AreAtomic, AreFragments, AreJournaled, FetchesHaveEnough, HasOneValue, HaveEnough, HaveOneValue}
 use Rattle.cluster.proofs.Laws.{IsObjectAtomic, all_done, all_weaker}
 use Rattle.cluster.proofs.Places.{objects_of}
-use Rattle.cluster.proofs.Totals.{objects_total}
 use Rattle.cluster.proofs.cluster.Cluster.atomic.Goals as goal
 
 each : (c : goal.In-None) → AllByRecursion (λ o. IsObjectAtomic o.state) (objects_of c.self.inside.objects.entries)
@@ -31,10 +28,27 @@ pub returns-clause-fragments : goal.returns-clause-fragments
 returns-clause-fragments c =
     subst AreFragments c.self.view_is
     (all_weaker IsObjectAtomic (λ s. AreCoded fragment s.object)
-    (λ s held. held.coded) (objects_of c.self.inside.objects.entries) (each c))
+    (λ s held. held.sound.coded) (objects_of c.self.inside.objects.entries) (each c))
 
-pub returns-clause-accounts : goal.returns-clause-accounts
-returns-clause-accounts c =
-    let total = objects_total (length c.self.inside.servers) c.self.inside.counter
-    (objects_of c.self.inside.objects.entries) c.self.invariant.kept.objects in
-    subst (λ (k : Cluster). stored_all k ≡ banks_all k.objects) c.self.view_is total
+pub returns-clause-enough : goal.returns-clause-enough
+returns-clause-enough c =
+    subst HaveEnough c.self.view_is
+    (all_weaker IsObjectAtomic (λ s. FetchesHaveEnough s.object)
+    (λ s held index place end call phase at within fetch e.
+        c.complete_fetches_have_enough.ensures fragment s.object s.last index place end call phase held.sound at within fetch e)
+    (objects_of c.self.inside.objects.entries) (each c))
+
+pub returns-clause-reads : goal.returns-clause-reads
+returns-clause-reads c =
+    subst AreJournaled c.self.view_is
+    (all_weaker IsObjectAtomic (λ s. ReadsJournaled s.object)
+    (λ s held. c.reads_return_journaled_values.ensures fragment s.object s.last c.fragments_are_a_code.ensures held.sound)
+    (objects_of c.self.inside.objects.entries) (each c))
+
+pub returns-clause-journal : goal.returns-clause-journal
+returns-clause-journal c =
+    subst HaveOneValue c.self.view_is
+    (all_weaker IsObjectAtomic (λ s. HasOneValue s.object)
+    (λ s held tag v w first second.
+        c.journaled_values_are_unique.ensures fragment s.object s.last tag v w held.sound first second)
+    (objects_of c.self.inside.objects.entries) (each c))
