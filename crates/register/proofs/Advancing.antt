@@ -1,5 +1,6 @@
 -- The call of a number begins the phase that is due.
-use Rattle.std.proofs.Common.{◌≡◌, ℕ, suc, pred, ◌<◌, Bool, true, false, ◌++◌, length, get_or, slice_get, set, Option, Some, None, refl, sym, subst, ap, ◌∙◌}
+use Rattle.std.proofs.Common.{◌≡◌, ℕ, suc, pred, ◌<◌, Bool, true, false, ◌++◌, length, get_or, slice_get, set}
+use Rattle.std.proofs.Common.{Option, Some, None, refl, sym, subst, ap, ◌∙◌}
 use Rattle.std.proofs.lemmas.Option.{same_Some}
 use Rattle.tag.specs.declared.limits.TheConstants.{MOST_STEPS}
 use Rattle.tag.specs.declared.refusal.Refusal.{Refusal}

@@ -37,7 +37,8 @@ pub call_found : (calls : List Tracked) (index : ℕ) (t : Tracked) → slice_ge
 call_found calls index t at = found_map (λ (t : Tracked). t.call) calls index t at
 
 -- a step that changes the mail alone
-pub mail_kept : (c : Contents) (mail : List Message) (now : ℕ) → IsKept c → IsSound fragment (object_of c.delta c.positions mail c.calls) now
+pub mail_kept : (c : Contents) (mail : List Message) (now : ℕ) → IsKept c
+    → IsSound fragment (object_of c.delta c.positions mail c.calls) now
     → IsKept (record c { mail = mail; last = now })
 mail_kept c mail now kept sound = record {
   sound = sound;
@@ -53,7 +54,8 @@ mail_kept c mail now kept sound = record {
 }
 
 -- a call that is changed leaves the stages of the others
-pub staged_set : (delta : Option ℕ) (layouts : List Position) (mail later : List Message) (calls : List Tracked) (index : ℕ) (t new : Tracked)
+pub staged_set : (delta : Option ℕ) (layouts : List Position) (mail later : List Message) (calls : List Tracked)
+    (index : ℕ) (t new : Tracked)
     → slice_get calls index ≡ Some t → new.call.kind ≡ t.call.kind
     → AreStaged (object_of delta layouts mail calls) calls → new.stage ≡ stage_of (object_of delta layouts mail calls) index new.call
     → AreStaged (object_of delta layouts later (set calls index new)) (set calls index new)
@@ -63,7 +65,8 @@ staged_set delta layouts mail later calls index t new at same staged stage j u e
     sources n = ap (λ cs. moves_in (take n cs)) (map_set (λ (t : Tracked). t.call) calls index new)
         ∙ moves_set (calls_of calls) index n t.call new.call (call_found calls index t at) same
 
-    moved : (j : ℕ) (u : Call) → stage_of (object_of delta layouts mail calls) j u ≡ stage_of (object_of delta layouts later (set calls index new)) j u
+    moved : (j : ℕ) (u : Call) → stage_of (object_of delta layouts mail calls) j u
+        ≡ stage_of (object_of delta layouts later (set calls index new)) j u
     moved j u = ap (λ m. Rattle.record.specs.Courses.stage_after u.kind (suc j) (Rattle.record.specs.Legal.first_stage u.kind m) u.phases)
         (sym (sources j))
 

@@ -68,7 +68,15 @@ module _ {c : Contents} {now number from : ℕ} {source : Layout} {call : Tracke
       (mail_is : mail ≡ asked call) (new_is : new ≡ with_begun call number (Spread Pending) from source now)
       (reserved_is : reserved ≡ c.calls) (pushed_is : pushed ≡ reserved ++ new ∷ []) where
     abbrev made_of : Contents
-    made_of = record { delta = c.delta; positions = positions; mail = mail; calls = pushed; is_moving = true; stored = c.stored; last = now }
+    made_of = record {
+      delta = c.delta;
+      positions = positions;
+      mail = mail;
+      calls = pushed;
+      is_moving = true;
+      stored = c.stored;
+      last = now;
+    }
 
     same : made_of ≡ with_moving c number from source layout now
     same =

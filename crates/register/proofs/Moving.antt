@@ -72,7 +72,8 @@ moved_parts c now positions mail calls = record {
 
 pub with_moving_is : (c : Contents) (number from : ℕ) (source layout : Layout) (now : ℕ) (next : Position) (begun : Tracked)
     (positions : List Position) (mail : List Message)
-    (calls : List Tracked) → next ≡ next_position layout c.delta now → begun ≡ mover number from source now → positions ≡ c.positions ++ next ∷ [] →
+    (calls : List Tracked) → next ≡ next_position layout c.delta now → begun ≡ mover number from source now →
+    positions ≡ c.positions ++ next ∷ [] →
     mail ≡ moving_mail c number from source → calls ≡ c.calls ++ begun ∷ [] →
     record { delta = c.delta; positions = positions; mail = mail; calls = calls; is_moving = true; stored = c.stored; last = now }
     ≡ with_moving c number from source layout now

@@ -52,4 +52,5 @@ opened_keeps layout delta now lawful = record {
 }
   where
     none : all_bytes (opened_banks layout.members 0 delta now ∷ []) ≡ 0
-    none = sum_by-cons banks_bytes (opened_banks layout.members 0 delta now) [] ∙ ap (λ n. n + 0) (opened_banks_bytes layout.members 0 delta now)
+    none = sum_by-cons banks_bytes (opened_banks layout.members 0 delta now) []
+        ∙ ap (λ n. n + 0) (opened_banks_bytes layout.members 0 delta now)

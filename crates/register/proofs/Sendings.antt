@@ -84,9 +84,10 @@ pub record IsSendingTo (c : Contents) (number index : ℕ) (t : Tracked) (to : O
   pub found : IsFound c number index t
   pub due : pieces_due (state_of c).object (pred number) t.call ≡ to
 
-pub sending : {c : Contents} {number index : ℕ} {t : Tracked} {positions : List Position} {v to : Option ℕ} → IsFound c number index t
-    → v ≡ pieces_position (tracked_want (object_of None positions [] []) t) (due t.stage) (current_phase t.call.phases) → positions ≡ c.positions
-    → v ≡ to → IsSendingTo c number index t to
+pub sending : {c : Contents} {number index : ℕ} {t : Tracked} {positions : List Position} {v to : Option ℕ}
+    → IsFound c number index t
+    → v ≡ pieces_position (tracked_want (object_of None positions [] []) t) (due t.stage) (current_phase t.call.phases)
+    → positions ≡ c.positions → v ≡ to → IsSendingTo c number index t to
 sending {c = c} {number = number} {t = t} {positions = positions} f is same matched = record {
   found = f;
   due =

@@ -184,8 +184,8 @@ module _ {c : Contents} {place : ℕ} {m : Message} {p : Position} {q : Request}
     pub serving_is : object_of c.delta (set c.positions m.position new) (replied c.mail place (reply_to b q now)) c.calls
         ≡ (made (Step.Serve place) now (state_of c)).object
     serving_is =
-        ap (λ ls. parts c.delta ls (banks_of (set c.positions m.position new)) (replied c.mail place (reply_to b q now)) (state_of c).object.calls)
-        layouts_are
+        ap (λ ls. parts c.delta ls (banks_of (set c.positions m.position new)) (replied c.mail place (reply_to b q now))
+        (state_of c).object.calls) layouts_are
         ∙ ap (λ bs. parts c.delta (layouts_of c.positions) bs (replied c.mail place (reply_to b q now)) (state_of c).object.calls) banks_are
         ∙ ap (λ ms. parts c.delta (layouts_of c.positions)
         (set (banks_of c.positions) m.position (set (get_or (banks_of c.positions) m.position []) m.member (served_bank b q now))) ms

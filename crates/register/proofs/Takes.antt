@@ -6,7 +6,8 @@ use Rattle.mail.specs.declared.message.Message.{Message}
 use Rattle.mail.specs.declared.message.Body.{Body}
 use Rattle.mail.specs.declared.message.Body.TheVariants as body
 use Rattle.phase.specs.declared.phase.Took.TheVariants as took
-use Rattle.phase.specs.Phase.{Phase, is_current, has_taken, makes_quorum, with_reply, after_body, after_take, took_body, took_by, lacks_pieces}
+use Rattle.phase.specs.Phase.{Phase, is_current, has_taken, makes_quorum, with_reply, after_body, after_take}
+use Rattle.phase.specs.Phase.{took_body, took_by, lacks_pieces}
 use Rattle.record.specs.declared.call.CallKind.{CallKind}
 use Rattle.record.specs.declared.stage.Stage.{Stage}
 use Rattle.record.specs.Courses.{passed, stage_after}
@@ -100,7 +101,8 @@ taken_same t m now phases stage =
 pub stage_ended : (kind : CallKind) (s : Stage) (p : Phase) (m : Message) (now : ℕ) → is_some p.end ≡ true
     → stage_taken kind s (Some p) m now ≡ s
 stage_ended kind s p m now ended =
-    ap (λ b. cond b s (passed kind m.call s (after_take p m now).end (after_take p m now).replies (lacks_pieces (after_take p m now)))) ended
+    ap (λ b. cond b s (passed kind m.call s (after_take p m now).end (after_take p m now).replies (lacks_pieces (after_take p m now))))
+    ended
 
 pub stage_open : (kind : CallKind) (s : Stage) (p : Phase) (m : Message) (now : ℕ) → is_some p.end ≡ false
     → stage_taken kind s (Some p) m now

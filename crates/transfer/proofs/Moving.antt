@@ -11,7 +11,8 @@ use Rattle.phase.specs.Phase.{Phase, lacks_pieces}
 use Rattle.phase.specs.declared.phase.Taken.{Taken}
 use Rattle.record.specs.declared.call.CallKind.TheVariants.{Move}
 use Rattle.record.specs.declared.stage.Stage.{Stage}
-use Rattle.record.specs.declared.stage.Stage.TheVariants.{MoveSpread, MoveQuery, MoveFetch, MovePreWrite, MoveFinalize, MoveFinal, Ended, Moved}
+use Rattle.record.specs.declared.stage.Stage.TheVariants.{MoveSpread, MoveQuery, MoveFetch, MovePreWrite, MoveFinalize, MoveFinal}
+use Rattle.record.specs.declared.stage.Stage.TheVariants.{Ended, Moved}
 use Rattle.record.specs.Courses.{due, after, passed, stage_after, greatest_tag, IsCourse}
 use Rattle.record.specs.Journals.{stage_tag}
 use Rattle.record.specs.Grammar.{IsMoveAttempt, move_attempt_phases, ArePhasesOfMove}
@@ -109,9 +110,10 @@ complete_course number stage (phase ∷ []) course none = (some phase.end refl, 
     some : (end : Option ℕ) → phase.end ≡ end → IsSome end
     some None e = absurd (cc (course.0, none, e))
     some (Some end) e = refl
-complete_course number stage (phase ∷ next ∷ later) course none =
-    (ap is_some course.1.1,
-    complete_course number (passed Move number stage phase.end phase.replies (lacks_pieces phase)) (next ∷ later) course.2 none)
+complete_course number stage (phase ∷ next ∷ later) course none = (
+  ap is_some course.1.1,
+  complete_course number (passed Move number stage phase.end phase.replies (lacks_pieces phase)) (next ∷ later) course.2 none,
+)
 
 -- attempts that were given up are told from the last one
 
@@ -131,7 +133,7 @@ module _ (number from : ℕ) (phases : List Phase) (tag : Tag) (whole : ArePhase
       × (last_phases phases ≡ whole.spread ∷ whole.query ∷ whole.fetch ∷ whole.pre_write ∷ whole.finalize ∷ whole.final ∷ [])
   split_parts =
       let parts = after_attempts whole.attempts from whole.query whole.fetch (whole.pre_write ∷ whole.finalize ∷ whole.final ∷ [])
-          whole.given_up whole.has_pieces in
+      whole.given_up whole.has_pieces in
       (ap (λ xs. given_up (drop 1 xs)) whole.split ∙ parts.0, ap last_phases whole.split ∙ ap (λ xs. whole.spread ∷ xs) parts.1)
 
   ordered_parts : AllByRecursion (IsMoveAttempt from) (given_up (drop 1 phases))

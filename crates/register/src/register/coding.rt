@@ -129,8 +129,8 @@ impl Register {
 
     /// Of the pieces that the call's current phase took, the k of least points.
     ///
-    /// `NoCall` where there is no such call, `NotNow` unless it wants to settle a value, and `Collected` where its fetch
-    /// lacks pieces.
+    /// `NoCall` where there is no such call, `NotNow` unless it wants to settle a value, and `Collected` where its
+    /// fetch lacks pieces.
     pub fn pieces(&self, call: u64) -> Result<Vec<Piece>, Refusal>
         ensures pieces { IfOk result (λ ps. ps.items ≡ pieces_at self.now.object call) }
         ensures cause { IsByCause (pieces_cause self.now.object call) result }

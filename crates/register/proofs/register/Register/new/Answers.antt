@@ -10,7 +10,15 @@ use Rattle.register.proofs.Opened.{opened_keeps}
 use Rattle.register.proofs.register.Register.new.Goals as goal
 
 abbrev contents : Option ℕ → List Position → List Message → List Tracked → ℕ → Contents
-contents delta positions mail calls now = record { delta = delta; positions = positions; mail = mail; calls = calls; is_moving = false; stored = 0; last = now }
+contents delta positions mail calls now = record {
+  delta = delta;
+  positions = positions;
+  mail = mail;
+  calls = calls;
+  is_moving = false;
+  stored = 0;
+  last = now;
+}
 
 pub invariant_of-result : goal.invariant_of-result
 invariant_of-result c =
