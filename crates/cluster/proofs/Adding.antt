@@ -99,7 +99,8 @@ opened_nothing members delta now =
     sum_by-cons banks_bytes (opened_banks members 0 delta now) [] ∙ ap (λ n. n + 0) (opened_banks_bytes members 0 delta now)
 
 module _ (cluster : Cluster) (bytes count : ℕ) (name : List ℕ) (layout : Layout) (delta : Option ℕ)
-    (kept : IsKeptCluster cluster bytes count) (below : HasMembersBelow (length cluster.servers) layout) (fresh : named cluster.objects name ≡ None)
+    (kept : IsKeptCluster cluster bytes count) (below : HasMembersBelow (length cluster.servers) layout)
+    (fresh : named cluster.objects name ≡ None)
     (few : suc cluster.counter ≤ MOST_STEPS) (few_objects : length cluster.objects < MOST_OBJECTS) where
   abbrev object : Named
   object = record { name = name; state = record { object = opened_object layout delta (suc cluster.counter); last = suc cluster.counter } }

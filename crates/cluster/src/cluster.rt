@@ -4,14 +4,13 @@ ghost use Rattle.cluster.specs.Cluster.{all_up};
 
 use crate::loads::Loads;
 use crate::servers::Servers;
+pub use accounts::Accounts;
 use indexmap::IndexMap;
 use layout::Layout;
 use register::Register;
 use std::alloc::Global;
 use std::marker::Model;
 use tag::{Refusal, Stamp};
-
-pub use accounts::Accounts;
 
 mod accounts;
 mod acts;

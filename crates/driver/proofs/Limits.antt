@@ -19,7 +19,8 @@ use Rattle.record.specs.declared.stage.Want.{Want}
 use Rattle.record.specs.declared.stage.Want.TheVariants as want
 use Rattle.record.proofs.Sound.Sending.{supply_counts}
 use Rattle.register.specs.Causes.{call_at, if_call, if_step, unless, wants_due, due_step, due_cause, is_answer, is_replied, if_settle}
-use Rattle.register.specs.Causes.{advance_cause, again_cause, answer_cause, value_cause, new_phase_cause, supply_room_cause, supplying_cause}
+use Rattle.register.specs.Causes.{advance_cause, again_cause, answer_cause, value_cause, new_phase_cause}
+use Rattle.register.specs.Causes.{supply_room_cause, supplying_cause}
 use Rattle.register.specs.Coding.{pieces_due, pieces_position}
 use Rattle.register.specs.View.{want_at, coding_at}
 use Rattle.driver.specs.Coding.{settling_cause}

@@ -156,8 +156,8 @@ module _ (object : Object) (next : Option (Kind × ℕ)) (settled : Option (List
 
   ended : cond (is_fetch phase.kind) (cond (is_some settled) (want_for object next) (want_of_fetch object phase)) (want_for object next)
       ≢ want.Done
-  ended = cond_both (is_fetch phase.kind) (cond (is_some settled) (want_for object next) (want_of_fetch object phase)) (want_for object next)
-      (λ w. w ≢ want.Done) (λ _. fetched) (λ _. for_some object next)
+  ended = cond_both (is_fetch phase.kind) (cond (is_some settled) (want_for object next) (want_of_fetch object phase))
+      (want_for object next) (λ w. w ≢ want.Done) (λ _. fetched) (λ _. for_some object next)
 
   current_some : want_after object next settled (Some phase) ≢ want.Done
   current_some =

@@ -56,12 +56,7 @@ fn members_of(members: &[u64], servers: u8) -> Result<ArrayVec<u8, MOST_MEMBERS>
 }
 
 /// Makes an object.
-pub(crate) fn object(
-    cluster: &mut Cluster,
-    name: &str,
-    layout: u64,
-    delta: Option<u32>,
-) -> Report
+pub(crate) fn object(cluster: &mut Cluster, name: &str, layout: u64, delta: Option<u32>) -> Report
     ensures { MakesObject cluster.old name.now layout delta cluster.new result }
 {
     Report::of_step(cluster.create_with(name, layout_id(layout), delta))

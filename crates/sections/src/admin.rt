@@ -33,8 +33,15 @@ pub struct Admin<L: StoreName> {
 #[derive(Drop)]
 pub enum Order<'a> {
     AddLayout(Layout),
-    Create { name: &'a str, layout: LayoutId, delta: Option<u32> },
-    SetServer { server: u8, up: bool },
+    Create {
+        name: &'a str,
+        layout: LayoutId,
+        delta: Option<u32>,
+    },
+    SetServer {
+        server: u8,
+        up: bool,
+    },
 }
 
 impl<L: StoreName> Model for Admin<L> {

@@ -44,7 +44,11 @@ fn carry_out(cluster: &mut Cluster, order: Order) -> Result<Option<LayoutId>, Re
 {
     match order {
         Order::AddLayout(layout) => Ok(Some(cluster.add_layout(layout)?)),
-        Order::Create { name, layout, delta } => {
+        Order::Create {
+            name,
+            layout,
+            delta,
+        } => {
             cluster.create_with(name, layout, delta)?;
             Ok(None)
         }

@@ -57,8 +57,8 @@ impl<L: StoreName> Store<L> {
     ///
     /// `Stranger` where the seat has seen a later step than there was; `NoCall` where it has no pending call; `GaveUp`
     /// once the turns are used up; `Stuck` where the call wants replies and none of its messages can be handled; `Full`
-    /// where a limit is met; `Collected` where banks have dropped pieces that its fetch needs, after which the next resume
-    /// begins anew; and `NoMemory`. The seat stays as it was, its call pending.
+    /// where a limit is met; `Collected` where banks have dropped pieces that its fetch needs, after which the next
+    /// resume begins anew; and `NoMemory`. The seat stays as it was, its call pending.
     pub fn resume<R: Threads + Wait + Sync, C: Chooser>(
         &self,
         rt: &R,

@@ -64,7 +64,11 @@ impl<L: StoreName> Store<L> {
     ) -> Result<(), Refusal>
         ensures { Creates L.first admin.old name.now layout delta result admin.new }
     {
-        let order = Order::Create { name, layout, delta };
+        let order = Order::Create {
+            name,
+            layout,
+            delta,
+        };
         admin_in(&mut *self.booked.lock(rt), admin, order)?;
         Ok(())
     }

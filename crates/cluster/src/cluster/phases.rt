@@ -112,8 +112,8 @@ impl Cluster {
 
     /// Of the pieces that the call's current phase took, the k of least points.
     ///
-    /// `NoObject` or `NoCall` where there is none, `NotNow` unless it wants to settle a value, and `Collected` where its
-    /// fetch lacks pieces.
+    /// `NoObject` or `NoCall` where there is none, `NotNow` unless it wants to settle a value, and `Collected` where
+    /// its fetch lacks pieces.
     pub fn pieces(&self, name: &str, call: u64) -> Result<Vec<Piece>, Refusal>
         ensures pieces { IfOk result
             (λ ps. if_named self.now name.now (λ object. Some (pieces_at object call)) ≡ Some ps.items) }

@@ -44,8 +44,8 @@ impl Cluster {
         self.create_with(name, id, None)
     }
 
-    /// One more object, with one position of this layout and no calls. The banks of all its positions keep the pieces of
-    /// the newest finalized version and of `delta` others; all where there is no `delta`.
+    /// One more object, with one position of this layout and no calls. The banks of all its positions keep the pieces
+    /// of the newest finalized version and of `delta` others; all where there is no `delta`.
     ///
     /// `ObjectExists` where an object has this name, `BadLayout` where there is no such layout, `TooLong` where the
     /// name is longer than `LONGEST_NAME` bytes, and `Full` where the limit of steps or of objects is met.

@@ -35,7 +35,7 @@ returns-clause-enough c =
     subst HaveEnough c.self.view_is
     (all_weaker IsObjectAtomic (λ s. FetchesHaveEnough s.object)
     (λ s held index place end call phase at within fetch e.
-        c.complete_fetches_have_enough.ensures fragment s.object s.last index place end call phase held.sound at within fetch e)
+    c.complete_fetches_have_enough.ensures fragment s.object s.last index place end call phase held.sound at within fetch e)
     (objects_of c.self.inside.objects.entries) (each c))
 
 pub returns-clause-reads : goal.returns-clause-reads
@@ -50,5 +50,5 @@ returns-clause-journal c =
     subst HaveOneValue c.self.view_is
     (all_weaker IsObjectAtomic (λ s. HasOneValue s.object)
     (λ s held tag v w first second.
-        c.journaled_values_are_unique.ensures fragment s.object s.last tag v w held.sound first second)
+    c.journaled_values_are_unique.ensures fragment s.object s.last tag v w held.sound first second)
     (objects_of c.self.inside.objects.entries) (each c))
