@@ -12,10 +12,12 @@ use Rattle.mail.specs.declared.message.Message.{Message}
 use Rattle.mail.specs.declared.message.Body.{Body}
 use Rattle.mail.specs.declared.message.Body.TheVariants as body
 use Rattle.record.specs.Records.{Call, Object}
-use Rattle.record.specs.Wants.{current_phase}
+use Rattle.record.specs.declared.stage.Want.{Want}
+use Rattle.record.specs.declared.stage.Want.TheVariants as want
+use Rattle.record.specs.Wants.{current_phase, want_of}
 use Rattle.record.specs.Steps.{Step, stepped}
 use Rattle.register.specs.Coding.{pieces_due}
-use Rattle.register.specs.Causes.{unless, if_step, if_call, if_message, call_at, is_replied}
+use Rattle.register.specs.Causes.{unless, if_step, if_call, if_message, if_settle, call_at, is_replied}
 use Rattle.register.specs.Causes.{new_phase_cause, supplied_cause, taken_cause, served_cause}
 use Rattle.register.specs.Act.{act_cause}
 use Rattle.register.specs.declared.act.Act.{Act}
@@ -24,6 +26,15 @@ use Rattle.register.specs.declared.act.Act.TheVariants as act
 past_unless : (holds : Bool) (refusal : Refusal) (later : Option Refusal) → unless holds refusal later ≡ None → later ≡ None
 past_unless true refusal later none = none
 past_unless false refusal later none = absurd (cc)
+
+past_settle : (w : Want) (later : Option Refusal) → if_settle w later ≡ None → later ≡ None
+past_settle want.Replies later none = absurd (cc)
+past_settle want.Advance later none = absurd (cc)
+past_settle want.Again later none = absurd (cc)
+past_settle (want.Supply k n) later none = absurd (cc)
+past_settle (want.Settle k len) later none = none
+past_settle want.Answer later none = absurd (cc)
+past_settle want.Done later none = absurd (cc)
 
 pub past_step : (now : ℕ) (later : Option Refusal) → if_step now later ≡ None → now ≤ MOST_STEPS
 past_step now later none = go (nat_le now MOST_STEPS) refl none
@@ -67,11 +78,13 @@ module _ (now : ℕ) (object : Object) where
   act_few (act.CallWrite v) none = past_step now _ (past_unless _ _ _ none)
   act_few (act.CallMove l) none = past_step now _ (past_unless _ _ _ (past_unless _ _ _ none))
   act_few (act.Advance n) none = past_call (call_at object n) _ (λ call e. past_step now _ (past_unless _ _ _ e)) none
+  act_few (act.Again n) none = past_call (call_at object n) _ (λ call e. past_step now _ (past_unless _ _ _ e)) none
   act_few (act.Supply n coded) none =
       past_call (call_at object n) _ (λ call e. supplied_few (pred n) call coded (pieces_due object (pred n) call) e) none
   act_few (act.Post n) none = past_call (call_at object n) _ (λ call e. past_step now _ (past_unless _ _ _ e)) none
   act_few (act.Settle n decoded) none =
-      past_call (call_at object n) _ (λ call e. past_step now _ (past_unless _ _ _ (past_unless _ _ _ e))) none
+      past_call (call_at object n) _
+      (λ call e. past_step now _ (past_unless _ _ _ (past_settle (want_of object (pred n) call) _ e))) none
   act_few (act.Answer n) none = past_call (call_at object n) _ (λ call e. past_step now _ (past_unless _ _ _ e)) none
   act_few (act.Serve p) none = past_message (slice_get object.mail p) _ (λ message e. served_few message.body e) none
   act_few (act.Take p) none = past_message (slice_get object.mail p) _ (λ message e. taken_few message.body e) none

@@ -1,11 +1,11 @@
 -- What holds of every cluster, whatever steps made it.
-use Rattle.std.specs.Prelude.{◌≡◌, ℕ, List, Some, length, map, slice_get}
+use Rattle.std.specs.Prelude.{◌≡◌, ◌⊎◌, ℕ, List, Some, length, map, slice_get}
 use Rattle.std.specs.List.{AllByRecursion, range_with_len}
 use Rattle.tag.specs.declared.tag.Tag.{Tag}
 use Rattle.encoder.specs.Fragment.{fragment}
 use Rattle.phase.specs.Phase.{Phase}
 use Rattle.record.specs.Atomic.{IsAtomic}
-use Rattle.record.specs.Fragments.{AreCoded, HasEnough, IsFetch}
+use Rattle.record.specs.Fragments.{AreCoded, HasDropped, HasEnough, IsFetch}
 use Rattle.record.specs.Journals.{entries, IsJournaled, ReadsJournaled}
 use Rattle.record.specs.Records.{Call, Object}
 use Rattle.record.specs.Sound.{IsSound}
@@ -32,11 +32,13 @@ AreFragments cluster = AllByRecursion (λ o. AreCoded fragment o.state.object) c
 abbrev pub AreAtomic : Cluster → Type 0
 AreAtomic cluster = AllByRecursion (λ o. IsAtomic (entries o.state.object)) cluster.objects
 
--- each complete fetch has pieces of at least k distinct members
+-- each complete fetch has pieces of at least k distinct members, or one of its replies was made by a member that had
+-- dropped the pieces of the tag
 abbrev pub FetchesHaveEnough : Object → Type 0
 FetchesHaveEnough object =
     (index place end : ℕ) (call : Call) (phase : Phase) → slice_get object.calls index ≡ Some call →
-    slice_get call.phases place ≡ Some phase → IsFetch phase.kind → phase.end ≡ Some end → HasEnough object phase
+    slice_get call.phases place ≡ Some phase → (fetch : IsFetch phase.kind) → phase.end ≡ Some end →
+    HasEnough object phase ⊎ HasDropped object phase fetch.0
 
 -- the journal has one value for a tag
 abbrev pub HasOneValue : Object → Type 0

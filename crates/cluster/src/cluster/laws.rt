@@ -15,8 +15,9 @@ use record::{
 impl Cluster {
     /// Each object is atomic: its answered reads and writes, with some unanswered writes, follow one register in an
     /// order that keeps answer before call. Each piece in a bank or a message is its member's fragment of the value
-    /// that the object's journal has for its tag, which is one; a complete fetch has enough of them, and an answered
-    /// read returns that value. What the accounts answer, which it tells, are the exact sums.
+    /// that the object's journal has for its tag, which is one; a complete fetch has enough of them, or met a bank that
+    /// had dropped its own, and an answered read returns that value. What the accounts answer, which it tells, are the
+    /// exact sums.
     ///
     /// It changes nothing, and takes no memory.
     pub fn atomic(&self) -> Accounts

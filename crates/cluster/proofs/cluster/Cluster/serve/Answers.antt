@@ -54,8 +54,8 @@ invariant_of-self-in-Ok-serve c =
     c.in-Ok-serve.ensures.step few
     c.stored_in_all-before.result c.stored_in_all-after.result c.stored_in_all-before.ensures.value c.stored_in_all-after.ensures.value
     c.exchanged-self-inside.result c.exchanged-self-inside.ensures c.exchange.new.self c.exchange.ensures
-    c.waiting-waited.result c.waiting.result c.exchanged-self-inside-2.result c.waiting-waited.ensures.value c.waiting.ensures.value
-    c.waiting.ensures.within c.exchanged-self-inside-2.ensures
+    c.waiting-waited.result c.waiting.result c.exchanged-self-inside-in-Ok-serve.result c.waiting-waited.ensures.value c.waiting.ensures.value
+    c.waiting.ensures.within c.exchanged-self-inside-in-Ok-serve.ensures
 
 pub invariant_of-self-in-Err-serve : goal.invariant_of-self-in-Err-serve
 invariant_of-self-in-Err-serve c =
@@ -127,8 +127,8 @@ exchange-requires c =
     c.stored_in_all-before.result c.stored_in_all-after.result c.stored_in_all-before.ensures.value c.stored_in_all-after.ensures.value in
     record { there = sums.there; part = sums.part; within = sums.load }
 
-pub exchanged-self-inside-2-requires : goal.exchanged-self-inside-2-requires
-exchanged-self-inside-2-requires c =
+pub exchanged-self-inside-requires-in-Ok-serve : goal.exchanged-self-inside-requires-in-Ok-serve
+exchanged-self-inside-requires-in-Ok-serve c =
     let at = at_place c.self.inside.objects.entries c.args.name.now c.in-Some.index c.index_mut-register.result.now c.in-Some.ensures.index
     c.index_mut-register.ensures.value in
     let room = part_mailed c.self.invariant at c.waiting-waited.result c.waiting.result c.waiting-waited.ensures.value
