@@ -14,9 +14,9 @@ use Rattle.record.specs.declared.call.CallKind.{CallKind}
 use Rattle.record.specs.declared.call.CallKind.TheVariants.{Read, Move}
 use Rattle.record.specs.Records.{Call, Object}
 use Rattle.record.specs.Knowledge.{IsTruePhase}
-use Rattle.record.specs.Courses.{due, after, passed, IsCourse}
+use Rattle.record.specs.Courses.{due, after, passed, IsCourse, stage_past, begun_at}
 use Rattle.record.specs.declared.stage.Stage.{Stage}
-use Rattle.record.specs.declared.stage.Stage.TheVariants.{ReadNext, ReadSpread, QueryFrom, FetchAt, PreWriteAt}
+use Rattle.record.specs.declared.stage.Stage.TheVariants.{ReadBegin, ReadNext, ReadSpread, QueryFrom, FetchAt, PreWriteAt}
 use Rattle.record.specs.declared.stage.Stage.TheVariants.{FinalizeAt, AgainNext, AgainSpread, MoveSpread, MoveQuery}
 use Rattle.record.specs.declared.stage.Stage.TheVariants.{MoveFetch, MovePreWrite, MoveFinalize, MoveFinal, Ended, Moved}
 use Rattle.record.specs.Legal.{source_of, first_stage, IsLegal}
@@ -39,7 +39,7 @@ none_late kind number (first ∷ phases) stage tag late course zero phase other 
     let asked : first.kind ≡ Fetch other = ap (λ (p : Phase). p.kind) (same_Some first phase at) ∙ fetch in
     late_due stage late.0 (subst FetchDue (sym course.0) (other, asked))
 none_late kind number (first ∷ phases) stage tag late course (suc place) phase other at fetch =
-    none_late kind number phases (passed kind number stage first.end first.replies (lacks_pieces first)) tag
+    none_late kind number phases (stage_past kind number stage first) tag
     (late_passed kind number stage first.end first.replies (lacks_pieces first) tag late) course.2 place phase other at fetch
 
 -- a read whose fetch lacks pieces is back at its first stage
@@ -115,23 +115,23 @@ module _ (object : Object) (from number : ℕ) (lawful : AllByRecursion IsLawful
       by_kind : (b : Bool) → is_fetch first.kind ≡ b → (lacks : Bool) → lacks_pieces first ≡ lacks → From (next ∷ later) place →
           AtFetch (last_beginning (cond b (first_start since (next ∷ later)) since) (next ∷ later) place)
       by_kind false other lacks is rest =
-          rest since end (passed Read number stage first.end first.replies (lacks_pieces first)) course.2
+          rest since end (stage_past Read number stage first) course.2
           (let g = grew in let b = before in omega arith) (le_of_lt course.1.2)
           (one_phase object Read from number since now end stage first lawful course.0 truth.0 ended order before facts)
       by_kind true fetches true is rest =
           let found = fetch_is first.kind fetches in
           let anew = reads_anew object from number since now stage first.replies found.0 first.position facts
           (course.0 ∙ ap (λ (k : Kind). Some (k, first.position)) found.1) in
-          let back : passed Read number stage first.end first.replies (lacks_pieces first) ≡ ReadNext 0 0 =
-          ap (λ o. passed Read number stage o first.replies (lacks_pieces first)) ended
+          let back : stage_past Read number stage first ≡ ReadNext 0 0 =
+          ap (λ o. passed Read number (begun_at stage first.position) o first.replies (lacks_pieces first)) ended
           ∙ (ap (λ b. after Read number stage first.replies b) is ∙ anew) in
           rest next.start next.start (ReadNext 0 0) (subst (λ s. IsCourse Read number s (next ∷ later)) back course.2)
           (le_refl next.start) (le_refl next.start) (first_facts object Read from number next.start)
       by_kind true fetches false is rest =
           let found = fetch_is first.kind fetches in
           let late = first_late Read number stage first first found.0 course.0 refl found.1 is in
-          absurd (none_late Read number (next ∷ later) (passed Read number stage first.end first.replies (lacks_pieces first)) found.0
-          (subst (λ o. IsLateWith found.0 (passed Read number stage o first.replies (lacks_pieces first))) (sym ended) late)
+          absurd (none_late Read number (next ∷ later) (stage_past Read number stage first) found.0
+          (subst (λ o. IsLateWith found.0 (passed Read number (begun_at stage first.position) o first.replies (lacks_pieces first))) (sym ended) late)
           course.2 place phase tag at fetch)
 
 -- the tag that a read fetches is the greatest that its queries found since it last began

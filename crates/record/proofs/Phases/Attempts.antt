@@ -10,7 +10,7 @@ use Rattle.phase.specs.Phase.{Phase, lacks_pieces}
 use Rattle.record.specs.declared.call.CallKind.{CallKind}
 use Rattle.record.specs.declared.call.CallKind.TheVariants.{Read, Write, Move}
 use Rattle.record.specs.declared.stage.Stage.{Stage}
-use Rattle.record.specs.declared.stage.Stage.TheVariants.{ReadNext, FetchAt}
+use Rattle.record.specs.declared.stage.Stage.TheVariants.{ReadBegin, ReadNext, FetchAt}
 use Rattle.record.specs.Courses.{after, tagged, stage_after, IsCourse}
 use Rattle.record.specs.Journals.{stage_tag}
 use Rattle.record.specs.Grammar.{IsReading, AreQueries, greatest_shown, place_shown, IsAttempt, AreAttempts, attempt_phases, FindsTag}

@@ -9,7 +9,7 @@ use Rattle.bank.specs.declared.kind.Kind.TheVariants.{Fetch}
 use Rattle.phase.specs.Phase.{Phase, lacks_pieces}
 use Rattle.record.specs.declared.call.CallKind.{CallKind}
 use Rattle.record.specs.declared.call.CallKind.TheVariants.{Read, Write, Move}
-use Rattle.record.specs.declared.stage.Stage.TheVariants.{ReadNext, QueryFrom, FetchAt}
+use Rattle.record.specs.declared.stage.Stage.TheVariants.{ReadBegin, ReadNext, QueryFrom, FetchAt}
 use Rattle.record.specs.Courses.{after}
 use Rattle.record.specs.Grammar.{AreQueries, greatest_shown, place_shown, IsAttempt, AreAttempts, attempt_phases}
 use Rattle.record.proofs.Phases.Again.{queries_path}

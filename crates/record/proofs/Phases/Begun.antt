@@ -7,7 +7,7 @@ use Rattle.record.specs.declared.call.CallKind.{CallKind}
 use Rattle.record.specs.declared.call.CallKind.TheVariants.{Read, Write, Move}
 use Rattle.record.specs.declared.stage.Stage.{Stage}
 use Rattle.record.specs.declared.stage.Stage.TheVariants.{Ended, Moved}
-use Rattle.record.specs.Courses.{due, after, tagged, passed, IsCourse, IsEndedBefore}
+use Rattle.record.specs.Courses.{due, after, tagged, passed, IsCourse, IsEndedBefore, begun_at}
 use Rattle.record.specs.Legal.{first_stage}
 use Rattle.record.specs.Journals.{stage_tag}
 use Rattle.record.specs.Grammar.{IsSentence}
@@ -81,14 +81,14 @@ begun_of kind number (phase ∷ next ∷ later) stage orderly course =
     begun_on kind number stage phase (next ∷ later) course.0 course.1
     (begun_of kind number (next ∷ later) (after kind number stage phase.replies (lacks_pieces phase))
     (orderly_after kind number stage phase.replies (lacks_pieces phase) orderly)
-    (subst (λ o. IsCourse kind number (passed kind number stage o phase.replies (lacks_pieces phase)) (next ∷ later)) course.1.1 course.2))
+    (subst (λ o. IsCourse kind number (passed kind number (begun_at stage phase.position) o phase.replies (lacks_pieces phase)) (next ∷ later)) course.1.1 course.2))
 
 -- and back
 
 course_step : (kind : CallKind) (number : ℕ) (stage : Stage) (phase : Phase) (later : List Phase) → IsEndedBefore phase later →
     (IsSome phase.end → IsCourse kind number (after kind number stage phase.replies (lacks_pieces phase)) later) → (o : Option ℕ) →
     phase.end ≡ o →
-    IsCourse kind number (passed kind number stage o phase.replies (lacks_pieces phase)) later
+    IsCourse kind number (passed kind number (begun_at stage phase.position) o phase.replies (lacks_pieces phase)) later
 course_step kind number stage phase [] ended rest None h = tt
 course_step kind number stage phase (next ∷ later) ended rest None h =
     absurd (let clash : None ≡ Some ended.0 = sym h ∙ ended.1 in cc)

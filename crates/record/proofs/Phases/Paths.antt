@@ -11,8 +11,8 @@ use Rattle.bank.specs.declared.kind.Kind.TheVariants.{Next, Spread}
 use Rattle.phase.specs.Phase.{Phase, lacks_pieces}
 use Rattle.record.specs.declared.call.CallKind.{CallKind}
 use Rattle.record.specs.declared.stage.Stage.{Stage}
-use Rattle.record.specs.declared.stage.Stage.TheVariants.{ReadNext, ReadSpread, QueryFrom}
-use Rattle.record.specs.Courses.{due, after, after_next, after_spread, passed, stage_after, IsCourse, greatest_status}
+use Rattle.record.specs.declared.stage.Stage.TheVariants.{ReadBegin, ReadNext, ReadSpread, QueryFrom}
+use Rattle.record.specs.Courses.{due, after, after_next, after_spread, passed, stage_after, IsCourse, greatest_status, begun_at, stage_past}
 use Rattle.record.specs.Journals.{stage_tag}
 use Rattle.record.specs.Grammar.{Asks, finalized_after, IsReading}
 use Rattle.record.proofs.Sound.Late.{IsLateWith, late_after}
@@ -53,24 +53,24 @@ closed_of kind number (phase ∷ []) stage course = by_end phase.end refl
           done = [];
           open_phase = phase ∷ [];
           split = refl;
-          path = ap (λ o. passed kind number stage o phase.replies (lacks_pieces phase)) (sym h);
+          path = ap (λ o. passed kind number (begun_at stage phase.position) o phase.replies (lacks_pieces phase)) (sym h);
         }
     by_end (Some end) h = record {
       done = phase ∷ [];
       open_phase = [];
       split = refl;
-      path = (course.0, ap (λ o. passed kind number stage o phase.replies (lacks_pieces phase)) (sym h));
+      path = (course.0, ap (λ o. passed kind number (begun_at stage phase.position) o phase.replies (lacks_pieces phase)) (sym h));
     }
 closed_of kind number (phase ∷ next ∷ later) stage course =
     let ended = course.1.1 in
-    let rest = closed_of kind number (next ∷ later) (passed kind number stage phase.end phase.replies (lacks_pieces phase)) course.2 in
+    let rest = closed_of kind number (next ∷ later) (stage_past kind number stage phase) course.2 in
     record {
       done = phase ∷ rest.done;
       open_phase = rest.open_phase;
       split = ap (λ xs. phase ∷ xs) rest.split;
       path = (
         course.0,
-        subst (λ o. IsPath kind number (passed kind number stage o phase.replies (lacks_pieces phase)) rest.done
+        subst (λ o. IsPath kind number (passed kind number (begun_at stage phase.position) o phase.replies (lacks_pieces phase)) rest.done
             (stage_after kind number stage (phase ∷ next ∷ later))) ended rest.path,
       );
     }

@@ -9,9 +9,9 @@ use Rattle.phase.specs.declared.phase.Taken.{Taken}
 use Rattle.phase.specs.Phase.{Phase, lacks_pieces}
 use Rattle.record.specs.declared.call.CallKind.{CallKind}
 use Rattle.record.specs.Records.{Call, Object}
-use Rattle.record.specs.Courses.{due, after, passed, stage_after, IsCourse}
+use Rattle.record.specs.Courses.{due, after, passed, stage_after, IsCourse, begun_at, stage_past}
 use Rattle.record.specs.declared.stage.Stage.{Stage}
-use Rattle.record.specs.declared.stage.Stage.TheVariants.{ReadNext, ReadSpread, QueryFrom, FetchAt, PreWriteAt}
+use Rattle.record.specs.declared.stage.Stage.TheVariants.{ReadBegin, ReadNext, ReadSpread, QueryFrom, FetchAt, PreWriteAt}
 use Rattle.record.specs.declared.stage.Stage.TheVariants.{FinalizeAt, AgainNext, AgainSpread, MoveSpread, MoveQuery}
 use Rattle.record.specs.declared.stage.Stage.TheVariants.{MoveFetch, MovePreWrite, MoveFinalize, MoveFinal, Ended, Moved}
 use Rattle.record.specs.Legal.{first_stage, source_of, stage_of, IsLegal}
@@ -62,12 +62,12 @@ last_lacking kind number (first ∷ []) stage phase tag end course current ended
     let end_is : first.end ≡ Some end = ap (λ (p : Phase). p.end) same ∙ ended in
     let asked : first.kind ≡ Fetch tag = ap (λ (p : Phase). p.kind) same ∙ fetch in
     let lacking : lacks_pieces first ≡ true = ap (λ (p : Phase). lacks_pieces p) same ∙ lacks in
-    subst (λ o. Plain (due (passed kind number stage o first.replies (lacks_pieces first)))) (sym end_is)
+    subst (λ o. Plain (due (passed kind number (begun_at stage first.position) o first.replies (lacks_pieces first)))) (sym end_is)
     (subst (λ b. Plain (due (after kind number stage first.replies b))) (sym lacking)
     (after_lacking kind number stage first.replies tag first.position
     (course.0 ∙ ap (λ (k : Kind). Some (k, first.position)) asked)))
 last_lacking kind number (first ∷ next ∷ later) stage phase tag end course current ended fetch lacks =
-    last_lacking kind number (next ∷ later) (passed kind number stage first.end first.replies (lacks_pieces first)) phase tag end course.2
+    last_lacking kind number (next ∷ later) (stage_past kind number stage first) phase tag end course.2
     current ended fetch lacks
 
 pub anew_due : (object : Object) → IsLegal object → (index : ℕ) (call : Call) → slice_get object.calls index ≡ Some call →

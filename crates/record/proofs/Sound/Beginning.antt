@@ -11,7 +11,7 @@ use Rattle.phase.specs.Phase.{Phase, lacks_pieces}
 use Rattle.record.specs.declared.call.CallKind.{CallKind}
 use Rattle.record.specs.Records.{Call, Object, layout_at}
 use Rattle.record.specs.declared.stage.Stage.{Stage}
-use Rattle.record.specs.Courses.{due, passed, stage_after, EndsBefore}
+use Rattle.record.specs.Courses.{due, passed, stage_after, EndsBefore, begun_at, stage_past}
 use Rattle.record.specs.Legal.{first_stage, source_of, stage_of, AreOpened}
 use Rattle.record.specs.Journals.{stage_tag}
 use Rattle.record.specs.Fragments.{Code, Determines, IsFetch, IsSettled, request_tag, request_piece}
@@ -52,9 +52,9 @@ get_last (x ∷ xs) y = get_last xs y
 
 stage_push : (kind : CallKind) (number : ℕ) (phases : List Phase) (stage : Stage) (next : Phase) → next.end ≡ None →
     stage_after kind number stage (phases ++ next ∷ []) ≡ stage_after kind number stage phases
-stage_push kind number [] stage next none = ap (λ o. passed kind number stage o next.replies (lacks_pieces next)) none
+stage_push kind number [] stage next none = ap (λ o. passed kind number (begun_at stage next.position) o next.replies (lacks_pieces next)) none
 stage_push kind number (phase ∷ phases) stage next none =
-    stage_push kind number phases (passed kind number stage phase.end phase.replies (lacks_pieces phase)) next none
+    stage_push kind number phases (stage_past kind number stage phase) next none
 
 settled_pushed : (fragment : Code) (object : Object) (call : Call) (next : Phase) (value : List ℕ) → (IsFetch next.kind → ⊥) →
     IsSettled fragment object call value →

@@ -111,7 +111,14 @@ pub settled_sound : (fragment : Code) (object : Object) (step now : ℕ) → ste
 settled_sound fragment object step now less sound index value may =
     call_step fragment object step now less sound index call new object.mail at changed stays
     (changed_keeps object index call new object.mail sound.legal at changed
-    (record { numbered = legal.numbered; begins = legal.begins; phases = legal.phases; course = legal.course; answer = legal.answer }))
+    (record {
+      numbered = legal.numbered;
+      begins = legal.begins;
+      phases = legal.phases;
+      course = legal.course;
+      from_base = legal.from_base;
+      answer = legal.answer;
+    }))
     (record {
       opened = was.opened;
       coded = was.coded;

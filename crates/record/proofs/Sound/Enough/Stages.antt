@@ -18,10 +18,10 @@ use Rattle.bank.specs.declared.status.Status.TheVariants.{Unset, Pending, Final}
 use Rattle.bank.specs.declared.kind.Kind.TheVariants.{Query, PreWrite}
 use Rattle.record.specs.declared.call.CallKind.TheVariants.{Read, Write, Move}
 use Rattle.record.specs.Knowledge.{IsTruePhase}
-use Rattle.record.specs.Courses.{greatest_status, greatest_tag, due, after, passed, IsCourse}
+use Rattle.record.specs.Courses.{greatest_status, greatest_tag, due, after, passed, IsCourse, stage_past, begun_at}
 use Rattle.record.specs.Courses.{after_next, after_spread, after_query, after_again, tagged}
 use Rattle.record.specs.declared.stage.Stage.{Stage}
-use Rattle.record.specs.declared.stage.Stage.TheVariants.{ReadNext, ReadSpread, QueryFrom, FetchAt, PreWriteAt}
+use Rattle.record.specs.declared.stage.Stage.TheVariants.{ReadBegin, ReadNext, ReadSpread, QueryFrom, FetchAt, PreWriteAt}
 use Rattle.record.specs.declared.stage.Stage.TheVariants.{FinalizeAt, AgainNext, AgainSpread, MoveSpread, MoveQuery}
 use Rattle.record.specs.declared.stage.Stage.TheVariants.{MoveFetch, MovePreWrite, MoveFinalize, MoveFinal, Ended, Moved}
 use Rattle.record.specs.Legal.{IsLegal, first_stage, source_of}
@@ -149,9 +149,9 @@ at_phase object lawful kind number (first ∷ next ∷ later) now stage course t
     let grew = start_before_end object first end lawful truth.0 ended in
     let before : now ≤ first.start = starts in
     at_phase object lawful kind number (next ∷ later) end
-    (passed kind number stage first.end first.replies (lacks_pieces first)) course.2 truth.1
+    (stage_past kind number stage first) course.2 truth.1
     (le_of_lt course.1.2)
-    (subst (λ o. PieceFacts object end (passed kind number stage o first.replies (lacks_pieces first))) (sym ended)
+    (subst (λ o. PieceFacts object end (passed kind number (begun_at stage first.position) o first.replies (lacks_pieces first))) (sym ended)
     (pieces_after object kind number now stage first.kind first.position end first.replies (lacks_pieces first) course.0
     (says_of object first end truth.0 ended)
     (le_trans before grew) facts))
