@@ -84,3 +84,23 @@ pub begun_base : (stage : Stage) (base : ℕ) (kind : Kind) (position : ℕ) →
 begun_base stage base kind position first e =
     let there = subst (λ s. due (begun_at s base) ≡ Some (kind, position)) first e in
     sym ((some_pair_parts Next kind base position there).1)
+
+-- a stage whose phase has begun stays
+pub begun_twice : (stage : Stage) (position other : ℕ) → begun_at (begun_at stage position) other ≡ begun_at stage position
+begun_twice ReadBegin position other = refl
+begun_twice (ReadNext a b) position other = refl
+begun_twice (ReadSpread a b c) position other = refl
+begun_twice (QueryFrom a b c d) position other = refl
+begun_twice (FetchAt a b c) position other = refl
+begun_twice (PreWriteAt a b) position other = refl
+begun_twice (FinalizeAt a b) position other = refl
+begun_twice (AgainNext a b c) position other = refl
+begun_twice (AgainSpread a b c d) position other = refl
+begun_twice (MoveSpread a) position other = refl
+begun_twice (MoveQuery a) position other = refl
+begun_twice (MoveFetch a b) position other = refl
+begun_twice (MovePreWrite a b) position other = refl
+begun_twice (MoveFinalize a b) position other = refl
+begun_twice (MoveFinal a b) position other = refl
+begun_twice (Ended a b) position other = refl
+begun_twice (Moved a b) position other = refl

@@ -4,7 +4,7 @@ use Rattle.mail.specs.declared.message.Message.{Message}
 use Rattle.mail.specs.declared.message.Body.{Body}
 use Rattle.record.specs.Records.{Call, Object}
 use Rattle.record.specs.Courses.{due}
-use Rattle.record.specs.Legal.{stage_of}
+use Rattle.record.specs.Legal.{stage_of, due_of}
 use Rattle.record.specs.Fragments.{Code}
 use Rattle.record.specs.Accounts.{stored, some_bytes, stored_by_body, stored_by, freed_by_body, freed_by}
 use Rattle.record.specs.Steps.{moving_object, advanced_object, settled_object, answered_object, served_by, taken_by}
@@ -46,10 +46,10 @@ stored-changed fragment object step now (Step.CallMove layout) server sound =
     (stored-moving object server layout now sound.shape.banks)
 stored-changed fragment object step now (Step.Advance index) server sound =
     stored-on_call object server (slice_get object.calls index) (λ call. advanced_object fragment object index call now)
-    (λ call. stored-begun object server fragment index call (due (stage_of object index call)) now)
+    (λ call. stored-begun object server fragment index call (due_of object index call) now)
 stored-changed fragment object step now (Step.Again index) server sound =
     stored-on_call object server (slice_get object.calls index) (λ call. advanced_object fragment object index call now)
-    (λ call. stored-begun object server fragment index call (due (stage_of object index call)) now)
+    (λ call. stored-begun object server fragment index call (due_of object index call) now)
 stored-changed fragment object step now (Step.Supply index) server sound =
     stored-on_call object server (slice_get object.calls index) (λ call. supplied_object fragment object index call now)
     (λ call. stored-supplied object server fragment index call now (current_phase call.phases))

@@ -41,7 +41,7 @@ path_of_course kind number (phase ∷ []) stage course last = by_end phase.end r
         IsSome phase.end × IsPath kind number stage (phase ∷ []) (stage_after kind number stage (phase ∷ []))
     by_end None h =
         absurd
-        (not_last stage (phase.kind, phase.position) course.0
+        (not_last (begun_at stage phase.position) (phase.kind, phase.position) course.0
         (subst (λ o. IsLast (passed kind number (begun_at stage phase.position) o phase.replies (lacks_pieces phase))) h last))
     by_end (Some end) h = (ap is_some h, (course.0, ap (λ o. passed kind number (begun_at stage phase.position) o phase.replies (lacks_pieces phase)) (sym h)))
 path_of_course kind number (phase ∷ next ∷ later) stage course last =

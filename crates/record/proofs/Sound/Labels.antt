@@ -15,7 +15,7 @@ use Rattle.mail.specs.declared.message.Body.TheVariants as body
 use Rattle.phase.specs.Phase.{Phase}
 use Rattle.record.specs.Records.{Call, Object, bank_at, no_bank}
 use Rattle.record.specs.Courses.{due}
-use Rattle.record.specs.Legal.{stage_of}
+use Rattle.record.specs.Legal.{stage_of, due_of}
 use Rattle.record.specs.Fragments.{Code}
 use Rattle.record.specs.Wants.{current_phase}
 use Rattle.record.specs.Sound.{IsPosted, IsPhasePast, IsCallPast, IsSound}
@@ -67,7 +67,7 @@ banks_supplied fragment object index call now (Some phase) = go (is_some phase.e
   where
     go : (b : Bool) →
         (cond b (advanced_object fragment object index call now) (asked_again fragment object call (Some phase))).banks ≡ object.banks
-    go true = banks_begun fragment object index call (due (stage_of object index call)) now
+    go true = banks_begun fragment object index call (due_of object index call) now
     go false = refl
 
 banks_taken : (object : Object) (place : ℕ) (message : Message) (b : Body) (now : ℕ) →
@@ -182,11 +182,11 @@ module _ (fragment : Code) (object : Object) (last now position member : ℕ) (t
   labels_stepped (Step.Advance index) e =
       kept (Step.Advance index) (stepped fragment (Step.Advance index) now object)
       (banks_on_call object (slice_get object.calls index) (λ call. advanced_object fragment object index call now)
-      (λ call. banks_begun fragment object index call (due (stage_of object index call)) now)) e
+      (λ call. banks_begun fragment object index call (due_of object index call) now)) e
   labels_stepped (Step.Again index) e =
       kept (Step.Again index) (stepped fragment (Step.Again index) now object)
       (banks_on_call object (slice_get object.calls index) (λ call. advanced_object fragment object index call now)
-      (λ call. banks_begun fragment object index call (due (stage_of object index call)) now)) e
+      (λ call. banks_begun fragment object index call (due_of object index call) now)) e
   labels_stepped (Step.Supply index) e =
       kept (Step.Supply index) (stepped fragment (Step.Supply index) now object)
       (banks_on_call object (slice_get object.calls index) (λ call. supplied_object fragment object index call now)

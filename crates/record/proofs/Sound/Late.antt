@@ -64,12 +64,15 @@ pub late_passed : (kind : CallKind) (number : ℕ) (stage : Stage) (end : Option
 late_passed kind number stage None replies lacks tag late = late
 late_passed kind number stage (Some end) replies lacks tag late = late_after kind number stage replies lacks tag late
 
+pub late_begun : (stage : Stage) (position : ℕ) (tag : Tag) → IsLateWith tag stage → IsLateWith tag (begun_at stage position)
+late_begun stage position tag late =
+    begun_has (λ s. IsLateWith tag s) stage position (λ first. absurd (let none = subst (λ s. IsLate s) first late.0 in none)) late
+
 pub late_past : (kind : CallKind) (number : ℕ) (stage : Stage) (phase : Phase) (tag : Tag) → IsLateWith tag stage →
     IsLateWith tag (stage_past kind number stage phase)
 late_past kind number stage phase tag late =
     late_passed kind number (begun_at stage phase.position) phase.end phase.replies (lacks_pieces phase) tag
-    (begun_has (λ s. IsLateWith tag s) stage phase.position
-    (λ first. absurd (let none = subst (λ s. IsLate s) first late.0 in none)) late)
+    (late_begun stage phase.position tag late)
 
 pub late_stays : (kind : CallKind) (number : ℕ) (phases : List Phase) (stage : Stage) (tag : Tag) → IsLateWith tag stage →
     IsLateWith tag (stage_after kind number stage phases)

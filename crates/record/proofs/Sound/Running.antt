@@ -30,9 +30,9 @@ pub step_sound : (fragment : Code) (object : Object) (step now : ℕ) → IsCode
     step < now → IsSound fragment object step → (made : Step) → MayStep fragment object made →
     IsSound fragment (stepped fragment made now object) now
 step_sound fragment object step now code less sound Step.CallRead may =
-    called_sound fragment code object step now less sound Read refl (λ moves. refl) (λ value e. absurd (cc))
+    called_sound fragment code object step now less sound Read refl (λ moves position. refl) (λ value e. absurd (cc))
 step_sound fragment object step now code less sound (Step.CallWrite value) may =
-    called_sound fragment code object step now less sound (Write value) refl (λ moves. refl) (λ other e. written_bytes value other e may)
+    called_sound fragment code object step now less sound (Write value) refl (λ moves position. refl) (λ other e. written_bytes value other e may)
 step_sound fragment object step now code less sound (Step.CallMove layout) may =
     moving_sound fragment code object step now less sound layout may.0 may.1
 step_sound fragment object step now code less sound (Step.Advance index) may =

@@ -15,13 +15,13 @@ use Rattle.record.specs.declared.call.CallKind.{CallKind}
 use Rattle.record.specs.declared.call.CallKind.TheVariants.{Write}
 use Rattle.record.specs.Records.{Call, Object, layout_at}
 use Rattle.record.specs.declared.stage.Stage.{Stage}
-use Rattle.record.specs.Courses.{passed, stage_after, begun_at}
+use Rattle.record.specs.Courses.{passed, stage_after, begun_at, stage_past}
 use Rattle.record.specs.Legal.{AreNumbered}
 use Rattle.record.specs.Journals.{stage_tag}
 use Rattle.record.specs.Fragments.{Code, IsFetch, IsSettled, HasPiece}
 use Rattle.record.specs.Steps.{taking_phases}
 use Rattle.record.proofs.Lists.{all_weaker, get_push, get_set, set_here, set_there}
-use Rattle.record.proofs.Sound.Late.{IsOfWrite, late_of_write, late_passed, of_write_on, late_past}
+use Rattle.record.proofs.Sound.Late.{IsOfWrite, late_of_write, late_passed, of_write_on, late_past, of_write_past}
 use Rattle.record.proofs.Sound.Mays.{grown_phase}
 use Rattle.record.proofs.Begins.{begun_tag}
 

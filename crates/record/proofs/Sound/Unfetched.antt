@@ -154,14 +154,16 @@ fetched_from phase phases stage is (inr still) later =
 
 -- a read or a move that is to send pieces has fetched
 pub fetched_before_due : (kind : CallKind) → Fetches kind → (number : ℕ) (phases : List Phase) (stage : Stage) →
-    IsCourse kind number stage phases → IsUnfetched stage → IsSendingDue (stage_after kind number stage phases) → Fetched phases
-fetched_before_due kind fetches number [] stage course none sending = absurd (unfetched_due stage none sending)
-fetched_before_due kind fetches number (phase ∷ phases) stage course none sending =
+    IsCourse kind number stage phases → IsUnfetched stage → (base : ℕ) →
+    IsSendingDue (begun_at (stage_after kind number stage phases) base) → Fetched phases
+fetched_before_due kind fetches number [] stage course none base sending =
+    absurd (unfetched_due (begun_at stage base) (unfetched_begun stage base none) sending)
+fetched_before_due kind fetches number (phase ∷ phases) stage course none base sending =
     fetched_from phase phases (begun_at stage phase.position) course.0
     (unfetched_passed kind fetches number (begun_at stage phase.position) phase.end phase.replies (lacks_pieces phase)
     (unfetched_begun stage phase.position none))
     (λ still. fetched_before_due kind fetches number phases
-    (stage_past kind number stage phase) course.2 still sending)
+    (stage_past kind number stage phase) course.2 still base sending)
 
 -- and so has one that sends them
 pub fetched_before_sent : (kind : CallKind) → Fetches kind → (number : ℕ) (phases : List Phase) (stage : Stage) →
