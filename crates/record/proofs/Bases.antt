@@ -132,3 +132,36 @@ pub base_everywhere : (base other : ℕ → ℕ) → ((step : ℕ) → other ste
     AllByRecursion (λ phase. other phase.start ≡ base phase.start) phases
 base_everywhere base other same [] = tt
 base_everywhere base other same (phase ∷ phases) = (same phase.start, base_everywhere base other same phases)
+
+-- no position is retired from the first that is not
+first_none : (banks : List (List Bank)) → RetiredOf banks 0 ≡ None → retired_first banks ≡ 0
+first_none [] e = refl
+first_none (first ∷ later) e = ap (λ (o : Option ℕ). cond (is_some o) (suc (retired_first later)) 0) e
+
+-- the base goes up by one where its banks are retired, and those of the next position are not
+pub base_raised : (banks : List (List Bank)) (fresh : List Bank) (now : ℕ) → retired_first banks < length banks →
+    (get_or fresh 0 no_bank).retired ≡ Some now → RetiredOf banks (suc (retired_first banks)) ≡ None →
+    retired_first (set banks (retired_first banks) fresh) ≡ suc (retired_first banks)
+base_raised [] fresh now below retired next = absurd (omega arith)
+base_raised (first ∷ later) fresh now below retired next =
+    go (get_or first 0 no_bank).retired refl (λ h n. base_raised later fresh now h retired n) below next
+  where
+    count : Option ℕ → ℕ
+    count o = cond (is_some o) (suc (retired_first later)) 0
+
+    go : (o : Option ℕ) → (get_or first 0 no_bank).retired ≡ o →
+        (retired_first later < length later → RetiredOf later (suc (retired_first later)) ≡ None →
+        retired_first (set later (retired_first later) fresh) ≡ suc (retired_first later)) →
+        count (get_or first 0 no_bank).retired < suc (length later) →
+        RetiredOf (first ∷ later) (suc (count (get_or first 0 no_bank).retired)) ≡ None →
+        retired_first (set (first ∷ later) (count (get_or first 0 no_bank).retired) fresh)
+        ≡ suc (count (get_or first 0 no_bank).retired)
+    go None e rest h n =
+        subst (λ o. retired_first (set (first ∷ later) (count o) fresh) ≡ suc (count o)) (sym e)
+        (ap (λ (o : Option ℕ). cond (is_some o) (suc (retired_first later)) 0) retired
+        ∙ ap suc (first_none later (subst (λ o. RetiredOf (first ∷ later) (suc (count o)) ≡ None) e n)))
+    go (Some at) e rest h n =
+        let below : suc (retired_first later) < suc (length later) = subst (λ o. count o < suc (length later)) e h in
+        subst (λ o. retired_first (set (first ∷ later) (count o) fresh) ≡ suc (count o)) (sym e)
+        (ap (λ (o : Option ℕ). cond (is_some o) (suc (retired_first (set later (retired_first later) fresh))) 0) e
+        ∙ ap suc (rest (omega arith) (subst (λ o. RetiredOf (first ∷ later) (suc (count o)) ≡ None) e n)))

@@ -4,7 +4,6 @@ ghost use Rattle.std.specs.List.{AllByRecursion};
 ghost use Rattle.record.specs.Accounts.{base_bytes, freed_by, member_sum};
 ghost use Rattle.record.specs.Fragments.{Code};
 ghost use Rattle.record.specs.Legal.{IsMovedOut};
-ghost use Rattle.record.specs.May.{MayStep};
 ghost use Rattle.record.specs.Records.{base_of, layout_at, Object, retired_at};
 ghost use Rattle.record.specs.Sound.{IsSound};
 ghost use Rattle.record.specs.Steps.{Step, stepped};
@@ -16,10 +15,9 @@ pub fn retiring_frees_the_base()
         → member_sum (λ server. freed_by object Step.Retire now server) 0 servers ≡ base_bytes object }
 {}
 
-/// Where it may be made, it raises the base by one.
+/// It raises the base by one.
 pub fn retiring_raises_the_base()
-    ensures { (fragment : Code) (object : Object) (last now : ℕ) → IsSound fragment object last
-        → MayStep fragment object Step.Retire
+    ensures { (fragment : Code) (object : Object) (last now : ℕ) → last < now → IsSound fragment object last
         → base_of (stepped fragment Step.Retire now object) ≡ suc (base_of object) }
 {}
 

@@ -17,7 +17,7 @@ use Rattle.record.specs.Fragments.{Code}
 use Rattle.record.specs.Accounts.{mailed, some_bytes, reply_bytes, due_bytes, again_bytes}
 use Rattle.record.specs.Accounts.{supply_bytes, mailed_by, asked_bytes, told_bytes, unmailed_by}
 use Rattle.record.specs.Sending.{sent_pieces}
-use Rattle.record.specs.Steps.{called_object, moving_object, begun_object, advanced_object, settled_object}
+use Rattle.record.specs.Steps.{called_object, moving_object, begun_object, advanced_object, settled_object, retired_object}
 use Rattle.record.specs.Steps.{answered_object, served_by, taken_object, taken_by, lost_object, repeated_object}
 use Rattle.record.specs.Steps.{asked_again, supplied_by, supplied_object, Step, on_call, on_message, stepped}
 use Rattle.record.specs.Wants.{current_phase}
@@ -157,3 +157,4 @@ mailed-stepped fragment object now (Step.Repeat place) = found (slice_get object
     found None = refl
     found (Some message) =
         more_left (mailed (repeated_object object message)) (mailed object) (message_bytes message) (mailed-repeated object message)
+mailed-stepped fragment object now Step.Retire = same_both (mailed (retired_object object now)) (mailed object) refl

@@ -55,7 +55,7 @@ position-set server (x ∷ members) (old ∷ banks) (suc member) bank m b =
     (position-set server members banks member bank below there)
 
 -- other banks for a position
-stored-set : (server : ℕ) (layouts : List Layout) (banks : List (List Bank)) (position : ℕ) (row : List Bank) →
+pub stored-set : (server : ℕ) (layouts : List Layout) (banks : List (List Bank)) (position : ℕ) (row : List Bank) →
     position < length layouts → position < length banks → stored_bytes server layouts (set banks position row)
     + position_bytes server (get_or layouts position no_layout).members (get_or banks position [])
     ≡ stored_bytes server layouts banks + position_bytes server (get_or layouts position no_layout).members row

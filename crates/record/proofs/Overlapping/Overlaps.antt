@@ -36,6 +36,7 @@ use Rattle.record.proofs.Lists.{all_get, all_weaker, none_twice}
 use Rattle.record.proofs.Sound.Enough.Counting.{enough_not_lacking}
 use Rattle.record.proofs.Sound.Enough.Fetches.{fetch_has_enough}
 use Rattle.record.proofs.Tags.{IsAtMost, not_below_at_most, opening_at_most, tag_lt-true}
+use Rattle.record.proofs.Atomic.Quorums.Replies.{came_by_later}
 
 -- a number that none of these equals is not among them
 apart_from : (xs : List ℕ) (x : ℕ) → AllByRecursion (λ y. y ≡ x → ⊥) xs → has xs x ≡ false

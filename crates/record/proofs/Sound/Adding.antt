@@ -23,6 +23,7 @@ use Rattle.bank.specs.Facts.{SameBefore}
 use Rattle.layout.specs.Layout.{Layout}
 use Rattle.tag.specs.Tag.{opening_tag}
 use Rattle.record.proofs.Bases.{base_kept, base_everywhere, bases_same}
+use Rattle.record.proofs.Begins.{begun_tag}
 use Rattle.record.proofs.Lists.{all_weaker, all_pairs, get_push, none_twice}
 use Rattle.record.proofs.Sound.Added.{moves_push, take_all, made_before, first_untagged}
 use Rattle.record.proofs.Sound.Added.{Wider, begun, answered_past, none_coded, begun_more, moved_more}
@@ -235,7 +236,8 @@ added_sound fragment object new step now less sound kind asked position wide siz
         omega arith
     tags i c tag t (inr here) =
         let t' : tag_of new index call ≡ Some tag = subst₂ (λ k d. tag_of new k d ≡ Some tag) here.0 (sym here.1) t in
-        absurd (let no : None ≡ Some tag = sym (first_untagged kind (source_of new index)) ∙ t' in cc)
+        absurd (let no : None ≡ Some tag = sym (begun_tag (first_stage kind (source_of new index)) position
+        ∙ first_untagged kind (source_of new index)) ∙ t' in cc)
 
     request : (member : ℕ) → member < length (layout_at new position).members →
         MessageRest fragment new now (request_message (suc index) 1 asked position empty_piece member)

@@ -9,7 +9,7 @@ use Rattle.bank.specs.declared.kind.Kind.{Kind}
 use Rattle.mail.specs.declared.message.Message.{Message}
 use Rattle.phase.specs.Phase.{Phase, lacks_pieces}
 use Rattle.record.specs.declared.call.CallKind.{CallKind}
-use Rattle.record.specs.Records.{Call, Object, layout_at}
+use Rattle.record.specs.Records.{Call, Object, layout_at, base_of}
 use Rattle.record.specs.declared.stage.Stage.{Stage}
 use Rattle.record.specs.Courses.{due, passed, stage_after, EndsBefore, begun_at, stage_past}
 use Rattle.record.specs.Legal.{first_stage, source_of, stage_of, AreOpened, due_of}
@@ -29,11 +29,12 @@ use Rattle.record.proofs.Sound.Due.{due_there}
 use Rattle.record.proofs.Sound.Fetching.{FetchDue, late_due, course_late}
 use Rattle.record.proofs.Sound.Later.{if_coded_grows}
 use Rattle.record.proofs.Sound.Mailing.{request_message, kind_of-request_to, all_requests, all_append}
-use Rattle.record.proofs.Sound.Parts.{ReplyCoded, CallRest, MessageRest, call_rest, mail_rest}
+use Rattle.record.proofs.Sound.Parts.{ReplyCoded, CallRest, MessageRest, call_rest, mail_rest, base_past}
 use Rattle.record.proofs.Sound.Enough.Counting.{pieces_not_lacking}
 use Rattle.record.proofs.Sound.Waiting.{LastAt, last_at}
 use Rattle.record.proofs.Sound.Wanting.{MayGoOn, ended_before}
 use Rattle.record.proofs.Begins.{begun_tag}
+use Rattle.record.proofs.Sound.Late.{late_begun}
 
 pub get_pushed : {A : Type 0} (xs : List A) (y x : A) (i : ℕ) → slice_get (xs ++ y ∷ []) i ≡ Some x →
     (slice_get xs i ≡ Some x) ⊎ ((i ≡ length xs) × (y ≡ x))
