@@ -2,7 +2,7 @@
 
 ghost use Rattle.std.specs.Prelude.{◌≡◌};
 ghost use Rattle.phase.specs.Phase.{lacks_pieces};
-ghost use Rattle.record.specs.Courses.{due, passed};
+ghost use Rattle.record.specs.Courses.{begun_at, due, passed};
 ghost use Rattle.record.specs.Legal.{first_stage};
 ghost use Rattle.record.specs.Journals.{stage_tag};
 ghost use Rattle.transfer.specs.Limits.{IsBelowLimit, HasNextTag};
@@ -14,22 +14,35 @@ use record::{CallKind, Stage};
 use successor::Reading;
 use tag::Tag;
 
-/// Where a call stands that begins. A move leads from the position `from`; a read or a write begins at position 0.
+/// Where a call stands that begins. A move leads from the position `from`; the first reading of a read or a write has
+/// not begun.
 pub fn first_stage(kind: &CallKind, from: u32) -> Stage
     ensures { result ≡ first_stage kind.now from }
 {
     match kind {
-        CallKind::Read | CallKind::Write(_) => first(Reading::start(0)),
+        CallKind::Read | CallKind::Write(_) => Stage::ReadBegin,
         CallKind::Move => Stage::MoveSpread { position: from },
     }
 }
 
-/// The phase that is due, with its position; none where the call may be answered.
+/// Where a call stands once its phase begins at a position: a first reading begins there.
+pub fn begun_at(stage: Stage, position: u32) -> Stage
+    ensures { result ≡ begun_at stage position }
+{
+    match stage {
+        Stage::ReadBegin => first(Reading::start(position)),
+        _ => stage,
+    }
+}
+
+/// The phase that is due, with its position; none where the call may be answered. A first reading that has not begun
+/// is due at whatever position it will begin at; this names the first.
 pub fn due(stage: Stage) -> Option<(Kind, u32)>
     requires { IsBelowLimit stage }
     ensures { result ≡ due stage }
 {
     match stage {
+        Stage::ReadBegin => Some((Kind::Next, 0)),
         Stage::ReadNext { position, .. } => Some((Kind::Next, position)),
         Stage::AgainNext { position, .. } => Some((Kind::Next, position)),
         Stage::ReadSpread {
@@ -75,7 +88,8 @@ pub fn stage_tag(stage: Stage) -> Option<Tag>
     ensures { result ≡ stage_tag stage }
 {
     match stage {
-        Stage::ReadNext { .. }
+        Stage::ReadBegin
+        | Stage::ReadNext { .. }
         | Stage::ReadSpread { .. }
         | Stage::QueryFrom { .. }
         | Stage::MoveSpread { .. }
