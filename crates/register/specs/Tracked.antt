@@ -13,7 +13,7 @@ use Rattle.record.specs.declared.stage.Stage.{Stage}
 use Rattle.record.specs.declared.stage.Want.{Want}
 use Rattle.record.specs.declared.stage.Want.TheVariants as want
 use Rattle.record.specs.Records.{Call, Object}
-use Rattle.record.specs.Courses.{due, passed}
+use Rattle.record.specs.Courses.{begun_at, due, passed}
 use Rattle.record.specs.Steps.{taking_call, new_phase}
 use Rattle.record.specs.Sending.{missing, requests}
 use Rattle.record.specs.Wants.{current_phase, want_after}
@@ -33,14 +33,14 @@ tracked_want object t =
     if is_some t.call.answered then want.Done else want_after object (due t.stage) t.call.settled
     (current_phase t.call.phases)
 
--- the call of this number with one more phase
+-- the call of this number with one more phase; a first reading begins where that phase is
 abbrev pub with_begun : Tracked → (number : ℕ) → Kind → (position : ℕ) → Layout → (now : ℕ) → Tracked
 with_begun t number kind position layout now = record {
   call = record t.call {
     phases = t.call.phases ++ new_phase number
         (suc (length t.call.phases)) kind position layout now ∷ [];
   };
-  stage = t.stage;
+  stage = begun_at t.stage position;
 }
 
 -- the stage once the current phase took a message: it moves on where that take completed the phase

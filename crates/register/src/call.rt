@@ -28,7 +28,7 @@ use record::{CallKind, Stage};
 use std::alloc::Global;
 use std::marker::Model;
 use tag::{MOST_PHASES, Refusal, Stamp};
-use transfer::passed;
+use transfer::{begun_at, passed};
 
 mod views;
 
@@ -77,7 +77,7 @@ impl Call {
     }
 
     /// The call, whose number this is, begins a phase at a position with this layout: its requests are posted, and the
-    /// call has the phase. Either both or, where it is refused, neither.
+    /// call has the phase; a first reading begins there. Either all or, where it is refused, nothing.
     pub(crate) fn begin(
         &mut self,
         number: u64,
@@ -122,6 +122,7 @@ impl Call {
         self.phases.reserve(1)?;
         mail.post_all(messages)?;
         self.phases.push_reserved(phase);
+        self.stage = begun_at(self.stage, position);
         Ok(())
     }
 

@@ -1,4 +1,4 @@
-ghost use Rattle.std.specs.Prelude.{◌≡◌, ◌<◌, ◌^◌, length, slice_get, slice_set, slice_index, option_copied, Some};
+ghost use Rattle.std.specs.Prelude.{◌≡◌, ◌<◌, ◌^◌, length, map, slice_get, slice_set, slice_index, option_copied, Some};
 ghost use Rattle.std.specs.Prelude.{IfOk, IfErr, OnOk, OnErr, IfSome};
 ghost use Rattle.tag.specs.declared.refusal.Refusal.TheVariants.{NoMemory};
 
@@ -31,9 +31,11 @@ impl Position {
     ghost use Rattle.layout.specs.Layout.{IsLawful};
     ghost use Rattle.bank.specs.Bank.{Bank as Table};
     ghost use Rattle.bank.specs.Bytes.{bank_bytes};
+    ghost use Rattle.bank.specs.Collect.{retired_bank};
     ghost use Rattle.bank.specs.Serve.{served_bank, reply_to};
     ghost use Rattle.record.specs.Accounts.{position_bytes};
     ghost use Rattle.record.specs.Steps.{opened_banks};
+    ghost use Rattle.register.specs.Position.{banks_bytes};
 
     /// A position whose banks are opened at step `now`, and keep `delta` finalized versions beside the newest.
     /// `NoMemory` is the only refusal.
@@ -99,6 +101,20 @@ impl Position {
         ensures unchanged { OnErr result (self.new ≡ self.old) }
     {
         self.banks[usize::from(member)].serve(request, now)
+    }
+
+    /// The banks drop all pieces, and those that come after step `now`. It answers how many bytes that frees.
+    pub(crate) fn retire(&mut self, now: Stamp) -> u64
+        requires room { banks_bytes self.old.banks < 2 ^ 64 }
+        ensures layout { self.new.layout ≡ self.old.layout }
+        ensures banks { self.new.banks ≡ map (λ bank. retired_bank bank now) self.old.banks }
+        ensures freed { result ≡ banks_bytes self.old.banks }
+    {
+        let mut freed = 0;
+        for member in 0..self.banks.len() {
+            freed += self.banks[member].retire(now);
+        }
+        freed
     }
 
     /// How many bytes the banks store whose member is this server.
