@@ -1,5 +1,5 @@
 -- A write, a move to another server, the first position retired, and a read from the second.
-use Rattle.std.proofs.Common.{◌≡◌, ℕ, sym, ◌∙◌, ◌≤◌, List, [], ◌∷◌, ◌++◌, Some, None, refl, ap, arith, le_refl, inl}
+use Rattle.std.proofs.Common.{◌≡◌, ℕ, sym, ◌∙◌, List, [], ◌∷◌, ◌++◌, Some, None, refl, ap, arith, le_refl, inl}
 use Rattle.bank.specs.declared.kind.Kind.TheVariants.{Query, Fetch}
 use Rattle.record.specs.Records.{Object}
 use Rattle.record.specs.Journals.{entries}
