@@ -119,7 +119,7 @@ base_set base kind number [] stage place old new begins at last p s = absurd (cc
 base_set base kind number (phase ∷ []) stage zero old new begins at last p s =
     let same = same_Some phase old at in (
       (λ first. p ∙ sym (ap (λ (q : Phase). q.position) same) ∙ begins.0 first
-      ∙ ap base (ap (λ (q : Phase). q.start) same ∙ sym s)),
+          ∙ ap base (ap (λ (q : Phase). q.start) same ∙ sym s)),
       tt,
     )
 base_set base kind number (phase ∷ []) stage (suc place) old new begins at last p s = absurd (cc)

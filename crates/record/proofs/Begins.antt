@@ -1,5 +1,5 @@
 -- A stage once its phase begins: a first reading stands at its position, and any other stage as it is.
-use Rattle.std.proofs.Common.{◌≡◌, ℕ, List, Option, Some, None, refl, sym, subst, ap, ◌∙◌}
+use Rattle.std.proofs.Common.{◌≡◌, ℕ, Some, None, refl, sym, subst, ap}
 use Rattle.std.proofs.lemmas.Option.{some_pair_parts}
 use Rattle.bank.specs.declared.kind.Kind.{Kind}
 use Rattle.bank.specs.declared.kind.Kind.TheVariants.{Next}
@@ -104,3 +104,23 @@ begun_twice (MoveFinalize a b) position other = refl
 begun_twice (MoveFinal a b) position other = refl
 begun_twice (Ended a b) position other = refl
 begun_twice (Moved a b) position other = refl
+
+-- a stage that is no first reading which has not begun
+pub begun_other : (stage : Stage) (position : ℕ) → (stage ≡ ReadBegin → ⊥) → begun_at stage position ≡ stage
+begun_other ReadBegin position other = absurd (other refl)
+begun_other (ReadNext a b) position other = refl
+begun_other (ReadSpread a b c) position other = refl
+begun_other (QueryFrom a b c d) position other = refl
+begun_other (FetchAt a b c) position other = refl
+begun_other (PreWriteAt a b) position other = refl
+begun_other (FinalizeAt a b) position other = refl
+begun_other (AgainNext a b c) position other = refl
+begun_other (AgainSpread a b c d) position other = refl
+begun_other (MoveSpread a) position other = refl
+begun_other (MoveQuery a) position other = refl
+begun_other (MoveFetch a b) position other = refl
+begun_other (MovePreWrite a b) position other = refl
+begun_other (MoveFinalize a b) position other = refl
+begun_other (MoveFinal a b) position other = refl
+begun_other (Ended a b) position other = refl
+begun_other (Moved a b) position other = refl

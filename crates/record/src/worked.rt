@@ -34,8 +34,8 @@ pub fn the_bound_is_met_exactly()
     ensures { IsMetExactly (run whole lacking_script 3 (opened_object one_member (Some 0) 2)) }
 {}
 
-/// A write and a move to another server, after which the first position is retired, and a read that begins at the second:
-/// it asks for no pointer of the first.
+/// A write and a move to another server, after which the first position is retired, and a read that begins at the
+/// second: it asks for no pointer of the first.
 pub fn a_read_from_the_base()
     ensures may { MayRun whole retire_script 3 (opened_object one_member None 2) }
     ensures gives { entries (run whole retire_script 3 (opened_object one_member None 2)) ≡ retire_entries }

@@ -5,8 +5,7 @@ use Rattle.bank.specs.declared.kind.Kind.TheVariants.{PreWrite}
 use Rattle.mail.specs.Message.{request_bytes}
 use Rattle.phase.specs.Phase.{Phase}
 use Rattle.record.specs.Records.{Call, Object, layout_at}
-use Rattle.record.specs.Courses.{due}
-use Rattle.record.specs.Legal.{stage_of, IsLegal, due_of}
+use Rattle.record.specs.Legal.{IsLegal, due_of}
 use Rattle.record.specs.Fragments.{Code}
 use Rattle.record.specs.Accounts.{member_sum, some_bytes, due_bytes, again_bytes, supply_bytes, mailed_by}
 use Rattle.record.specs.Sending.{sent_pieces, request_to}

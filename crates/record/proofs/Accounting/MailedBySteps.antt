@@ -11,8 +11,7 @@ use Rattle.mail.specs.Mail.{mail_bytes}
 use Rattle.phase.specs.Phase.{Phase}
 use Rattle.record.specs.declared.call.CallKind.TheVariants.{Read, Write}
 use Rattle.record.specs.Records.{Call, Object}
-use Rattle.record.specs.Courses.{due}
-use Rattle.record.specs.Legal.{stage_of, due_of}
+use Rattle.record.specs.Legal.{due_of}
 use Rattle.record.specs.Fragments.{Code}
 use Rattle.record.specs.Accounts.{mailed, some_bytes, reply_bytes, due_bytes, again_bytes}
 use Rattle.record.specs.Accounts.{supply_bytes, mailed_by, asked_bytes, told_bytes, unmailed_by}

@@ -1,6 +1,7 @@
 -- What retiring the base frees.
-use Rattle.std.proofs.Common.{◌≡◌, ℕ, zero, suc, ◌+◌, ◌<◌, ◌≤◌, ◌||◌, ◌&&◌, eqb, Bool, true, false, cond, is_some, sum_by, List, [], ◌∷◌, eqb-true}
-use Rattle.std.proofs.Common.{length, map, get_or, Option, Some, None, refl, sym, subst, ap, ◌∙◌, arith, eq-eqb, ne_eqb}
+use Rattle.std.proofs.Common.{◌≡◌, ℕ, zero, suc, ◌+◌, ◌<◌, ◌≤◌, ◌||◌, ◌&&◌, eqb, Bool, true, false, cond, is_some, sum_by, List, [], ◌∷◌}
+use Rattle.std.proofs.Common.{eqb-true}
+use Rattle.std.proofs.Common.{length, map, Option, Some, None, refl, sym, ap, arith, eq-eqb, ne_eqb}
 use Rattle.std.proofs.lemmas.List.Sums.{sum_by-cons}
 use Rattle.std.specs.List.{AllByRecursion}
 use Rattle.std.specs.FinMap as map

@@ -13,8 +13,7 @@ use Rattle.mail.specs.declared.message.Message.{Message}
 use Rattle.mail.specs.declared.message.Body.{Body}
 use Rattle.phase.specs.Phase.{Phase}
 use Rattle.record.specs.Records.{Call, Object, layout_at, bank_at, no_bank, no_layout}
-use Rattle.record.specs.Courses.{due}
-use Rattle.record.specs.Legal.{stage_of, due_of}
+use Rattle.record.specs.Legal.{due_of}
 use Rattle.record.specs.Fragments.{Code}
 use Rattle.record.specs.Accounts.{position_bytes, stored_bytes, stored, server_at, for_server, stored_by_body, freed_by_body}
 use Rattle.record.specs.Steps.{with_bank, with_phase, opened_banks, moving_object, begun_object}

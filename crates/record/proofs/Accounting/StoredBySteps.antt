@@ -1,10 +1,9 @@
 -- What each step adds to what a server stores, and what it frees.
-use Rattle.std.proofs.Common.{◌≡◌, ℕ, ◌+◌, ◌<◌, length, Option, Some, None, refl, arith, slice_get, map}
+use Rattle.std.proofs.Common.{◌≡◌, ℕ, ◌+◌, ◌<◌, length, Option, Some, None, refl, arith, slice_get, map, get_or, []}
 use Rattle.mail.specs.declared.message.Message.{Message}
 use Rattle.mail.specs.declared.message.Body.{Body}
-use Rattle.record.specs.Records.{Call, Object, base_of}
-use Rattle.record.specs.Courses.{due}
-use Rattle.record.specs.Legal.{stage_of, due_of}
+use Rattle.record.specs.Records.{Call, Object, base_of, layout_at}
+use Rattle.record.specs.Legal.{due_of}
 use Rattle.record.specs.Fragments.{Code}
 use Rattle.record.specs.Accounts.{stored, some_bytes, stored_by_body, stored_by, freed_by_body, freed_by}
 use Rattle.record.specs.Steps.{moving_object, advanced_object, settled_object, answered_object, served_by, taken_by}
@@ -14,9 +13,11 @@ use Rattle.record.specs.Sound.{IsPosted, IsSound}
 use Rattle.record.specs.Knowledge.{IsTruePhase}
 use Rattle.mail.specs.declared.message.Body.TheVariants as body
 use Rattle.record.proofs.Accounting.Stored.{stored-handled, stored-begun, stored-asked_again, stored-supplied, stored-taken, stored-moving}
+use Rattle.record.proofs.Accounting.Stored.{stored-set}
 use Rattle.record.proofs.Lists.{all_get}
 use Rattle.record.proofs.Sound.Due.{base_there}
 use Rattle.bank.specs.Collect.{retired_bank}
+use Rattle.record.proofs.Accounting.Retired.{position-retired}
 
 -- Each step, by its name
 

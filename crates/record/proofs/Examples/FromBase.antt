@@ -1,5 +1,5 @@
 -- A write, a move to another server, the first position retired, and a read from the second.
-use Rattle.std.proofs.Common.{◌≡◌, ◌≤◌, List, [], ◌∷◌, ◌++◌, Some, None, refl, ap, arith, le_refl}
+use Rattle.std.proofs.Common.{◌≡◌, ℕ, sym, ◌∙◌, List, [], ◌∷◌, ◌++◌, Some, None, refl, ap, arith, le_refl, inl}
 use Rattle.bank.specs.declared.kind.Kind.TheVariants.{Query, Fetch}
 use Rattle.record.specs.Records.{Object}
 use Rattle.record.specs.Journals.{entries}
@@ -51,6 +51,9 @@ base_letter = record base_fetched { mail = reply_of 3 3 1 (Fetch first_tag) 47 (
 base_fetched-is : base_fetched ≡ base_letter
 base_fetched-is = ap (λ mail. record base_fetched { mail = mail }) base_fetched-mail
 
+both_none : (a b : ℕ) → a ≡ 0 → b ≡ 0 → a ≡ b
+both_none a b e f = e ∙ sym f
+
 base_asks : Leads to_base_query 27 move_letter base_found
 base_asks = record {
   gives = base_queried-is;
@@ -59,7 +62,7 @@ base_asks = record {
       (also (_, (refl, (_, refl))) (also (_, (refl, (_, _, refl))) (also (_, (refl, refl)) (also (_, (refl, (_, refl)))
       (also (_, (refl, (_, _, refl))) (also (_, (refl, refl)) (also (_, (refl, (_, refl))) (also (_, (refl, (_, _, refl)))
       (also (_, (refl, refl))
-      (also (38, record { index = 1; call = _; at = refl; kind = refl; source = refl; was = refl })
+      (also (38, record { index = 1; call = _; at = refl; kind = refl; source = both_none _ _ refl refl; was = refl })
       (also tt (also (_, (refl, (_, refl))) (also (_, (refl, (_, _, refl))) (also (_, (refl, refl))
       (also (_, (refl, (_, refl))) tt)))))))))))))))));
 }

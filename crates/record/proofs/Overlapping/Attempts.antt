@@ -137,7 +137,8 @@ module _ (object : Object) (base : ℕ → ℕ) (rests : Rests object base) (fro
       by_kind false other lacks is rest =
           rest since end (stage_past Read number stage first) course.2 begins.1
           (let g = grew in let b = before in omega arith) (le_of_lt course.1.2)
-          (one_phase object Read from number since first.start end stage' first lawful course.0 truth.0 ended order' (le_refl first.start) facts')
+          (one_phase object Read from number since first.start end stage' first lawful course.0 truth.0 ended order'
+          (le_refl first.start) facts')
       by_kind true fetches true is rest =
           let found = fetch_is first.kind fetches in
           let anew = reads_anew object from number since first.start stage' first.replies found.0 first.position facts'
@@ -152,7 +153,7 @@ module _ (object : Object) (base : ℕ → ℕ) (rests : Rests object base) (fro
           let found = fetch_is first.kind fetches in
           let late = first_late Read number stage' first first found.0 course.0 refl found.1 is in
           absurd (none_late Read number (next ∷ later) (stage_past Read number stage first) found.0
-          (subst (λ o. IsLateWith found.0 (passed Read number (begun_at stage first.position) o first.replies (lacks_pieces first))) (sym ended) late)
+          (subst (λ o. IsLateWith found.0 (passed Read number stage' o first.replies (lacks_pieces first))) (sym ended) late)
           course.2 place phase tag at fetch)
 
 -- the tag that a read fetches is the greatest that its queries found since it last began

@@ -13,13 +13,13 @@ use Rattle.bank.specs.declared.kind.Kind.TheVariants.{Next, Spread, Query, PreWr
 use Rattle.bank.specs.declared.reply.Answer.{Answer}
 use Rattle.bank.specs.declared.reply.Answer.TheVariants as answer
 use Rattle.phase.specs.declared.phase.Taken.{Taken}
-use Rattle.phase.specs.Phase.{Phase, lacks_pieces}
+use Rattle.phase.specs.Phase.{Phase}
 use Rattle.record.specs.declared.call.CallKind.{CallKind}
 use Rattle.record.specs.declared.call.CallKind.TheVariants.{Read, Write, Move}
 use Rattle.record.specs.declared.stage.Stage.{Stage}
 use Rattle.record.specs.Records.{Call, Object, bank_at}
 use Rattle.record.specs.Knowledge.{IsTrueReply, IsTruePhase}
-use Rattle.record.specs.Courses.{shown_tag, greatest_tag, passed, IsCourse, stage_past}
+use Rattle.record.specs.Courses.{shown_tag, greatest_tag, IsCourse, stage_past}
 use Rattle.record.specs.Fragments.{Code, kind_tag}
 use Rattle.record.specs.Journals.{tag_of}
 use Rattle.record.specs.Legal.{first_stage, source_of, HasBegun}

@@ -1,5 +1,5 @@
 -- The phases of a read or a write up to its tag: attempts that were given up, then a reading and the queries.
-use Rattle.std.proofs.Common.{◌≡◌, ◌≢◌, ℕ, zero, suc, ◌+◌, ◌≤◌, Bool, true, false, List, [], ◌∷◌, ◌++◌}
+use Rattle.std.proofs.Common.{◌≡◌, ◌≢◌, ℕ, zero, suc, ◌≤◌, Bool, true, false, List, [], ◌∷◌, ◌++◌}
 use Rattle.std.proofs.Common.{length, Option, Some, is_some, refl, sym, subst, ap, ◌∙◌, arith, le_refl}
 use Rattle.std.proofs.lemmas.List.{append_assoc, length-append}
 use Rattle.tag.specs.declared.tag.Tag.{Tag}
@@ -10,7 +10,7 @@ use Rattle.phase.specs.Phase.{Phase, lacks_pieces}
 use Rattle.record.specs.declared.call.CallKind.{CallKind}
 use Rattle.record.specs.declared.call.CallKind.TheVariants.{Read, Write, Move}
 use Rattle.record.specs.declared.stage.Stage.{Stage}
-use Rattle.record.specs.declared.stage.Stage.TheVariants.{ReadBegin, ReadNext, FetchAt}
+use Rattle.record.specs.declared.stage.Stage.TheVariants.{ReadBegin, FetchAt}
 use Rattle.record.specs.Courses.{after, tagged, stage_after, IsCourse}
 use Rattle.record.specs.Journals.{stage_tag}
 use Rattle.record.specs.Grammar.{IsReading, AreQueries, greatest_shown, place_shown, IsAttempt, AreAttempts, attempt_phases, FindsTag}
@@ -153,10 +153,11 @@ by_rest : (kind : CallKind) (number : ℕ) (end : Stage) (phases first queries :
 by_rest Read number end phases first queries start last to [] reads reading asked split again path =
     final Read number end phases first queries start last to reading asked [] reads split (λ k fetch later same. absurd (cc)) path
 by_rest Read number end phases first queries start last to (fetch ∷ later) reads reading asked split again path =
-    read_attempt number end phases first queries start last to fetch later reading asked split (again fetch later refl) (lacks_pieces fetch) refl
-    path
+    read_attempt number end phases first queries start last to fetch later reading asked split (again fetch later refl)
+    (lacks_pieces fetch) refl path
 by_rest (Write value) number end phases first queries start last to rest reads reading asked split again path =
-    final (Write value) number end phases first queries start last to reading asked rest reads split (λ k fetch later same. absurd (cc)) path
+    final (Write value) number end phases first queries start last to reading asked rest reads split
+    (λ k fetch later same. absurd (cc)) path
 by_rest Move number end phases first queries start last to rest reads reading asked split again path = absurd (reads refl)
 
 pub attempt_split : (kind : CallKind) → kind ≢ Move → (number fuel : ℕ) (phases : List Phase) → length phases ≤ fuel →

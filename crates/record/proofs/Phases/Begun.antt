@@ -30,7 +30,8 @@ record Begun (kind : CallKind) (number : ℕ) (stage : Stage) (phases : List Pha
 -- a complete phase before what a later stage begins with
 begun_on : (kind : CallKind) (number : ℕ) (stage : Stage) (phase : Phase) (later : List Phase) →
     due (begun_at stage phase.position) ≡ Some (phase.kind, phase.position) → IsEndedBefore phase later →
-    Begun kind number (after kind number (begun_at stage phase.position) phase.replies (lacks_pieces phase)) later → Begun kind number stage (phase ∷ later)
+    Begun kind number (after kind number (begun_at stage phase.position) phase.replies (lacks_pieces phase)) later →
+    Begun kind number stage (phase ∷ later)
 begun_on kind number stage phase later e ended rest = record {
   in_turn = (ended, rest.in_turn);
   finish = record {
@@ -99,7 +100,8 @@ begun_of kind number (phase ∷ next ∷ later) stage orderly course =
     (begun_of kind number (next ∷ later) (after kind number (begun_at stage phase.position) phase.replies (lacks_pieces phase))
     (orderly_after kind number (begun_at stage phase.position) phase.replies (lacks_pieces phase)
     (orderly_begun stage phase.position orderly))
-    (subst (λ o. IsCourse kind number (passed kind number (begun_at stage phase.position) o phase.replies (lacks_pieces phase)) (next ∷ later)) course.1.1 course.2))
+    (subst (λ o. IsCourse kind number
+    (passed kind number (begun_at stage phase.position) o phase.replies (lacks_pieces phase)) (next ∷ later)) course.1.1 course.2))
 
 -- and back
 

@@ -7,7 +7,7 @@ use Rattle.bank.specs.declared.kind.Kind.TheVariants.{Next, Spread}
 use Rattle.phase.specs.Phase.{Phase}
 use Rattle.record.specs.declared.call.CallKind.{CallKind}
 use Rattle.record.specs.declared.stage.Stage.{Stage}
-use Rattle.record.specs.declared.stage.Stage.TheVariants.{ReadBegin, ReadNext, ReadSpread, QueryFrom}
+use Rattle.record.specs.declared.stage.Stage.TheVariants.{ReadNext, ReadSpread, QueryFrom}
 use Rattle.record.specs.Courses.{after_next, greatest_status}
 use Rattle.record.specs.Grammar.{Asks, finalized_after, IsReading}
 use Rattle.record.proofs.Phases.Paths.{IsPath, HasTag, untagged, asks_of, spread_on}

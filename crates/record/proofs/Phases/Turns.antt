@@ -43,7 +43,10 @@ path_of_course kind number (phase ∷ []) stage course last = by_end phase.end r
         absurd
         (not_last (begun_at stage phase.position) (phase.kind, phase.position) course.0
         (subst (λ o. IsLast (passed kind number (begun_at stage phase.position) o phase.replies (lacks_pieces phase))) h last))
-    by_end (Some end) h = (ap is_some h, (course.0, ap (λ o. passed kind number (begun_at stage phase.position) o phase.replies (lacks_pieces phase)) (sym h)))
+    by_end (Some end) h = (
+      ap is_some h,
+      (course.0, ap (λ o. passed kind number (begun_at stage phase.position) o phase.replies (lacks_pieces phase)) (sym h)),
+    )
 path_of_course kind number (phase ∷ next ∷ later) stage course last =
     let ended = course.1.1 in
     let rest = path_of_course kind number (next ∷ later)
@@ -51,7 +54,8 @@ path_of_course kind number (phase ∷ next ∷ later) stage course last =
       (course.1, rest.0),
       (
         course.0,
-        subst (λ o. IsPath kind number (passed kind number (begun_at stage phase.position) o phase.replies (lacks_pieces phase)) (next ∷ later)
+        subst (λ o. IsPath kind number
+            (passed kind number (begun_at stage phase.position) o phase.replies (lacks_pieces phase)) (next ∷ later)
             (stage_after kind number stage (phase ∷ next ∷ later))) ended rest.1,
       ),
     )
@@ -69,7 +73,8 @@ course_of_path kind number (phase ∷ []) stage end turn path =
 course_of_path kind number (phase ∷ next ∷ later) stage end turn path =
     let ended = turn.0.1 in
     let rest = course_of_path kind number (next ∷ later) (stage_past kind number stage phase) end turn.1
-    (subst (λ o. IsPath kind number (passed kind number (begun_at stage phase.position) o phase.replies (lacks_pieces phase)) (next ∷ later) end)
+    (subst (λ o. IsPath kind number
+    (passed kind number (begun_at stage phase.position) o phase.replies (lacks_pieces phase)) (next ∷ later) end)
     (sym ended) path.1) in
     ((path.0, turn.0, rest.0), rest.1)
 

@@ -74,7 +74,8 @@ pub path_of_whole : (kind : CallKind) (number : ℕ) (phases : List Phase) (tag 
 path_of_whole kind number phases tag whole =
     let finds = whole.finds in
     let way = after_queries kind number finds.queries finds.rest finds.last finds.finalized tag
-    (reading-bound finds.first finds.start finds.start finds.last finds.finalized (le_refl finds.start) finds.reading) finds.asked finds.takes whole.rest in (
+    (reading-bound finds.first finds.start finds.start finds.last finds.finalized (le_refl finds.start) finds.reading)
+    finds.asked finds.takes whole.rest in (
       way.0,
       subst (λ xs. IsPath kind number ReadBegin xs (Ended way.0 tag)) (sym finds.split)
           (path-append kind number (attempt_phases finds.attempts) (finds.first ++ (finds.queries ++ finds.rest)) ReadBegin

@@ -43,7 +43,8 @@ pub added_sound : (fragment : Code) (object new : Object) (step now : ℕ) → s
     kind_tag asked ≡ None → ((value : List ℕ) → kind ≡ Write value → IsValue value) → (kind ≡ Move →
     (index : ℕ) (call : Call) → slice_get object.calls index ≡ Some call → call.kind ≡ Move → IsSome call.answered) →
     IsSound fragment new now
-added_sound fragment object new step now less sound kind asked position wide sizes calls_are mail_is is_due at_base placed untagged bytes no_open =
+added_sound fragment object new step now less sound kind asked position wide sizes calls_are mail_is is_due at_base placed untagged
+    bytes no_open =
     sound_of fragment new now legal sizes
     (λ i c e. rests i c (split i c e))
     (λ p i. banks p i (below_or p))
@@ -174,7 +175,8 @@ added_sound fragment object new step now less sound kind asked position wide siz
 
     caused : (p i : ℕ) → (p < length object.layouts) ⊎ (length object.layouts ≤ p) → IsCaused new p (bank_at new p i)
     caused p i (inl h) = subst (IsCaused new p) (sym (wide.same_banks p i h))
-        (caused_more object new (begun_more object new there) (moved_more object new there source_old) p (bank_at object p i) (sound.legal.banks p i))
+        (caused_more object new (begun_more object new there) (moved_more object new there source_old) p (bank_at object p i)
+        (sound.legal.banks p i))
     caused p i (inr h) = wide.caused p i h
 
     legal : IsLegal new

@@ -14,7 +14,7 @@ use Rattle.record.specs.declared.stage.Stage.{Stage}
 use Rattle.record.specs.declared.stage.Stage.TheVariants.{ReadBegin, ReadNext, ReadSpread, QueryFrom, FetchAt, PreWriteAt}
 use Rattle.record.specs.declared.stage.Stage.TheVariants.{FinalizeAt, AgainNext, AgainSpread, MoveSpread, MoveQuery}
 use Rattle.record.specs.declared.stage.Stage.TheVariants.{MoveFetch, MovePreWrite, MoveFinalize, MoveFinal, Ended, Moved}
-use Rattle.record.specs.Legal.{first_stage, source_of, stage_of, IsLegal, due_of}
+use Rattle.record.specs.Legal.{first_stage, source_of, IsLegal, due_of}
 use Rattle.record.specs.Wants.{current_phase}
 use Rattle.record.proofs.Sound.Waiting.{Unsettled}
 use Rattle.record.proofs.Sound.Wanting.{Plain}

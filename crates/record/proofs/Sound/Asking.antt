@@ -29,7 +29,9 @@ current_due kind number [] stage phase course current none = absurd (cc)
 current_due kind number (first ∷ []) stage phase course current none =
     let same = same_Some first phase current in
     let end_is : first.end ≡ None = ap (λ (p : Phase). p.end) same ∙ none in
-    subst (λ o. due (passed kind number (begun_at stage first.position) o first.replies (lacks_pieces first)) ≡ Some (phase.kind, phase.position)) (sym end_is)
+    subst (λ o. due (passed kind number (begun_at stage first.position) o first.replies (lacks_pieces first))
+    ≡ Some (phase.kind, phase.position))
+    (sym end_is)
     (subst (λ (p : Phase). due (begun_at stage first.position) ≡ Some (p.kind, p.position)) same course.0)
 current_due kind number (first ∷ next ∷ later) stage phase course current none =
     current_due kind number (next ∷ later)

@@ -2,8 +2,7 @@
 use Rattle.std.proofs.Common.{◌≡◌, ℕ, suc, Bool, true, false, cond, Option, Some, None, IsSome}
 use Rattle.std.proofs.Common.{is_some, option_map, refl, sym, subst, ap, ◌∙◌, inl, inr, arith}
 use Rattle.tag.specs.declared.tag.Tag.{Tag}
-use Rattle.tag.specs.Tag.{opening_tag, tag_eq}
-use Rattle.tag.proofs.Tags.{tag_eq-true}
+use Rattle.tag.specs.Tag.{opening_tag}
 use Rattle.encoder.specs.declared.fragment.Piece.{Piece}
 use Rattle.bank.specs.declared.row.Arrival.{Arrival}
 use Rattle.bank.specs.declared.row.Row.{Row}
@@ -11,7 +10,7 @@ use Rattle.bank.specs.declared.request.Request.{Request}
 use Rattle.bank.specs.Bank.{Bank, filled_arrival, row_after_pre_write, row_after_finalize, pre_written, finalized, piece_of}
 use Rattle.bank.specs.Bank.{piece_that_came}
 use Rattle.bank.specs.Bank.{piece_of_row, knows}
-use Rattle.bank.specs.Collect.{emptied_arrival, emptied_row, collected, IsCollected, is_outside, fetched_piece, retired_bank}
+use Rattle.bank.specs.Collect.{emptied_arrival, emptied_row, collected, IsCollected, is_outside, retired_bank}
 use Rattle.bank.specs.Knowledge.{since, row_finalized, finalized_at, arrived_at, is_dropped, IsTrueAnswer}
 use Rattle.bank.specs.Facts.{IsBefore, SameBefore}
 use Rattle.bank.specs.Serve.{kind_of, greatest_final, served_bank, answer_to}

@@ -11,7 +11,7 @@ use Rattle.phase.specs.Phase.{Phase, lacks_pieces}
 use Rattle.record.specs.declared.call.CallKind.{CallKind}
 use Rattle.record.specs.Records.{Call, Object, layout_at, base_of}
 use Rattle.record.specs.declared.stage.Stage.{Stage}
-use Rattle.record.specs.Courses.{due, passed, stage_after, EndsBefore, begun_at, stage_past}
+use Rattle.record.specs.Courses.{passed, stage_after, EndsBefore, begun_at, stage_past}
 use Rattle.record.specs.Legal.{first_stage, source_of, stage_of, AreOpened, due_of}
 use Rattle.record.specs.Journals.{stage_tag}
 use Rattle.record.specs.Fragments.{Code, Determines, IsFetch, IsSettled, request_tag, request_piece}
@@ -54,7 +54,8 @@ get_last (x ∷ xs) y = get_last xs y
 
 stage_push : (kind : CallKind) (number : ℕ) (phases : List Phase) (stage : Stage) (next : Phase) → next.end ≡ None →
     stage_after kind number stage (phases ++ next ∷ []) ≡ begun_at (stage_after kind number stage phases) next.position
-stage_push kind number [] stage next none = ap (λ o. passed kind number (begun_at stage next.position) o next.replies (lacks_pieces next)) none
+stage_push kind number [] stage next none =
+    ap (λ o. passed kind number (begun_at stage next.position) o next.replies (lacks_pieces next)) none
 stage_push kind number (phase ∷ phases) stage next none =
     stage_push kind number phases (stage_past kind number stage phase) next none
 
@@ -84,7 +85,14 @@ pub begun_sound : (fragment : Code) (object : Object) (step now : ℕ) → step 
 begun_sound fragment object step now less determines sound index call at kind position piece ready e sends =
     call_step fragment object step now less sound index call new mail at changed stays
     (begun_keeps object index call kind position now piece sound.legal
-    (record { at = at; open_call = ready.open_call; ended = ends; is_due = e; placed = placed; base = base_past fragment object step now less sound }))
+    (record {
+      at = at;
+      open_call = ready.open_call;
+      ended = ends;
+      is_due = e;
+      placed = placed;
+      base = base_past fragment object step now less sound;
+    }))
     (record {
       opened = λ place phase within. opened place phase (get_pushed call.phases next phase place within);
       coded = λ place phase within. coded place phase (get_pushed call.phases next phase place within);
@@ -176,7 +184,8 @@ begun_sound fragment object step now less determines sound index call at kind po
         let has = sound.settled.settled index call value at s in
         let c = sound.legal.calls index call at in
         late_due (begun_at (stage_of object index call) (base_of object))
-        ((late_begun (stage_of object index call) (base_of object) has.fetch.0 (course_late call.kind (suc index) call.phases (first_stage call.kind (source_of object index))
+        ((late_begun (stage_of object index call) (base_of object) has.fetch.0
+        (course_late call.kind (suc index) call.phases (first_stage call.kind (source_of object index))
         c.course now ends has.place has.phase has.fetch.0 has.within has.fetch.1
         (pieces_not_lacking fragment object has.phase value
         (all_get (IsTruePhase object) call.phases has.place has.phase c.phases has.within) has.pieces))).0)

@@ -144,7 +144,8 @@ answered_keeps object index call now legal at open_call is_due ended =
       phases = all_weaker (IsTruePhase object) (IsTruePhase (Others object object.mail calls))
           (λ phase truth. phase_same object object.mail calls phase truth) call.phases c.phases;
       course = subst (λ from. IsCourse call.kind (suc index) (first_stage call.kind from) call.phases) same c.course;
-      from_base = subst (λ from. BeginAtBase (base_at object) call.kind (suc index) (first_stage call.kind from) call.phases) same c.from_base;
+      from_base =
+          subst (λ from. BeginAtBase (base_at object) call.kind (suc index) (first_stage call.kind from) call.phases) same c.from_base;
       answer = λ step e. (
         subst (λ from. due (stage_after call.kind (suc index) (first_stage call.kind from) call.phases) ≡ None) same is_due,
         subst (λ n. EndsBefore call.phases n) (same_Some now step e) ended,

@@ -158,7 +158,8 @@ changed_moved object index old new mail at changed p answered moved = go (cases_
     }
 
 pub caused_more : (old new : Object) → ((k : Kind) (p step : ℕ) → HasBegun old k p step → HasBegun new k p step) →
-    ((p answered : ℕ) → IsMovedOut old p answered → IsMovedOut new p answered) → (position : ℕ) (bank : Bank) → IsCaused old position bank → IsCaused new position bank
+    ((p answered : ℕ) → IsMovedOut old p answered → IsMovedOut new p answered) → (position : ℕ) (bank : Bank) →
+    IsCaused old position bank → IsCaused new position bank
 caused_more old new more moved position bank caused = record {
   finalized = λ tag step e. fin tag step (caused.finalized tag step e);
   arrived = λ tag step e. arr tag step (caused.arrived tag step e);

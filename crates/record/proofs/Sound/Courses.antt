@@ -3,10 +3,10 @@ use Rattle.std.proofs.Common.{◌≡◌, ℕ, zero, suc, ◌<◌, ◌⊎◌, Lis
 use Rattle.std.proofs.Common.{Some, refl, sym, subst, subst₂, ap, ◌∙◌, inl, inr, arith, slice_get}
 use Rattle.std.proofs.lemmas.Bool.{cases_eq}
 use Rattle.std.proofs.lemmas.Option.{same_Some}
-use Rattle.phase.specs.Phase.{Phase, lacks_pieces}
+use Rattle.phase.specs.Phase.{Phase}
 use Rattle.record.specs.declared.call.CallKind.{CallKind}
 use Rattle.record.specs.declared.stage.Stage.{Stage}
-use Rattle.record.specs.Courses.{due, passed, IsCourse, EndsBefore, begun_at, stage_past}
+use Rattle.record.specs.Courses.{due, IsCourse, EndsBefore, begun_at, stage_past}
 use Rattle.record.specs.Legal.{AreNumbered, BeginsAt}
 use Rattle.record.proofs.Lists.{set_here, set_there}
 

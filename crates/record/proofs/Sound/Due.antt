@@ -55,15 +55,18 @@ some_shown P (reply ∷ replies) h all =
 
 phase_finds : (object : Object) → HasShape object → (phase : Phase) → IsTruePhase object phase →
     PhaseFinds (length object.layouts) phase
-phase_finds object shape phase truth = (truth.placed, λ k some.
-    let found = some_shown (IsTrueReply object phase) phase.replies some truth.replies in
-    let reply = found.0 in
-    let bank = bank_at object phase.position reply.member in
-    let shown =
-    ap rank (true_next bank reply.reply.step reply.reply.answer (subst
-    (λ kind. IsTrueAnswer bank reply.reply.step kind reply.reply.answer) k found.1.says)) in
-    pointer_names (length object.layouts) phase.position bank reply.reply.step (shape.next phase.position reply.member)
-    (let h = found.2 in omega arith))
+phase_finds object shape phase truth = (
+  truth.placed,
+  λ k some.
+      let found = some_shown (IsTrueReply object phase) phase.replies some truth.replies in
+      let reply = found.0 in
+      let bank = bank_at object phase.position reply.member in
+      let shown =
+      ap rank (true_next bank reply.reply.step reply.reply.answer (subst
+      (λ kind. IsTrueAnswer bank reply.reply.step kind reply.reply.answer) k found.1.says)) in
+      pointer_names (length object.layouts) phase.position bank reply.reply.step (shape.next phase.position reply.member)
+      (let h = found.2 in omega arith),
+)
 
 pub move_counted : (calls : List Call) (index : ℕ) (call : Call) → slice_get calls index ≡ Some call → call.kind ≡ Move →
     suc (moves_in (take index calls)) ≤ moves_in calls

@@ -14,8 +14,7 @@ use Rattle.mail.specs.declared.message.Body.{Body}
 use Rattle.mail.specs.declared.message.Body.TheVariants as body
 use Rattle.phase.specs.Phase.{Phase}
 use Rattle.record.specs.Records.{Call, Object, bank_at, no_bank, base_of}
-use Rattle.record.specs.Courses.{due}
-use Rattle.record.specs.Legal.{stage_of, due_of}
+use Rattle.record.specs.Legal.{due_of}
 use Rattle.record.specs.Fragments.{Code}
 use Rattle.record.specs.Wants.{current_phase}
 use Rattle.record.specs.Sound.{IsPosted, IsPhasePast, IsCallPast, IsSound}

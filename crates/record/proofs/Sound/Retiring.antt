@@ -1,12 +1,10 @@
 -- Retiring the base keeps a record sound.
-use Rattle.std.proofs.Common.{◌≡◌, ℕ, zero, suc, ◌<◌, ◌≤◌, ◌⊎◌, List, [], ◌∷◌, length, map, set, get_or, slice_get}
-use Rattle.std.proofs.Common.{Option, Some, None, refl, sym, subst, subst₂, ap, ◌∙◌, inl, inr, arith, le_refl, le_of_lt}
+use Rattle.std.proofs.Common.{◌≡◌, ℕ, zero, suc, ◌<◌, ◌≤◌, ◌⊎◌, List, [], ◌∷◌, length, map, get_or, slice_get}
+use Rattle.std.proofs.Common.{Option, Some, None, refl, sym, subst, ap, ◌∙◌, inl, inr, arith, le_refl, le_of_lt}
 use Rattle.std.proofs.lemmas.List.{length-set, length-map, get_or-map, get_or-set_same}
 use Rattle.std.proofs.lemmas.Bool.{cases_eq}
 use Rattle.std.proofs.lemmas.Option.{same_Some}
 use Rattle.std.specs.List.{AllByRecursion}
-use Rattle.tag.specs.declared.tag.Tag.{Tag}
-use Rattle.layout.specs.Layout.{IsLawful}
 use Rattle.bank.specs.Bank.{Bank}
 use Rattle.bank.specs.Collect.{retired_bank}
 use Rattle.bank.specs.Facts.{IsBefore, SameBefore}
@@ -14,7 +12,6 @@ use Rattle.bank.specs.Knowledge.{since, came_by}
 use Rattle.bank.proofs.Changes.{comes_past}
 use Rattle.bank.proofs.Pieces.{retired_collected}
 use Rattle.phase.specs.declared.phase.Taken.{Taken}
-use Rattle.phase.specs.Phase.{Phase}
 use Rattle.record.specs.Records.{Call, Object, layout_at, bank_at, no_bank, retired_at, base_at, base_of}
 use Rattle.record.specs.Knowledge.{IsTruePhase}
 use Rattle.record.specs.Legal.{first_stage, source_of, IsMovedOut, IsCaused, IsOpenedAt, IsLegal}
@@ -22,7 +19,7 @@ use Rattle.record.specs.Fragments.{Code}
 use Rattle.record.specs.Sound.{IsPhasePast, IsSound}
 use Rattle.record.specs.Steps.{retired_object}
 use Rattle.record.proofs.Atomic.Quorums.Meeting.{lawful_at}
-use Rattle.record.proofs.Bases.{RetiredSame, base_same, base_kept, base_raised}
+use Rattle.record.proofs.Bases.{base_same, base_kept, base_raised}
 use Rattle.record.proofs.Lists.{all_weaker, all_pairs}
 use Rattle.record.proofs.Sound.Added.{made_before}
 use Rattle.record.proofs.Sound.Banks.{retired_finalized, retired_arrived, retired_past, retired_opened_at, retired_agrees, retired_coded}

@@ -33,7 +33,8 @@ pub step_sound : (fragment : Code) (object : Object) (step now : ℕ) → IsCode
 step_sound fragment object step now code less sound Step.CallRead may =
     called_sound fragment code object step now less sound Read refl (λ moves position. refl) (λ value e. absurd (cc))
 step_sound fragment object step now code less sound (Step.CallWrite value) may =
-    called_sound fragment code object step now less sound (Write value) refl (λ moves position. refl) (λ other e. written_bytes value other e may)
+    called_sound fragment code object step now less sound (Write value) refl (λ moves position. refl)
+    (λ other e. written_bytes value other e may)
 step_sound fragment object step now code less sound (Step.CallMove layout) may =
     moving_sound fragment code object step now less sound layout may.0 may.1
 step_sound fragment object step now code less sound (Step.Advance index) may =

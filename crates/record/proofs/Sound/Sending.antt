@@ -10,9 +10,9 @@ use Rattle.phase.specs.Phase.{Phase, lacks_pieces}
 use Rattle.record.specs.declared.call.CallKind.{CallKind}
 use Rattle.record.specs.declared.call.CallKind.TheVariants.{Read, Write, Move}
 use Rattle.record.specs.Records.{Call, Object, layout_at, base_of}
-use Rattle.record.specs.Courses.{due, IsCourse}
+use Rattle.record.specs.Courses.{IsCourse}
 use Rattle.record.specs.declared.stage.Stage.{Stage}
-use Rattle.record.specs.Legal.{first_stage, source_of, stage_of, due_of}
+use Rattle.record.specs.Legal.{first_stage, source_of, due_of}
 use Rattle.record.specs.Fragments.{Code, IsFetch}
 use Rattle.record.specs.Sound.{IsSound}
 use Rattle.record.specs.Sending.{sent_value}

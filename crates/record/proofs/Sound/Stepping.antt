@@ -6,8 +6,7 @@ use Rattle.bank.specs.declared.kind.Kind.TheVariants.{PreWrite}
 use Rattle.mail.specs.declared.message.Message.{Message}
 use Rattle.phase.specs.Phase.{Phase}
 use Rattle.record.specs.Records.{Call, Object, layout_at}
-use Rattle.record.specs.Courses.{due}
-use Rattle.record.specs.Legal.{stage_of, due_of}
+use Rattle.record.specs.Legal.{due_of}
 use Rattle.record.specs.Fragments.{Code, Determines}
 use Rattle.record.specs.Sound.{IsSound}
 use Rattle.record.specs.Wants.{current_phase}

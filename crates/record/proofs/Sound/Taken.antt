@@ -21,7 +21,7 @@ use Rattle.record.specs.Journals.{stage_tag}
 use Rattle.record.specs.Fragments.{Code, IsFetch, IsSettled, HasPiece}
 use Rattle.record.specs.Steps.{taking_phases}
 use Rattle.record.proofs.Lists.{all_weaker, get_push, get_set, set_here, set_there}
-use Rattle.record.proofs.Sound.Late.{IsOfWrite, late_of_write, late_passed, of_write_on, late_past, of_write_past}
+use Rattle.record.proofs.Sound.Late.{IsOfWrite, late_of_write, late_past, of_write_past}
 use Rattle.record.proofs.Sound.Mays.{grown_phase}
 use Rattle.record.proofs.Begins.{begun_tag}
 
@@ -45,7 +45,8 @@ tag_set value kind k number (first ∷ []) stage of zero old new tag at last non
     let end_is : first.end ≡ None = ap (λ (p : Phase). p.end) (same_Some first old at) ∙ none in
     (late_past kind number stage new tag
     (late_of_write stage of tag (sym (begun_tag stage first.position) ∙
-    subst (λ o. stage_tag (passed kind number (begun_at stage first.position) o first.replies (lacks_pieces first)) ≡ Some tag) end_is e))).1
+    subst (λ o. stage_tag (passed kind number (begun_at stage first.position) o first.replies (lacks_pieces first)) ≡ Some tag)
+    end_is e))).1
 tag_set value kind k number (first ∷ []) stage of (suc place) old new tag at last none e = absurd (cc)
 tag_set value kind k number (first ∷ next ∷ later) stage of zero old new tag at last none e = absurd (omega arith)
 tag_set value kind k number (first ∷ next ∷ later) stage of (suc place) old new tag at last none e =

@@ -15,7 +15,8 @@ use Rattle.record.specs.declared.call.CallKind.TheVariants.{Read, Write, Move}
 use Rattle.record.specs.Courses.{begun_at, greatest_status, greatest_tag, due, after, passed, stage_past, stage_after}
 use Rattle.record.specs.Courses.{IsCourse, after_next, after_spread, after_query, tagged}
 use Rattle.record.specs.declared.stage.Stage.{Stage}
-use Rattle.record.specs.declared.stage.Stage.TheVariants.{ReadBegin, ReadNext, ReadSpread, QueryFrom, FetchAt, MoveSpread, MoveQuery, MoveFetch}
+use Rattle.record.specs.declared.stage.Stage.TheVariants.{ReadBegin, ReadNext, ReadSpread, QueryFrom, FetchAt, MoveSpread, MoveQuery}
+use Rattle.record.specs.declared.stage.Stage.TheVariants.{MoveFetch}
 use Rattle.record.specs.Legal.{first_stage}
 use Rattle.record.specs.Fragments.{IsFetch}
 use Rattle.record.specs.May.{IsPreWrite}

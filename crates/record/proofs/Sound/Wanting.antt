@@ -5,8 +5,8 @@ use Rattle.bank.specs.declared.kind.Kind.{Kind}
 use Rattle.phase.specs.Phase.{Phase, lacks_pieces}
 use Rattle.record.specs.Records.{Call, Object, layout_at}
 use Rattle.bank.specs.declared.kind.Kind.TheVariants.{Next, Spread, Query, PreWrite, Finalize, Fetch}
-use Rattle.record.specs.Courses.{due, EndsBefore}
-use Rattle.record.specs.Legal.{stage_of, due_of}
+use Rattle.record.specs.Courses.{EndsBefore}
+use Rattle.record.specs.Legal.{due_of}
 use Rattle.record.specs.Fragments.{IsFetch}
 use Rattle.record.specs.Sound.{IsPhasePast, IsCallPast}
 use Rattle.record.specs.declared.stage.Want.{Want}

@@ -1,5 +1,5 @@
 -- Each phase of a call keeps what is so of it.
-use Rattle.std.proofs.Common.{◌≡◌, ℕ, suc, ◌≤◌, Bool, true, false, eqb, inl}
+use Rattle.std.proofs.Common.{◌≡◌, ℕ, suc, ◌≤◌, Bool, true, false, eqb}
 use Rattle.std.proofs.Common.{List, Some, refl, sym, subst, arith, le_trans, le_refl, eqb-true}
 use Rattle.std.proofs.lemmas.Bool.{cond_both}
 use Rattle.tag.specs.declared.tag.Tag.{Tag}

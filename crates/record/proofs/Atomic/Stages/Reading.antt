@@ -15,7 +15,7 @@ use Rattle.bank.specs.declared.kind.Kind.TheVariants.{Next, Spread, Query}
 use Rattle.record.specs.declared.call.CallKind.TheVariants.{Read, Write, Move}
 use Rattle.record.specs.Courses.{greatest_status, greatest_tag, after_next, after_spread, after_query, tagged}
 use Rattle.record.specs.Legal.{is_move}
-use Rattle.record.specs.declared.stage.Stage.TheVariants.{ReadBegin, ReadNext, ReadSpread, QueryFrom}
+use Rattle.record.specs.declared.stage.Stage.TheVariants.{ReadNext, ReadSpread, QueryFrom}
 use Rattle.record.proofs.Atomic.Quorums.Meeting.{Stored, stored_later, pointed_later, final_later}
 use Rattle.record.proofs.Atomic.Stages.Facts.{Done, Reached, Found, Facts, reached_later, reached_more, based_later}
 use Rattle.record.proofs.Tags.{IsAtMost, at_most_trans, later_tag-left, later_tag-right}

@@ -2,12 +2,12 @@
 use Rattle.std.proofs.Common.{◌≡◌, ℕ, zero, suc, List, [], ◌∷◌, Some, refl, sym, ap, ◌∙◌, inr, slice_get}
 use Rattle.std.proofs.lemmas.Option.{same_Some}
 use Rattle.tag.specs.declared.tag.Tag.{Tag}
-use Rattle.phase.specs.Phase.{Phase, lacks_pieces}
+use Rattle.phase.specs.Phase.{Phase}
 use Rattle.record.specs.declared.call.CallKind.{CallKind}
 use Rattle.record.specs.declared.call.CallKind.TheVariants.{Read, Write, Move}
 use Rattle.record.specs.declared.stage.Stage.{Stage}
 use Rattle.record.specs.Records.{Call, Object}
-use Rattle.record.specs.Courses.{passed, stage_after, IsCourse, begun_at, stage_past}
+use Rattle.record.specs.Courses.{stage_after, IsCourse, begun_at, stage_past}
 use Rattle.record.specs.Legal.{first_stage, source_of}
 use Rattle.record.specs.Journals.{stage_tag, tag_of}
 use Rattle.record.specs.Fragments.{Code, kind_tag}

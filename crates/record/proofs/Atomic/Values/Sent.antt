@@ -16,7 +16,6 @@ use Rattle.record.specs.declared.stage.Stage.{Stage}
 use Rattle.record.specs.declared.stage.Stage.TheVariants.{ReadBegin, ReadNext, ReadSpread, QueryFrom, FetchAt, PreWriteAt}
 use Rattle.record.specs.declared.stage.Stage.TheVariants.{FinalizeAt, AgainNext, AgainSpread, MoveSpread, MoveQuery}
 use Rattle.record.specs.declared.stage.Stage.TheVariants.{MoveFetch, MovePreWrite, MoveFinalize, MoveFinal, Ended, Moved}
-use Rattle.record.specs.Legal.{stage_of}
 use Rattle.record.specs.Journals.{stage_tag, tag_of, IsJournaled}
 use Rattle.record.specs.Fragments.{Code, Determines, IsFragment, IsCoded, IfCoded, kind_tag, request_tag, request_piece}
 use Rattle.record.specs.Sound.{IsSound}

@@ -159,8 +159,10 @@ at_phase object lawful kind number (first ∷ next ∷ later) now stage course t
     at_phase object lawful kind number (next ∷ later) end
     (stage_past kind number stage first) course.2 truth.1
     (le_of_lt course.1.2)
-    (subst (λ o. PieceFacts object end (passed kind number (begun_at stage first.position) o first.replies (lacks_pieces first))) (sym ended)
-    (pieces_after object kind number now (begun_at stage first.position) first.kind first.position end first.replies (lacks_pieces first) course.0
+    (subst (λ o. PieceFacts object end (passed kind number (begun_at stage first.position) o first.replies (lacks_pieces first)))
+    (sym ended)
+    (pieces_after object kind number now (begun_at stage first.position) first.kind first.position end first.replies
+    (lacks_pieces first) course.0
     (says_of object first end truth.0 ended)
     (le_trans before grew) (begun_has (λ s. PieceFacts object now s) stage first.position (λ begins. tt) facts)))
     place phase e
