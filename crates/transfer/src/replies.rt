@@ -147,7 +147,7 @@ fn after_query(
     }
 }
 
-// Where pieces are lacking, a new first reading is to begin. What the last position's own quorum finalized by its fetch
+// Where pieces are lacking, a first reading begins anew. What the last position's own quorum finalized by its fetch
 // need not be put there again.
 fn after_fetch(shown_at: u32, last: u32, tag: Tag, lacks: bool) -> Stage
     ensures { result ≡ (if lacks then ReadBegin else after_fetch shown_at last tag) }
