@@ -1,6 +1,7 @@
 pub mod Advancing
 pub mod Answering
 pub mod Asks
+pub mod Bases
 pub mod Beginning
 pub mod Begun
 pub mod Calling

@@ -7,13 +7,13 @@ use Rattle.bank.specs.declared.kind.Kind.{Kind}
 use Rattle.mail.specs.declared.message.Message.{Message}
 use Rattle.phase.specs.declared.phase.Took.{Took}
 use Rattle.phase.specs.declared.phase.Took.TheVariants as took
-use Rattle.phase.specs.Phase.{Phase, after_take, took_by, members_of, lacks_pieces}
+use Rattle.phase.specs.Phase.{Phase, after_take, took_by, members_of}
 use Rattle.record.specs.declared.call.CallKind.{CallKind}
 use Rattle.record.specs.declared.stage.Stage.{Stage}
 use Rattle.record.specs.declared.stage.Want.{Want}
 use Rattle.record.specs.declared.stage.Want.TheVariants as want
 use Rattle.record.specs.Records.{Call, Object}
-use Rattle.record.specs.Courses.{begun_at, due, passed}
+use Rattle.record.specs.Courses.{begun_at, due, stage_past}
 use Rattle.record.specs.Steps.{taking_call, new_phase}
 use Rattle.record.specs.Sending.{missing, requests}
 use Rattle.record.specs.Wants.{current_phase, want_after}
@@ -47,9 +47,7 @@ with_begun t number kind position layout now = record {
 abbrev pub stage_taken : CallKind → Stage → Option Phase → Message → (now : ℕ) → Stage
 stage_taken kind stage None message now = stage
 stage_taken kind stage (Some phase) message now =
-    if is_some phase.end then stage
-    else passed kind message.call stage (after_take phase message now).end (after_take phase message now).replies
-    (lacks_pieces (after_take phase message now))
+    if is_some phase.end then stage else stage_past kind message.call stage (after_take phase message now)
 
 -- a call once its current phase took a message
 abbrev pub taken_tracked : Message → (now : ℕ) → Tracked → Tracked

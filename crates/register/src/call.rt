@@ -8,6 +8,7 @@ ghost use Rattle.tag.specs.Refusal.{IsByCause};
 ghost use Rattle.encoder.specs.declared.fragment.Piece.{Piece};
 ghost use Rattle.mail.specs.Mail.{mail_cause};
 ghost use Rattle.phase.specs.Phase.{Phase as Asking, after_take};
+ghost use Rattle.record.specs.Courses.{begun_at};
 ghost use Rattle.record.specs.Steps.{new_call};
 ghost use Rattle.record.specs.Sending.{requests};
 ghost use Rattle.record.specs.Wants.{current_phase};
@@ -198,9 +199,10 @@ impl Call {
     /// The current phase takes a message at step `now`, and the stage moves on where that completes the phase. It takes
     /// no memory.
     pub(crate) fn take(&mut self, message: Message, now: Stamp) -> Took
-        requires near { IsBelowLimit self.old.stage }
+        requires near { (p : Asking) → current_phase self.old.call.phases ≡ Some p
+            → IsBelowLimit (begun_at self.old.stage p.position) }
         requires tags { (p : Asking) → current_phase self.old.call.phases ≡ Some p
-            → HasNextTag self.old.call.kind self.old.stage (after_take p message now).replies }
+            → HasNextTag self.old.call.kind (begun_at self.old.stage p.position) (after_take p message now).replies }
 
         ensures call { self.new ≡ taken_tracked message now self.old }
         ensures took { result ≡ took_current message (current_phase self.old.call.phases) }
