@@ -1,6 +1,8 @@
 ghost use Rattle.std.specs.Prelude.{◌≡◌, ◌<◌, ◌^◌, length, map, slice_get, slice_set, slice_index, option_copied, Some};
 ghost use Rattle.std.specs.Prelude.{IfOk, IfErr, OnOk, OnErr, IfSome};
 ghost use Rattle.tag.specs.declared.refusal.Refusal.TheVariants.{NoMemory};
+ghost use Rattle.bank.specs.Collect.{retired_bank};
+ghost use Rattle.register.specs.Position.{banks_bytes};
 
 use bank::{Bank, Reply, Request};
 use layout::Layout;
@@ -31,11 +33,9 @@ impl Position {
     ghost use Rattle.layout.specs.Layout.{IsLawful};
     ghost use Rattle.bank.specs.Bank.{Bank as Table};
     ghost use Rattle.bank.specs.Bytes.{bank_bytes};
-    ghost use Rattle.bank.specs.Collect.{retired_bank};
     ghost use Rattle.bank.specs.Serve.{served_bank, reply_to};
     ghost use Rattle.record.specs.Accounts.{position_bytes};
     ghost use Rattle.record.specs.Steps.{opened_banks};
-    ghost use Rattle.register.specs.Position.{banks_bytes};
 
     /// A position whose banks are opened at step `now`, and keep `delta` finalized versions beside the newest.
     /// `NoMemory` is the only refusal.
@@ -110,11 +110,7 @@ impl Position {
         ensures banks { self.new.banks ≡ map (λ bank. retired_bank bank now) self.old.banks }
         ensures freed { result ≡ banks_bytes self.old.banks }
     {
-        let mut freed = 0;
-        for member in 0..self.banks.len() {
-            freed += self.banks[member].retire(now);
-        }
-        freed
+        retire_all(&mut self.banks, now)
     }
 
     /// How many bytes the banks store whose member is this server.
@@ -132,4 +128,17 @@ impl Position {
             None => 0,
         }
     }
+}
+
+// All these banks drop their pieces, and those that come after step `now`. It answers how many bytes that frees.
+fn retire_all(banks: &mut [Bank], now: Stamp) -> u64
+    requires room { banks_bytes banks.old < 2 ^ 64 }
+    ensures banks { banks.new ≡ map (λ bank. retired_bank bank now) banks.old }
+    ensures freed { result ≡ banks_bytes banks.old }
+{
+    let mut freed = 0;
+    for member in 0..banks.len() {
+        freed += banks[member].retire(now);
+    }
+    freed
 }

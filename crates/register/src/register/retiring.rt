@@ -1,6 +1,6 @@
 //! How positions are retired.
 
-ghost use Rattle.std.specs.Prelude.{◌≡◌, ◌≤◌, ◌<◌, OnOk, OnErr, IfOk};
+ghost use Rattle.std.specs.Prelude.{◌≡◌, ◌≤◌, ◌<◌, nat_lt, if◌then◌else◌, OnOk, OnErr, IfOk};
 ghost use Rattle.tag.specs.Refusal.{IsExactlyByCause};
 ghost use Rattle.tag.specs.declared.limits.TheConstants.{MOST_BYTES};
 ghost use Rattle.record.specs.Accounts.{base_bytes, base_bytes_of};
@@ -38,9 +38,8 @@ impl Register {
         if position != u64::from(self.base) {
             return Err(Refusal::NotNow);
         }
-        // Of the moves, only the last may be open.
-        let open = usize::from(self.is_moving);
-        if self.base as usize + 1 + open >= self.positions.len() {
+        let behind = self.positions.len() - 1 - self.base as usize;
+        if !is_left(behind, self.is_moving) {
             return Err(Refusal::NotNow);
         }
         if now > MOST_STEPS {
@@ -71,4 +70,11 @@ impl Register {
             Err(refusal) => Err(refusal),
         }
     }
+}
+
+// Whether the move out of a position was answered behind which there are so many. Of the moves only the last may be open.
+fn is_left(behind: usize, is_moving: bool) -> bool
+    ensures { result ≡ nat_lt (if is_moving then 1 else 0) behind }
+{
+    if is_moving { behind > 1 } else { behind > 0 }
 }
