@@ -285,7 +285,7 @@ module _ (c : Contents) (kept : IsKept c) where
 
 -- What the register holds afterwards
 
-none_stored : (banks : List Bank) (now : ℕ) → banks_bytes (map (λ bank. retired_bank bank now) banks) ≡ 0
+pub none_stored : (banks : List Bank) (now : ℕ) → banks_bytes (map (λ bank. retired_bank bank now) banks) ≡ 0
 none_stored [] now = refl
 none_stored (bank ∷ banks) now =
     let rest = none_stored banks now in
@@ -302,6 +302,15 @@ pub record IsRetiring (c : Contents) (now : ℕ) (p new : Position) : Type 0 whe
   pub may : MayStep fragment (state_of c).object Step.Retire
   pub layout : new.layout ≡ p.layout
   pub banks : new.banks ≡ map (λ bank. retired_bank bank now) p.banks
+
+-- the base's banks store a part of what all do
+pub base_part : {c : Contents} {p : Position} → IsKept c → p ≡ get_or c.positions c.base p → banks_bytes p.banks ≤ c.stored
+base_part {c = c} {p = p} kept read =
+    let at = slice_get_read c.positions (length c.positions) c.base p refl (base_within c kept) read in
+    let part = sum_at banks_bytes (banks_of c.positions) c.base p.banks
+    (found_map (λ (p : Position). p.banks) c.positions c.base p at) in
+    let total = kept.stored in
+    omega (arith, part, total)
 
 -- what was read of a register that refuses nothing
 pub retiring : {c : Contents} {p new : Position} (position now : ℕ) → IsKept c → {s : State} → state_of c ≡ s
@@ -356,14 +365,6 @@ module _ {c : Contents} {now : ℕ} {p new : Position} (r : IsRetiring c now p n
       let none : banks_bytes new.banks ≡ 0 = ap banks_bytes r.banks ∙ none_stored p.banks now in
       let total = r.kept.stored in
       omega (arith, put, part, list, none, total)
-
-  -- the base's banks store a part of what all do
-  pub part_stored : banks_bytes p.banks ≤ c.stored
-  part_stored =
-      let part = sum_at banks_bytes (banks_of c.positions) c.base p.banks
-      (found_map (λ (p : Position). p.banks) c.positions c.base p r.at) in
-      let total = r.kept.stored in
-      omega (arith, part, total)
 
   module _ {freed : ℕ} (is : freed ≡ banks_bytes p.banks) where
     -- what is held then

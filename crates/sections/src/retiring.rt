@@ -48,8 +48,5 @@ fn retire(cluster: &mut Cluster, name: &str, position: u64) -> Result<u64, Refus
     ensures count { client_calls cluster.new ≡ client_calls cluster.old }
     ensures course { GoesOn cluster.old cluster.new }
 {
-    match cluster.retire(name, position) {
-        Ok(freed) => Ok(freed),
-        Err(refusal) => Err(refusal),
-    }
+    cluster.retire(name, position)
 }

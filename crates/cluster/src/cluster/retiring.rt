@@ -33,6 +33,7 @@ impl Cluster {
         };
         let now = self.counter + 1;
         let register = &mut self.objects[place];
+        register.soundness();
         if let Err(refusal) = register.may_retire(position, now) {
             return Err(refusal);
         }

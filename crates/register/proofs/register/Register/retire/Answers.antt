@@ -4,7 +4,7 @@ use Rattle.record.specs.Accounts.{base_bytes}
 use Rattle.register.specs.Causes.{retire_cause}
 use Rattle.register.specs.State.{State}
 use Rattle.register.proofs.Keeps.{base_within}
-use Rattle.register.proofs.Retiring.{IsRetiring, freed_is, may_retire, part_stored, retire_kept, retire_step, retiring}
+use Rattle.register.proofs.Retiring.{base_part, freed_is, retire_kept, retire_step, retiring}
 use Rattle.register.proofs.register.Register.retire.Goals as goal
 
 pub index_mut-requires : goal.index_mut-requires
@@ -12,18 +12,14 @@ index_mut-requires c = let within = base_within _ c.self.invariant in omega (ari
 
 pub retire-freed-requires : goal.retire-freed-requires
 retire-freed-requires c =
-    let r = retiring c.args.position c.args.now c.self.invariant c.self.view_is c.in-Ok.ensures.cause c.index_mut.ensures.value
-    refl refl in
-    let part = part_stored r in
+    let part = base_part c.self.invariant c.index_mut.ensures.value in
     let few = c.self.invariant.limits.stored in
     let total = c.self.invariant.stored in
     omega (arith, part, few, total)
 
 pub overflow_sub-self : goal.overflow_sub-self
 overflow_sub-self c =
-    let r = retiring c.args.position c.args.now c.self.invariant c.self.view_is c.in-Ok.ensures.cause c.index_mut.ensures.value
-    c.retire-freed.ensures.layout c.retire-freed.ensures.banks in
-    let part = part_stored r in
+    let part = base_part c.self.invariant c.index_mut.ensures.value in
     let freed = c.retire-freed.ensures.freed in
     omega (arith, part, freed)
 
