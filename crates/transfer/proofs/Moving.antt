@@ -11,8 +11,10 @@ use Rattle.phase.specs.Phase.{Phase, lacks_pieces}
 use Rattle.phase.specs.declared.phase.Taken.{Taken}
 use Rattle.record.specs.declared.call.CallKind.TheVariants.{Move}
 use Rattle.record.specs.declared.stage.Stage.{Stage}
-use Rattle.record.specs.declared.stage.Stage.TheVariants.{MoveSpread, MoveQuery, MoveFetch, MovePreWrite, MoveFinalize, MoveFinal, Ended, Moved}
-use Rattle.record.specs.Courses.{due, after, passed, stage_after, greatest_tag, IsCourse}
+use Rattle.record.specs.declared.stage.Stage.TheVariants.{MoveSpread, MoveQuery, MoveFetch, MovePreWrite, MoveFinalize, MoveFinal}
+use Rattle.record.specs.declared.stage.Stage.TheVariants.{Ended, Moved}
+use Rattle.record.specs.Courses.{begun_at, due, after, passed, stage_past, stage_after, greatest_tag, IsCourse}
+use Rattle.record.proofs.Begins.{begun_other}
 use Rattle.record.specs.Journals.{stage_tag}
 use Rattle.record.specs.Grammar.{IsMoveAttempt, move_attempt_phases, ArePhasesOfMove}
 use Rattle.record.specs.Shape.{FinishedAreWhole}
@@ -37,10 +39,15 @@ passed-ended : (stage : Stage) (end : Option ℕ) (replies : List Taken) (lacks 
 passed-ended stage None replies lacks some = absurd (cc)
 passed-ended stage (Some end) replies lacks some = refl
 
+-- a move's stages stay where a phase begins
+pub move_begun : (from : ℕ) (stage : Stage) (position : ℕ) → IsMoveFrom from stage → begun_at stage position ≡ stage
+move_begun from stage position moves = begun_other stage position (λ same. subst (IsMoveFrom from) same moves)
+
 led : (stage : Stage) (phase : Phase) (phases : List Phase) → IsSome phase.end
-    → stage_after Move 0 stage (phase ∷ phases) ≡ stage_after Move 0 (after Move 0 stage phase.replies (lacks_pieces phase)) phases
+    → stage_after Move 0 stage (phase ∷ phases)
+    ≡ stage_after Move 0 (after Move 0 (begun_at stage phase.position) phase.replies (lacks_pieces phase)) phases
 led stage phase phases some =
-    ap (λ next. stage_after Move 0 next phases) (passed-ended stage phase.end phase.replies (lacks_pieces phase) some)
+    ap (λ next. stage_after Move 0 next phases) (passed-ended (begun_at stage phase.position) phase.end phase.replies (lacks_pieces phase) some)
 
 -- nothing follows the last phase
 nothing_due : (from : ℕ) (tag : Tag) (phases : List Phase) → AreComplete phases → due (stage_after Move 0 (Moved from tag) phases) ≡ None
@@ -111,7 +118,7 @@ complete_course number stage (phase ∷ []) course none = (some phase.end refl, 
     some (Some end) e = refl
 complete_course number stage (phase ∷ next ∷ later) course none =
     (ap is_some course.1.1,
-    complete_course number (passed Move number stage phase.end phase.replies (lacks_pieces phase)) (next ∷ later) course.2 none)
+    complete_course number (stage_past Move number stage phase) (next ∷ later) course.2 none)
 
 -- attempts that were given up are told from the last one
 
