@@ -14,7 +14,7 @@ use Rattle.record.specs.Accounts.{base_bytes, base_bytes_of}
 use Rattle.record.specs.Accounts as of
 use Rattle.record.specs.Records.{Object, base_of}
 use Rattle.record.specs.Sound.{IsSound}
-use Rattle.record.specs.Steps.{Step, stepped, retired_object}
+use Rattle.record.specs.Steps.{Step, stepped}
 use Rattle.record.proofs.Accounting.StoredBySteps.{stored-changed}
 use Rattle.record.proofs.Sound.Due.{base_there}
 use Rattle.record.proofs.Sound.Parts.{sizes_of}
@@ -32,7 +32,7 @@ use Rattle.cluster.proofs.Growing.{part_at, part_named}
 use Rattle.cluster.proofs.Loading.{load_set}
 use Rattle.cluster.proofs.Parts.{retire_served}
 use Rattle.cluster.proofs.Places.{Entry, objects_of, IsAt, named_at}
-use Rattle.cluster.proofs.Stepping.{cluster_of, serve_at, stepped_at}
+use Rattle.cluster.proofs.Stepping.{cluster_of, serve_at}
 use Rattle.cluster.proofs.Summing.{loaded_at}
 use Rattle.cluster.proofs.Sums.{all_named}
 use Rattle.cluster.proofs.Totals.{objects_total}

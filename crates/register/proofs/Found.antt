@@ -6,7 +6,6 @@ use Rattle.phase.specs.Phase.{Phase}
 use Rattle.record.specs.Courses.{begun_at, due}
 use Rattle.record.specs.Legal.{due_of, stage_of, BeginsAt}
 use Rattle.record.specs.Wants.{current_phase, want_of, want_after}
-use Rattle.record.specs.declared.stage.Stage.{Stage}
 use Rattle.record.specs.declared.stage.Want.{Want}
 use Rattle.record.specs.declared.stage.Want.TheVariants as want
 use Rattle.tag.specs.declared.limits.TheConstants.{MOST_POSITIONS}

@@ -1,5 +1,5 @@
 -- The base is retired.
-use Rattle.std.proofs.Common.{◌≡◌, ℕ, zero, suc, ◌+◌, ◌-◌, ◌<◌, ◌≤◌, ◌==◌, ◌^◌, nat_lt, ◌||◌, ◌&&◌, Bool, true, false, not, cond, is_some}
+use Rattle.std.proofs.Common.{◌≡◌, ℕ, zero, suc, ◌+◌, ◌-◌, ◌<◌, ◌≤◌, ◌==◌, nat_lt, ◌||◌, ◌&&◌, Bool, true, false, not, cond, is_some}
 use Rattle.std.proofs.Common.{List, [], ◌∷◌, length, map, take, get_or, set, slice_get, Option, Some, None, refl, sym, ap, subst, ◌∙◌}
 use Rattle.std.proofs.Common.{arith}
 use Rattle.std.proofs.Common.{inl, inr, ◌⊎◌, add-one}
@@ -7,7 +7,6 @@ use Rattle.std.proofs.lemmas.Bool.Decides.{nat_tests}
 use Rattle.std.proofs.lemmas.List.Sums.{sum_by-cons}
 use Rattle.std.proofs.lemmas.Option.{slice_get_read}
 use Rattle.tag.specs.declared.limits.TheConstants.{MOST_BYTES, MOST_POSITIONS, MOST_STEPS}
-use Rattle.tag.specs.declared.refusal.Refusal.{Refusal}
 use Rattle.tag.specs.declared.refusal.Refusal.TheVariants.{NotNow, Full}
 use Rattle.layout.specs.Layout.{Layout}
 use Rattle.encoder.specs.Fragment.{fragment}
@@ -17,16 +16,15 @@ use Rattle.bank.specs.Collect.{retired_bank}
 use Rattle.record.specs.declared.call.CallKind.{CallKind}
 use Rattle.record.specs.declared.call.CallKind.TheVariants.{Read, Write, Move}
 use Rattle.record.specs.Accounts.{base_bytes}
-use Rattle.record.specs.Legal.{is_move, moves_in, source_of, IsMovedOut}
+use Rattle.record.specs.Legal.{is_move, moves_in, IsMovedOut}
 use Rattle.record.specs.May.{MayStep}
 use Rattle.record.specs.Records.{Call, Object, base_of}
 use Rattle.record.specs.Sound.{IsSound}
 use Rattle.record.specs.Steps.{Step, retired_object}
 use Rattle.record.proofs.Accounting.Retired.{retired_bytes}
-use Rattle.record.proofs.Atomic.Values.Determined.{fragments_are_code}
 use Rattle.record.proofs.Sound.Retiring.{raised}
 use Rattle.register.specs.Causes.{unless, if_step, is_moved_out, is_retirable, retire_cause}
-use Rattle.register.specs.Kept.{IsKept, is_open_move, has_open_move}
+use Rattle.register.specs.Kept.{IsKept, has_open_move}
 use Rattle.register.specs.Position.{Position, layouts_of, banks_of, banks_bytes, all_bytes}
 use Rattle.register.specs.State.{Contents, State, made, object_of, state_of}
 use Rattle.register.proofs.Lists.{found_map, found_or, length_map, map_set, set_same, sum_at, sum_put}

@@ -1,8 +1,8 @@
 -- The call that a reply names takes it.
-use Rattle.std.proofs.Common.{◌≡◌, ℕ, suc, pred, ◌+◌, ◌-◌, ◌<◌, ◌≤◌, ◌^◌, List, length, get_or, set, slice_get, Option, Some, None, IfSome}
+use Rattle.std.proofs.Common.{◌≡◌, ℕ, suc, pred, ◌-◌, ◌<◌, ◌≤◌, ◌^◌, List, length, get_or, set, slice_get, Some}
 use Rattle.std.proofs.Common.{sym, ap, subst, ◌∙◌, refl, arith}
 use Rattle.std.specs.List.{remove}
-use Rattle.tag.specs.declared.limits.TheConstants.{MOST_PHASES, MOST_POSITIONS}
+use Rattle.tag.specs.declared.limits.TheConstants.{MOST_PHASES}
 use Rattle.encoder.specs.Fragment.{fragment}
 use Rattle.bank.specs.declared.kind.Kind.{Kind}
 use Rattle.bank.specs.declared.reply.Reply.{Reply}

@@ -1,4 +1,4 @@
-use Rattle.std.proofs.Common.{◌≡◌, ◌+◌, suc, length, take, get_or, set, slice_get, Some, refl, sym, ap, ◌∙◌, arith, add-one}
+use Rattle.std.proofs.Common.{◌≡◌, ◌+◌, suc, length, take, get_or, set, refl, sym, ap, ◌∙◌, arith, add-one}
 use Rattle.std.proofs.lemmas.Option.{slice_get_read}
 use Rattle.bank.specs.Collect.{retired_bank}
 use Rattle.register.specs.Position.{banks_bytes}

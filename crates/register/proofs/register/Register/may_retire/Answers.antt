@@ -1,6 +1,5 @@
-use Rattle.std.proofs.Common.{◌≡◌, ◌+◌, length, sym, ap, ◌∙◌, arith}
+use Rattle.std.proofs.Common.{◌≡◌, sym, ap, ◌∙◌, arith}
 use Rattle.register.specs.Causes.{retire_cause}
-use Rattle.register.specs.State.{State}
 use Rattle.register.proofs.Keeps.{base_within}
 use Rattle.register.proofs.Retiring.{base_refused, left_is, other_refused, retire_free, retire_past}
 use Rattle.register.proofs.register.Register.may_retire.Goals as goal

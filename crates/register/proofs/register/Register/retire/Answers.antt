@@ -1,7 +1,5 @@
-use Rattle.std.proofs.Common.{◌≡◌, length, refl, sym, ap, subst, ◌∙◌, arith}
-use Rattle.std.proofs.lemmas.Option.{slice_get_read}
+use Rattle.std.proofs.Common.{ap, ◌∙◌, arith}
 use Rattle.record.specs.Accounts.{base_bytes}
-use Rattle.register.specs.Causes.{retire_cause}
 use Rattle.register.specs.State.{State}
 use Rattle.register.proofs.Keeps.{base_within}
 use Rattle.register.proofs.Retiring.{base_part, freed_is, retire_kept, retire_step, retiring}

@@ -1,4 +1,4 @@
-use Rattle.std.proofs.Common.{◌≡◌, ◌≤◌, ◌<◌, length, get_or, refl, sym, ap, subst, ◌∙◌, arith}
+use Rattle.std.proofs.Common.{ap, ◌∙◌, arith}
 use Rattle.register.proofs.Keeps.{base_within}
 use Rattle.register.proofs.Stored.{base_stored, layout_at_lawful, part_of}
 use Rattle.register.specs.State.{State}
