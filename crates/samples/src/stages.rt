@@ -8,7 +8,7 @@ use std::alloc::Global;
 use std::test::Fail;
 use successor::greatest_tag;
 use tag::{Refusal, Tag};
-use transfer::{begun_at, due, first_stage, next_phase, passed, stage_tag};
+use transfer::{due, first_stage, next_phase, passed, stage_tag};
 
 const FIRST: Tag = Tag { number: 1, call: 1 };
 
@@ -89,7 +89,7 @@ fn writes_with_the_next_tag(rt: HostRuntime) -> Result<(), Fail> {
 #[test]
 fn reads_on_where_a_pointer_was_found(rt: HostRuntime) -> Result<(), Fail> {
     let alloc = rt.alloc();
-    let stage = begun_at(first_stage(&CallKind::Read, 0), 0);
+    let stage = first_stage(&CallKind::Read, 0);
     assert_eq!(rt; due(stage), Some((Kind::Next, 0)));
     let next = complete(alloc, Kind::Next, 0, Answer::Pointer(Status::Final))?;
     let stage = passed(&CallKind::Read, 2, stage, &next);
@@ -119,8 +119,7 @@ fn begins_anew_where_pieces_are_lacking(rt: HostRuntime) -> Result<(), Fail> {
         tag: FIRST,
     };
     let stage = passed(&CallKind::Read, 2, stage, &fetch);
-    assert_eq!(rt; stage, Stage::ReadBegin);
-    assert_eq!(rt; due(begun_at(stage, 2)), Some((Kind::Next, 2)));
+    assert_eq!(rt; due(stage), Some((Kind::Next, 0)));
     assert_eq!(rt; stage_tag(stage), None);
     let mut done = Vec::new(alloc);
     done.push(complete(alloc, Kind::Spread(Status::Pending), 3, Answer::Done)?)?;
