@@ -34,8 +34,9 @@ impl Cluster {
         let now = self.counter + 1;
         let register = &mut self.objects[place];
         register.soundness();
-        if let Err(refusal) = register.may_retire(position, now) {
-            return Err(refusal);
+        match register.may_retire(position, now) {
+            Ok(()) => (),
+            Err(refusal) => return Err(refusal),
         }
         unload(&mut self.loads, register, self.servers.count());
         match register.retire(position, now) {
