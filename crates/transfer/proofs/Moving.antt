@@ -43,6 +43,36 @@ passed-ended stage (Some end) replies lacks some = refl
 pub move_begun : (from : ℕ) (stage : Stage) (position : ℕ) → IsMoveFrom from stage → begun_at stage position ≡ stage
 move_begun from stage position moves = begun_other stage position (λ same. subst (IsMoveFrom from) same moves)
 
+-- where a move's phase leads, it is still the move, whatever its number
+move_after : (from : ℕ) (stage : Stage) (replies : List Taken) (lacks : Bool) → IsMoveFrom from stage
+    → IsMoveFrom from (after Move 0 stage replies lacks)
+    × ((number : ℕ) → after Move number stage replies lacks ≡ after Move 0 stage replies lacks)
+move_after from (MoveSpread position) replies lacks moves = (moves, λ number. refl)
+move_after from (MoveQuery position) replies lacks moves = (moves, λ number. refl)
+move_after from (MoveFetch position tag) replies true moves = (moves, λ number. refl)
+move_after from (MoveFetch position tag) replies false moves = (moves, λ number. refl)
+move_after from (MovePreWrite position tag) replies lacks moves = (moves, λ number. refl)
+move_after from (MoveFinalize position tag) replies lacks moves = (moves, λ number. refl)
+move_after from (MoveFinal position tag) replies lacks moves = (moves, λ number. refl)
+move_after from (Moved position tag) replies lacks moves = (moves, λ number. refl)
+move_after from stage replies lacks moves = absurd moves
+
+move_passed : (from : ℕ) (stage : Stage) (end : Option ℕ) (replies : List Taken) (lacks : Bool) → IsMoveFrom from stage
+    → IsMoveFrom from (passed Move 0 stage end replies lacks)
+    × ((number : ℕ) → passed Move number stage end replies lacks ≡ passed Move 0 stage end replies lacks)
+move_passed from stage None replies lacks moves = (moves, λ number. refl)
+move_passed from stage (Some end) replies lacks moves = move_after from stage replies lacks moves
+
+pub move_past : (from : ℕ) (stage : Stage) (phase : Phase) → IsMoveFrom from stage
+    → IsMoveFrom from (stage_past Move 0 stage phase)
+    × ((number : ℕ) → stage_past Move number stage phase ≡ stage_past Move 0 stage phase)
+move_past from stage phase moves =
+    subst (λ s. IsMoveFrom from (passed Move 0 s phase.end phase.replies (lacks_pieces phase))
+    × ((number : ℕ) → passed Move number s phase.end phase.replies (lacks_pieces phase)
+    ≡ passed Move 0 s phase.end phase.replies (lacks_pieces phase)))
+    (sym (move_begun from stage phase.position moves))
+    (move_passed from stage phase.end phase.replies (lacks_pieces phase) moves)
+
 led : (stage : Stage) (phase : Phase) (phases : List Phase) → IsSome phase.end
     → stage_after Move 0 stage (phase ∷ phases)
     ≡ stage_after Move 0 (after Move 0 (begun_at stage phase.position) phase.replies (lacks_pieces phase)) phases
