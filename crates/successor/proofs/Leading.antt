@@ -76,7 +76,7 @@ first_stages : (kind : CallKind) (number : ℕ) (reading to : Reading) (phases :
 first_stages kind number reading to [] leads ended = ap first_of leads
 first_stages kind number reading to (phase ∷ phases) leads ended =
     let passes = passed-ended kind number (begun_at (first_of reading) phase.position) phase.end phase.replies (lacks_pieces phase) ended.0
-        ∙ ap (λ s. after kind number s phase.replies (lacks_pieces phase)) (first_begun reading phase.position) in
+    ∙ ap (λ s. after kind number s phase.replies (lacks_pieces phase)) (first_begun reading phase.position) in
     ap (λ s. stage_after kind number s phases) (passes ∙ first_after kind number reading phase leads.0)
     ∙ first_stages kind number (led_on reading (greatest_status phase.replies)) to phases leads.1 ended.1
 
@@ -85,7 +85,7 @@ again_stages : (kind : CallKind) (number last : ℕ) (tag : Tag) (reading to : R
 again_stages kind number last tag reading to [] leads ended = ap (again_of last tag) leads
 again_stages kind number last tag reading to (phase ∷ phases) leads ended =
     let passes = passed-ended kind number (begun_at (again_of last tag reading) phase.position) phase.end phase.replies (lacks_pieces phase)
-        ended.0 ∙ ap (λ s. after kind number s phase.replies (lacks_pieces phase)) (again_begun last tag reading phase.position) in
+    ended.0 ∙ ap (λ s. after kind number s phase.replies (lacks_pieces phase)) (again_begun last tag reading phase.position) in
     ap (λ s. stage_after kind number s phases) (passes ∙ again_after kind number last tag reading phase leads.0)
     ∙ again_stages kind number last tag (led_on reading (greatest_status phase.replies)) to phases leads.1 ended.1
 

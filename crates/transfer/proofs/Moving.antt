@@ -77,7 +77,8 @@ led : (stage : Stage) (phase : Phase) (phases : List Phase) → IsSome phase.end
     → stage_after Move 0 stage (phase ∷ phases)
     ≡ stage_after Move 0 (after Move 0 (begun_at stage phase.position) phase.replies (lacks_pieces phase)) phases
 led stage phase phases some =
-    ap (λ next. stage_after Move 0 next phases) (passed-ended (begun_at stage phase.position) phase.end phase.replies (lacks_pieces phase) some)
+    ap (λ next. stage_after Move 0 next phases)
+    (passed-ended (begun_at stage phase.position) phase.end phase.replies (lacks_pieces phase) some)
 
 -- nothing follows the last phase
 nothing_due : (from : ℕ) (tag : Tag) (phases : List Phase) → AreComplete phases → due (stage_after Move 0 (Moved from tag) phases) ≡ None
@@ -146,9 +147,10 @@ complete_course number stage (phase ∷ []) course none = (some phase.end refl, 
     some : (end : Option ℕ) → phase.end ≡ end → IsSome end
     some None e = absurd (cc (course.0, none, e))
     some (Some end) e = refl
-complete_course number stage (phase ∷ next ∷ later) course none =
-    (ap is_some course.1.1,
-    complete_course number (stage_past Move number stage phase) (next ∷ later) course.2 none)
+complete_course number stage (phase ∷ next ∷ later) course none = (
+  ap is_some course.1.1,
+  complete_course number (stage_past Move number stage phase) (next ∷ later) course.2 none,
+)
 
 -- attempts that were given up are told from the last one
 
@@ -168,7 +170,7 @@ module _ (number from : ℕ) (phases : List Phase) (tag : Tag) (whole : ArePhase
       × (last_phases phases ≡ whole.spread ∷ whole.query ∷ whole.fetch ∷ whole.pre_write ∷ whole.finalize ∷ whole.final ∷ [])
   split_parts =
       let parts = after_attempts whole.attempts from whole.query whole.fetch (whole.pre_write ∷ whole.finalize ∷ whole.final ∷ [])
-          whole.given_up whole.has_pieces in
+      whole.given_up whole.has_pieces in
       (ap (λ xs. given_up (drop 1 xs)) whole.split ∙ parts.0, ap last_phases whole.split ∙ ap (λ xs. whole.spread ∷ xs) parts.1)
 
   ordered_parts : AllByRecursion (IsMoveAttempt from) (given_up (drop 1 phases))

@@ -35,8 +35,8 @@ pub fn begun_at(stage: Stage, position: u32) -> Stage
     }
 }
 
-/// The phase that is due, with its position; none where the call may be answered. A first reading is due where `begun_at`
-/// has it begin.
+/// The phase that is due, with its position; none where the call may be answered. A first reading is due where
+/// `begun_at` has it begin.
 pub fn due(stage: Stage) -> Option<(Kind, u32)>
     requires { IsBelowLimit stage }
     ensures { result ≡ due stage }

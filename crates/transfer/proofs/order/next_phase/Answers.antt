@@ -15,7 +15,7 @@ pub loop-phase-preserved : goal.loop-phase-preserved
 loop-phase-preserved c =
     let past = move_past c.args.from c.loop-phase.stage c.phase-item.result c.loop-phase.invariant.moves in
     let there : c.phase-item.result ∷ drop (c.loop-phase.phase-index + 1) c.args.done.now ≡ drop c.loop-phase.phase-index c.args.done.now =
-        grind (arith, common_steps) in
+    grind (arith, common_steps) in
     record {
       moves = subst (IsMoveFrom c.args.from) (sym c.passed-stage.ensures) past.0;
       rest = λ number.
