@@ -1,5 +1,5 @@
 -- The pieces of a complete fetch: they are k pieces of one value.
-use Rattle.std.proofs.Common.{◌≡◌, ℕ, pred, ◌<◌, ◌≤◌, true, cond, is_some, List, [], ◌∷◌}
+use Rattle.std.proofs.Common.{◌≡◌, ℕ, pred, ◌<◌, ◌≤◌, true, false, cond, is_some, List, [], ◌∷◌}
 use Rattle.std.proofs.Common.{length, take, Option, Some, slice_get, sym, ap, subst, subst₂, ◌∙◌}
 use Rattle.std.proofs.Common.{arith}
 use Rattle.std.specs.List.{AllByRecursion}

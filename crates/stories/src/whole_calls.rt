@@ -35,3 +35,14 @@ fn a_write_and_a_read(rt: HostRuntime) -> Result<(), Fail> {
     assert!(rt; answered.value == Some(Bytes::from_static(b"A")));
     Ok(())
 }
+
+#[test]
+fn a_write_and_a_read_of_many_servers(rt: HostRuntime) -> Result<(), Fail> {
+    let alloc = rt.alloc();
+    let mut cluster = one_object(alloc, 7, 3, &[0, 1, 2, 3, 4, 5, 6])?;
+    let call = cluster.call_write("a", Bytes::from_static(b"A"))?;
+    finish_by(alloc, &mut cluster, "a", call, &mut Greatest)?;
+    let answered = read(alloc, &mut cluster)?;
+    assert!(rt; answered.value == Some(Bytes::from_static(b"A")));
+    Ok(())
+}

@@ -15,6 +15,8 @@ mod collected;
 #[cfg(test)]
 mod disturbed;
 #[cfg(test)]
+mod greatest;
+#[cfg(test)]
 mod insisting;
 #[cfg(test)]
 mod kept;

@@ -28,3 +28,9 @@ returns-in_err-answer-in-Answer-clause-refused g c =
     err_of _ _ _ c.from_residual-in_err-answer-in-Answer.ensures.1
     (answer_refused g.C.Chooser.chooses c.args.name.now c.args.call c.args.cluster.now c.args.asks_again c.args.chooser.now _
     (c.requires ∙ ap Some c.in-Answer.is) c.in_err-answer-in-Answer.ensures.cause)
+
+pub returns-in_err-again-in-Again-clause-refused : goal.returns-in_err-again-in-Again-clause-refused
+returns-in_err-again-in-Again-clause-refused g c =
+    err_of _ _ _ c.from_residual-in_err-again-in-Again.ensures.1
+    (again_refused g.C.Chooser.chooses c.args.name.now c.args.call c.args.cluster.now c.args.asks_again c.args.chooser.now _
+    c.if-not-asks_again.false (c.requires ∙ ap Some c.in-Again.is) c.in_err-again-in-Again.ensures.cause)

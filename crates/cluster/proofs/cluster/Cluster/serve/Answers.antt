@@ -54,8 +54,8 @@ invariant_of-self-in-Ok-serve c =
     c.in-Ok-serve.ensures.step few
     c.stored_in_all-before.result c.stored_in_all-after.result c.stored_in_all-before.ensures.value c.stored_in_all-after.ensures.value
     c.exchanged-self-inside.result c.exchanged-self-inside.ensures c.exchange.new.self c.exchange.ensures
-    c.waiting-waited.result c.waiting.result c.exchanged-self-inside-in-Ok-serve.result c.waiting-waited.ensures.value c.waiting.ensures.value
-    c.waiting.ensures.within c.exchanged-self-inside-in-Ok-serve.ensures
+    c.waiting-waited.result c.waiting.result c.exchanged-self-inside-in-Ok-serve.result c.waiting-waited.ensures.value
+    c.waiting.ensures.value c.waiting.ensures.within c.exchanged-self-inside-in-Ok-serve.ensures
 
 pub invariant_of-self-in-Err-serve : goal.invariant_of-self-in-Err-serve
 invariant_of-self-in-Err-serve c =
