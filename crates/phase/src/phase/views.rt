@@ -1,0 +1,71 @@
+//! What is read of a phase.
+
+ghost use Rattle.std.specs.Prelude.{◌≡◌};
+
+use crate::phase::{Phase, Taken};
+use bank::Kind;
+use tag::Stamp;
+
+impl Phase {
+    /// The replies that were taken, in the order of their takes.
+    pub fn replies(&self) -> &[Taken]
+        ensures { result.now ≡ self.now.replies }
+    {
+        &self.replies
+    }
+
+    /// The phase's number in its call, from 1.
+    pub fn number(&self) -> u32
+        ensures { result ≡ self.now.number }
+    {
+        self.ask.number
+    }
+
+    /// What each member is asked.
+    pub fn kind(&self) -> Kind
+        ensures { result ≡ self.now.kind }
+    {
+        self.ask.kind
+    }
+
+    /// The position that is asked, from 0.
+    pub fn position(&self) -> u32
+        ensures { result ≡ self.now.position }
+    {
+        self.ask.position
+    }
+
+    /// The step at which it began, and the one at which it had a quorum's replies.
+    pub fn steps(&self) -> (Stamp, Option<Stamp>)
+        ensures { (result.0 ≡ self.now.start) × (result.1 ≡ self.now.end) }
+    {
+        (self.start, self.end())
+    }
+
+    // The step at which it had a quorum's replies.
+    fn end(&self) -> Option<Stamp>
+        ensures { result ≡ self.now.end }
+    {
+        if !self.complete() {
+            return None;
+        }
+        match self.replies.last() {
+            Some(taken) => Some(taken.step),
+            None => None,
+        }
+    }
+
+    /// How many members the position has.
+    pub fn members(&self) -> u8
+        ensures { result ≡ self.now.members }
+    {
+        self.members
+    }
+
+    /// How many replies make the quorum.
+    pub fn quorum(&self) -> u8
+        ensures { result ≡ self.now.quorum }
+    {
+        self.quorum
+    }
+}
