@@ -1,8 +1,7 @@
 -- A read's complete fetch that lacks pieces has enough writes beside it.
 use Rattle.std.proofs.Common.{nat_eq, ◌≡◌, ℕ, suc, ◌+◌, ◌<◌, ◌≤◌, ◌⊎◌, ◌&&◌, ◌||◌, Bool, true, false, List, [], ◌∷◌}
-use Rattle.std.proofs.Common.{length, get_or, Option, Some, None, refl, sym, subst, ap, ◌∙◌, inl, inr, arith, slice_get, leb-true}
+use Rattle.std.proofs.Common.{length, get_or, Option, Some, None, refl, sym, subst, ap, ◌∙◌, inl, inr, arith, leb-true}
 use Rattle.std.proofs.lemmas.Bool.{and_parts, cases_lt}
-use Rattle.std.proofs.lemmas.Bool.Decides.{nat_tests}
 use Rattle.std.proofs.lemmas.Option.{same_Some}
 use Rattle.std.specs.FinMap as map
 use Rattle.std.specs.FinMap.Entries.{below_all}
@@ -11,7 +10,6 @@ use Rattle.std.specs.Ordering.{is_lt}
 use Rattle.tag.specs.declared.tag.Tag.{Tag}
 use Rattle.tag.specs.Tag.{tag_cmp, tag_lt, opening_tag, IsBelow}
 use Rattle.layout.proofs.Distinct.{distinct_cons}
-use Rattle.layout.specs.Quorum.{has}
 use Rattle.bank.specs.Bank.{Bank}
 use Rattle.bank.specs.declared.row.Label.{Label}
 use Rattle.bank.specs.declared.row.Row.{Row}
@@ -21,10 +19,9 @@ use Rattle.bank.proofs.Counting.{one_if}
 use Rattle.bank.proofs.Entries.{Rows, find_sorted, t_true, is_lt-tag}
 use Rattle.phase.specs.Phase.{Phase}
 use Rattle.record.specs.declared.call.CallKind.TheVariants.{Read}
-use Rattle.record.specs.Records.{Call, Object, bank_at}
+use Rattle.record.specs.Records.{Call, Object, bank_at, IsRetiredBy}
 use Rattle.record.specs.Knowledge.{IsTrueReply, IsTruePhase}
 use Rattle.record.specs.Fragments.{Code, HasEnough, HasDropped}
-use Rattle.record.specs.Journals.{tag_of}
 use Rattle.record.specs.Legal.{is_move}
 use Rattle.record.specs.Sound.{IsSound}
 use Rattle.record.specs.Lacking.{last_beginning, IsOverlapping, IsLackingFetch, IsOverlapped}
@@ -36,30 +33,8 @@ use Rattle.record.proofs.Lists.{all_get, all_weaker, none_twice}
 use Rattle.record.proofs.Sound.Enough.Counting.{enough_not_lacking}
 use Rattle.record.proofs.Sound.Enough.Fetches.{fetch_has_enough}
 use Rattle.record.proofs.Tags.{IsAtMost, not_below_at_most, opening_at_most, tag_lt-true}
-
--- a number that none of these equals is not among them
-apart_from : (xs : List ℕ) (x : ℕ) → AllByRecursion (λ y. y ≡ x → ⊥) xs → has xs x ≡ false
-apart_from [] x apart = refl
-apart_from (y ∷ ys) x apart = grind (arith, nat_tests, apart.0, apart_from ys x apart.1)
-
--- the call at this place has a tag above another
-record HasAbove (object : Object) (tag : Tag) (index : ℕ) : Type 0 where
-  call : Call
-  at : slice_get object.calls index ≡ Some call
-  greater : Tag
-  tagged : tag_of object index call ≡ Some greater
-  above : IsBelow tag greater
-
-one_tag : (object : Object) (tag : Tag) (i j : ℕ) (call : Call) → slice_get object.calls j ≡ Some call →
-    tag_of object j call ≡ Some tag → HasAbove object tag i → i ≡ j → ⊥
-one_tag object tag i j call at tagged above same =
-    let calls : above.call ≡ call = same_Some above.call call (sym above.at ∙ ap (λ k. slice_get object.calls k) same ∙ at) in
-    let tags : above.greater ≡ tag = same_Some above.greater tag
-    (sym above.tagged ∙ ap (λ (c : Call). tag_of object i c) calls ∙ ap (λ k. tag_of object k call) same ∙ tagged) in
-    itself tag (subst (λ t. IsBelow tag t) tags above.above)
-  where
-    itself : (t : Tag) → IsBelow t t → ⊥
-    itself t below = absurd (grind arith)
+use Rattle.record.proofs.Atomic.Quorums.Replies.{came_by_later}
+use Rattle.record.proofs.Overlapping.Above.{apart_from, HasAbove, one_tag}
 
 module _ (fragment : Code) (object : Object) (last : ℕ) (sound : IsSound fragment object last) (number since until : ℕ) (tag : Tag)
     (found : HasTag object Read number since tag) where
@@ -167,17 +142,17 @@ module _ (fragment : Code) (object : Object) (last : ℕ) (sound : IsSound fragm
         writes_of es sorted (λ k within d.
         ap row_finalized (map.get-entries bank.rows (get_or es k d).0 ∙ find_sorted es k d sorted within))
 
--- what was dropped by a step was exceeded by it
-exceeded : (bank : Bank) (tag : Tag) (step : ℕ) → bank.retired ≡ None → is_dropped_at bank tag step ≡ true →
-    exceeds bank.delta (finals_above_at bank tag step) ≡ true
-exceeded bank tag step none dropped =
-    go (came_by bank.retired step) (ap (λ o. came_by o step) none) (came_by (finalized_at bank tag) step)
+-- what was dropped by a step was exceeded by it, or the bank was retired
+exceeded : (bank : Bank) (tag : Tag) (step : ℕ) → is_dropped_at bank tag step ≡ true →
+    (came_by bank.retired step ≡ true) ⊎ (exceeds bank.delta (finals_above_at bank tag step) ≡ true)
+exceeded bank tag step dropped =
+    go (came_by bank.retired step) (came_by (finalized_at bank tag) step)
     (exceeds bank.delta (finals_above_at bank tag step)) dropped
   where
-    go : (r : Bool) → r ≡ false → (f e : Bool) → (r || (f && e)) ≡ true → e ≡ true
-    go true is f e h = absurd (cc)
-    go false is true e h = h
-    go false is false e h = absurd (cc)
+    go : (r f e : Bool) → (r || (f && e)) ≡ true → (r ≡ true) ⊎ (e ≡ true)
+    go true f e h = inl refl
+    go false true e h = inr h
+    go false false e h = absurd (cc)
 
 exceeds_some : (delta : Option ℕ) (n : ℕ) → exceeds delta n ≡ true → (d : ℕ) × (delta ≡ Some d) × (d + 1 ≤ n)
 exceeds_some None n e = absurd (cc)
@@ -185,7 +160,7 @@ exceeds_some (Some d) n e = (d, refl, leb-true (d + 1) n e)
 
 pub lacking_overlapped : (fragment : Code) (object : Object) (last : ℕ) → IsSound fragment object last → (index place end : ℕ)
     (call : Call) (phase : Phase) (tag : Tag) → IsLackingFetch object index place call phase tag end →
-    IsOverlapped object call place tag end
+    IsRetiredBy object phase.position end ⊎ IsOverlapped object call place tag end
 lacking_overlapped fragment object last sound index place end call phase tag lacking =
     go (fetch_has_enough object sound.legal sound.open_banks index place call phase lacking.at lacking.within truth (tag, lacking.fetch)
     end lacking.complete)
@@ -199,8 +174,11 @@ lacking_overlapped fragment object last sound index place end call phase tag lac
     found : HasTag object Read (suc index) since tag
     found = fetched_since object sound.legal index place call phase tag lacking.at lacking.kind lacking.within lacking.fetch
 
-    by_drop : HasDropped object phase tag → IsOverlapped object call place tag end
-    by_drop dropped =
+    by_more : (dropped : HasDropped object phase tag) →
+        exceeds (bank_at object phase.position dropped.reply.member).delta
+        (finals_above_at (bank_at object phase.position dropped.reply.member) tag dropped.reply.reply.step) ≡ true →
+        IsOverlapped object call place tag end
+    by_more dropped more =
         let member = dropped.reply.member in
         let bank = bank_at object phase.position member in
         let step = dropped.reply.reply.step in
@@ -209,7 +187,7 @@ lacking_overlapped fragment object last sound index place end call phase tag lac
         dropped.within in
         let order = reply.in_order in
         let some = exceeds_some bank.delta (finals_above_at bank tag step)
-        (exceeded bank tag step (sound.shape.unretired phase.position member) dropped.dropped) in
+        more in
         let all = bank_writes fragment object last sound (suc index) since end tag found bank step (omega arith)
         (λ greater final. written fragment object last sound step phase.position member greater step (omega arith) final) in
         record {
@@ -223,7 +201,30 @@ lacking_overlapped fragment object last sound index place end call phase tag lac
           };
         }
 
-    go : HasEnough object phase ⊎ HasDropped object phase tag → IsOverlapped object call place tag end
+    -- the bank had gone with its position, or kept newer versions alone
+    by_drop : (dropped : HasDropped object phase tag) →
+        IsRetiredBy object phase.position end ⊎ IsOverlapped object call place tag end
+    by_drop dropped = by_cause (exceeded bank tag step dropped.dropped)
+      where
+        bank : Bank
+        bank = bank_at object phase.position dropped.reply.member
+
+        step : ℕ
+        step = dropped.reply.reply.step
+
+        by_cause : (came_by bank.retired step ≡ true) ⊎ (exceeds bank.delta (finals_above_at bank tag step) ≡ true) →
+            IsRetiredBy object phase.position end ⊎ IsOverlapped object call place tag end
+        by_cause (inl retired) =
+            let reply = all_get (IsTrueReply object phase) phase.replies dropped.place dropped.reply truth.replies dropped.within in
+            let taken = all_get (λ r. r.step ≤ end) phase.replies dropped.place dropped.reply
+            (truth.complete end lacking.complete).1 dropped.within in
+            let order = reply.in_order in
+            inl (subst (λ o. came_by o end ≡ true) (sound.shape.retired phase.position dropped.reply.member truth.placed reply.within)
+            (came_by_later bank.retired step end (omega arith) retired))
+        by_cause (inr more) = inr (by_more dropped more)
+
+    go : HasEnough object phase ⊎ HasDropped object phase tag →
+        IsRetiredBy object phase.position end ⊎ IsOverlapped object call place tag end
     go (inl enough) =
         absurd (let clash : true ≡ false = sym lacking.lacks ∙ enough_not_lacking object phase truth enough in cc)
     go (inr dropped) = by_drop dropped

@@ -6,10 +6,10 @@ use Rattle.layout.specs.Layout.{IsLawful, Layout}
 use Rattle.bank.specs.declared.kind.Kind.{Kind}
 use Rattle.phase.specs.declared.phase.Taken.{Taken}
 use Rattle.record.specs.declared.call.CallKind.{CallKind}
-use Rattle.record.specs.Records.{Call, Object, layout_at, bank_at}
+use Rattle.record.specs.Records.{Call, Object, layout_at, bank_at, retired_at}
 use Rattle.record.specs.declared.call.CallKind.TheVariants.{Read, Write, Move}
 use Rattle.record.specs.Knowledge.{IsTrueReply, IsTruePhase}
-use Rattle.record.specs.Legal.{is_move, moves_in, first_stage, HasBegun, IsCaused}
+use Rattle.record.specs.Legal.{is_move, moves_in, first_stage, source_of, HasBegun, IsMovedOut, IsCaused}
 use Rattle.record.specs.Journals.{stage_tag}
 use Rattle.record.specs.Fragments.{Code, IfCoded, kind_tag, request_tag, request_piece}
 use Rattle.record.specs.Sound.{IsPhasePast, IsSound}
@@ -17,9 +17,9 @@ use Rattle.record.specs.Sending.{request_to}
 use Rattle.record.specs.Steps.{new_phase, new_call}
 use Rattle.bank.specs.Bank.{empty_piece}
 use Rattle.record.proofs.Lists.{all_weaker, all_pairs, all_get}
-use Rattle.record.proofs.Sound.Mailing.{request_tag-request_to}
+use Rattle.record.proofs.Sound.Mailing.{request_message, kind_of-request_to, request_tag-request_to}
 use Rattle.record.proofs.Sound.Mays.{MadeBefore}
-use Rattle.record.proofs.Sound.Parts.{BankRest, call_rest, all_from}
+use Rattle.record.proofs.Sound.Parts.{BankRest, MessageRest, call_rest, all_from}
 
 pub moves_push : (calls : List Call) (call : Call) (i : ℕ) → i ≤ length calls →
     moves_in (take i (calls ++ call ∷ [])) ≡ moves_in (take i calls)
@@ -55,6 +55,7 @@ pub record Wider (fragment : Code) (now : ℕ) (old new : Object) : Type 0 where
   pub more : length old.layouts ≤ length new.layouts
   pub same_layouts : (p : ℕ) → p < length old.layouts → layout_at new p ≡ layout_at old p
   pub same_banks : (p i : ℕ) → p < length old.layouts → bank_at new p i ≡ bank_at old p i
+  pub same_retired : (p : ℕ) → retired_at new p ≡ retired_at old p
   pub caused : (p i : ℕ) → length old.layouts ≤ p → IsCaused new p (bank_at new p i)
   pub rest : (p i : ℕ) → length old.layouts ≤ p → BankRest fragment new now p i (bank_at new p i)
 
@@ -79,6 +80,30 @@ none_coded fragment object position member asked untagged =
     subst (λ o. IfCoded fragment object position member o (request_piece (request_to asked (empty_piece member))))
     (sym (request_tag-request_to asked (empty_piece member) ∙ untagged)) tt
 
+-- each request of a call that begins is posted by its first phase
+pub first_request : (fragment : Code) (new : Object) (now index : ℕ) (kind : CallKind) (asked : Kind) (position : ℕ) →
+    slice_get new.calls index ≡ Some (begun kind index now asked position (layout_at new position)) → kind_tag asked ≡ None →
+    (member : ℕ) → member < length (layout_at new position).members →
+    MessageRest fragment new now (request_message (suc index) 1 asked position empty_piece member)
+first_request fragment new now index kind asked position there untagged member below = record {
+  posted = record {
+    index = index;
+    call = begun kind index now asked position (layout_at new position);
+    at = there;
+    same_call = refl;
+    place = 0;
+    phase = new_phase (suc index) 1 asked position (layout_at new position) now;
+    within = refl;
+    same_phase = refl;
+    same_kind = kind_of-request_to asked (empty_piece member);
+    same_position = refl;
+    member = below;
+    reply = λ kind made b. absurd (cc);
+  };
+  past = λ kind made b. absurd (cc);
+  coded = none_coded fragment new position member asked untagged;
+}
+
 -- what has begun has begun in a record with more calls
 pub begun_more : (object new : Object) →
     ((i : ℕ) (c : Call) → slice_get object.calls i ≡ Some c → slice_get new.calls i ≡ Some c) → (k : Kind) (p s : ℕ) →
@@ -93,4 +118,18 @@ begun_more object new there k p s b = record {
   same_kind = b.same_kind;
   same_position = b.same_position;
   before = b.before;
+}
+
+-- and a move that was answered
+pub moved_more : (object new : Object) →
+    ((i : ℕ) (c : Call) → slice_get object.calls i ≡ Some c → slice_get new.calls i ≡ Some c) →
+    ((i : ℕ) (c : Call) → slice_get object.calls i ≡ Some c → source_of new i ≡ source_of object i) →
+    (p answered : ℕ) → IsMovedOut object p answered → IsMovedOut new p answered
+moved_more object new there source p answered m = record {
+  index = m.index;
+  call = m.call;
+  at = there m.index m.call m.at;
+  kind = m.kind;
+  source = source m.index m.call m.at ∙ m.source;
+  was = m.was;
 }

@@ -1,6 +1,7 @@
 -- When a bank came to know what it knows.
-use Rattle.std.proofs.Common.{◌≡◌, ℕ, zero, suc, ◌⊎◌, Bool, true, false, cond, List, []}
-use Rattle.std.proofs.Common.{◌∷◌, set, get_or, Option, Some, None, refl, sym, ap, ◌∙◌, inl, inr}
+use Rattle.std.proofs.Common.{◌≡◌, ℕ, zero, suc, ◌<◌, ◌⊎◌, Bool, true, false, cond, List, []}
+use Rattle.std.proofs.Common.{◌∷◌, length, set, get_or, Option, Some, None, refl, sym, ap, ◌∙◌, inl, inr}
+use Rattle.std.proofs.lemmas.List.{length-set, get_or-set_same}
 use Rattle.std.proofs.lemmas.Option.{same_Some}
 use Rattle.tag.specs.declared.tag.Tag.{Tag}
 use Rattle.tag.specs.Tag.{tag_eq}
@@ -104,3 +105,24 @@ bank_at_set object position member bank p i =
         ⊎ ((p ≡ position) × (i ≡ member) × (get_or (get_or banks p []) i no_bank ≡ bank))
     outer (inl same) deeper = inl (ap (λ xs. get_or xs i no_bank) same)
     outer (inr here) deeper = inner here.0 here.1 deeper
+
+-- the bank that changed
+pub bank_here : (object : Object) (position member : ℕ) (bank : Bank) → position < length object.banks →
+    member < length (get_or object.banks position []) → bank_at (with_bank object position member bank) position member ≡ bank
+bank_here object position member bank p m =
+    ap (λ banks. get_or banks member no_bank)
+    (get_or-set_same object.banks position (set (get_or object.banks position []) member bank) [] p)
+    ∙ get_or-set_same (get_or object.banks position []) member bank no_bank m
+
+-- no bank comes or goes
+pub members_kept : (object : Object) (position member : ℕ) (bank : Bank) (p : ℕ) →
+    length (get_or (with_bank object position member bank).banks p []) ≡ length (get_or object.banks p [])
+members_kept object position member bank p = go object.banks position p
+  where
+    go : (banks : List (List Bank)) (i j : ℕ) →
+        length (get_or (set banks i (set (get_or banks i []) member bank)) j []) ≡ length (get_or banks j [])
+    go [] i j = refl
+    go (x ∷ xs) zero zero = length-set x member bank
+    go (x ∷ xs) zero (suc j) = refl
+    go (x ∷ xs) (suc i) zero = refl
+    go (x ∷ xs) (suc i) (suc j) = go xs i j

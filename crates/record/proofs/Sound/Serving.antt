@@ -1,7 +1,7 @@
 -- Serving a request keeps a record sound.
-use Rattle.std.proofs.Common.{◌≡◌, ℕ, zero, suc, ◌<◌, ◌≤◌, ◌⊎◌, List, [], ◌∷◌, length, set, get_or}
+use Rattle.std.proofs.Common.{◌≡◌, ℕ, suc, ◌<◌, ◌≤◌, ◌⊎◌, [], length, set, get_or}
 use Rattle.std.proofs.Common.{Some, refl, sym, subst, subst₂, ap, ◌∙◌, inl, inr, arith, le_refl, le_of_lt, slice_get}
-use Rattle.std.proofs.lemmas.List.{length-set, get_or-set_same}
+use Rattle.std.proofs.lemmas.List.{length-set}
 use Rattle.std.specs.List.{AllByRecursion}
 use Rattle.bank.specs.Bank.{Bank}
 use Rattle.bank.specs.Facts.{IsBefore, SameBefore}
@@ -13,47 +13,27 @@ use Rattle.mail.specs.Message.{body_kind, answered}
 use Rattle.mail.specs.declared.message.Message.{Message}
 use Rattle.phase.specs.declared.phase.Taken.{Taken}
 use Rattle.bank.proofs.Pieces.{served_collected}
-use Rattle.record.specs.Records.{Object, bank_at, no_bank}
+use Rattle.record.specs.Records.{Object, bank_at}
 use Rattle.record.specs.Knowledge.{IsTrueReply, IsTruePhase}
 use Rattle.record.specs.Legal.{HasBegun, IsOpenedAt}
 use Rattle.record.specs.Fragments.{Code, IfCoded, request_tag, request_piece, answer_tag, answer_piece, body_tag, body_piece}
 use Rattle.record.specs.Sound.{IsPosted, IsSound}
-use Rattle.record.specs.Steps.{with_bank, handled_object, served_by}
+use Rattle.record.specs.Steps.{handled_object, served_by}
 use Rattle.record.specs.May.{IsRequestAt}
 use Rattle.mail.specs.declared.message.Body.TheVariants as body
+use Rattle.record.proofs.Bases.{leading_same}
 use Rattle.record.proofs.Lists.{all_weaker, all_pairs, all_get, all_set}
 use Rattle.record.proofs.Sound.Banks.{served-delta, served-retired, BankCoded, served_past, served_next, served_opened_at}
 use Rattle.record.proofs.Sound.Banks.{served_true, served_coded, answer_coded}
 use Rattle.record.proofs.Sound.Changing.{same_call}
 use Rattle.record.proofs.Sound.Due.{spread_there}
 use Rattle.record.proofs.Sound.Keeping.{agree_same, served_agrees}
-use Rattle.record.proofs.Sound.Knowing.{bank_at_set}
+use Rattle.record.proofs.Sound.Knowing.{bank_at_set, bank_here, members_kept}
 use Rattle.record.proofs.Sound.Later.{Grows, message_grows, call_grows, bank_grows, before_later, tags_same}
 use Rattle.record.proofs.Sound.Mays.{MadeBefore}
 use Rattle.record.proofs.Sound.Parts.{BankRest, MessageRest, Sizes, sound_of, sizes_of, call_rest, bank_rest, mail_rest, all_from}
 use Rattle.record.proofs.Sound.Placed.{KindPlaced}
 use Rattle.record.proofs.Sound.Requests.{served_keeps}
-
--- the bank that changed
-bank_here : (object : Object) (position member : ℕ) (bank : Bank) → position < length object.banks →
-    member < length (get_or object.banks position []) → bank_at (with_bank object position member bank) position member ≡ bank
-bank_here object position member bank p m =
-    ap (λ banks. get_or banks member no_bank)
-    (get_or-set_same object.banks position (set (get_or object.banks position []) member bank) [] p)
-    ∙ get_or-set_same (get_or object.banks position []) member bank no_bank m
-
--- no bank comes or goes
-members_kept : (object : Object) (position member : ℕ) (bank : Bank) (p : ℕ) →
-    length (get_or (with_bank object position member bank).banks p []) ≡ length (get_or object.banks p [])
-members_kept object position member bank p = go object.banks position p
-  where
-    go : (banks : List (List Bank)) (i j : ℕ) →
-        length (get_or (set banks i (set (get_or banks i []) member bank)) j []) ≡ length (get_or banks j [])
-    go [] i j = refl
-    go (x ∷ xs) zero zero = length-set x member bank
-    go (x ∷ xs) zero (suc j) = refl
-    go (x ∷ xs) (suc i) zero = refl
-    go (x ∷ xs) (suc i) (suc j) = go xs i j
 
 -- the bank of the message's member serves what is asked, and its reply stands in the request's place
 handled_sound : (fragment : Code) (object : Object) (step now place : ℕ) → step < now → IsSound fragment object step →
@@ -68,6 +48,8 @@ handled_sound fragment object step now place less sound message asked at is =
       members = λ p h. members_kept object message.position message.member served p ∙ sizes.members p h;
       opened = λ p i h k. let o = sizes.opened p i h k in (o.0, grows.opened p i o.0 h o.1);
       delta = λ p i h k. same_delta p i (bank_at_set object message.position message.member served p i) ∙ sizes.delta p i h k;
+      retired = λ p i h k. same_retired p i ∙ sizes.retired p i h k ∙ sym (same_retired p 0);
+      leading = leading_same object new (λ p. same_retired p 0) sizes.leading;
     })
     (λ index call e. call_grows fragment step now object new (le_of_lt less) grows call (sound.legal.calls index call e).phases
     (call_rest fragment object step sound index call e))
@@ -161,6 +143,17 @@ handled_sound fragment object step now place less sound message asked at is =
         let was : bank_at object p i ≡ old = subst₂ (λ q j. bank_at object q j ≡ old) (sym here.0) (sym here.1) refl in
         ap (λ (bank : Bank). bank.delta) here.2 ∙ served-delta old asked now ∙ sym (ap (λ (bank : Bank). bank.delta) was)
 
+    retired_as : (p i : ℕ) → (bank_at new p i ≡ bank_at object p i)
+        ⊎ ((p ≡ message.position) × (i ≡ message.member) × (bank_at new p i ≡ served)) →
+        (bank_at new p i).retired ≡ (bank_at object p i).retired
+    retired_as p i (inl same) = ap (λ (bank : Bank). bank.retired) same
+    retired_as p i (inr here) =
+        let was : bank_at object p i ≡ old = subst₂ (λ q j. bank_at object q j ≡ old) (sym here.0) (sym here.1) refl in
+        ap (λ (bank : Bank). bank.retired) here.2 ∙ served-retired old asked now ∙ sym (ap (λ (bank : Bank). bank.retired) was)
+
+    same_retired : (p i : ℕ) → (bank_at new p i).retired ≡ (bank_at object p i).retired
+    same_retired p i = retired_as p i (bank_at_set object message.position message.member served p i)
+
     grows : Grows now object new
     grows = record {
       keeps = record {
@@ -196,7 +189,6 @@ handled_sound fragment object step now place less sound message asked at is =
       coded = served_coded fragment new message.position message.member old asked now sent old_coded;
       next = served_next (length object.layouts) message.position old asked now kind_there old_rest.next;
       collected = served_collected old asked now old_rest.collected;
-      unretired = served-retired old asked now ∙ old_rest.unretired;
     }
 
     banks : (p i : ℕ) → (bank_at new p i ≡ bank_at object p i)
