@@ -1,11 +1,15 @@
 pub mod Advancing
 pub mod Answering
 pub mod Asks
+pub mod Bases
 pub mod Beginning
 pub mod Begun
 pub mod Calling
+pub mod Emptying
 pub mod Found
 pub mod Keeps
+pub mod Last
+pub mod Leaving
 pub mod Least
 pub mod Lists
 pub mod Mails
@@ -18,6 +22,7 @@ pub mod Reading
 pub mod Recorded
 pub mod Refusing
 pub mod Resending
+pub mod Retiring
 pub mod Rooms
 pub mod Sendings
 pub mod Served
@@ -31,5 +36,6 @@ pub mod Supplied
 pub mod Supplying
 pub mod Takes
 pub mod Taking
+pub mod UpTo
 pub mod Viewed
 pub mod Waiting

@@ -20,7 +20,8 @@ use Rattle.register.specs.Position.{Position}
 use Rattle.register.specs.State.{Contents, State, state_of}
 use Rattle.register.specs.Tracked.{Tracked, with_begun}
 use Rattle.register.proofs.Found.{later}
-use Rattle.register.proofs.Moving.{fresh_move, with_moving, next_position, IsLast, last_of, with_moving_is, moved_is, moved_kept}
+use Rattle.register.proofs.Last.{IsLast, last_of}
+use Rattle.register.proofs.Moving.{fresh_move, with_moving, next_position, with_moving_is, moved_is, moved_kept}
 use Rattle.register.proofs.Refusing.{moved_cause_is, moving_fits, MayMove, may_move}
 
 -- what is read of a register where a move begins: its last position, the call's number, and the call
@@ -73,6 +74,7 @@ module _ {c : Contents} {now number from : ℕ} {source : Layout} {call : Tracke
       positions = positions;
       mail = mail;
       calls = pushed;
+      base = c.base;
       is_moving = true;
       stored = c.stored;
       last = now;

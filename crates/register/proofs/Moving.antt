@@ -1,9 +1,9 @@
 -- What the call of a move makes of a register.
-use Rattle.std.proofs.Common.{get_or, ◌≡◌, ℕ, zero, suc, pred, ◌-◌, ◌<◌, ◌≤◌, ◌⊎◌, Bool, true, false, ◌&&◌, ◌||◌, not, is_some, cond, List}
+use Rattle.std.proofs.Common.{get_or, ◌≡◌, ℕ, suc, pred, ◌<◌, ◌≤◌, ◌⊎◌, Bool, true, false, ◌&&◌, ◌||◌, not, is_some, cond, List}
 use Rattle.std.proofs.Common.{[], ◌∷◌, ◌++◌, length, set, take, Option, Some, None, IsSome, refl, sym, subst, ap, ◌∙◌, inl, inr, arith}
 use Rattle.std.proofs.Common.{slice_get}
 use Rattle.std.specs.List.{AllByRecursion}
-use Rattle.std.proofs.lemmas.Option.{slice_get_read, slice_get_within, get_or_from_slice_get}
+use Rattle.std.proofs.lemmas.Option.{slice_get_within, get_or_from_slice_get}
 use Rattle.tag.specs.declared.limits.TheConstants.{MOST_BYTES, MOST_CALLS, MOST_PHASES, MOST_POSITIONS}
 use Rattle.layout.specs.Layout.{Layout, IsLawful}
 use Rattle.encoder.specs.Fragment.{fragment}
@@ -12,13 +12,13 @@ use Rattle.bank.specs.declared.kind.Kind.TheVariants.{Spread}
 use Rattle.bank.specs.declared.status.Status.TheVariants.{Pending}
 use Rattle.mail.specs.declared.message.Message.{Message}
 use Rattle.record.proofs.Sound.Beginning.{get_pushed}
-use Rattle.record.proofs.Lists.{all_get, get_push}
+use Rattle.record.proofs.Lists.{get_push}
 use Rattle.record.specs.declared.call.CallKind.TheVariants.{Move}
 use Rattle.record.specs.declared.stage.Stage.TheVariants.{MoveSpread}
 use Rattle.record.specs.Courses.{stage_after}
 use Rattle.record.specs.Legal.{is_move, moves_in, first_stage, source_of, stage_of}
 use Rattle.record.specs.May.{NoOpenMove}
-use Rattle.record.specs.Records.{Call, Object, no_layout}
+use Rattle.record.specs.Records.{Call, Object, no_layout, retired_first}
 use Rattle.record.specs.Sound.{IsSound}
 use Rattle.record.specs.Steps.{Step, new_call, opened_banks, moving_object}
 use Rattle.record.specs.Sending.{requests}
@@ -29,8 +29,10 @@ use Rattle.register.specs.Tracked.{Tracked, calls_of, with_begun}
 use Rattle.register.proofs.Lists.{found_map, map_push, set_push, length_map, length_push, all_pushed}
 use Rattle.register.proofs.Keeps.{steps_on}
 use Rattle.register.proofs.Calling.{any_push, none_any}
-use Rattle.register.proofs.Opened.{opened_banks_bytes, bytes_push}
-use Rattle.register.proofs.Reading.{moves_push, some_position}
+use Rattle.register.proofs.Bases.{first_push}
+use Rattle.register.proofs.Opened.{opened_banks_bytes, bytes_push, opened_unretired}
+use Rattle.register.proofs.Reading.{moves_push}
+use Rattle.register.proofs.Last.{IsLast, pred_is}
 
 -- a move before its first phase, and with it
 abbrev pub fresh_move : (from now : ℕ) → Tracked
@@ -52,6 +54,7 @@ with_moving c number from source layout now = record {
   positions = c.positions ++ next_position layout c.delta now ∷ [];
   mail = moving_mail c number from source;
   calls = c.calls ++ mover number from source now ∷ [];
+  base = c.base;
   is_moving = true;
   stored = c.stored;
   last = now;
@@ -64,6 +67,7 @@ moved_parts c now positions mail calls = record {
   positions = positions;
   mail = mail;
   calls = calls;
+  base = c.base;
   is_moving = true;
   stored = c.stored;
   last = now;
@@ -74,43 +78,22 @@ pub with_moving_is : (c : Contents) (number from : ℕ) (source layout : Layout)
     (calls : List Tracked) → next ≡ next_position layout c.delta now → begun ≡ mover number from source now →
     positions ≡ c.positions ++ next ∷ [] →
     mail ≡ moving_mail c number from source → calls ≡ c.calls ++ begun ∷ [] →
-    record { delta = c.delta; positions = positions; mail = mail; calls = calls; is_moving = true; stored = c.stored; last = now }
+    record {
+      delta = c.delta;
+      positions = positions;
+      mail = mail;
+      calls = calls;
+      base = c.base;
+      is_moving = true;
+      stored = c.stored;
+      last = now;
+    }
     ≡ with_moving c number from source layout now
 with_moving_is c number from source layout now next begun positions mail calls is_next is_begun is_positions is_mail is_calls =
     ap (λ ps. moved_parts c now ps mail calls) (is_positions ∙ ap (λ p. c.positions ++ p ∷ []) is_next)
     ∙ ap (λ ms. moved_parts c now (c.positions ++ next_position layout c.delta now ∷ []) ms calls) is_mail
     ∙ ap (λ cs. moved_parts c now (c.positions ++ next_position layout c.delta now ∷ []) (moving_mail c number from source) cs)
     (is_calls ∙ ap (λ u. c.calls ++ u ∷ []) is_begun)
-
--- the last position of a register
-pub record IsLast (c : Contents) (from : ℕ) (source : Layout) : Type 0 where
-  pub position : Position
-  pub at : slice_get c.positions from ≡ Some position
-  pub last : suc from ≡ length c.positions
-  pub same : source ≡ position.layout
-
--- the last of so many positions, as it was read
-pub last_of : (c : Contents) (count : ℕ) (p : Position) (source : Layout) → IsKept c → count ≡ length c.positions
-    → p ≡ get_or c.positions (count - 1) p →
-    source ≡ p.layout → IsLast c (count - 1) source
-last_of c count p source kept all read same =
-    let some = some_position c kept in
-    record {
-      position = p;
-      at = slice_get_read c.positions count (count - 1) p all (omega (arith, all, some)) read;
-      last = omega (arith, all, some);
-      same = same;
-    }
-
-pub last_lawful : (c : Contents) (from : ℕ) (source : Layout) → IsKept c → IsLast c from source → IsLawful source
-last_lawful c from source kept is_last =
-    subst IsLawful (sym is_last.same)
-    (all_get IsLawful (layouts_of c.positions) from is_last.position.layout kept.sound.legal.layouts
-    (found_map (λ (p : Position). p.layout) c.positions from is_last.position is_last.at))
-
-pred_is : (n from : ℕ) → suc from ≡ n → pred n ≡ from
-pred_is zero from e = absurd (cc)
-pred_is (suc n) from e = omega (arith, e)
 
 -- the record with a move numbered `number` from position `from`, whose layout is `source`
 abbrev built : Contents → (layout : Layout) → (now from : ℕ) → (source : Layout) → (number : ℕ) → Object
@@ -217,7 +200,8 @@ module _ (c : Contents) (now number from : ℕ) (source layout : Layout) (kept :
       let within = slice_get_within c.calls i u found in
       kept.staged i u found ∙ ap (λ m. stage_after u.call.kind (suc i) (first_stage u.call.kind m) u.call.phases)
       (sym (same_source i (omega (arith, within))))
-  staged i u (inr here) = subst (λ (u : Tracked). u.stage ≡ stage_of later i u.call) here.1 (ap MoveSpread (from_moves i here.0))
+  staged i u (inr here) = subst (λ (u : Tracked). u.stage ≡ stage_of later i u.call) here.1
+      (ap MoveSpread (from_moves i here.0))
 
   stored_same : all_bytes later.banks ≡ all_bytes (state_of c).object.banks
   stored_same =
@@ -237,6 +221,9 @@ module _ (c : Contents) (now number from : ℕ) (source layout : Layout) (kept :
           (all_pushed (λ (call : Call). length call.phases ≤ MOST_PHASES) (calls_of c.calls) new.call kept.limits.phases (omega arith));
       stored = subst (λ n. n ≤ MOST_BYTES) (sym stored_same) kept.limits.stored;
     };
+    based = kept.based ∙ sym (ap retired_first (map_push (λ (p : Position). p.banks) c.positions (next_position layout c.delta now))
+        ∙ first_push (banks_of c.positions) (opened_banks layout.members 0 c.delta now)
+        (opened_unretired layout.members 0 c.delta now));
     staged = λ i u e. staged i u (get_pushed c.calls new u i e);
     moving = sym (ap has_open_move pushed ∙ any_push is_open_move (calls_of c.calls) new.call ∙ or_true (has_open_move (calls_of c.calls)));
     stored = kept.stored ∙ sym stored_same;

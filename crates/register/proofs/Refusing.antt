@@ -19,7 +19,8 @@ use Rattle.register.specs.State.{Contents, state_of}
 use Rattle.register.specs.Tracked.{Tracked}
 use Rattle.register.proofs.Calling.{sound_room}
 use Rattle.register.proofs.Lists.{length_map}
-use Rattle.register.proofs.Moving.{IsLast, last_lawful, moving_mail, moved_is, moved_sound}
+use Rattle.register.proofs.Last.{IsLast, last_lawful}
+use Rattle.register.proofs.Moving.{moving_mail, moved_is, moved_sound}
 use Rattle.register.proofs.Rooms.{few_room, many_full, is_lt, lt_of, le_of, step_within, sum_few}
 
 -- where no move is open, and the limits of the steps, of the positions and of the calls are kept, the messages alone decide

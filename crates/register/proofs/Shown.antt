@@ -1,12 +1,10 @@
 -- The tags that replies show are past, and so is the greatest that a call has found.
-use Rattle.std.proofs.Common.{◌≡◌, ℕ, suc, ◌+◌, ◌<◌, ◌≤◌, ◌==◌, ◌^◌, Bool, true, false, cond, List, [], ◌∷◌, slice_get, Option, Some, None}
+use Rattle.std.proofs.Common.{◌≡◌, ℕ, suc, ◌+◌, ◌<◌, ◌≤◌, ◌^◌, Bool, true, false, cond, List, [], ◌∷◌, slice_get, Some}
 use Rattle.std.proofs.Common.{sym, subst, inl, inr, refl, arith}
 use Rattle.std.specs.List.{AllByRecursion}
 use Rattle.tag.specs.declared.tag.Tag.{Tag}
-use Rattle.tag.specs.Tag.{later_tag, tag_lt}
+use Rattle.tag.specs.Tag.{later_tag}
 use Rattle.bank.specs.declared.kind.Kind.{Kind}
-use Rattle.bank.specs.declared.status.Status.{Status}
-use Rattle.bank.specs.declared.status.Status.TheVariants.{Unset, Pending, Final}
 use Rattle.bank.specs.declared.reply.Answer.{Answer}
 use Rattle.bank.specs.declared.reply.Answer.TheVariants as answer
 use Rattle.bank.specs.declared.reply.Reply.{Reply}
@@ -14,118 +12,23 @@ use Rattle.mail.specs.declared.message.Message.{Message}
 use Rattle.mail.specs.declared.message.Body.{Body}
 use Rattle.mail.specs.declared.message.Body.TheVariants as body
 use Rattle.phase.specs.declared.phase.Taken.{Taken}
-use Rattle.phase.specs.Phase.{Phase, is_current, has_taken, with_reply, after_body, after_take, lacks_pieces}
+use Rattle.phase.specs.Phase.{Phase, is_current, has_taken, with_reply, after_body, after_take}
 use Rattle.record.specs.declared.call.CallKind.{CallKind}
 use Rattle.record.specs.declared.call.CallKind.TheVariants.{Read, Write, Move}
 use Rattle.record.specs.declared.stage.Stage.{Stage}
-use Rattle.record.specs.declared.stage.Stage.TheVariants.{ReadNext, ReadSpread, QueryFrom, FetchAt, PreWriteAt, FinalizeAt, AgainNext}
+use Rattle.record.specs.declared.stage.Stage.TheVariants.{ReadBegin, ReadNext, ReadSpread, QueryFrom, FetchAt, PreWriteAt, FinalizeAt}
+use Rattle.record.specs.declared.stage.Stage.TheVariants.{AgainNext}
 use Rattle.record.specs.declared.stage.Stage.TheVariants.{AgainSpread, MoveSpread, MoveQuery, MoveFetch, MovePreWrite, MoveFinalize}
 use Rattle.record.specs.declared.stage.Stage.TheVariants.{MoveFinal, Ended, Moved}
 use Rattle.record.specs.Records.{Call, Object}
-use Rattle.record.specs.Courses.{shown_tag, greatest_tag, greatest_status, after_next, after_spread, after_again, tagged, after, passed}
-use Rattle.record.specs.Courses.{stage_after}
-use Rattle.record.specs.Fragments.{Code, IsCoded, IfCoded, answer_tag, answer_piece}
+use Rattle.record.specs.Courses.{shown_tag, greatest_tag}
+use Rattle.record.specs.Fragments.{Code, IfCoded, answer_tag, answer_piece}
 use Rattle.record.specs.Journals.{IsJournaled}
 use Rattle.record.specs.Legal.{first_stage, source_of, stage_of}
 use Rattle.record.specs.Sound.{IsSound}
 use Rattle.transfer.specs.Limits.{IsTaggable, HasNextTag}
 use Rattle.register.proofs.Lists.{all_found, all_weaker, all_pushed}
-
--- the greatest tag that a stage has found has at most this number
-abbrev pub FoundUpTo : ℕ → Stage → Type 0
-FoundUpTo n (QueryFrom position last greatest shown_at) = greatest.number ≤ n
-FoundUpTo n _ = Unit {0}
-
--- a reply shows a tag of at most this number
-abbrev pub ShownUpTo : ℕ → Taken → Type 0
-ShownUpTo n taken = (shown_tag taken.reply.answer).number ≤ n
-
-later_up_to : (n : ℕ) (a b : Tag) → a.number ≤ n → b.number ≤ n → (later_tag a b).number ≤ n
-later_up_to n a b first second = elim (tag_lt a b) as (λ t. (cond t b a).number ≤ n) [ true ↦ second | false ↦ first ]
-
-pub greatest_up_to : (n : ℕ) (replies : List Taken) → AllByRecursion (ShownUpTo n) replies → (greatest_tag replies).number ≤ n
-greatest_up_to n [] shown = omega arith
-greatest_up_to n (t ∷ ts) shown = later_up_to n (shown_tag t.reply.answer) (greatest_tag ts) shown.0 (greatest_up_to n ts shown.1)
-
-after_up_to : (n : ℕ) (kind : CallKind) (number : ℕ) (stage : Stage) (replies : List Taken) (lacks : Bool)
-    → AllByRecursion (ShownUpTo n) replies → FoundUpTo n stage → FoundUpTo n (after kind number stage replies lacks)
-after_up_to n kind number (ReadNext position finalized) replies lacks shown so_far = go (greatest_status replies)
-  where
-    go : (status : Status) → FoundUpTo n (after_next status position finalized)
-    go Unset = omega arith
-    go Pending = tt
-    go Final = tt
-after_up_to n kind number (ReadSpread position finalized status) replies lacks shown so_far = go status
-  where
-    go : (status : Status) → FoundUpTo n (after_spread status position finalized)
-    go Unset = tt
-    go Pending = tt
-    go Final = tt
-after_up_to n kind number (QueryFrom position last greatest shown_at) replies lacks shown so_far =
-    go (tag_lt (greatest_tag replies) greatest) (position == last) kind
-  where
-    later : Tag
-    later = later_tag greatest (greatest_tag replies)
-
-    up_to : later.number ≤ n
-    up_to = later_up_to n greatest (greatest_tag replies) so_far (greatest_up_to n replies shown)
-
-    go : (b d : Bool) (kind : CallKind) → FoundUpTo n
-        (cond d (tagged kind number (cond b shown_at position) last later) (QueryFrom (suc position) last later (cond b shown_at position)))
-    go b true Read = tt
-    go b true (Write value) = tt
-    go b true Move = tt
-    go b false kind = up_to
-after_up_to n kind number (FetchAt shown_at last tag) replies lacks shown so_far = go lacks (shown_at == last)
-  where
-    go : (lacks b : Bool) → FoundUpTo n (cond lacks (ReadNext 0 0) (cond b (AgainNext last last tag) (PreWriteAt last tag)))
-    go true b = tt
-    go false true = tt
-    go false false = tt
-after_up_to n kind number (PreWriteAt last tag) replies lacks shown so_far = tt
-after_up_to n kind number (FinalizeAt last tag) replies lacks shown so_far = tt
-after_up_to n kind number (AgainNext last position tag) replies lacks shown so_far = go (greatest_status replies) (position == last)
-  where
-    ends : (b : Bool) → FoundUpTo n (cond b (Ended last tag) (PreWriteAt position tag))
-    ends true = tt
-    ends false = tt
-
-    go : (status : Status) (b : Bool) → FoundUpTo n (after_again status last position tag)
-    go Unset b = ends (position == last)
-    go Pending b = tt
-    go Final b = tt
-after_up_to n kind number (AgainSpread last position tag status) replies lacks shown so_far = tt
-after_up_to n kind number (MoveSpread position) replies lacks shown so_far = tt
-after_up_to n kind number (MoveQuery position) replies lacks shown so_far = tt
-after_up_to n kind number (MoveFetch position tag) replies lacks shown so_far = go lacks
-  where
-    go : (lacks : Bool) → FoundUpTo n (cond lacks (MoveQuery position) (MovePreWrite position tag))
-    go true = tt
-    go false = tt
-after_up_to n kind number (MovePreWrite position tag) replies lacks shown so_far = tt
-after_up_to n kind number (MoveFinalize position tag) replies lacks shown so_far = tt
-after_up_to n kind number (MoveFinal position tag) replies lacks shown so_far = tt
-after_up_to n kind number (Ended last tag) replies lacks shown so_far = tt
-after_up_to n kind number (Moved position tag) replies lacks shown so_far = tt
-
-passed_up_to : (n : ℕ) (kind : CallKind) (number : ℕ) (stage : Stage) (end : Option ℕ) (replies : List Taken)
-    (lacks : Bool) → AllByRecursion (ShownUpTo n) replies → FoundUpTo n stage
-    → FoundUpTo n (passed kind number stage end replies lacks)
-passed_up_to n kind number stage None replies lacks shown so_far = so_far
-passed_up_to n kind number stage (Some end) replies lacks shown so_far = after_up_to n kind number stage replies lacks shown so_far
-
-stage_up_to : (n : ℕ) (kind : CallKind) (number : ℕ) (stage : Stage) (phases : List Phase)
-    → AllByRecursion (λ (phase : Phase). AllByRecursion (ShownUpTo n) phase.replies) phases → FoundUpTo n stage
-    → FoundUpTo n (stage_after kind number stage phases)
-stage_up_to n kind number stage [] shown so_far = so_far
-stage_up_to n kind number stage (p ∷ ps) shown so_far =
-    stage_up_to n kind number (passed kind number stage p.end p.replies (lacks_pieces p)) ps shown.1
-    (passed_up_to n kind number stage p.end p.replies (lacks_pieces p) shown.0 so_far)
-
-first_up_to : (n : ℕ) (kind : CallKind) (from : ℕ) → FoundUpTo n (first_stage kind from)
-first_up_to n Read from = tt
-first_up_to n (Write value) from = tt
-first_up_to n Move from = tt
+use Rattle.register.proofs.UpTo.{FoundUpTo, ShownUpTo, later_up_to, greatest_up_to, stage_up_to, first_up_to}
 
 -- a journaled tag is past
 journaled_past : (fragment : Code) (object : Object) (step : ℕ) → IsSound fragment object step → (tag : Tag) (value : List ℕ)
@@ -212,6 +115,7 @@ pub next_tag_there : (n : ℕ) (kind : CallKind) (stage : Stage) (replies : List
 next_tag_there n kind (QueryFrom position last greatest shown_at) replies few so_far shown =
     taggable n kind (later_tag greatest (greatest_tag replies))
     (later_up_to n greatest (greatest_tag replies) so_far (greatest_up_to n replies shown)) few
+next_tag_there n kind ReadBegin replies few so_far shown = tt
 next_tag_there n kind (ReadNext position finalized) replies few so_far shown = tt
 next_tag_there n kind (ReadSpread position finalized status) replies few so_far shown = tt
 next_tag_there n kind (FetchAt shown_at last tag) replies few so_far shown = tt

@@ -6,7 +6,7 @@ ghost use Rattle.tag.specs.declared.refusal.Refusal.TheVariants.{NoMemory};
 ghost use Rattle.tag.specs.Refusal.{IsByCause, IsExactlyByCause};
 ghost use Rattle.record.specs.Accounts.{stored, mailed};
 ghost use Rattle.record.specs.Journals.{entries, entry_of, stage_tag};
-ghost use Rattle.record.specs.Records.{layout_at};
+ghost use Rattle.record.specs.Records.{base_of, layout_at};
 ghost use Rattle.record.specs.Wants.{fetched_or};
 ghost use Rattle.encoder.specs.Fragment.{fragment};
 ghost use Rattle.record.specs.Sound.{IsSound};
@@ -20,6 +20,7 @@ use crate::register::Register;
 use crate::register::phases::{index_of, want_of};
 use bank::{Bank, Kind};
 use bytes::Bytes;
+use layout::Layout;
 use mail::Mail;
 use phase::Phase;
 use record::{Entry, Stage};
@@ -145,6 +146,21 @@ impl Register {
             Some(position) => position.bank(member),
             None => None,
         }
+    }
+
+    /// The base: the first position that is not retired. A reading that begins now begins there.
+    pub fn base(&self) -> u32
+        ensures { result ≡ base_of self.now.object }
+    {
+        self.base
+    }
+
+    /// The layout of a position.
+    pub fn layout_view(&self, position: u32) -> Option<&Layout>
+        ensures { option_copied result ≡ slice_get self.now.object.layouts position }
+    {
+        let place = self.positions.get(position as usize)?;
+        Some(place.layout())
     }
 
     /// The tag of the call of this number, once it has one.

@@ -3,7 +3,7 @@ use Rattle.tag.specs.declared.limits.TheConstants.{MOST_CALLS, MOST_POSITIONS}
 use Rattle.layout.specs.Layout.{Layout}
 use Rattle.register.specs.Causes.{move_cause}
 use Rattle.register.specs.State.{Contents, State}
-use Rattle.register.proofs.Moving.{IsLast, last_of}
+use Rattle.register.proofs.Last.{IsLast, last_of}
 use Rattle.register.proofs.Refusing.{many_messages, no_cause}
 use Rattle.register.proofs.register.Register.may_move.Goals as goal
 
@@ -15,6 +15,7 @@ returns-then-not-has_room c =
       positions = r.positions.items;
       mail = r.mail;
       calls = r.calls.items;
+      base = r.base;
       is_moving = r.is_moving;
       stored = r.stored;
       last = r.last;
@@ -42,6 +43,7 @@ returns c =
       positions = r.positions.items;
       mail = r.mail;
       calls = r.calls.items;
+      base = r.base;
       is_moving = r.is_moving;
       stored = r.stored;
       last = r.last;

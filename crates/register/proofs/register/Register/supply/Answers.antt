@@ -1,7 +1,7 @@
 use Rattle.std.proofs.Common.{length, None, inl, sym, ap, ◌∙◌, ◌≡◌, arith, Option}
 use Rattle.tag.specs.Cause.{IsRefusalBy}
 use Rattle.tag.specs.declared.refusal.Refusal.{Refusal}
-use Rattle.register.proofs.Advancing.{stage_below}
+use Rattle.register.proofs.Advancing.{stage_near}
 use Rattle.register.proofs.Beginning.{begin_room, begin_cause, begin_step, begin_kept}
 use Rattle.register.proofs.Calling.{if_no_such}
 use Rattle.register.proofs.Found.{is_found, below_those, few_those}
@@ -64,7 +64,7 @@ returns-then-now-gt-MOST_STEPS-clause-cause c =
 pub due-requires : goal.due-requires
 due-requires c =
     let f = is_found c.self.invariant c.in_ok-index.ensures.place c.deref.ensures.value c.index-tracked.ensures in
-    stage_below f c.stage.ensures
+    stage_near f c.stage.ensures
 
 pub begin-requires-clause-room : goal.begin-requires-clause-room
 begin-requires-clause-room c =
