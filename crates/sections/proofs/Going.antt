@@ -35,7 +35,8 @@ use Rattle.driver.specs.declared.round.Round.{Round}
 use Rattle.driver.specs.declared.round.Round.TheVariants as round
 use Rattle.sections.specs.declared.rounds.Hand.{Hand}
 use Rattle.sections.specs.declared.rounds.Hand.TheVariants as hand
-use Rattle.sections.proofs.Booking.{begins, calls_kept}
+use Rattle.sections.proofs.Begins.{begins}
+use Rattle.sections.proofs.Booking.{calls_kept}
 use Rattle.driver.proofs.Named.{read_there, cause_there, is_there}
 use Rattle.driver.proofs.Wanted.{wants_at}
 use Rattle.driver.proofs.Refusing.{answer_refused}

@@ -1,3 +1,4 @@
+pub mod Begins
 pub mod Booking
 pub mod Becoming
 pub mod Rising

@@ -19,7 +19,7 @@ use std::thread::Threads;
 use tag::Refusal;
 
 /// The turns of a read up to its fetch.
-const BEFORE_FETCH: u64 = 16;
+pub(crate) const BEFORE_FETCH: u64 = 16;
 
 const NEWER: &[u8] = b"newer";
 
