@@ -14,6 +14,8 @@ pub(crate) struct Place {
     pub(crate) members: u8,
     /// The step at which its banks were opened.
     pub(crate) opened: Stamp,
+    /// The step at which the move out of it was answered, where it was retired since.
+    pub(crate) retired_after: Option<Stamp>,
 }
 
 /// Where a call stands.

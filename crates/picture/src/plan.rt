@@ -4,6 +4,7 @@ ghost use Rattle.picture.specs.Plan.{end_of, right_of, x_of};
 
 use crate::lane::{Lane, Place};
 use crate::px::Px;
+use crate::retired::{answers_of_moves, retired_after};
 use bank::{Bank, Label};
 use phase::Phase;
 use record::Entry;
@@ -67,6 +68,7 @@ impl Plan {
         ensures { IfOk result (λ plan. map (λ lane. lane.entry) plan.lanes.items ≡ entries.now) }
     {
         let lanes = lanes_of(alloc, entries)?;
+        let answers = answers_of_moves(alloc, entries)?;
         let mut positions = Vec::new(alloc);
         let mut bottom = down(CALLS_TOP, lanes.len() as u64, CALL);
         for position in 0..MOST_POSITIONS as u32 {
@@ -80,6 +82,7 @@ impl Plan {
                 top,
                 members,
                 opened: opened_at(bank),
+                retired_after: retired_after(register, &answers, position),
             })?;
             bottom = down(top, u64::from(members), SERVER);
         }

@@ -1,7 +1,0 @@
-use Rattle.std.proofs.Common.{◌≡◌, take, sum_by}
-use Rattle.std.specs.FinMap as map
-use Rattle.costs.specs.Cost.{bytes_for, capped}
-use Rattle.costs.proofs.sums.kept_bytes.Given as goal
-
-abbrev pub invariant-loop-i : goal.invariant-loop-i
-invariant-loop-i l = l.total ≡ capped (sum_by (bytes_for l.tag) (take l.i (map.entries l.bank.rows)))
