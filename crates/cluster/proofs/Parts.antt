@@ -1,7 +1,6 @@
 -- What each step leaves of an object's parts: of its layouts, of the bytes of its banks, and how many calls it has.
 use Rattle.std.proofs.Common.{◌≡◌, ℕ, zero, suc, get_or, Bool, true, false, if◌then◌else◌, is_some, List, [], ◌∷◌}
-use Rattle.std.proofs.Common.{◌++◌, length, slice_get, slice_set, Option, Some, None, pred, refl, ap, ◌∙◌, arith}
-use Rattle.std.proofs.lemmas.List.Sums.{sum_by_push}
+use Rattle.std.proofs.Common.{◌++◌, length, slice_get, slice_set, Option, Some, None, pred, refl, ap, ◌∙◌}
 use Rattle.layout.specs.Layout.{Layout}
 use Rattle.encoder.specs.Fragment.{fragment}
 use Rattle.bank.specs.Bank.{Bank}
@@ -16,9 +15,9 @@ use Rattle.record.specs.Records.{Call, Object}
 use Rattle.record.specs.Wants.{current_phase}
 use Rattle.record.specs.Steps.{Step, stepped, on_call, on_message, begun_object, advanced_object}
 use Rattle.record.specs.Steps.{asked_again, supplied_by, taken_calls, taken_by, served_by, opened_banks}
-use Rattle.register.specs.Position.{banks_bytes, all_bytes}
+use Rattle.register.specs.Position.{all_bytes}
 use Rattle.register.proofs.Lists.{length_set, length_push}
-use Rattle.register.proofs.Opened.{opened_banks_bytes}
+use Rattle.register.proofs.Opened.{opened_banks_bytes, bytes_push}
 use Rattle.cluster.specs.Kept.{AreBanked}
 
 -- the same layouts and banks, and as many calls
@@ -141,10 +140,6 @@ read_called object now = record { layouts = refl; banks = refl; calls = one_more
 pub write_called : (value : List ℕ) (object : Object) (now : ℕ) → IsCalled object (stepped fragment (Step.CallWrite value) now object)
 write_called value object now = record { layouts = refl; banks = refl; calls = one_more object.calls (length object.calls) _ _ }
 
-bytes_pushed : (banks : List (List Bank)) (more : List Bank) → banks_bytes more ≡ 0 →
-    all_bytes (banks ++ more ∷ []) ≡ all_bytes banks
-bytes_pushed banks more none = let all = sum_by_push banks_bytes banks more in omega (arith, none, all)
-
 pub opened_length : (members : List ℕ) (member : ℕ) (delta : Option ℕ) (now : ℕ)
     → length (opened_banks members member delta now) ≡ length members
 opened_length [] member delta now = refl
@@ -161,7 +156,7 @@ pub move_moved : (layout : Layout) (object : Object) (now : ℕ) →
     IsMoved object layout (stepped fragment (Step.CallMove layout) now object)
 move_moved layout object now = record {
   layouts = refl;
-  banks = bytes_pushed object.banks (opened_banks layout.members 0 object.delta now) (opened_banks_bytes layout.members 0 object.delta now);
+  banks = bytes_push object.banks (opened_banks layout.members 0 object.delta now) (opened_banks_bytes layout.members 0 object.delta now);
   banked = λ all. banked_pushed object.layouts object.banks layout (opened_banks layout.members 0 object.delta now) all
       (opened_length layout.members 0 object.delta now);
   calls = one_more object.calls (length object.calls) _ _;

@@ -81,6 +81,11 @@ impl fmt::Display for MarkSigns {
         writeln!(
             f,
             "<rect class='band' x='604' y='{top}' width='20' height='11'/><text x='629' y='{y}'>a move</text>"
+        )?;
+        writeln!(
+            f,
+            "<circle cx='690' cy='{middle}' r='3' fill='none' stroke='#000'/>\
+            <text x='697' y='{y}'>a piece came, dropped since</text>"
         )
     }
 }

@@ -5,13 +5,13 @@ use Rattle.std.specs.Cmp.Lexicographic.{same_text}
 use Rattle.std.proofs.lemmas.Bool.Decides.{nat_tests}
 use Rattle.tag.specs.declared.limits.TheConstants.{LONGEST_VALUE, MOST_MEMBERS}
 use Rattle.tag.specs.declared.refusal.Refusal.{Refusal}
-use Rattle.tag.specs.declared.refusal.Refusal.TheVariants.{BadLayout, TooLong, NotNow, WrongCode}
+use Rattle.tag.specs.declared.refusal.Refusal.TheVariants.{BadLayout, TooLong, WrongCode}
 use Rattle.bank.specs.declared.kind.Kind.{Kind}
 use Rattle.encoder.specs.Fragment.{fragment}
 use Rattle.encoder.specs.Coded.{Coding, IsLawful, encode_cause}
 use Rattle.record.specs.declared.stage.Want.{Want}
 use Rattle.record.specs.declared.stage.Want.TheVariants as want
-use Rattle.record.specs.Records.{Call, Object, layout_at}
+use Rattle.record.specs.Records.{Call, Object}
 use Rattle.record.specs.Courses.{due}
 use Rattle.record.specs.Legal.{stage_of}
 use Rattle.record.specs.Sound.{IsSound}
@@ -21,7 +21,7 @@ use Rattle.record.proofs.Sound.Sending.{supply_counts}
 use Rattle.register.proofs.Rooms.{is_lt, not_lt}
 use Rattle.register.specs.Causes.{call_at, if_call, unless, number_cause, supply_cause, supplied_cause, supply_room_cause}
 use Rattle.register.specs.Causes.{supplying_cause}
-use Rattle.register.specs.Coding.{bytes_eq, pieces_due, pieces_position, is_coded_for}
+use Rattle.register.specs.Coding.{bytes_eq, pieces_due, pieces_position}
 use Rattle.register.specs.State.{State}
 use Rattle.register.specs.View.{want_at, value_of, value_at, coding_at, coding_of, to_code}
 use Rattle.cluster.specs.Cluster.{Cluster, named}
@@ -29,7 +29,7 @@ use Rattle.cluster.specs.Causes.{next, if_object, object_cause}
 use Rattle.driver.specs.Driver.{wanted}
 use Rattle.driver.proofs.Named.{read_there, cause_there}
 use Rattle.driver.proofs.Supplying.{Sends, sends, codable, supply_is}
-use Rattle.driver.proofs.Wanted.{WantsAt, wants_at}
+use Rattle.driver.proofs.Wanted.{wants_at}
 use Rattle.player.specs.CodingCommands.{first_of, coding_cause, coding_for, supplying_as_cause}
 
 module _ (object : Object) (number k n : ℕ) (wants : want_at object number ≡ Some (want.Supply k n)) where

@@ -3,12 +3,11 @@ use Rattle.std.proofs.Common.{get_or, ◌≡◌, ℕ, zero, suc, pred, ◌-◌, 
 use Rattle.std.proofs.Common.{[], ◌∷◌, ◌++◌, length, set, take, Option, Some, None, IsSome, refl, sym, subst, ap, ◌∙◌, inl, inr, arith}
 use Rattle.std.proofs.Common.{slice_get}
 use Rattle.std.specs.List.{AllByRecursion}
-use Rattle.std.proofs.lemmas.List.Sums.{sum_by-cons}
 use Rattle.std.proofs.lemmas.Option.{slice_get_read, slice_get_within, get_or_from_slice_get}
 use Rattle.tag.specs.declared.limits.TheConstants.{MOST_BYTES, MOST_CALLS, MOST_PHASES, MOST_POSITIONS}
 use Rattle.layout.specs.Layout.{Layout, IsLawful}
 use Rattle.encoder.specs.Fragment.{fragment}
-use Rattle.bank.specs.Bank.{Bank, empty_piece}
+use Rattle.bank.specs.Bank.{empty_piece}
 use Rattle.bank.specs.declared.kind.Kind.TheVariants.{Spread}
 use Rattle.bank.specs.declared.status.Status.TheVariants.{Pending}
 use Rattle.mail.specs.declared.message.Message.{Message}
@@ -24,13 +23,13 @@ use Rattle.record.specs.Sound.{IsSound}
 use Rattle.record.specs.Steps.{Step, new_call, opened_banks, moving_object}
 use Rattle.record.specs.Sending.{requests}
 use Rattle.register.specs.Kept.{is_open_move, has_open_move, IsKept}
-use Rattle.register.specs.Position.{Position, layouts_of, banks_of, banks_bytes, all_bytes}
+use Rattle.register.specs.Position.{Position, layouts_of, banks_of, all_bytes}
 use Rattle.register.specs.State.{Contents, state_of}
 use Rattle.register.specs.Tracked.{Tracked, calls_of, with_begun}
 use Rattle.register.proofs.Lists.{found_map, map_push, set_push, length_map, length_push, all_pushed}
 use Rattle.register.proofs.Keeps.{steps_on}
 use Rattle.register.proofs.Calling.{any_push, none_any}
-use Rattle.register.proofs.Opened.{opened_banks_bytes}
+use Rattle.register.proofs.Opened.{opened_banks_bytes, bytes_push}
 use Rattle.register.proofs.Reading.{moves_push, some_position}
 
 -- a move before its first phase, and with it
@@ -179,14 +178,6 @@ no_open c kept none index call at kind = go call.answered refl
 take_all : (calls : List Call) → moves_in (take (length calls) calls) ≡ moves_in calls
 take_all [] = refl
 take_all (c ∷ calls) = ap (λ m. cond (is_move c.kind) (suc m) m) (take_all calls)
-
-bytes_push : (banks : List (List Bank)) (more : List Bank) → banks_bytes more ≡ 0 → all_bytes (banks ++ more ∷ []) ≡ all_bytes banks
-bytes_push [] more none = let first = sum_by-cons banks_bytes more [] in omega (arith, none, first)
-bytes_push (b ∷ banks) more none =
-    let rest = bytes_push banks more none in
-    let x = sum_by-cons banks_bytes b (banks ++ more ∷ []) in
-    let y = sum_by-cons banks_bytes b banks in
-    omega (arith, rest, x, y)
 
 module _ (c : Contents) (now number from : ℕ) (source layout : Layout) (kept : IsKept c) (is_last : IsLast c from source)
     (is : number ≡ suc (length c.calls))

@@ -1,9 +1,9 @@
 -- An object that was just opened.
-use Rattle.std.proofs.Common.{◌≡◌, ℕ, suc, ◌+◌, false, List, [], ◌∷◌, Option, sym, ap, ◌∙◌, refl, arith}
-use Rattle.std.proofs.lemmas.List.Sums.{sum_by-cons}
+use Rattle.std.proofs.Common.{◌≡◌, ℕ, suc, ◌+◌, false, List, [], ◌∷◌, ◌++◌, Option, sym, ap, ◌∙◌, refl, arith}
+use Rattle.std.proofs.lemmas.List.Sums.{sum_by-cons, sum_by_push}
 use Rattle.encoder.specs.Fragment.{fragment}
 use Rattle.layout.specs.Layout.{Layout, IsLawful}
-use Rattle.bank.specs.Bank.{opened_bank}
+use Rattle.bank.specs.Bank.{Bank, opened_bank}
 use Rattle.bank.specs.Bytes.{bank_bytes}
 use Rattle.bank.proofs.Account.{opened_bytes}
 use Rattle.record.specs.Steps.{opened_banks}
@@ -27,6 +27,10 @@ opened_banks_bytes (s ∷ ss) member delta now =
       opened_bytes member delta now,
       sum_by-cons bank_bytes (opened_bank member delta now) (opened_banks ss (suc member) delta now),
     )
+
+-- banks that store nothing add nothing
+pub bytes_push : (banks : List (List Bank)) (more : List Bank) → banks_bytes more ≡ 0 → all_bytes (banks ++ more ∷ []) ≡ all_bytes banks
+bytes_push banks more none = let all = sum_by_push banks_bytes banks more in omega (arith, none, all)
 
 pub opened_keeps : (layout : Layout) (delta : Option ℕ) (now : ℕ) → IsLawful layout
     → IsKept (record {

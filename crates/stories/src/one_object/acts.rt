@@ -195,6 +195,7 @@ fn wanted(
             object.settle(call, decoded, now)?;
         }
         Want::Answer => return Ok(Some(object.answer(call, 7, now)?)),
+        Want::Again => object.again(call, now)?,
         Want::Replies | Want::Done => return Err(Refusal::Stuck),
     }
     Ok(None)
