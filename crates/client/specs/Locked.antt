@@ -1,16 +1,18 @@
 -- What a call through the lock does in some state of the cluster: others change the cluster before and after it.
-use Rattle.std.specs.Prelude.{◌≡◌, ◌⊎◌, ℕ, Bool, List, length, Option, Some, None, Result, MatchResult}
-use Rattle.tag.specs.Refusal.{IsByCause}
+use Rattle.std.specs.Prelude.{◌≡◌, ◌⊎◌, ℕ, ◌+◌, Bool, List, length, Option, Some, None, Result, MatchResult}
+use Rattle.tag.specs.Refusal.{IsByCause, IsExactlyByCause}
 use Rattle.tag.specs.declared.refusal.Refusal.{Refusal}
 use Rattle.tag.specs.declared.refusal.Refusal.TheVariants.{NoMemory}
 use Rattle.layout.specs.Layout.{Layout}
 use Rattle.register.specs.declared.receipt.Receipt.{Receipt}
+use Rattle.cluster.specs.Accounts.{stored_all}
 use Rattle.cluster.specs.Cluster.{Cluster}
 use Rattle.cluster.specs.Causes.{layout_cause, create_cause, server_cause}
 use Rattle.cluster.specs.Steps.{created, with_layout, with_server}
 use Rattle.sections.specs.Course.{IsStateOf}
 use Rattle.sections.specs.Moves.{AdminState, Ends, ordered_by}
 use Rattle.sections.specs.Sections.{Stirs, StirsNot, Disturbs, DisturbsNot, begin_move_cause, move_begun}
+use Rattle.sections.specs.Sections.{retired, retiring_cause}
 
 module _ {C : Type 0} (chooses : C → ℕ → ℕ → C → Type 0) (name : List ℕ) (before : C) where
   -- a chosen message is served or taken, or there is none
@@ -54,6 +56,19 @@ abbrev pub Creates : {T : Type 0} → (first : Cluster) → AdminState → (name
     → Result T Refusal → AdminState → Type 0
 Creates first old name id delta answer new =
     CarriesOut first (λ c. create_cause c name id) (λ c. created c name id delta) old answer new
+
+-- this position of an object is retired, and tells how many bytes all servers store less; or it is refused, and never
+-- for want of memory
+abbrev pub Retires : (first : Cluster) → AdminState → (name : List ℕ) → (position : ℕ) → Result ℕ Refusal → AdminState
+    → Type 0
+Retires first old name position answer new =
+    (cluster : Cluster)
+    × (IsStateOf first cluster
+    × (IsExactlyByCause (retiring_cause cluster name position) answer
+    × MatchResult answer
+    (λ bytes. (stored_all (retired cluster name) + bytes ≡ stored_all cluster)
+    × (new ≡ ordered_by old (retired cluster name)))
+    (λ r. new ≡ old)))
 
 -- a server goes up or down, or is refused
 abbrev pub SetsServer : {T : Type 0} → (first : Cluster) → AdminState → (server : ℕ) → (up : Bool) → Result T Refusal

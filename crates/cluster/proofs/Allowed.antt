@@ -23,7 +23,7 @@ use Rattle.register.specs.Act.{act_cause}
 use Rattle.register.specs.declared.act.Act.{Act}
 use Rattle.register.specs.declared.act.Act.TheVariants as act
 
-past_unless : (holds : Bool) (refusal : Refusal) (later : Option Refusal) → unless holds refusal later ≡ None → later ≡ None
+pub past_unless : (holds : Bool) (refusal : Refusal) (later : Option Refusal) → unless holds refusal later ≡ None → later ≡ None
 past_unless true refusal later none = none
 past_unless false refusal later none = absurd (cc)
 

@@ -16,4 +16,5 @@ pub mod Summing
 pub mod Sums
 pub mod Totals
 pub mod Values
+mod Retiring
 mod Room

@@ -53,7 +53,7 @@ chosen_other : (b : Bool) (x y : ℕ) → b ≡ false → y ≡ (if b then x els
 chosen_other true x y e = absurd (cc)
 chosen_other false x y e = refl
 
-load_set : (loads : List ℕ) (server x other : ℕ) → server < length loads →
+pub load_set : (loads : List ℕ) (server x other : ℕ) → server < length loads →
     get_or (slice_set loads server x) other 0 ≡ (if server == other then x else get_or loads other 0)
 load_set [] server x other there = absurd (omega (arith, there))
 load_set (y ∷ loads) zero x zero there = refl

@@ -4,19 +4,19 @@ use Rattle.std.proofs.Common.{◌++◌, length, slice_get, slice_set, Option, So
 use Rattle.layout.specs.Layout.{Layout}
 use Rattle.encoder.specs.Fragment.{fragment}
 use Rattle.bank.specs.Bank.{Bank}
+use Rattle.bank.specs.Collect.{retired_bank}
 use Rattle.bank.specs.declared.kind.Kind.{Kind}
 use Rattle.mail.specs.declared.message.Message.{Message}
 use Rattle.mail.specs.declared.message.Body.{Body}
 use Rattle.mail.specs.declared.message.Body.TheVariants as body
 use Rattle.phase.specs.Phase.{Phase}
-use Rattle.record.specs.Courses.{due}
-use Rattle.record.specs.Legal.{stage_of}
-use Rattle.record.specs.Records.{Call, Object}
+use Rattle.record.specs.Legal.{due_of}
+use Rattle.record.specs.Records.{Call, Object, base_of}
 use Rattle.record.specs.Wants.{current_phase}
 use Rattle.record.specs.Steps.{Step, stepped, on_call, on_message, begun_object, advanced_object}
 use Rattle.record.specs.Steps.{asked_again, supplied_by, taken_calls, taken_by, served_by, opened_banks}
-use Rattle.register.specs.Position.{all_bytes}
-use Rattle.register.proofs.Lists.{length_set, length_push}
+use Rattle.register.specs.Position.{banks_bytes, all_bytes}
+use Rattle.register.proofs.Lists.{length_map, length_set, length_push}
 use Rattle.register.proofs.Opened.{opened_banks_bytes, bytes_push}
 use Rattle.cluster.specs.Kept.{AreBanked}
 
@@ -76,16 +76,16 @@ supplied_quiet object index call now (Some phase) = pick (is_some phase.end)
   where
     pick : (b : Bool) →
         IsQuiet object (if b then advanced_object fragment object index call now else asked_again fragment object call (Some phase))
-    pick true = begun_quiet object index call (due (stage_of object index call)) now
+    pick true = begun_quiet object index call (due_of object index call) now
     pick false = asked_quiet object call (Some phase)
 
 pub advance_quiet : (index : ℕ) (object : Object) (now : ℕ) → IsQuiet object (stepped fragment (Step.Advance index) now object)
 advance_quiet index object now =
-    on_call_quiet object (slice_get object.calls index) _ (λ call. begun_quiet object index call (due (stage_of object index call)) now)
+    on_call_quiet object (slice_get object.calls index) _ (λ call. begun_quiet object index call (due_of object index call) now)
 
 pub again_quiet : (index : ℕ) (object : Object) (now : ℕ) → IsQuiet object (stepped fragment (Step.Again index) now object)
 again_quiet index object now =
-    on_call_quiet object (slice_get object.calls index) _ (λ call. begun_quiet object index call (due (stage_of object index call)) now)
+    on_call_quiet object (slice_get object.calls index) _ (λ call. begun_quiet object index call (due_of object index call) now)
 
 pub supply_quiet : (index : ℕ) (object : Object) (now : ℕ) → IsQuiet object (stepped fragment (Step.Supply index) now object)
 supply_quiet index object now =
@@ -189,3 +189,13 @@ serve_served place object now = pick (slice_get object.mail place)
         IsServed object (on_message object found (λ message. served_by object place message message.body now))
     pick None = record { layouts = refl; banked = λ all. all; calls = refl }
     pick (Some message) = served_parts object place message message.body now
+
+-- The base that is retired
+
+pub retire_served : (object : Object) (now : ℕ) → IsServed object (stepped fragment Step.Retire now object)
+retire_served object now = record {
+  layouts = refl;
+  banked = λ all. banked_set object.layouts object.banks (base_of object) _ all
+      (length_map (λ (bank : Bank). retired_bank bank now) (get_or object.banks (base_of object) []));
+  calls = refl;
+}

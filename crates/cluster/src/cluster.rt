@@ -20,6 +20,7 @@ mod mailing;
 mod messages;
 mod phases;
 mod reach;
+mod retiring;
 mod room;
 mod setup;
 

@@ -10,8 +10,7 @@ use Rattle.encoder.specs.Fragment.{fragment}
 use Rattle.mail.specs.Mail.{mail_cause}
 use Rattle.phase.specs.Phase.{Phase}
 use Rattle.record.specs.Records.{Call, Object}
-use Rattle.record.specs.Legal.{BeginsAt, stage_of}
-use Rattle.record.specs.Courses.{due}
+use Rattle.record.specs.Legal.{BeginsAt, due_of}
 use Rattle.record.specs.Sound.{IsSound}
 use Rattle.record.specs.Steps.{Step, stepped}
 use Rattle.record.specs.Wants.{current_phase, want_of}
@@ -72,7 +71,7 @@ asking_is object number a b is =
 value_is : (object : Object) (number : ℕ) (a : Asks object number) → is_pre_write a.phase.kind ≡ true → value_cause object number ≡ None
 value_is object number a is =
     ap (λ o. if_call o (λ call. unless (is_some (pieces_due object (pred number) call)) NotNow None)) a.at
-    ∙ ap (λ w. unless (is_some (pieces_position w (due (stage_of object (pred number) a.call)) (current_phase a.call.phases))) NotNow None)
+    ∙ ap (λ w. unless (is_some (pieces_position w (due_of object (pred number) a.call) (current_phase a.call.phases))) NotNow None)
     a.wants
     ∙ ap (λ p. unless (is_some (sending_position p)) NotNow None) a.current
     ∙ ap (λ b. unless (is_some (cond b (Some a.phase.position) None)) NotNow None) is

@@ -20,8 +20,7 @@ use Rattle.record.specs.Fragments.{IsValue, IfCoded, answer_piece, answer_tag, T
 use Rattle.record.specs.Journals.{IsJournaled}
 use Rattle.record.specs.Knowledge.{IsTruePhase, IsTrueReply}
 use Rattle.record.specs.Sound.{IsSound}
-use Rattle.record.specs.Courses.{due}
-use Rattle.record.specs.Legal.{stage_of}
+use Rattle.record.specs.Legal.{due_of}
 use Rattle.record.specs.Wants.{current_phase, is_fetch, value_len, want_for, want_after, want_of}
 use Rattle.record.specs.declared.stage.Want.{Want}
 use Rattle.record.specs.declared.stage.Want.TheVariants as want
@@ -53,7 +52,7 @@ settles_is object index call u =
     ∙ ap (λ b. cond b want.Again settle) u.lacking
   where
     next : Option (Kind × ℕ)
-    next = due (stage_of object index call)
+    next = due_of object index call
 
     settle : Want
     settle = want.Settle (layout_at object u.phase.position).k (value_len u.phase.replies)

@@ -11,8 +11,7 @@ use Rattle.encoder.specs.Fragment.{fragment}
 use Rattle.mail.specs.declared.message.Message.{Message}
 use Rattle.mail.specs.Mail.{mail_cause, is_within}
 use Rattle.record.specs.Records.{Call, Object}
-use Rattle.record.specs.Legal.{stage_of}
-use Rattle.record.specs.Courses.{due}
+use Rattle.record.specs.Legal.{due_of}
 use Rattle.record.specs.Steps.{Step, stepped}
 use Rattle.record.specs.Wants.{current_phase, want_of}
 use Rattle.record.specs.declared.stage.Want.{Want}
@@ -122,6 +121,6 @@ value_none object number k n e =
     let w = wants_at object number (want.Supply k n) e in
     let counts = supply_counts object (pred number) w.call k n w.wants in
     ap (λ o. if_call o (λ call. unless (is_some (pieces_due object (pred number) call)) NotNow None)) w.at
-    ∙ ap (λ v. unless (is_some (pieces_position v (due (stage_of object (pred number) w.call)) (current_phase w.call.phases))) NotNow None)
+    ∙ ap (λ v. unless (is_some (pieces_position v (due_of object (pred number) w.call) (current_phase w.call.phases))) NotNow None)
     w.wants
     ∙ ap (λ (o : Option (Kind × ℕ)). unless (is_some (option_map (λ (n : Kind × ℕ). n.1) o)) NotNow None) counts.2

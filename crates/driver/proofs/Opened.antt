@@ -11,8 +11,7 @@ use Rattle.mail.specs.declared.message.Body.{Body}
 use Rattle.mail.specs.declared.message.Body.TheVariants as body
 use Rattle.phase.specs.Phase.{Phase, lacks_pieces}
 use Rattle.record.specs.Records.{Call, Object, layout_at}
-use Rattle.record.specs.Courses.{due}
-use Rattle.record.specs.Legal.{stage_of}
+use Rattle.record.specs.Legal.{due_of}
 use Rattle.record.specs.Steps.{Step, stepped, on_call, on_message, begun_object, supplied_by, asked_again, advanced_object, served_by}
 use Rattle.record.specs.Steps.{taken_by, taken_calls}
 use Rattle.record.specs.Wants.{current_phase, is_fetch, value_len, want_to_begin, want_for, want_of_fetch, want_after, want_of}
@@ -85,7 +84,7 @@ module _ (object : Object) (index now : ℕ) (call : Call) (there : slice_get ob
   supplied_kept i a at (Some phase) =
       cond_both (is_some phase.end) (advanced_object fragment object i a now) (asked_again fragment object a (Some phase))
       (λ o. IsKeptCall o index call)
-      (λ e. begun_kept i a at (due (stage_of object i a))) (λ e. asked_kept a (Some phase))
+      (λ e. begun_kept i a at (due_of object i a)) (λ e. asked_kept a (Some phase))
 
   served_kept : (place : ℕ) (message : Message) (b : Body) → IsKeptCall (served_by object place message b now) index call
   served_kept place message (body.Request asked) = record { new = call; at = there; same = refl }
@@ -112,10 +111,10 @@ module _ (object : Object) (index now : ℕ) (call : Call) (there : slice_get ob
 
   kept : (step : Step) → IsCarry step → IsKeptCall (stepped fragment step now object) index call
   kept (Step.Advance i) carry =
-      on_call_kept i (λ a. advanced_object fragment object i a now) (λ a at. begun_kept i a at (due (stage_of object i a)))
+      on_call_kept i (λ a. advanced_object fragment object i a now) (λ a at. begun_kept i a at (due_of object i a))
       (slice_get object.calls i) refl
   kept (Step.Again i) carry =
-      on_call_kept i (λ a. advanced_object fragment object i a now) (λ a at. begun_kept i a at (due (stage_of object i a)))
+      on_call_kept i (λ a. advanced_object fragment object i a now) (λ a at. begun_kept i a at (due_of object i a))
       (slice_get object.calls i) refl
   kept (Step.Supply i) carry = on_call_kept i _ (λ a at. supplied_kept i a at (current_phase a.phases)) (slice_get object.calls i) refl
   kept (Step.Post i) carry = on_call_kept i _ (λ a at. asked_kept a (current_phase a.phases)) (slice_get object.calls i) refl
@@ -129,6 +128,7 @@ module _ (object : Object) (index now : ℕ) (call : Call) (there : slice_get ob
   kept (Step.AnswerCall i) carry = absurd carry
   kept (Step.Lose place) carry = absurd carry
   kept (Step.Repeat place) carry = absurd carry
+  kept Step.Retire carry = absurd carry
 
 -- a call that is not answered wants something
 begins : (kind : Kind) (layout : Layout) → want_to_begin kind layout ≢ want.Done
@@ -173,9 +173,9 @@ after_some object next settled (Some phase) e = current_some object next settled
 
 open_want : (object : Object) (index : ℕ) (call : Call) → call.answered ≡ None → want_of object index call ≢ want.Done
 open_want object index call open_call e =
-    after_some object (due (stage_of object index call)) call.settled (current_phase call.phases)
+    after_some object (due_of object index call) call.settled (current_phase call.phases)
     (sym (ap (λ a. cond (is_some a) want.Done
-    (want_after object (due (stage_of object index call)) call.settled (current_phase call.phases))) open_call) ∙ e)
+    (want_after object (due_of object index call) call.settled (current_phase call.phases))) open_call) ∙ e)
 
 not_answered : (object : Object) (index : ℕ) (call : Call) → want_of object index call ≢ want.Done → call.answered ≡ None
 not_answered object index call no_done = go call.answered refl
@@ -185,7 +185,7 @@ not_answered object index call no_done = go call.answered refl
     go (Some step) e =
         absurd (no_done
         (ap (λ a. cond (is_some a) want.Done
-        (want_after object (due (stage_of object index call)) call.settled (current_phase call.phases))) e))
+        (want_after object (due_of object index call) call.settled (current_phase call.phases))) e))
 
 there_at : (object : Object) (number : ℕ) (old new : Call) (before : Object) → call_at before number ≡ Some old
     → slice_get object.calls (pred number) ≡ Some new

@@ -12,9 +12,8 @@ use Rattle.bank.specs.declared.kind.Kind.{Kind}
 use Rattle.record.specs.declared.call.CallKind.{CallKind}
 use Rattle.record.specs.declared.call.CallKind.TheVariants.{Read, Write, Move}
 use Rattle.record.specs.Records.{Call, Object, layout_at}
-use Rattle.record.specs.Courses.{due}
 use Rattle.record.specs.Knowledge.{IsTruePhase}
-use Rattle.record.specs.Legal.{stage_of}
+use Rattle.record.specs.Legal.{due_of}
 use Rattle.record.specs.Sound.{IsSound}
 use Rattle.record.specs.Sending.{sent_value, value_or_empty}
 use Rattle.record.specs.Wants.{current_phase, want_of}
@@ -43,7 +42,7 @@ some_pair a b e = go a b e
 
 due_position : (object : Object) (last index position : ℕ) (call : Call) → IsSound fragment object last
     → slice_get object.calls index ≡ Some call
-    → (o : Option (Kind × ℕ)) → due (stage_of object index call) ≡ o → option_map (λ (n : Kind × ℕ). n.1) o ≡ Some position
+    → (o : Option (Kind × ℕ)) → due_of object index call ≡ o → option_map (λ (n : Kind × ℕ). n.1) o ≡ Some position
     → position < length object.layouts
 due_position object last index position call sound at None is e = absurd (cc)
 due_position object last index position call sound at (Some next) is e =
@@ -55,9 +54,9 @@ sent_there : (object : Object) (last index position : ℕ) (call : Call) → IsS
     → pieces_due object index call ≡ Some position → position < length object.layouts
 sent_there object last index position call sound at = go (want_of object index call)
   where
-    go : (w : Want) → pieces_position w (due (stage_of object index call)) (current_phase call.phases) ≡ Some position
+    go : (w : Want) → pieces_position w (due_of object index call) (current_phase call.phases) ≡ Some position
         → position < length object.layouts
-    go (want.Supply k n) e = due_position object last index position call sound at (due (stage_of object index call)) refl e
+    go (want.Supply k n) e = due_position object last index position call sound at (due_of object index call) refl e
     go want.Replies e =
         let s = sending_of (current_phase call.phases) position e in
         let l = last_at call.phases s.phase s.is in

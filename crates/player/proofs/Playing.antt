@@ -58,6 +58,7 @@ may_change command none = tt
 pub record ChangesNothing (command : Command) : Type 0 where
   pub layout : (k : ℕ) (members : Vec ℕ Global) → command ≡ of.Layout k members → ⊥
   pub object : (name : Bor (List ℕ)) (layout : ℕ) (delta : Option ℕ) → command ≡ of.Object name layout delta → ⊥
+  pub retire : (name : Bor (List ℕ)) (position : ℕ) → command ≡ of.Retire name position → ⊥
   pub down : (server : ℕ) → command ≡ of.Down server → ⊥
   pub up : (server : ℕ) → command ≡ of.Up server → ⊥
   pub call_read : (name : Bor (List ℕ)) → command ≡ of.CallRead name → ⊥
@@ -83,6 +84,7 @@ pub record ChangesNothing (command : Command) : Type 0 where
 pub no_other : (command : Command) → MayChange command → ChangesNothing command → ⊥
 no_other (of.Layout k members) may none = none.layout k members refl
 no_other (of.Object name layout delta) may none = none.object name layout delta refl
+no_other (of.Retire name position) may none = none.retire name position refl
 no_other (of.Down server) may none = none.down server refl
 no_other (of.Up server) may none = none.up server refl
 no_other (of.CallRead name) may none = none.call_read name refl

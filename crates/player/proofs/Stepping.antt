@@ -1,15 +1,17 @@
 -- What a command that is one step comes to, from what the step's own call says.
-use Rattle.std.proofs.Common.{◌≡◌, ℕ, List, subst, Option, Some}
+use Rattle.std.proofs.Common.{◌≡◌, ◌⊎◌, ℕ, ◌+◌, List, subst, Option, Some, None}
 use Rattle.std.proofs.Common.{Result, Ok, Err, OnOk, OnErr, IfOk, sym, ap, ◌∙◌, inl, inr}
 use Rattle.std.specs.Prelude.{option_map}
 use Rattle.tag.specs.declared.refusal.Refusal.{Refusal}
 use Rattle.tag.specs.Refusal.{IsByCause, IsExactlyByCause}
+use Rattle.tag.specs.declared.refusal.Refusal.TheVariants.{NoMemory}
+use Rattle.cluster.specs.Accounts.{stored_all}
 use Rattle.cluster.specs.Cluster.{Cluster}
 use Rattle.cluster.specs.Steps.{moved, created}
 use Rattle.cluster.specs.Causes.{object_cause, moving_cause, create_cause}
 use Rattle.player.specs.declared.report.Report.{Report}
-use Rattle.player.specs.Report.{report_of, done}
-use Rattle.player.specs.Steps.{IsStep, IsGrowth}
+use Rattle.player.specs.Report.{report_of, done, freed, refused}
+use Rattle.player.specs.Steps.{IsStep, IsGrowth, IsFreeing, IsRefused}
 
 -- a step that gives something
 pub growth : {T : Type 0} (old new made : Cluster) (cause : Option Refusal) (found : Option T) (tell : T →
@@ -37,6 +39,13 @@ pub sure_done : (old new made : Cluster) (cause : Option Refusal) (r : Result Un
     → IsStep old made cause (Some done) new report
 sure_done old new made cause (Ok x) report step by same is = inl (by, step, ap Some (sym is))
 sure_done old new made cause (Err e) report step by same is = inr (e, by, (same, is))
+
+-- a step that frees bytes
+pub frees : (old new made : Cluster) (cause : Option Refusal) (r : Result ℕ Refusal) (report : Report)
+    → OnOk r (new ≡ made) → IfOk r (λ bytes. stored_all new + bytes ≡ stored_all old) → IsExactlyByCause cause r
+    → OnErr r (new ≡ old) → report ≡ report_of freed r → IsFreeing old made cause new report
+frees old new made cause (Ok bytes) report step less by same is = inl (bytes, by, step, less, is)
+frees old new made cause (Err e) report step less by same is = inr (e, by, (same, is))
 
 -- the number of a layout as it was handed over
 pub moved_to : (old new : Cluster) (name : List ℕ) (id number : ℕ) (told : Option Report) (report : Report) → id ≡ number

@@ -11,9 +11,8 @@ use Rattle.encoder.specs.Fragment.{fragment}
 use Rattle.encoder.specs.Coded.{Coding, IsLawful, encode_cause}
 use Rattle.record.specs.declared.stage.Want.{Want}
 use Rattle.record.specs.declared.stage.Want.TheVariants as want
-use Rattle.record.specs.Records.{Call, Object}
-use Rattle.record.specs.Courses.{due}
-use Rattle.record.specs.Legal.{stage_of}
+use Rattle.record.specs.Records.{Call, Object, layout_at}
+use Rattle.record.specs.Legal.{due_of}
 use Rattle.record.specs.Sound.{IsSound}
 use Rattle.record.specs.Sending.{sent_value, value_or_empty}
 use Rattle.record.specs.Wants.{current_phase, want_of}
@@ -44,7 +43,7 @@ module _ (object : Object) (number k n : ℕ) (wants : want_at object number ≡
       let counts = supply_counts object (pred number) w.call k n w.wants in
       ap (coding_of object number) w.at
       ∙ ap (λ v. option_map (to_code object w.call)
-      (pieces_position v (due (stage_of object (pred number) w.call)) (current_phase w.call.phases))) w.wants
+      (pieces_position v (due_of object (pred number) w.call) (current_phase w.call.phases))) w.wants
       ∙ ap (λ (o : Option (Kind × ℕ)). option_map (to_code object w.call) (option_map (λ (m : Kind × ℕ). m.1) o)) counts.2
       ∙ same _ _ _ _ _ _ (sym (ap (λ o. value_or_empty (value_of o)) w.at)) counts.3 counts.4
     where

@@ -4,12 +4,14 @@ use Rattle.std.specs.List.{list_all}
 use Rattle.tag.specs.declared.limits.TheConstants.{MOST_MEMBERS}
 use Rattle.tag.specs.declared.refusal.Refusal.TheVariants.{BadLayout}
 use Rattle.layout.specs.Layout.{Layout, IsLawful}
+use Rattle.record.specs.Steps.{Step}
+use Rattle.register.specs.Causes.{retire_cause}
 use Rattle.cluster.specs.Cluster.{Cluster}
-use Rattle.cluster.specs.Steps.{with_layout, with_server, created}
-use Rattle.cluster.specs.Causes.{layout_cause, create_cause, server_cause}
+use Rattle.cluster.specs.Steps.{stepped, with_layout, with_server, created}
+use Rattle.cluster.specs.Causes.{next, object_cause, layout_cause, create_cause, server_cause}
 use Rattle.player.specs.declared.report.Report.{Report}
 use Rattle.player.specs.Report.{done, added_layout}
-use Rattle.player.specs.Steps.{IsRefused, IsStep, IsGrowth}
+use Rattle.player.specs.Steps.{IsRefused, IsStep, IsGrowth, IsFreeing}
 
 -- there are more members than a layout may have, or one is no server
 abbrev pub AreBadMembers : List ℕ → (servers : ℕ) → Type 0
@@ -38,6 +40,12 @@ layout_number number = min number (2 ^ 32 - 1)
 abbrev pub MakesObject : Cluster → (name : List ℕ) → (layout : ℕ) → (delta : Option ℕ) → Cluster → Report → Type 0
 MakesObject old name layout delta new report = IsGrowth old (created old name (layout_number layout) delta)
     (create_cause old name (layout_number layout)) (Some done) new report
+
+-- this position of an object, its base, is retired
+abbrev pub Retires : Cluster → (name : List ℕ) → (position : ℕ) → Cluster → Report → Type 0
+Retires old name position new report =
+    IsFreeing old (stepped old name Step.Retire)
+    (object_cause old name (λ object. retire_cause (next old) object position)) new report
 
 -- the server of this number goes up or down
 abbrev pub SetsServer : Cluster → (server : ℕ) → (up : Bool) → Cluster → Report → Type 0

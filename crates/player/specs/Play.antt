@@ -10,7 +10,7 @@ use Rattle.player.specs.declared.player.Stop.{Stop}
 use Rattle.player.specs.declared.player.Stop.TheVariants as stop
 use Rattle.player.specs.declared.report.Report.{Report}
 use Rattle.player.specs.Report.{report_text}
-use Rattle.player.specs.ClusterCommands.{AddsLayout, MakesObject, SetsServer}
+use Rattle.player.specs.ClusterCommands.{AddsLayout, MakesObject, Retires, SetsServer}
 use Rattle.player.specs.CallCommands.{CallsRead, CallsWrite, CallsMove, Advances, BeginsAnew, Posts, Answers}
 use Rattle.player.specs.CodingCommands.{Supplies, SuppliesAs, SettlesValue}
 use Rattle.player.specs.MailCommands.{Serves, Takes, Loses, Repeats}
@@ -39,6 +39,7 @@ Tells Is text = (report : Report) × Is report × (text ≡ line_of (report_text
 abbrev pub Changes : Cluster → Command → Cluster → Report → Type 0
 Changes old (of.Layout k members) new report = AddsLayout old k members.items new report
 Changes old (of.Object name layout delta) new report = MakesObject old name.now layout delta new report
+Changes old (of.Retire name position) new report = Retires old name.now position new report
 Changes old (of.Down server) new report = SetsServer old server false new report
 Changes old (of.Up server) new report = SetsServer old server true new report
 Changes old (of.CallRead name) new report = CallsRead old name.now new report

@@ -32,6 +32,10 @@ called call = of.Did (outcome.Called call)
 abbrev pub took : Took → Report
 took how = of.Did (outcome.Took how)
 
+-- so many bytes were freed
+abbrev pub freed : (bytes : ℕ) → Report
+freed bytes = of.Did (outcome.Freed bytes)
+
 -- the command was refused
 abbrev pub refused : Refusal → Report
 refused refusal = of.Did (outcome.Refused refusal)

@@ -1,10 +1,11 @@
 -- What a command that is one step does to a cluster, and what it reports.
-use Rattle.std.specs.Prelude.{◌≡◌, ◌⊎◌, Option, Some, None}
+use Rattle.std.specs.Prelude.{◌≡◌, ◌⊎◌, ℕ, ◌+◌, Option, Some, None}
 use Rattle.tag.specs.declared.refusal.Refusal.{Refusal}
 use Rattle.tag.specs.declared.refusal.Refusal.TheVariants.{NoMemory}
+use Rattle.cluster.specs.Accounts.{stored_all}
 use Rattle.cluster.specs.Cluster.{Cluster}
 use Rattle.player.specs.declared.report.Report.{Report}
-use Rattle.player.specs.Report.{refused}
+use Rattle.player.specs.Report.{freed, refused}
 
 -- a step is refused for its cause; where it has none, memory alone may be wanting
 abbrev pub IsRefusalBy : (cause : Option Refusal) → Refusal → Type 0
@@ -21,7 +22,14 @@ IsStep old made cause told new report =
     ((cause ≡ None) × (new ≡ made) × (told ≡ Some report))
     ⊎ ((refusal : Refusal) × (cause ≡ Some refusal) × IsRefused old refusal new report)
 
--- the same of a step that may find no memory
+-- the step has no cause of refusal, is made and tells how many bytes all servers store less; or it is refused by its
+-- cause
+abbrev pub IsFreeing : (old made : Cluster) → (cause : Option Refusal) → (new : Cluster) → Report → Type 0
+IsFreeing old made cause new report =
+    ((bytes : ℕ) × (cause ≡ None) × (new ≡ made) × (stored_all new + bytes ≡ stored_all old) × (report ≡ freed bytes))
+    ⊎ ((refusal : Refusal) × (cause ≡ Some refusal) × IsRefused old refusal new report)
+
+-- the step is made, or refused by its cause, or for want of memory
 abbrev pub IsGrowth : (old made : Cluster) → (cause : Option Refusal) → (told : Option Report) →
     (new : Cluster) → Report → Type 0
 IsGrowth old made cause told new report =

@@ -2,7 +2,7 @@
 ghost use Rattle.std.specs.Prelude.{◌≡◌, IfOk, IfErr};
 ghost use Rattle.tag.specs.declared.refusal.Refusal.TheVariants.{BadLayout};
 ghost use Rattle.layout.specs.Layout.{IsLawful};
-ghost use Rattle.player.specs.ClusterCommands.{AddsLayout, MakesObject, SetsServer};
+ghost use Rattle.player.specs.ClusterCommands.{AddsLayout, MakesObject, Retires, SetsServer};
 ghost use Rattle.player.specs.ClusterCommands.{IsBadLayout, AreBadMembers, layout_number};
 
 use crate::report::Report;
@@ -60,6 +60,13 @@ pub(crate) fn object(cluster: &mut Cluster, name: &str, layout: u64, delta: Opti
     ensures { MakesObject cluster.old name.now layout delta cluster.new result }
 {
     Report::of_step(cluster.create_with(name, layout_id(layout), delta))
+}
+
+/// Retires the base of an object.
+pub(crate) fn retire(cluster: &mut Cluster, name: &str, position: u64) -> Report
+    ensures { Retires cluster.old name.entry.now position cluster.new result }
+{
+    Report::of_retire(cluster.retire(name, position))
 }
 
 /// A number that no layout can have is that of an unknown one.

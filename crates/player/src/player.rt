@@ -87,6 +87,7 @@ fn change(alloc: Global, cluster: &mut Cluster, command: Command) -> Report
             layout,
             delta,
         } => cluster_commands::object(cluster, name, layout, delta),
+        Command::Retire { name, position } => cluster_commands::retire(cluster, name, position),
         Command::Down { server } => cluster_commands::server(cluster, server, false),
         Command::Up { server } => cluster_commands::server(cluster, server, true),
         Command::CallRead { name } => call_commands::call_read(cluster, name),

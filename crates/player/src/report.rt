@@ -19,7 +19,7 @@ pub enum Report {
 }
 
 impl Report {
-    ghost use Rattle.player.specs.Report.{report_of, done, added_layout, called, took, refused, whole};
+    ghost use Rattle.player.specs.Report.{report_of, done, added_layout, called, took, freed, refused, whole};
     ghost use Rattle.player.specs.declared.report.Report.TheVariants as report;
 
     /// That of a refused command.
@@ -65,6 +65,16 @@ impl Report {
     {
         match taken {
             Ok(took) => Report::Did(Outcome::Took(took)),
+            Err(refusal) => Report::refused(refusal),
+        }
+    }
+
+    /// That of a step that frees bytes.
+    pub(crate) fn of_retire(retired: Result<u64, Refusal>) -> Report
+        ensures { result ≡ report_of freed retired }
+    {
+        match retired {
+            Ok(bytes) => Report::Did(Outcome::Freed(bytes)),
             Err(refusal) => Report::refused(refusal),
         }
     }

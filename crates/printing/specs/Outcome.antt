@@ -19,6 +19,7 @@ outcome_text (of.Layout id) = in_words (codes "layout" ∷ decimal id ∷ [])
 outcome_text (of.Called call) = in_words (codes "call" ∷ decimal call ∷ [])
 outcome_text (of.Took took) = word_of_took took
 outcome_text (of.Handled steps) = in_words (codes "handled" ∷ decimal steps ∷ [])
+outcome_text (of.Freed bytes) = in_words (codes "freed" ∷ decimal bytes ∷ [])
 outcome_text (of.Refused refusal) = in_words (codes "refused" ∷ refusal_text refusal ∷ [])
 outcome_text (of.CallRefused call refusal) =
     in_words (codes "call" ∷ decimal call ∷ codes "refused" ∷ refusal_text refusal ∷ [])

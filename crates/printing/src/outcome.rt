@@ -20,6 +20,8 @@ pub enum Outcome {
     Took(Took),
     /// `handled N`, of the steps made
     Handled(u64),
+    /// `freed BYTES`
+    Freed(u64),
     /// `refused N Name`
     Refused(Refusal),
     /// `call C refused N Name`, after the call's own step
@@ -38,6 +40,7 @@ impl fmt::Display for Outcome {
             Outcome::Called(call) => write!(f, "call {call}"),
             Outcome::Took(took) => f.write_str(took_word(*took)),
             Outcome::Handled(steps) => write!(f, "handled {steps}"),
+            Outcome::Freed(bytes) => write!(f, "freed {bytes}"),
             Outcome::Refused(refusal) => write!(f, "refused {refusal}"),
             Outcome::CallRefused { call, refusal } => write!(f, "call {call} refused {refusal}"),
             Outcome::Checked(holds) => write!(f, "check {holds}"),

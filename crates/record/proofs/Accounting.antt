@@ -3,5 +3,6 @@ pub mod Adds
 pub mod Mail
 pub mod Mailed
 pub mod MailedBySteps
+pub mod Retired
 pub mod Stored
 pub mod StoredBySteps

@@ -1,6 +1,7 @@
 -- Worked examples.
 pub mod Anew
 pub mod Exactly
+pub mod FromBase
 pub mod Rows
 pub mod Runs
 pub mod Stale

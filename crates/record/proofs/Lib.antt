@@ -1,5 +1,7 @@
 pub mod Accounting
 pub mod Atomic
+pub mod Bases
+pub mod Begins
 pub mod Examples
 pub mod Overlapping
 pub mod Lists

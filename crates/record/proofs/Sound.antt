@@ -28,6 +28,7 @@ pub mod Placed
 pub mod Recording
 pub mod Replies
 pub mod Requests
+pub mod Retiring
 pub mod Running
 pub mod Sending
 pub mod Serving

@@ -1,6 +1,6 @@
 -- What the pieces weigh, in bytes, and what each step changes of it.
 use Rattle.std.specs.Prelude.{ℕ, zero, suc, ◌+◌, ◌==◌, is_some, if◌then◌else◌}
-use Rattle.std.specs.Prelude.{List, [], ◌∷◌, length, get_or, Option, Some, None, slice_get}
+use Rattle.std.specs.Prelude.{List, [], ◌∷◌, length, sum_by, get_or, Option, Some, None, slice_get}
 use Rattle.layout.specs.Layout.{Layout}
 use Rattle.bank.specs.Answer.{answer_bytes}
 use Rattle.bank.specs.Bank.{Bank}
@@ -13,10 +13,9 @@ use Rattle.mail.specs.declared.message.Message.{Message}
 use Rattle.mail.specs.declared.message.Body.{Body}
 use Rattle.mail.specs.declared.message.Body.TheVariants as body
 use Rattle.phase.specs.Phase.{Phase}
-use Rattle.record.specs.Courses.{due}
 use Rattle.record.specs.Fragments.{Code}
-use Rattle.record.specs.Legal.{stage_of}
-use Rattle.record.specs.Records.{Call, Object, layout_at, bank_at}
+use Rattle.record.specs.Legal.{due_of}
+use Rattle.record.specs.Records.{Call, Object, layout_at, bank_at, base_of}
 use Rattle.record.specs.Steps.{Step}
 use Rattle.record.specs.Sending.{missing_requests, request_to, sent_pieces}
 use Rattle.record.specs.Wants.{current_phase}
@@ -81,10 +80,20 @@ freed_by_body object message (body.Request asked) now server =
     (freed_bytes (bank_at object message.position message.member) asked now)
 freed_by_body object message (body.Reply kind made) now server = 0
 
+-- the bytes that a server stores at the base
+abbrev pub base_bytes_of : Object → (server : ℕ) → ℕ
+base_bytes_of object server =
+    position_bytes server (layout_at object (base_of object)).members (get_or object.banks (base_of object) [])
+
+-- the bytes of the base's banks
+abbrev pub base_bytes : Object → ℕ
+base_bytes object = sum_by bank_bytes (get_or object.banks (base_of object) [])
+
 -- what a step takes from the bytes that a server stores
 abbrev pub freed_by : Object → Step → (now server : ℕ) → ℕ
 freed_by object (Step.Serve place) now server =
     some_bytes (slice_get object.mail place) (λ message. freed_by_body object message message.body now server)
+freed_by object Step.Retire now server = base_bytes_of object server
 freed_by object s now server = 0
 
 -- the bytes of the reply to what is served
@@ -110,17 +119,17 @@ again_bytes fragment object call (Some phase) =
 abbrev pub supply_bytes : Code → Object → (index : ℕ) → Call → Option Phase → ℕ
 supply_bytes fragment object index call None = 0
 supply_bytes fragment object index call (Some phase) =
-    if is_some phase.end then due_bytes fragment object call (due (stage_of object index call))
+    if is_some phase.end then due_bytes fragment object call (due_of object index call)
     else again_bytes fragment object call (Some phase)
 
 -- what a step adds to the bytes in the mail
 abbrev pub mailed_by : Code → Object → Step → ℕ
 mailed_by fragment object (Step.Advance index) =
     some_bytes (slice_get object.calls index)
-    (λ call. due_bytes fragment object call (due (stage_of object index call)))
+    (λ call. due_bytes fragment object call (due_of object index call))
 mailed_by fragment object (Step.Again index) =
     some_bytes (slice_get object.calls index)
-    (λ call. due_bytes fragment object call (due (stage_of object index call)))
+    (λ call. due_bytes fragment object call (due_of object index call))
 mailed_by fragment object (Step.Supply index) =
     some_bytes (slice_get object.calls index)
     (λ call. supply_bytes fragment object index call (current_phase call.phases))

@@ -16,7 +16,7 @@ use Rattle.phase.specs.Phase.{Phase, lacks_pieces}
 use Rattle.record.specs.declared.call.CallKind.{CallKind}
 use Rattle.record.specs.declared.call.CallKind.TheVariants.{Read, Write, Move}
 use Rattle.record.specs.declared.stage.Stage.{Stage}
-use Rattle.record.specs.declared.stage.Stage.TheVariants.{ReadNext, ReadSpread, QueryFrom, FetchAt}
+use Rattle.record.specs.declared.stage.Stage.TheVariants.{ReadBegin, ReadNext, ReadSpread, QueryFrom, FetchAt}
 use Rattle.record.specs.declared.stage.Stage.TheVariants.{PreWriteAt, FinalizeAt, AgainNext, AgainSpread}
 use Rattle.record.specs.declared.stage.Stage.TheVariants.{MoveSpread, MoveQuery, MoveFetch, MovePreWrite}
 use Rattle.record.specs.declared.stage.Stage.TheVariants.{MoveFinalize, MoveFinal, Ended, Moved}
@@ -45,8 +45,15 @@ abbrev pub greatest_tag : List Taken → Tag
 greatest_tag [] = opening_tag
 greatest_tag (taken ∷ replies) = later_tag (shown_tag taken.reply.answer) (greatest_tag replies)
 
--- the phase that is due, with its position; none where the call may be answered
+-- the stage once its phase begins at a position: a first reading begins there
+abbrev pub begun_at : Stage → (position : ℕ) → Stage
+begun_at ReadBegin position = ReadNext position position
+begun_at stage position = stage
+
+-- the phase that is due, with its position; none where the call may be answered. A first reading that has not begun is
+-- due at the base of the moment at which it begins, of which `begun_at` makes the stage
 abbrev pub due : Stage → Option (Kind × ℕ)
+due ReadBegin = Some (Next, 0)
 due (ReadNext position finalized) = Some (Next, position)
 due (ReadSpread position finalized status) = Some (Spread status, position)
 due (QueryFrom position last tag shown_at) = Some (Query, position)
@@ -101,15 +108,16 @@ after_again Unset last position tag = if position == last then Ended last tag el
 after_again Pending last position tag = AgainSpread last position tag Pending
 after_again Final last position tag = AgainSpread last position tag Final
 
--- where the replies of a complete phase lead call number `number`: a fetch that lacks pieces leads back, a read to its
--- first reading and a move to its query
+-- where the replies of a complete phase lead call number `number`: a fetch that lacks pieces leads back, a read to a
+-- new first reading and a move to its query
 abbrev pub after : CallKind → (number : ℕ) → Stage → List Taken → (lacks : Bool) → Stage
+after kind number ReadBegin replies lacks = ReadBegin
 after kind number (ReadNext position finalized) replies lacks = after_next (greatest_status replies) position finalized
 after kind number (ReadSpread position finalized status) replies lacks = after_spread status position finalized
 after kind number (QueryFrom position last greatest shown_at) replies lacks =
     after_query kind number (greatest_tag replies) position last greatest shown_at
 after kind number (FetchAt shown_at last tag) replies lacks =
-    if lacks then ReadNext 0 0 else after_fetch shown_at last tag
+    if lacks then ReadBegin else after_fetch shown_at last tag
 after kind number (PreWriteAt last tag) replies lacks = FinalizeAt last tag
 after kind number (FinalizeAt last tag) replies lacks = AgainNext last last tag
 after kind number (AgainNext last position tag) replies lacks = after_again (greatest_status replies) last position tag
@@ -129,23 +137,34 @@ abbrev pub passed : CallKind → (number : ℕ) → Stage → Option ℕ → Lis
 passed kind number stage None replies lacks = stage
 passed kind number stage (Some end) replies lacks = after kind number stage replies lacks
 
+-- the stage after a phase
+abbrev pub stage_past : CallKind → (number : ℕ) → Stage → Phase → Stage
+stage_past kind number stage phase =
+    passed kind number (begun_at stage phase.position) phase.end phase.replies (lacks_pieces phase)
+
 -- the stage after these phases
 abbrev pub stage_after : CallKind → (number : ℕ) → Stage → List Phase → Stage
 stage_after kind number stage [] = stage
-stage_after kind number stage (phase ∷ phases) =
-    stage_after kind number (passed kind number stage phase.end phase.replies (lacks_pieces phase)) phases
+stage_after kind number stage (phase ∷ phases) = stage_after kind number (stage_past kind number stage phase) phases
 
 -- each phase but the current one is complete before the next begins
 abbrev pub IsEndedBefore : Phase → List Phase → Type 0
 IsEndedBefore phase [] = Unit {0}
 IsEndedBefore phase (next ∷ later) = (end : ℕ) × (phase.end ≡ Some end) × (end < next.start)
 
--- from this stage on the phases are those that are due, one after another
+-- from this stage on the phases are those that are due, one after another; first readings begin anywhere
 abbrev pub IsCourse : CallKind → (number : ℕ) → Stage → List Phase → Type 0
 IsCourse kind number stage [] = Unit {0}
 IsCourse kind number stage (phase ∷ phases) =
-    (due stage ≡ Some (phase.kind, phase.position)) × IsEndedBefore phase phases
-    × IsCourse kind number (passed kind number stage phase.end phase.replies (lacks_pieces phase)) phases
+    (due (begun_at stage phase.position) ≡ Some (phase.kind, phase.position)) × IsEndedBefore phase phases
+    × IsCourse kind number (stage_past kind number stage phase) phases
+
+-- from this stage on each first reading begins at the base of its moment, as `base` tells it of each step
+abbrev pub BeginAtBase : (base : ℕ → ℕ) → CallKind → (number : ℕ) → Stage → List Phase → Type 0
+BeginAtBase base kind number stage [] = Unit {0}
+BeginAtBase base kind number stage (phase ∷ phases) =
+    (stage ≡ ReadBegin → phase.position ≡ base phase.start)
+    × BeginAtBase base kind number (stage_past kind number stage phase) phases
 
 -- the last phase ended before a step
 abbrev pub EndsBefore : List Phase → ℕ → Type 0

@@ -1,12 +1,12 @@
 -- Worked examples, step by step. The layouts have one member, and the code keeps whole values.
-use Rattle.std.specs.Prelude.{◌≡◌, ℕ, List, [], ◌∷◌, Some, None}
+use Rattle.std.specs.Prelude.{◌≡◌, List, [], ◌∷◌, Some, None}
 use Rattle.layout.specs.Layout.{Layout}
 use Rattle.record.specs.declared.call.Entry.{Entry}
 use Rattle.record.specs.declared.call.Operation.TheVariants as operation
 use Rattle.record.specs.Fragments.{Code}
 use Rattle.record.specs.Steps.{Step}
 use Rattle.record.specs.Steps.Step.{CallRead, CallWrite, CallMove, Advance, Again, Supply, Settle, AnswerCall}
-use Rattle.record.specs.Steps.Step.{Serve, Take}
+use Rattle.record.specs.Steps.Step.{Serve, Take, Retire}
 use Rattle.tag.specs.Tag.{opening_tag}
 use Rattle.phase.specs.Phase.{Phase}
 use Rattle.record.specs.Records.{Call, Object}
@@ -61,6 +61,27 @@ move_entries =
     record { call = 1; operation = operation.Write; called = 3; answered = Some 18; value = Some (65 ∷ []) }
     ∷ record { call = 2; operation = operation.Move; called = 19; answered = Some 38; value = None }
     ∷ record { call = 3; operation = operation.Read; called = 39; answered = Some 58; value = Some (65 ∷ []) }
+    ∷ []
+
+-- a write and a move to the other server, then the first position is retired, and a read begins at the second
+abbrev pub retire_script : List Step
+retire_script =
+    CallWrite (65 ∷ []) ∷ Serve 0 ∷ Take 0 ∷ Advance 0 ∷ Serve 0 ∷ Take 0
+    ∷ Supply 0 ∷ Serve 0 ∷ Take 0 ∷ Advance 0 ∷ Serve 0 ∷ Take 0
+    ∷ Advance 0 ∷ Serve 0 ∷ Take 0 ∷ AnswerCall 0
+    ∷ CallMove other_member ∷ Serve 0 ∷ Take 0 ∷ Advance 1 ∷ Serve 0 ∷ Take 0
+    ∷ Advance 1 ∷ Serve 0 ∷ Take 0 ∷ Settle 1 (65 ∷ [])
+    ∷ Supply 1 ∷ Serve 0 ∷ Take 0 ∷ Advance 1 ∷ Serve 0 ∷ Take 0
+    ∷ Advance 1 ∷ Serve 0 ∷ Take 0 ∷ AnswerCall 1 ∷ Retire
+    ∷ CallRead ∷ Serve 0 ∷ Take 0 ∷ Advance 2 ∷ Serve 0 ∷ Take 0 ∷ Advance 2 ∷ Serve 0 ∷ Take 0
+    ∷ Settle 2 (65 ∷ []) ∷ Advance 2 ∷ Serve 0 ∷ Take 0 ∷ AnswerCall 2 ∷ []
+
+-- the steps of the three calls; step 39 retires the first position
+abbrev pub retire_entries : List Entry
+retire_entries =
+    record { call = 1; operation = operation.Write; called = 3; answered = Some 18; value = Some (65 ∷ []) }
+    ∷ record { call = 2; operation = operation.Move; called = 19; answered = Some 38; value = None }
+    ∷ record { call = 3; operation = operation.Read; called = 40; answered = Some 53; value = Some (65 ∷ []) }
     ∷ []
 
 -- a read that was called after a write was answered, and missed it

@@ -67,7 +67,8 @@ pub record IsAttempt (phases : List Phase) : Type 0 where
   pub split : phases ≡ first ++ (queries ++ fetch ∷ [])
   pub last : ℕ
   pub finalized : ℕ
-  pub reading : IsReading 0 0 first last finalized
+  pub start : ℕ
+  pub reading : IsReading start start first last finalized
   pub asked : AreQueries finalized last queries
   pub tag : Tag
   pub takes : tag ≡ greatest_shown opening_tag queries
@@ -96,7 +97,8 @@ pub record FindsTag (kind : CallKind) (number : ℕ) (phases : List Phase) (tag 
   pub split : phases ≡ attempt_phases attempts ++ (first ++ (queries ++ rest))
   pub last : ℕ
   pub finalized : ℕ
-  pub reading : IsReading 0 0 first last finalized
+  pub start : ℕ
+  pub reading : IsReading start start first last finalized
   pub asked : AreQueries finalized last queries
   pub takes : TakesTag kind number (greatest_shown opening_tag queries) tag
 

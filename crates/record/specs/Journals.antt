@@ -6,7 +6,7 @@ use Rattle.record.specs.declared.call.CallKind.{CallKind}
 use Rattle.record.specs.Records.{Call, Object}
 use Rattle.record.specs.declared.call.CallKind.TheVariants.{Read, Write, Move}
 use Rattle.record.specs.declared.stage.Stage.{Stage}
-use Rattle.record.specs.declared.stage.Stage.TheVariants.{ReadNext, ReadSpread, QueryFrom, FetchAt}
+use Rattle.record.specs.declared.stage.Stage.TheVariants.{ReadBegin, ReadNext, ReadSpread, QueryFrom, FetchAt}
 use Rattle.record.specs.declared.stage.Stage.TheVariants.{PreWriteAt, FinalizeAt, AgainNext, AgainSpread}
 use Rattle.record.specs.declared.stage.Stage.TheVariants.{MoveSpread, MoveQuery, MoveFetch, MovePreWrite}
 use Rattle.record.specs.declared.stage.Stage.TheVariants.{MoveFinalize, MoveFinal, Ended, Moved}
@@ -17,6 +17,7 @@ use Rattle.record.specs.declared.call.Operation.TheVariants as operation
 
 -- the tag of a call at this stage
 abbrev pub stage_tag : Stage → Option Tag
+stage_tag ReadBegin = None
 stage_tag (ReadNext position finalized) = None
 stage_tag (ReadSpread position finalized status) = None
 stage_tag (QueryFrom position last greatest shown_at) = None

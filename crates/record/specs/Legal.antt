@@ -1,6 +1,6 @@
 -- Which records of an object are legal, as far as labels, pointers and steps go.
 use Rattle.std.specs.Prelude.{◌≡◌, ℕ, suc, ◌<◌, ◌≤◌, ◌⊎◌, Bool, true, false}
-use Rattle.std.specs.Prelude.{if◌then◌else◌, List, [], ◌∷◌, length, take, Some, None, slice_get}
+use Rattle.std.specs.Prelude.{if◌then◌else◌, List, [], ◌∷◌, length, take, Option, Some, None, slice_get}
 use Rattle.std.specs.List.{AllByRecursion}
 use Rattle.tag.specs.declared.tag.Tag.{Tag}
 use Rattle.tag.specs.Tag.{opening_tag}
@@ -8,7 +8,7 @@ use Rattle.layout.specs.Layout.{IsLawful}
 use Rattle.bank.specs.declared.kind.Kind.{Kind}
 use Rattle.phase.specs.Phase.{Phase}
 use Rattle.record.specs.declared.call.CallKind.{CallKind}
-use Rattle.record.specs.Records.{Call, Object, layout_at, bank_at}
+use Rattle.record.specs.Records.{Call, Object, layout_at, bank_at, base_at, base_of}
 use Rattle.bank.specs.Bank.{Bank}
 use Rattle.bank.specs.declared.status.Status.TheVariants.{Pending, Final}
 use Rattle.bank.specs.declared.kind.Kind.TheVariants.{Spread, PreWrite, Finalize, Fetch}
@@ -16,8 +16,8 @@ use Rattle.record.specs.declared.call.CallKind.TheVariants.{Read, Write, Move}
 use Rattle.record.specs.Knowledge.{IsTruePhase}
 use Rattle.bank.specs.Knowledge.{finalized_at, arrived_at, pending_since, final_since}
 use Rattle.record.specs.declared.stage.Stage.{Stage}
-use Rattle.record.specs.Courses.{due, stage_after, IsCourse, EndsBefore}
-use Rattle.record.specs.declared.stage.Stage.TheVariants.{ReadNext, MoveSpread}
+use Rattle.record.specs.Courses.{begun_at, due, stage_after, IsCourse, BeginAtBase, EndsBefore}
+use Rattle.record.specs.declared.stage.Stage.TheVariants.{ReadBegin, MoveSpread}
 
 -- whether a call is a move
 abbrev pub is_move : CallKind → Bool
@@ -30,10 +30,10 @@ abbrev pub moves_in : List Call → ℕ
 moves_in [] = 0
 moves_in (call ∷ calls) = if is_move call.kind then suc (moves_in calls) else moves_in calls
 
--- reads and writes begin at position 0; a move after `moves` others leads from the position of that number
+-- reads and writes begin at the base; a move after `moves` others leads from the position of that number
 abbrev pub first_stage : CallKind → (moves : ℕ) → Stage
-first_stage Read moves = ReadNext 0 0
-first_stage (Write value) moves = ReadNext 0 0
+first_stage Read moves = ReadBegin
+first_stage (Write value) moves = ReadBegin
 first_stage Move moves = MoveSpread moves
 
 -- the position that a move at this place of the calls leads from
@@ -44,6 +44,10 @@ source_of object index = moves_in (take index object.calls)
 abbrev pub stage_of : Object → (index : ℕ) → Call → Stage
 stage_of object index call =
     stage_after call.kind (suc index) (first_stage call.kind (source_of object index)) call.phases
+
+-- the phase that is due for the call at this place; a first reading would begin at the base
+abbrev pub due_of : Object → (index : ℕ) → Call → Option (Kind × ℕ)
+due_of object index call = due (begun_at (stage_of object index call) (base_of object))
 
 -- phases are numbered from `number` on, and name their call
 abbrev pub AreNumbered : (call number : ℕ) → List Phase → Type 0
@@ -56,13 +60,15 @@ abbrev pub BeginsAt : List Phase → ℕ → Type 0
 BeginsAt [] step = ⊥
 BeginsAt (phase ∷ phases) step = phase.start ≡ step
 
--- a call's phases are true, and those of a read, a write or a move
--- as far as it has come. It is answered after the last of all
+-- a call's phases are true, and those of a read, a write or a move as far as it has come; each first reading began at
+-- the base of its moment. It is answered after the last of all
 pub record IsLegalCall (object : Object) (index : ℕ) (call : Call) : Type 0 where
   pub numbered : AreNumbered (suc index) 1 call.phases
   pub begins : BeginsAt call.phases call.called
   pub phases : AllByRecursion (IsTruePhase object) call.phases
   pub course : IsCourse call.kind (suc index) (first_stage call.kind (source_of object index)) call.phases
+  pub from_base : BeginAtBase (base_at object) call.kind (suc index) (first_stage call.kind (source_of object index))
+      call.phases
   pub answer : (step : ℕ) → call.answered ≡ Some step →
       (due (stage_of object index call) ≡ None) × EndsBefore call.phases step
 
@@ -78,7 +84,17 @@ pub record HasBegun (object : Object) (kind : Kind) (position step : ℕ) : Type
   pub same_position : phase.position ≡ position
   pub before : phase.start < step
 
--- what a bank knows beyond the opening tag, a phase has asked of it
+-- the move out of a position was answered at a step
+pub record IsMovedOut (object : Object) (position answered : ℕ) : Type 0 where
+  pub index : ℕ
+  pub call : Call
+  pub at : slice_get object.calls index ≡ Some call
+  pub kind : call.kind ≡ Move
+  pub source : source_of object index ≡ position
+  pub was : call.answered ≡ Some answered
+
+-- what a bank knows beyond the opening tag, a phase has asked of it; it is retired only after the move out of its
+-- position was answered
 pub record IsCaused (object : Object) (position : ℕ) (bank : Bank) : Type 0 where
   pub finalized : (tag : Tag) (step : ℕ) → finalized_at bank tag ≡ Some step → (tag ≡ opening_tag)
       ⊎ (HasBegun object (Finalize tag) position step ⊎ HasBegun object (Fetch tag) position step)
@@ -87,6 +103,8 @@ pub record IsCaused (object : Object) (position : ℕ) (bank : Bank) : Type 0 wh
   pub pending : (step : ℕ) → pending_since bank.pointer ≡ Some step →
       HasBegun object (Spread Pending) position step ⊎ HasBegun object (Spread Final) position step
   pub final : (step : ℕ) → final_since bank.pointer ≡ Some step → HasBegun object (Spread Final) position step
+  pub retired : (step : ℕ) → bank.retired ≡ Some step →
+      (answered : ℕ) × IsMovedOut object position answered × (answered < step)
 
 -- a bank has the opening tag, finalized and with a piece, since a step
 pub record IsOpenedAt (bank : Bank) (step : ℕ) : Type 0 where

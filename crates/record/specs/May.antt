@@ -11,7 +11,8 @@ use Rattle.mail.specs.declared.message.Body.TheVariants as body
 use Rattle.phase.specs.Phase.{Phase}
 use Rattle.record.specs.declared.call.CallKind.TheVariants.{Move}
 use Rattle.record.specs.declared.stage.Want.TheVariants as want
-use Rattle.record.specs.Records.{Call, Object}
+use Rattle.record.specs.Records.{Call, Object, base_of}
+use Rattle.record.specs.Legal.{IsMovedOut}
 use Rattle.record.specs.Fragments.{Code, IsValue, HasPieces}
 use Rattle.record.specs.Wants.{Wants, current_phase}
 use Rattle.record.specs.Steps.{Step, stepped}
@@ -87,6 +88,7 @@ MayStep fragment object (Step.Serve place) = (message : Message) × IsRequestAt 
 MayStep fragment object (Step.Take place) = (message : Message) × IsReplyAt object place message
 MayStep fragment object (Step.Lose place) = (message : Message) × (slice_get object.mail place ≡ Some message)
 MayStep fragment object (Step.Repeat place) = (message : Message) × (slice_get object.mail place ≡ Some message)
+MayStep fragment object Step.Retire = (answered : ℕ) × IsMovedOut object (base_of object) answered
 
 -- each of these steps may be made, the first one with number now
 abbrev pub MayRun : Code → List Step → (now : ℕ) → Object → Type 0

@@ -1,8 +1,9 @@
 -- The record of one object: its layouts and banks by position, its waiting messages, and its calls with their phases.
-use Rattle.std.specs.Prelude.{ℕ, List, [], Option, None, get_or}
+use Rattle.std.specs.Prelude.{◌≡◌, ℕ, suc, true, if◌then◌else◌, is_some, List, [], ◌∷◌, Option, None, get_or}
 use Rattle.std.specs.FinMap as map
 use Rattle.layout.specs.Layout.{Layout}
 use Rattle.bank.specs.Bank.{Bank}
+use Rattle.bank.specs.Knowledge.{came_by}
 use Rattle.bank.specs.declared.status.Pointer.TheVariants as pointer
 use Rattle.mail.specs.declared.message.Message.{Message}
 use Rattle.phase.specs.Phase.{Phase}
@@ -41,3 +42,30 @@ layout_at object position = get_or object.layouts position no_layout
 -- the bank of a member of a position
 abbrev pub bank_at : Object → (position member : ℕ) → Bank
 bank_at object position member = get_or (get_or object.banks position []) member no_bank
+
+-- the step at which a position was retired, if it was: that at which its first bank was
+abbrev pub retired_at : Object → (position : ℕ) → Option ℕ
+retired_at object position = (bank_at object position 0).retired
+
+-- a position was retired by a step
+abbrev pub IsRetiredBy : Object → (position step : ℕ) → Type 0
+IsRetiredBy object position step = came_by (retired_at object position) step ≡ true
+
+-- how many of these positions in a row, from the first on, were retired by a step
+abbrev pub base_by : List (List Bank) → (step : ℕ) → ℕ
+base_by [] step = 0
+base_by (banks ∷ later) step =
+    if came_by (get_or banks 0 no_bank).retired step then suc (base_by later step) else 0
+
+-- the object's base after a step: the first position that was not retired by then
+abbrev pub base_at : Object → (step : ℕ) → ℕ
+base_at object step = base_by object.banks step
+
+-- how many of these positions in a row, from the first on, are retired
+abbrev pub retired_first : List (List Bank) → ℕ
+retired_first [] = 0
+retired_first (banks ∷ later) = if is_some (get_or banks 0 no_bank).retired then suc (retired_first later) else 0
+
+-- the object's base: the first position that is not retired
+abbrev pub base_of : Object → ℕ
+base_of object = retired_first object.banks

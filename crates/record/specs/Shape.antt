@@ -4,8 +4,8 @@ use Rattle.tag.specs.declared.tag.Tag.{Tag}
 use Rattle.phase.specs.Phase.{Phase}
 use Rattle.record.specs.declared.call.CallKind.{CallKind}
 use Rattle.record.specs.declared.stage.Stage.{Stage}
-use Rattle.record.specs.Courses.{due, stage_after, IsCourse, IsEndedBefore}
-use Rattle.record.specs.Records.{Call, Object}
+use Rattle.record.specs.Courses.{due, stage_after, IsCourse, BeginAtBase, IsEndedBefore}
+use Rattle.record.specs.Records.{Call, Object, base_at}
 use Rattle.record.specs.Legal.{first_stage, source_of, IsLegal}
 use Rattle.record.specs.Journals.{stage_tag, tag_of}
 use Rattle.record.specs.Grammar.{Asks, IsSentence}
@@ -29,12 +29,14 @@ FinishedAreWhole =
     IsFinished kind number (first_stage kind from) phases tag
     ↔ (AreInTurn phases × IsSentence kind number from phases tag)
 
--- an answered call has a tag, and its phases are those of a whole call
+-- an answered call has a tag, and its phases are those of a whole call, whose first readings began at the base
 pub record IsAnsweredWhole (object : Object) (index : ℕ) (call : Call) : Type 0 where
   pub tag : Tag
   pub tagged : tag_of object index call ≡ Some tag
   pub in_turn : AreInTurn call.phases
   pub whole : IsSentence call.kind (suc index) (source_of object index) call.phases tag
+  pub from_base : BeginAtBase (base_at object) call.kind (suc index) (first_stage call.kind (source_of object index))
+      call.phases
 
 -- each answered call of a legal record has the phases of a whole call
 abbrev pub AnsweredAreWhole : Type 0

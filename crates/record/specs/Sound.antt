@@ -13,7 +13,7 @@ use Rattle.mail.specs.declared.message.Message.{Message}
 use Rattle.mail.specs.declared.message.Body.TheVariants as body
 use Rattle.mail.specs.Message.{body_kind}
 use Rattle.phase.specs.Phase.{Phase}
-use Rattle.record.specs.Records.{Call, Object, layout_at, bank_at}
+use Rattle.record.specs.Records.{Call, Object, layout_at, bank_at, retired_at, base_of}
 use Rattle.record.specs.Legal.{moves_in, IsOpenedAt, BeginInOpen, IsLegal}
 use Rattle.record.specs.Journals.{tag_of}
 use Rattle.record.specs.Fragments.{Code, AreCoded, AreSettled, AreValues}
@@ -66,7 +66,7 @@ pub record HasNext (count position : ℕ) (bank : Bank) : Type 0 where
 
 -- a position for the first layout and for each move, a bank for each member that begins with the opening tag,
 -- with the object's delta, no pointer to a position that is not there, in each bank just the pieces that it keeps, and
--- none retired
+-- the banks of a position retired at one step, where it is below the base
 pub record HasShape (object : Object) : Type 0 where
   pub positions : length object.layouts ≡ suc (moves_in object.calls)
   pub banks : length object.banks ≡ length object.layouts
@@ -79,7 +79,10 @@ pub record HasShape (object : Object) : Type 0 where
       member < length (layout_at object position).members → (bank_at object position member).delta ≡ object.delta
   pub next : (position member : ℕ) → HasNext (length object.layouts) position (bank_at object position member)
   pub collected : (position member : ℕ) → IsCollected (bank_at object position member)
-  pub unretired : (position member : ℕ) → (bank_at object position member).retired ≡ None
+  pub retired : (position member : ℕ) → position < length object.layouts →
+      member < length (layout_at object position).members →
+      (bank_at object position member).retired ≡ retired_at object position
+  pub leading : (position : ℕ) → base_of object ≤ position → retired_at object position ≡ None
 
 -- the record after a step with this number
 pub record IsSound (fragment : Code) (object : Object) (step : ℕ) : Type 0 where

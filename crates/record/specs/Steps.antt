@@ -1,12 +1,13 @@
 -- What each step leaves of the record. `now` is the step's number.
 use Rattle.std.specs.Prelude.{ℕ, suc, pred, is_some}
-use Rattle.std.specs.Prelude.{if◌then◌else◌, List, [], ◌∷◌, ◌++◌, length, get_or, Option, Some, None}
+use Rattle.std.specs.Prelude.{if◌then◌else◌, List, [], ◌∷◌, ◌++◌, length, map, get_or, Option, Some, None}
 use Rattle.std.specs.Prelude.{slice_get, slice_set}
 use Rattle.std.specs.List.{remove}
 use Rattle.layout.specs.Layout.{Layout}
 use Rattle.layout.specs.Layout.{quorum_of}
 use Rattle.encoder.specs.declared.fragment.Piece.{Piece}
 use Rattle.bank.specs.Bank.{Bank, opened_bank, empty_piece}
+use Rattle.bank.specs.Collect.{retired_bank}
 use Rattle.bank.specs.Serve.{served_bank, reply_to}
 use Rattle.bank.specs.declared.kind.Kind.{Kind}
 use Rattle.bank.specs.declared.kind.Kind.TheVariants.{Next, Spread}
@@ -19,9 +20,8 @@ use Rattle.mail.specs.Message.{answered}
 use Rattle.phase.specs.Phase.{Phase, begun, after_take}
 use Rattle.record.specs.declared.call.CallKind.{CallKind}
 use Rattle.record.specs.declared.call.CallKind.TheVariants.{Read, Write, Move}
-use Rattle.record.specs.Records.{Call, Object, layout_at, bank_at}
-use Rattle.record.specs.Courses.{due}
-use Rattle.record.specs.Legal.{stage_of}
+use Rattle.record.specs.Records.{Call, Object, layout_at, bank_at, base_of}
+use Rattle.record.specs.Legal.{due_of}
 use Rattle.record.specs.Fragments.{Code}
 use Rattle.record.specs.Wants.{current_phase}
 use Rattle.record.specs.Sending.{sent_pieces, requests, missing_requests}
@@ -78,12 +78,12 @@ opened_object layout delta now = record {
 abbrev pub new_call : CallKind → ℕ → Call
 new_call kind now = record { kind = kind; called = now; answered = None; settled = None; phases = [] }
 
--- a read or a write begins with the first phase of its first reading
+-- a read or a write begins with the first phase of its first reading, at the base
 abbrev pub called_object : Object → CallKind → (now : ℕ) → Object
 called_object object kind now =
     let index = length object.calls in
     with_phase (record object { calls = object.calls ++ new_call kind now ∷ [] }) index
-    (new_call kind now) Next 0 now empty_piece
+    (new_call kind now) Next (base_of object) now empty_piece
 
 -- a move appends the next position with its banks, and begins with its first phase
 abbrev pub moving_object : Object → Layout → (now : ℕ) → Object
@@ -106,7 +106,7 @@ begun_object fragment object index call (Some next) now =
 -- the call at this place begins the phase that is due
 abbrev pub advanced_object : Code → Object → (index : ℕ) → Call → (now : ℕ) → Object
 advanced_object fragment object index call now =
-    begun_object fragment object index call (due (stage_of object index call)) now
+    begun_object fragment object index call (due_of object index call) now
 
 -- the call at this place settles a value
 abbrev pub settled_object : Object → (index : ℕ) → Call → List ℕ → Object
@@ -187,6 +187,16 @@ supplied_by fragment object index call now (Some phase) =
 abbrev pub supplied_object : Code → Object → (index : ℕ) → Call → (now : ℕ) → Object
 supplied_object fragment object index call now = supplied_by fragment object index call now (current_phase call.phases)
 
+-- Retiring
+
+-- the banks of the base drop all pieces, and the base goes up by one
+abbrev pub retired_object : Object → (now : ℕ) → Object
+retired_object object now =
+    let base = base_of object in
+    record object {
+      banks = slice_set object.banks base (map (λ bank. retired_bank bank now) (get_or object.banks base []));
+    }
+
 -- Steps
 
 -- what may happen to an object; a call is named by its place, a message by its place in the mail
@@ -204,6 +214,7 @@ pub data Step : Type 0 where
   Take : (place : ℕ) → Step
   Lose : (place : ℕ) → Step
   Repeat : (place : ℕ) → Step
+  Retire : Step
 
 -- a change by a call, where it is there
 abbrev pub on_call : Object → Option Call → (Call → Object) → Object
@@ -240,6 +251,7 @@ stepped fragment (Step.Take place) now object =
 stepped fragment (Step.Lose place) now object = lost_object object place
 stepped fragment (Step.Repeat place) now object =
     on_message object (slice_get object.mail place) (λ message. repeated_object object message)
+stepped fragment Step.Retire now object = retired_object object now
 
 -- the record after these steps, the first one with number now
 abbrev pub run : Code → List Step → (now : ℕ) → Object → Object

@@ -11,8 +11,7 @@ use Rattle.phase.specs.Phase.{Phase, lacks_pieces}
 use Rattle.record.specs.declared.stage.Want.{Want}
 use Rattle.record.specs.declared.stage.Want.TheVariants as want
 use Rattle.record.specs.Records.{Call, Object, layout_at}
-use Rattle.record.specs.Courses.{due}
-use Rattle.record.specs.Legal.{stage_of}
+use Rattle.record.specs.Legal.{due_of}
 use Rattle.record.specs.Journals.{tag_of}
 use Rattle.record.specs.Fragments.{answer_piece}
 
@@ -67,7 +66,7 @@ want_after object next settled (Some phase) =
 abbrev pub want_of : Object → (index : ℕ) → Call → Want
 want_of object index call =
     if is_some call.answered then want.Done
-    else want_after object (due (stage_of object index call)) call.settled (current_phase call.phases)
+    else want_after object (due_of object index call) call.settled (current_phase call.phases)
 
 -- the tag that a phase of this kind fetches, or else this one
 abbrev pub fetched_or : Kind → Option Tag → Option Tag

@@ -6,7 +6,7 @@ ghost use Rattle.bank.specs.Collect.{final_pieces};
 ghost use Rattle.phase.specs.Phase.{lacks_pieces, Phase};
 ghost use Rattle.record.specs.Fragments.{Code, HasDropped, HasEnough, IsFetch};
 ghost use Rattle.record.specs.Lacking.{IsLackingFetch, IsOverlapped};
-ghost use Rattle.record.specs.Records.{bank_at, Call, layout_at, Object};
+ghost use Rattle.record.specs.Records.{bank_at, Call, IsRetiredBy, layout_at, Object};
 ghost use Rattle.record.specs.Sound.{IsSound};
 
 /// In a sound record a bank of an object with `delta` holds at most `delta` + 1 pieces of finalized tags.
@@ -32,10 +32,11 @@ pub fn lacking_is_to_have_too_few()
         → slice_get call.phases place ≡ Some phase → (lacks_pieces phase ≡ false) ↔ HasEnough object phase }
 {}
 
-/// In a sound record a read's complete fetch lacks pieces only where the object has `delta`, and at least `delta` + 1
-/// writes with greater tags were called before the fetch's end and not answered before the read last began.
+/// In a sound record a read's complete fetch lacks pieces only where its position was retired by its end, or the object
+/// has `delta`, and at least `delta` + 1 writes with greater tags were called before the fetch's end and not answered
+/// before the read last began.
 pub fn lacking_fetches_are_overlapped()
     ensures { (fragment : Code) (object : Object) (last index place end : ℕ) (call : Call) (phase : Phase) (tag : Tag)
         → IsSound fragment object last → IsLackingFetch object index place call phase tag end
-        → IsOverlapped object call place tag end }
+        → IsRetiredBy object phase.position end ⊎ IsOverlapped object call place tag end }
 {}

@@ -18,6 +18,9 @@ pub use lacking::{
     lacking_is_to_have_too_few,
 };
 pub use origins::{labels_come_with_their_requests, sent_tags_are_journaled};
+pub use retiring::{
+    retired_positions_were_moved_out_of, retiring_frees_the_base, retiring_raises_the_base,
+};
 pub use shape::{
     answered_calls_are_whole, courses_are_beginnings, due_positions_are_there,
     finished_calls_are_whole, readings_come_before_tags,
@@ -28,8 +31,8 @@ pub use soundness::{
 };
 pub use stage::{Stage, Want};
 pub use worked::{
-    a_read_that_begins_anew, a_stale_read_is_not_atomic, a_write_a_move_and_a_read,
-    a_write_and_a_read, the_bound_is_met_exactly,
+    a_read_from_the_base, a_read_that_begins_anew, a_stale_read_is_not_atomic,
+    a_write_a_move_and_a_read, a_write_and_a_read, the_bound_is_met_exactly,
 };
 
 mod accounts;
@@ -38,6 +41,7 @@ mod call;
 mod code;
 mod lacking;
 mod origins;
+mod retiring;
 mod shape;
 mod soundness;
 mod stage;

@@ -5,9 +5,8 @@ ghost use Rattle.tag.specs.declared.tag.Tag.{Tag};
 ghost use Rattle.layout.specs.Layout.{IsLawful, Layout};
 ghost use Rattle.bank.specs.Bank.{knows};
 ghost use Rattle.bank.specs.declared.kind.Kind.TheVariants.{PreWrite};
-ghost use Rattle.record.specs.Courses.{due};
 ghost use Rattle.record.specs.Fragments.{Code, IsCode};
-ghost use Rattle.record.specs.Legal.{stage_of};
+ghost use Rattle.record.specs.Legal.{due_of};
 ghost use Rattle.record.specs.May.{AwaitsPieces, MayRun, MayStep, WantsPieces};
 ghost use Rattle.record.specs.Records.{bank_at, Call, layout_at, Object};
 ghost use Rattle.record.specs.Sound.{IsSound};
@@ -62,6 +61,6 @@ pub fn sent_values_are_there()
 /// The pieces that a call wants are for the threshold and the members of the layout where they are due.
 pub fn wanted_pieces_fit_the_layout()
     ensures { (object : Object) (index k n : ℕ) (call : Call) → want_of object index call ≡ wants.Supply k n
-        → (tag : Tag) × (position : ℕ) × (due (stage_of object index call) ≡ Some (PreWrite tag, position))
+        → (tag : Tag) × (position : ℕ) × (due_of object index call ≡ Some (PreWrite tag, position))
         × (k ≡ (layout_at object position).k) × (n ≡ length (layout_at object position).members) }
 {}

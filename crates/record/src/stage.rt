@@ -6,6 +6,8 @@ use tag::Tag;
 /// are after ARES (Nicolaou, Cadambe, Prakash, Trigeorgi, Konwar, Médard and Lynch, 2019).
 #[derive(Clone, Copy, Debug, PartialEq, Eq)]
 pub enum Stage {
+    /// A first reading that has not begun: it will begin at the base of the moment.
+    ReadBegin,
     /// First reading of the sequence, at this position; the last position known to be finalized.
     ReadNext {
         position: u32,

@@ -3,6 +3,7 @@ ghost use Rattle.std.specs.Prelude.{◌≡◌, ◌++◌, None, Some};
 ghost use Rattle.record.specs.Atomic.{IsAtomic};
 ghost use Rattle.record.specs.Examples.{move_entries, move_script, one_member};
 ghost use Rattle.record.specs.Examples.{anew_entries, anew_script, IsMetExactly, lacking_script};
+ghost use Rattle.record.specs.Examples.{retire_entries, retire_script};
 ghost use Rattle.record.specs.Examples.{script, script_entries, stale_entries, whole};
 ghost use Rattle.record.specs.Journals.{entries};
 ghost use Rattle.record.specs.May.{MayRun};
@@ -31,6 +32,13 @@ pub fn a_read_that_begins_anew()
 /// In it delta + 1 writes overlap the read when its fetch lacks pieces, and no more: the bound is met exactly.
 pub fn the_bound_is_met_exactly()
     ensures { IsMetExactly (run whole lacking_script 3 (opened_object one_member (Some 0) 2)) }
+{}
+
+/// A write and a move to another server, after which the first position is retired, and a read that begins at the
+/// second: it asks for no pointer of the first.
+pub fn a_read_from_the_base()
+    ensures may { MayRun whole retire_script 3 (opened_object one_member None 2) }
+    ensures gives { entries (run whole retire_script 3 (opened_object one_member None 2)) ≡ retire_entries }
 {}
 
 /// A history in which a read misses a write that was answered before it was called is not atomic.

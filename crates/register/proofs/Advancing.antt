@@ -1,6 +1,6 @@
 -- The call of a number begins the phase that is due.
 use Rattle.std.proofs.Common.{◌≡◌, ℕ, suc, pred, ◌<◌, Bool, true, false, ◌++◌, length, get_or, slice_get, set}
-use Rattle.std.proofs.Common.{Option, Some, None, refl, sym, subst, ap, ◌∙◌}
+use Rattle.std.proofs.Common.{Option, Some, None, IfSome, refl, sym, subst, ap, ◌∙◌}
 use Rattle.std.proofs.lemmas.Option.{same_Some}
 use Rattle.tag.specs.declared.limits.TheConstants.{MOST_STEPS}
 use Rattle.tag.specs.declared.refusal.Refusal.{Refusal}
@@ -14,8 +14,8 @@ use Rattle.record.specs.declared.stage.Stage.{Stage}
 use Rattle.record.specs.declared.stage.Want.{Want}
 use Rattle.record.specs.declared.stage.Want.TheVariants as want
 use Rattle.record.specs.Records.{Call, Object, layout_at}
-use Rattle.record.specs.Courses.{due}
-use Rattle.record.specs.Legal.{IsLegal, stage_of}
+use Rattle.record.specs.Courses.{begun_at, due}
+use Rattle.record.specs.Legal.{IsLegal, due_of}
 use Rattle.record.specs.May.{MayStep}
 use Rattle.record.specs.Wants.{Wants}
 use Rattle.record.specs.Steps.{stepped, on_call, advanced_object, begun_object}
@@ -30,8 +30,8 @@ use Rattle.register.specs.State.{Contents, made, state_of}
 use Rattle.register.specs.Tracked.{Tracked, calls_of, with_begun}
 use Rattle.register.proofs.Beginning.{IsBeginning}
 use Rattle.register.proofs.Calling.{below_limit, due_below, requests_plain, with_due, with_due_is}
-use Rattle.register.proofs.Found.{IsFound, IsWanting, at, at_place, place, same, staged, below, caused}
-use Rattle.register.proofs.Keeps.{few_positions}
+use Rattle.register.proofs.Found.{IsFound, IsWanting, at, at_place, place, same, below_due, due_kept, caused}
+use Rattle.register.proofs.Keeps.{due_now, few_positions}
 use Rattle.register.proofs.Rooms.{step_past}
 use Rattle.register.proofs.Sendings.{layout_read}
 
@@ -56,21 +56,29 @@ wants_it true (want.Settle k len) e = absurd (cc)
 wants_it true want.Answer e = absurd (cc)
 wants_it true want.Done e = absurd (cc)
 
+below_kept : {c : Contents} {number index : ℕ} {t : Tracked} → IsFound c number index t
+    → IfSome (due (begun_at t.stage c.base)) (λ asked. asked.1 < length c.positions)
+below_kept {c = c} f = subst (λ next. IfSome next (λ asked. asked.1 < length c.positions)) (sym (due_kept f)) (below_due f)
+
 -- the phase that is due has a next position in the machine's numbers
-pub stage_below : {c : Contents} {number index : ℕ} {t : Tracked} {stage : Stage} → IsFound c number index t → stage ≡ t.stage
-    → IsBelowLimit stage
-stage_below {c = c} {t = t} f is =
-    subst IsBelowLimit (sym is) (below_limit (length c.positions) (due t.stage) (below f).due (few_positions c f.kept))
+pub stage_below : {c : Contents} {number index : ℕ} {t : Tracked} {stage started : Stage} → IsFound c number index t
+    → stage ≡ t.stage → started ≡ begun_at stage c.base → IsBelowLimit started
+stage_below {c = c} {t = t} f is begins =
+    subst IsBelowLimit (sym (begins ∙ ap (λ s. begun_at s c.base) is))
+    (below_limit (length c.positions) (due (begun_at t.stage c.base)) (below_kept f) (few_positions c f.kept))
 
 -- the phase that is due, by the stage that is read again
-pub due_read : {c : Contents} {number index : ℕ} {t old : Tracked} {stage : Stage} {next to : Option (Kind × ℕ)} → IsFound c number index t
-    → old ≡ get_or c.calls index old → stage ≡ old.stage → next ≡ due stage → next ≡ to → due t.stage ≡ to
-due_read f read stage_is next_is is = ap (λ (u : Tracked). due u.stage) (same f read) ∙ ap due (sym stage_is) ∙ sym next_is ∙ is
+pub due_read : {c : Contents} {number index : ℕ} {t old : Tracked} {stage started : Stage} {next to : Option (Kind × ℕ)}
+    → IsFound c number index t → old ≡ get_or c.calls index old → stage ≡ old.stage → started ≡ begun_at stage c.base
+    → next ≡ due started → next ≡ to → due (begun_at t.stage c.base) ≡ to
+due_read {c = c} f read stage_is begins next_is is =
+    ap (λ (u : Tracked). due (begun_at u.stage c.base)) (same f read) ∙ ap (λ s. due (begun_at s c.base)) (sym stage_is)
+    ∙ ap due (sym begins) ∙ sym next_is ∙ is
 
 pub due_there : {c : Contents} {number index : ℕ} {t : Tracked} {kind : Kind} {position : ℕ} → IsFound c number index t
-    → due t.stage ≡ Some (kind, position) → position < length c.positions
+    → due (begun_at t.stage c.base) ≡ Some (kind, position) → position < length c.positions
 due_there {c = c} {t = t} {kind = kind} {position = position} f is =
-    due_below (length c.positions) (due t.stage) kind position (below f).due is
+    due_below (length c.positions) (due (begun_at t.stage c.base)) kind position (below_kept f) is
 
 module _ {c : Contents} {number index : ℕ} {t : Tracked} {w : Want} (anew : Bool) (wanted : IsWanting c number index t w)
     (now : ℕ) where
@@ -102,7 +110,7 @@ may_begin true index object call wants = (call, wants)
 
 -- a phase that is due so sends no pieces
 plain_due : (anew : Bool) (object : Object) → IsLegal object → (index : ℕ) (call : Call) → Wants object index call (wanted_for anew)
-    → Plain (due (stage_of object index call))
+    → Plain (due_of object index call)
 plain_due false object legal index call wants = (advance_ready object index call wants.1).1
 plain_due true object legal index call wants = anew_due object legal index call wants.0 (lacking_of object index call wants.1)
 
@@ -121,21 +129,21 @@ module _ {c : Contents} {number index : ℕ} {t : Tracked} {w : Want} (anew : Bo
   both : Wants (state_of c).object (pred number) t.call (wanted_for anew)
   both = (at_place wanted.found, wanted.wants ∙ wants_it anew w wants)
 
-  abbrev plain : Plain (due (stage_of (state_of c).object (pred number) t.call))
+  abbrev plain : Plain (due_of (state_of c).object (pred number) t.call)
   plain = plain_due anew (state_of c).object wanted.found.kept.sound.legal (pred number) t.call both
 
   -- so a phase is due
-  pub some_due : due t.stage ≡ None → ⊥
+  pub some_due : due (begun_at t.stage c.base) ≡ None → ⊥
   some_due none =
-      absurd (let clash : Some (plain.kind, plain.position) ≡ None = sym plain.is_due ∙ ap due (sym (staged wanted.found)) ∙ none in cc)
+      absurd (let clash : Some (plain.kind, plain.position) ≡ None = sym plain.is_due ∙ sym (due_kept wanted.found) ∙ none in cc)
 
 -- where this phase is due
 module _ {c : Contents} {number index : ℕ} {t : Tracked} {w : Want} (anew : Bool) (wanted : IsWanting c number index t w)
-    (wants : wants_due anew w ≡ true) {kind : Kind} {position : ℕ} (is_due : due t.stage ≡ Some (kind, position)) where
+    (wants : wants_due anew w ≡ true) {kind : Kind} {position : ℕ} (is_due : due (begun_at t.stage c.base) ≡ Some (kind, position)) where
   abbrev object : Object
   object = (state_of c).object
 
-  abbrev owed : Plain (due (stage_of object (pred number) t.call))
+  abbrev owed : Plain (due_of object (pred number) t.call)
   owed = plain anew wanted wants
 
   abbrev next : Kind × ℕ
@@ -145,7 +153,7 @@ module _ {c : Contents} {number index : ℕ} {t : Tracked} {w : Want} (anew : Bo
   seen = (owed.kind, owed.position)
 
   same_next : seen ≡ next
-  same_next = same_Some seen next (sym owed.is_due ∙ ap due (sym (staged wanted.found)) ∙ is_due)
+  same_next = same_Some seen next (sym owed.is_due ∙ sym (due_kept wanted.found) ∙ is_due)
 
   no_pieces : (tag : Tag) → kind ≡ PreWrite tag → ⊥
   no_pieces tag e = owed.not_pre tag (ap (λ (n : Kind × ℕ). n.0) same_next ∙ e)
@@ -162,7 +170,7 @@ module _ {c : Contents} {number index : ℕ} {t : Tracked} {w : Want} (anew : Bo
         (due_stepped anew (pred number) now object
         ∙ ap (λ i. on_call object (slice_get object.calls i) (λ call. advanced_object fragment object i call now)) (sym (place f))
         ∙ ap (λ o. on_call object o (λ call. advanced_object fragment object index call now)) (at f)
-        ∙ ap (λ d. begun_object fragment object index t.call d now) (ap due (sym (f.kept.staged index t f.there)) ∙ is_due)
+        ∙ ap (λ d. begun_object fragment object index t.call d now) (sym (due_now c f.kept index t f.there) ∙ is_due)
         ∙ with_due_is c index t kind position layout now (sent_pieces fragment object t.call position) placed
         ∙ ap (λ ms. record {
           delta = c.delta;

@@ -18,7 +18,7 @@ use Rattle.phase.specs.Phase.{Phase, lacks_pieces}
 use Rattle.record.specs.declared.call.CallKind.{CallKind}
 use Rattle.record.specs.declared.stage.Stage.{Stage}
 use Rattle.record.specs.Records.{Call, Object, no_layout, layout_at}
-use Rattle.record.specs.Courses.{passed, stage_after}
+use Rattle.record.specs.Courses.{begun_at, passed, stage_past, stage_after}
 use Rattle.record.specs.Legal.{first_stage, source_of}
 use Rattle.record.specs.Sound.{IsSound}
 use Rattle.record.specs.Steps.{with_phase, new_phase}
@@ -111,12 +111,13 @@ any_push p (x ∷ xs) y = ap (λ b. p x || b) (any_push p xs y) ∙ go (p x) (li
 
 -- One call changes
 
--- a phase that has begun leaves the stage as it is
+-- a phase that has begun leaves the stage as it is, but that a first reading begins at its position
 pub stage_push : (kind : CallKind) (number : ℕ) (phases : List Phase) (stage : Stage) (next : Phase) → next.end ≡ None →
-    stage_after kind number stage (phases ++ next ∷ []) ≡ stage_after kind number stage phases
-stage_push kind number [] stage next none = ap (λ o. passed kind number stage o next.replies (lacks_pieces next)) none
+    stage_after kind number stage (phases ++ next ∷ []) ≡ begun_at (stage_after kind number stage phases) next.position
+stage_push kind number [] stage next none =
+    ap (λ o. passed kind number (begun_at stage next.position) o next.replies (lacks_pieces next)) none
 stage_push kind number (phase ∷ phases) stage next none =
-    stage_push kind number phases (passed kind number stage phase.end phase.replies (lacks_pieces phase)) next none
+    stage_push kind number phases (stage_past kind number stage phase) next none
 
 -- the call begins the phase that is due
 abbrev pub with_due : Contents → (index : ℕ) → Tracked → Kind → (position : ℕ) → Layout → (now : ℕ) → (ℕ → Piece) → Contents
@@ -155,7 +156,7 @@ pub with_due_kept : (c : Contents) (index : ℕ) (t : Tracked) (kind : Kind) (po
 with_due_kept c index t kind position layout now piece kept at few sound =
     call_kept c index now t (with_begun t (suc index) kind position layout now)
     (c.mail ++ requests (suc index) (suc (length t.call.phases)) kind position layout.members 0 piece) c.is_moving kept at refl
-    (kept.staged index t at ∙ sym (stage_push t.call.kind (suc index) t.call.phases
+    (ap (λ (s : Stage). begun_at s position) (kept.staged index t at) ∙ sym (stage_push t.call.kind (suc index) t.call.phases
     (first_stage t.call.kind (source_of (state_of c).object index)) next refl))
     (subst (λ n. n ≤ MOST_PHASES) (sym (length_push t.call.phases next)) (omega (arith, few)))
     (kept.moving ∙ sym (open_moves_set c.calls index t (with_begun t (suc index) kind position layout now) at refl refl)) sound

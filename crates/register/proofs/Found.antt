@@ -1,12 +1,11 @@
 -- A call of a register, found by its number.
 use Rattle.std.proofs.Common.{◌≡◌, ℕ, suc, pred, ◌<◌, ◌≤◌, false, cond, is_some, List, [], ◌∷◌, length, get_or, slice_get, Option, Some}
-use Rattle.std.proofs.Common.{None, option_map, sym, ap, subst, ◌∙◌, refl}
+use Rattle.std.proofs.Common.{None, option_map, IfSome, sym, ap, subst, ◌∙◌, refl}
 use Rattle.std.proofs.lemmas.Option.{slice_get_read, same_Some}
 use Rattle.phase.specs.Phase.{Phase}
-use Rattle.record.specs.Courses.{due}
-use Rattle.record.specs.Legal.{stage_of, BeginsAt}
+use Rattle.record.specs.Courses.{begun_at, due}
+use Rattle.record.specs.Legal.{due_of, stage_of, BeginsAt}
 use Rattle.record.specs.Wants.{current_phase, want_of, want_after}
-use Rattle.record.specs.declared.stage.Stage.{Stage}
 use Rattle.record.specs.declared.stage.Want.{Want}
 use Rattle.record.specs.declared.stage.Want.TheVariants as want
 use Rattle.tag.specs.declared.limits.TheConstants.{MOST_POSITIONS}
@@ -19,7 +18,8 @@ use Rattle.register.specs.Kept.{IsKept}
 use Rattle.register.specs.State.{Contents, State, object_of, state_of}
 use Rattle.register.specs.Tracked.{Tracked, IsBelow, tracked_want}
 use Rattle.register.specs.View.{want_at}
-use Rattle.register.proofs.Keeps.{call_found, is_below, few_positions}
+use Rattle.register.proofs.Bases.{begun_want}
+use Rattle.register.proofs.Keeps.{call_found, due_now, due_placed, is_below, few_positions}
 use Rattle.register.proofs.Lists.{found_within}
 
 -- the call of this number stands at this place of what is kept
@@ -44,9 +44,19 @@ module _ {c : Contents} {number index : ℕ} {t : Tracked} (found : IsFound c nu
   pub staged : t.stage ≡ stage_of (state_of c).object (pred number) t.call
   staged = found.kept.staged index t found.there ∙ ap (λ i. stage_of (state_of c).object i t.call) place
 
+  -- the phase that is due, by the stage and the base that are kept
+  pub due_kept : due (begun_at t.stage c.base) ≡ due_of (state_of c).object (pred number) t.call
+  due_kept = due_now c found.kept index t found.there ∙ ap (λ i. due_of (state_of c).object i t.call) place
+
   pub wants : tracked_want (object_of None c.positions [] []) t ≡ want_of (state_of c).object (pred number) t.call
-  wants = ap (λ (s : Stage). cond (is_some t.call.answered) want.Done
-      (want_after (state_of c).object (due s) t.call.settled (current_phase t.call.phases))) staged
+  wants = ap (λ (w : Want). cond (is_some t.call.answered) want.Done w)
+      (begun_want (state_of c).object t.stage c.base t.call.settled (current_phase t.call.phases)
+      ∙ ap (λ next. want_after (state_of c).object next t.call.settled (current_phase t.call.phases)) due_kept)
+
+  -- it is at a position that is there
+  pub below_due : IfSome (due_of (state_of c).object (pred number) t.call) (λ asked. asked.1 < length c.positions)
+  below_due = subst (λ i. IfSome (due_of (state_of c).object i t.call) (λ asked. asked.1 < length c.positions)) place
+      (due_placed c found.kept index t found.there)
 
   pub below : IsBelow (length c.positions) t
   below = is_below c found.kept index t found.there

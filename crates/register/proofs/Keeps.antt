@@ -1,6 +1,6 @@
 -- What each step keeps of a register, from the laws of sound records.
 use Rattle.std.proofs.Common.{◌≡◌, ℕ, zero, suc, ◌<◌, ◌≤◌, ◌⊎◌, ◌&&◌, not, is_some, Bool, List, [], ◌∷◌, length, set, take, slice_get}
-use Rattle.std.proofs.Common.{Option, Some, None, IfSome, sym, ap, subst, ◌∙◌, inl, inr, refl}
+use Rattle.std.proofs.Common.{Option, Some, None, IfSome, sym, ap, subst, ◌∙◌, inl, inr, refl, arith}
 use Rattle.std.specs.List.{AllByRecursion}
 use Rattle.tag.specs.declared.limits.TheConstants.{MOST_CALLS, MOST_PHASES, MOST_POSITIONS}
 use Rattle.bank.specs.declared.kind.Kind.{Kind}
@@ -8,14 +8,15 @@ use Rattle.encoder.specs.Fragment.{fragment}
 use Rattle.mail.specs.declared.message.Message.{Message}
 use Rattle.phase.specs.Phase.{Phase}
 use Rattle.record.specs.Records.{Call}
-use Rattle.record.specs.Courses.{due}
+use Rattle.record.specs.declared.stage.Stage.{Stage}
+use Rattle.record.specs.Courses.{begun_at, due}
 use Rattle.record.specs.Knowledge.{IsTruePhase}
-use Rattle.record.specs.Legal.{is_move, moves_in, stage_of}
+use Rattle.record.specs.Legal.{due_of, is_move, moves_in, stage_of}
 use Rattle.record.specs.May.{MayStep}
 use Rattle.record.specs.Sound.{IsSound}
 use Rattle.record.specs.Steps.{Step}
 use Rattle.record.specs.Wants.{current_phase}
-use Rattle.record.proofs.Sound.Due.{due_there}
+use Rattle.record.proofs.Sound.Due.{base_there, due_there}
 use Rattle.record.proofs.Lists.{get_set}
 use Rattle.record.proofs.Sound.Changing.{moves_set}
 use Rattle.record.proofs.Sound.Running.{step_sound}
@@ -24,6 +25,7 @@ use Rattle.register.specs.Tracked.{Tracked, calls_of, IsBelow}
 use Rattle.register.specs.State.{Contents, object_of, state_of, made}
 use Rattle.register.specs.Kept.{IsKept, AreStaged, is_open_move, has_open_move}
 use Rattle.record.proofs.Atomic.Values.Determined.{fragments_are_code}
+use Rattle.register.proofs.Bases.{begun_below}
 use Rattle.register.proofs.Lists.{found_map, map_set, length_map, length_set, all_found, all_put, any_put}
 
 -- a step that may be made leaves a sound record
@@ -48,6 +50,7 @@ mail_kept c mail now kept sound = record {
     phases = kept.limits.phases;
     stored = kept.limits.stored;
   };
+  based = kept.based;
   staged = kept.staged;
   moving = kept.moving;
   stored = kept.stored;
@@ -93,6 +96,7 @@ call_kept c index now t new mail is_moving kept at kind stage few moving sound =
         (all_put (λ (call : Call). length call.phases ≤ MOST_PHASES) (calls_of c.calls) index new.call kept.limits.phases few);
     stored = kept.limits.stored;
   };
+  based = kept.based;
   staged = staged_set c.delta c.positions c.mail mail c.calls index t new at kind kept.staged stage;
   moving = moving;
   stored = kept.stored;
@@ -118,6 +122,34 @@ current_found [] phase e = absurd (cc)
 current_found (p ∷ []) phase e = (zero, e)
 current_found (p ∷ q ∷ ps) phase e = let rest = current_found (q ∷ ps) phase e in (suc rest.0, rest.1)
 
+-- there is a position, and the base is there
+pub base_within : (c : Contents) → IsKept c → c.base < length c.positions
+base_within c kept =
+    let there = base_there (state_of c).object kept.sound.legal kept.sound.shape in
+    let count : length (state_of c).object.layouts ≡ length c.positions = length_map (λ (p : Position). p.layout) c.positions in
+    let same = kept.based in
+    omega (arith, there, count, same)
+
+-- the phase that is due, by the stage and the base that are kept
+pub due_now : (c : Contents) → IsKept c → (index : ℕ) (t : Tracked) → slice_get c.calls index ≡ Some t
+    → due (begun_at t.stage c.base) ≡ due_of (state_of c).object index t.call
+due_now c kept index t at =
+    ap (λ (s : Stage). due (begun_at s c.base)) (kept.staged index t at)
+    ∙ ap (λ b. due (begun_at (stage_of (state_of c).object index t.call) b)) kept.based
+
+-- it is at a position that is there
+pub due_placed : (c : Contents) → IsKept c → (index : ℕ) (t : Tracked) → slice_get c.calls index ≡ Some t
+    → IfSome (due_of (state_of c).object index t.call) (λ asked. asked.1 < length c.positions)
+due_placed c kept index t at = when (due_of (state_of c).object index t.call) refl
+  where
+    here : slice_get (state_of c).object.calls index ≡ Some t.call
+    here = call_found c.calls index t at
+
+    when : (o : Option (Kind × ℕ)) → due_of (state_of c).object index t.call ≡ o → IfSome o (λ asked. asked.1 < length c.positions)
+    when None e = tt
+    when (Some asked) e = subst (λ n. asked.1 < n) (length_map (λ (p : Position). p.layout) c.positions)
+        (due_there (state_of c).object kept.sound.legal kept.sound.shape index t.call here asked.0 asked.1 e)
+
 -- the current phase of each call, and the one that is due, are at positions that are there
 pub is_below : (c : Contents) → IsKept c → (index : ℕ) (t : Tracked) → slice_get c.calls index ≡ Some t → IsBelow (length c.positions) t
 is_below c kept index t at = record {
@@ -127,8 +159,9 @@ is_below c kept index t at = record {
       all_found (IsTruePhase (state_of c).object) t.call.phases found.0 phase
       ((kept.sound.legal.calls index t.call here).phases) found.1 in
       subst (λ n. phase.position < n) count truth.placed;
-  due = subst (λ stage. IfSome (due stage) (λ asked. asked.1 < length c.positions)) (sym (kept.staged index t at))
-      (when (due (stage_of (state_of c).object index t.call)) refl);
+  due = begun_below (length c.positions) t.stage c.base (let within = base_within c kept in omega (arith, within))
+      (subst (λ next. IfSome next (λ asked. asked.1 < length c.positions)) (sym (due_now c kept index t at))
+      (due_placed c kept index t at));
 }
   where
     here : slice_get (state_of c).object.calls index ≡ Some t.call
@@ -136,11 +169,6 @@ is_below c kept index t at = record {
 
     count : length (state_of c).object.layouts ≡ length c.positions
     count = length_map (λ (p : Position). p.layout) c.positions
-
-    when : (o : Option (Kind × ℕ)) → due (stage_of (state_of c).object index t.call) ≡ o → IfSome o (λ asked. asked.1 < length c.positions)
-    when None e = tt
-    when (Some asked) e = subst (λ n. asked.1 < n) count
-        (due_there (state_of c).object kept.sound.legal kept.sound.shape index t.call here asked.0 asked.1 e)
 
 -- there are not too many positions
 pub few_positions : (c : Contents) → IsKept c → length c.positions ≤ MOST_POSITIONS

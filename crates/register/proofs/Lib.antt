@@ -1,9 +1,11 @@
 pub mod Advancing
 pub mod Answering
 pub mod Asks
+pub mod Bases
 pub mod Beginning
 pub mod Begun
 pub mod Calling
+pub mod Emptying
 pub mod Found
 pub mod Keeps
 pub mod Least
@@ -18,6 +20,7 @@ pub mod Reading
 pub mod Recorded
 pub mod Refusing
 pub mod Resending
+pub mod Retiring
 pub mod Rooms
 pub mod Sendings
 pub mod Served

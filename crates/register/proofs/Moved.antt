@@ -73,6 +73,7 @@ module _ {c : Contents} {now number from : ℕ} {source : Layout} {call : Tracke
       positions = positions;
       mail = mail;
       calls = pushed;
+      base = c.base;
       is_moving = true;
       stored = c.stored;
       last = now;

@@ -18,7 +18,7 @@ use Rattle.record.specs.declared.stage.Stage.TheVariants.{MoveSpread}
 use Rattle.record.specs.Courses.{stage_after}
 use Rattle.record.specs.Legal.{is_move, moves_in, first_stage, source_of, stage_of}
 use Rattle.record.specs.May.{NoOpenMove}
-use Rattle.record.specs.Records.{Call, Object, no_layout}
+use Rattle.record.specs.Records.{Call, Object, no_layout, retired_first}
 use Rattle.record.specs.Sound.{IsSound}
 use Rattle.record.specs.Steps.{Step, new_call, opened_banks, moving_object}
 use Rattle.record.specs.Sending.{requests}
@@ -29,7 +29,8 @@ use Rattle.register.specs.Tracked.{Tracked, calls_of, with_begun}
 use Rattle.register.proofs.Lists.{found_map, map_push, set_push, length_map, length_push, all_pushed}
 use Rattle.register.proofs.Keeps.{steps_on}
 use Rattle.register.proofs.Calling.{any_push, none_any}
-use Rattle.register.proofs.Opened.{opened_banks_bytes, bytes_push}
+use Rattle.register.proofs.Bases.{first_push}
+use Rattle.register.proofs.Opened.{opened_banks_bytes, bytes_push, opened_unretired}
 use Rattle.register.proofs.Reading.{moves_push, some_position}
 
 -- a move before its first phase, and with it
@@ -52,6 +53,7 @@ with_moving c number from source layout now = record {
   positions = c.positions ++ next_position layout c.delta now ∷ [];
   mail = moving_mail c number from source;
   calls = c.calls ++ mover number from source now ∷ [];
+  base = c.base;
   is_moving = true;
   stored = c.stored;
   last = now;
@@ -64,6 +66,7 @@ moved_parts c now positions mail calls = record {
   positions = positions;
   mail = mail;
   calls = calls;
+  base = c.base;
   is_moving = true;
   stored = c.stored;
   last = now;
@@ -74,7 +77,16 @@ pub with_moving_is : (c : Contents) (number from : ℕ) (source layout : Layout)
     (calls : List Tracked) → next ≡ next_position layout c.delta now → begun ≡ mover number from source now →
     positions ≡ c.positions ++ next ∷ [] →
     mail ≡ moving_mail c number from source → calls ≡ c.calls ++ begun ∷ [] →
-    record { delta = c.delta; positions = positions; mail = mail; calls = calls; is_moving = true; stored = c.stored; last = now }
+    record {
+      delta = c.delta;
+      positions = positions;
+      mail = mail;
+      calls = calls;
+      base = c.base;
+      is_moving = true;
+      stored = c.stored;
+      last = now;
+    }
     ≡ with_moving c number from source layout now
 with_moving_is c number from source layout now next begun positions mail calls is_next is_begun is_positions is_mail is_calls =
     ap (λ ps. moved_parts c now ps mail calls) (is_positions ∙ ap (λ p. c.positions ++ p ∷ []) is_next)
@@ -217,7 +229,8 @@ module _ (c : Contents) (now number from : ℕ) (source layout : Layout) (kept :
       let within = slice_get_within c.calls i u found in
       kept.staged i u found ∙ ap (λ m. stage_after u.call.kind (suc i) (first_stage u.call.kind m) u.call.phases)
       (sym (same_source i (omega (arith, within))))
-  staged i u (inr here) = subst (λ (u : Tracked). u.stage ≡ stage_of later i u.call) here.1 (ap MoveSpread (from_moves i here.0))
+  staged i u (inr here) = subst (λ (u : Tracked). u.stage ≡ stage_of later i u.call) here.1
+      (ap MoveSpread (from_moves i here.0))
 
   stored_same : all_bytes later.banks ≡ all_bytes (state_of c).object.banks
   stored_same =
@@ -237,6 +250,9 @@ module _ (c : Contents) (now number from : ℕ) (source layout : Layout) (kept :
           (all_pushed (λ (call : Call). length call.phases ≤ MOST_PHASES) (calls_of c.calls) new.call kept.limits.phases (omega arith));
       stored = subst (λ n. n ≤ MOST_BYTES) (sym stored_same) kept.limits.stored;
     };
+    based = kept.based ∙ sym (ap retired_first (map_push (λ (p : Position). p.banks) c.positions (next_position layout c.delta now))
+        ∙ first_push (banks_of c.positions) (opened_banks layout.members 0 c.delta now)
+        (opened_unretired layout.members 0 c.delta now));
     staged = λ i u e. staged i u (get_pushed c.calls new u i e);
     moving = sym (ap has_open_move pushed ∙ any_push is_open_move (calls_of c.calls) new.call ∙ or_true (has_open_move (calls_of c.calls)));
     stored = kept.stored ∙ sym stored_same;

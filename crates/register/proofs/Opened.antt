@@ -1,12 +1,14 @@
 -- An object that was just opened.
-use Rattle.std.proofs.Common.{◌≡◌, ℕ, suc, ◌+◌, false, List, [], ◌∷◌, ◌++◌, Option, sym, ap, ◌∙◌, refl, arith}
+use Rattle.std.proofs.Common.{◌≡◌, ℕ, suc, ◌+◌, false, List, [], ◌∷◌, ◌++◌, get_or, Option, None, sym, ap, ◌∙◌, refl, arith}
 use Rattle.std.proofs.lemmas.List.Sums.{sum_by-cons, sum_by_push}
 use Rattle.encoder.specs.Fragment.{fragment}
 use Rattle.layout.specs.Layout.{Layout, IsLawful}
 use Rattle.bank.specs.Bank.{Bank, opened_bank}
 use Rattle.bank.specs.Bytes.{bank_bytes}
 use Rattle.bank.proofs.Account.{opened_bytes}
+use Rattle.record.specs.Records.{no_bank}
 use Rattle.record.specs.Steps.{opened_banks}
+use Rattle.record.proofs.Bases.{first_none}
 use Rattle.record.proofs.Sound.Opening.{opening_sound}
 use Rattle.register.specs.Position.{Position, banks_bytes, all_bytes}
 use Rattle.register.specs.Kept.{IsKept}
@@ -31,12 +33,18 @@ opened_banks_bytes (s ∷ ss) member delta now =
 -- banks that store nothing add nothing
 pub bytes_push : (banks : List (List Bank)) (more : List Bank) → banks_bytes more ≡ 0 → all_bytes (banks ++ more ∷ []) ≡ all_bytes banks
 bytes_push banks more none = let all = sum_by_push banks_bytes banks more in omega (arith, none, all)
+-- and are not retired
+pub opened_unretired : (servers : List ℕ) (member : ℕ) (delta : Option ℕ) (now : ℕ)
+    → (get_or (opened_banks servers member delta now) 0 no_bank).retired ≡ None
+opened_unretired [] member delta now = refl
+opened_unretired (s ∷ ss) member delta now = refl
 
 pub opened_keeps : (layout : Layout) (delta : Option ℕ) (now : ℕ) → IsLawful layout
     → IsKept (record {
       delta = delta;
       positions = record { layout = layout; banks = opened_banks layout.members 0 delta now } ∷ [];
       mail = [];
+      base = 0;
       calls = [];
       is_moving = false;
       stored = 0;
@@ -50,6 +58,7 @@ opened_keeps layout delta now lawful = record {
     phases = tt;
     stored = omega (arith, none);
   };
+  based = sym (first_none (opened_banks layout.members 0 delta now ∷ []) (opened_unretired layout.members 0 delta now));
   staged = λ index t at. absurd (cc);
   moving = refl;
   stored = sym none;

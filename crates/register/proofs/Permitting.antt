@@ -13,8 +13,7 @@ use Rattle.layout.specs.Layout.{Layout}
 use Rattle.mail.specs.declared.message.Message.{Message}
 use Rattle.mail.specs.Mail.{mail_cause}
 use Rattle.phase.specs.Phase.{Phase}
-use Rattle.record.specs.Courses.{due}
-use Rattle.record.specs.Legal.{stage_of}
+use Rattle.record.specs.Legal.{due_of}
 use Rattle.record.specs.Records.{Call, Object, layout_at}
 use Rattle.record.specs.Sending.{sent_value, value_or_empty}
 use Rattle.record.specs.Steps.{Step, stepped}
@@ -27,11 +26,11 @@ use Rattle.register.specs.Position.{Position}
 use Rattle.register.specs.State.{Contents, State, state_of}
 use Rattle.register.specs.Tracked.{Tracked, asked_again}
 use Rattle.register.proofs.Beginning.{IsBeginning, mail_begun, begin_room, begin_cause}
-use Rattle.register.proofs.Found.{caused, staged}
+use Rattle.register.proofs.Found.{caused}
 use Rattle.register.proofs.Resending.{IsAsking, again_room, again_by}
 use Rattle.register.proofs.Rooms.{few_room, many_full, sum_few}
 use Rattle.register.proofs.Sendings.{IsSendingTo, sent_value_there, layout_there}
-use Rattle.register.proofs.Supplied.{wants_pieces, begins, asks}
+use Rattle.register.proofs.Supplied.{wants_pieces, same_due, begins, asks}
 use Rattle.register.proofs.Supplying.{IsSupplied, room_is, past_both}
 
 -- a supply is refused for its code, or for what refuses a supply with the call's own value
@@ -154,14 +153,14 @@ module _ {c : Contents} {number index position : ℕ} {t : Tracked} (to : IsSend
         wants : WantsPieces object (pred number) t.call
         wants = wants_pieces supplied_own replied_is
 
-        next : (asked : Kind × ℕ) × (due (stage_of object (pred number) t.call) ≡ Some asked)
-        next = next_of (due (stage_of object (pred number) t.call)) position
-            (ap (λ w. pieces_position w (due (stage_of object (pred number) t.call)) (current_phase t.call.phases)) (sym wants.2.1)
+        next : (asked : Kind × ℕ) × (due_of object (pred number) t.call ≡ Some asked)
+        next = next_of (due_of object (pred number) t.call) position
+            (ap (λ w. pieces_position w (due_of object (pred number) t.call) (current_phase t.call.phases)) (sym wants.2.1)
             ∙ to.due)
 
         begun : IsBeginning c number index t (Step.Supply (pred number)) (λ now. supply_cause now object number own) (Some own)
             next.0.0 next.0.1 layout
-        begun = begins supplied_own replied_is (ap due (staged to.found) ∙ next.1)
+        begun = begins supplied_own replied_is (same_due supplied_own wants ∙ next.1)
 
     -- the current phase may ask again
     pub permits_asking : {phase : Option Phase} {replied : Bool} → phase ≡ current_phase t.call.phases → replied ≡ is_replied phase

@@ -11,11 +11,11 @@ use Rattle.bank.specs.declared.kind.Kind.TheVariants.{Next}
 use Rattle.record.proofs.Sound.Beginning.{get_pushed}
 use Rattle.record.specs.declared.call.CallKind.{CallKind}
 use Rattle.record.specs.declared.call.CallKind.TheVariants.{Read, Write}
-use Rattle.record.specs.declared.stage.Stage.TheVariants.{ReadNext}
-use Rattle.record.specs.Courses.{stage_after}
+use Rattle.record.specs.declared.stage.Stage.TheVariants.{ReadBegin}
+use Rattle.record.specs.Courses.{begun_at, stage_after}
 use Rattle.record.specs.Fragments.{AreBytes, IsValue}
 use Rattle.record.specs.Legal.{is_move, moves_in, first_stage, source_of, stage_of}
-use Rattle.record.specs.Records.{Call, Object, layout_at}
+use Rattle.record.specs.Records.{Call, Object, layout_at, base_of}
 use Rattle.record.specs.Sound.{IsSound}
 use Rattle.record.specs.Steps.{Step, new_call, called_object}
 use Rattle.record.specs.Sending.{requests}
@@ -39,45 +39,43 @@ IsReading kind = (kind ≡ Read) ⊎ ((value : List ℕ) × (kind ≡ Write valu
 
 -- a call before its first phase, and with it
 abbrev pub fresh : CallKind → (now : ℕ) → Tracked
-fresh kind now = record { call = new_call kind now; stage = ReadNext 0 0 }
+fresh kind now = record { call = new_call kind now; stage = ReadBegin }
 
-abbrev pub reading : CallKind → (number : ℕ) → Layout → (now : ℕ) → Tracked
-reading kind number layout now = with_begun (fresh kind now) number Next 0 layout now
+abbrev pub reading : CallKind → (number base : ℕ) → Layout → (now : ℕ) → Tracked
+reading kind number base layout now = with_begun (fresh kind now) number Next base layout now
 
 abbrev pub with_reading : Contents → CallKind → (number : ℕ) → Layout → (now : ℕ) → Contents
 with_reading c kind number layout now = record c {
-  mail = c.mail ++ requests number 1 Next 0 layout.members 0 empty_piece;
-  calls = c.calls ++ reading kind number layout now ∷ [];
+  mail = c.mail ++ requests number 1 Next c.base layout.members 0 empty_piece;
+  calls = c.calls ++ reading kind number c.base layout now ∷ [];
   last = now;
 }
 
-pub called_is : (c : Contents) (kind : CallKind) (now number : ℕ) (layout : Layout) → layout_at (state_of c).object 0 ≡ layout
-    → number ≡ suc (length c.calls) →
+-- the record with a call numbered `number` that begins at a position, whose layout this is
+abbrev built : Contents → CallKind → (now base : ℕ) → Layout → (number : ℕ) → Object
+built c kind now base layout number = record {
+  delta = c.delta;
+  layouts = layouts_of c.positions;
+  banks = banks_of c.positions;
+  mail = c.mail ++ requests number 1 Next base layout.members 0 empty_piece;
+  calls = set (calls_of c.calls ++ new_call kind now ∷ []) (length (calls_of c.calls)) (reading kind number base layout now).call;
+}
+
+pub called_is : (c : Contents) (kind : CallKind) (now number : ℕ) (layout : Layout) → c.base ≡ base_of (state_of c).object
+    → layout_at (state_of c).object c.base ≡ layout → number ≡ suc (length c.calls) →
     called_object (state_of c).object kind now ≡ (state_of (with_reading c kind number layout now)).object
-called_is c kind now number layout same is =
-    ap (λ (l : Layout). record {
-      delta = c.delta;
-      layouts = layouts_of c.positions;
-      banks = banks_of c.positions;
-      mail = c.mail ++ requests (suc (length (calls_of c.calls))) 1 Next 0 l.members 0 empty_piece;
-      calls = set (calls_of c.calls ++ new_call kind now ∷ []) (length (calls_of c.calls))
-          (reading kind (suc (length (calls_of c.calls))) l now).call;
-    }) same
-    ∙ ap (λ n. record {
-      delta = c.delta;
-      layouts = layouts_of c.positions;
-      banks = banks_of c.positions;
-      mail = c.mail ++ requests n 1 Next 0 layout.members 0 empty_piece;
-      calls = set (calls_of c.calls ++ new_call kind now ∷ []) (length (calls_of c.calls)) (reading kind n layout now).call;
-    }) (ap suc (length_map (λ (u : Tracked). u.call) c.calls) ∙ sym is)
+called_is c kind now number layout based same is =
+    ap (λ b. built c kind now b (layout_at (state_of c).object b) (suc (length (calls_of c.calls)))) (sym based)
+    ∙ ap (λ (l : Layout). built c kind now c.base l (suc (length (calls_of c.calls)))) same
+    ∙ ap (λ n. built c kind now c.base layout n) (ap suc (length_map (λ (u : Tracked). u.call) c.calls) ∙ sym is)
     ∙ ap (λ cs. record {
       delta = c.delta;
       layouts = layouts_of c.positions;
       banks = banks_of c.positions;
-      mail = c.mail ++ requests number 1 Next 0 layout.members 0 empty_piece;
+      mail = c.mail ++ requests number 1 Next c.base layout.members 0 empty_piece;
       calls = cs;
-    }) (set_push (calls_of c.calls) (new_call kind now) (reading kind number layout now).call
-    ∙ sym (map_push (λ (u : Tracked). u.call) c.calls (reading kind number layout now)))
+    }) (set_push (calls_of c.calls) (new_call kind now) (reading kind number c.base layout now).call
+    ∙ sym (map_push (λ (u : Tracked). u.call) c.calls (reading kind number c.base layout now)))
 
 -- sources of the calls before one more
 pub moves_push : (calls : List Call) (call : Call) (i : ℕ) → i ≤ length calls
@@ -87,7 +85,7 @@ moves_push [] call (suc i) h = absurd (omega arith)
 moves_push (c ∷ calls) call zero h = refl
 moves_push (c ∷ calls) call (suc i) h = ap (λ m. cond (is_move c.kind) (suc m) m) (moves_push calls call i (omega arith))
 
-pub reading_first : (kind : CallKind) (moves : ℕ) → IsReading kind → ReadNext 0 0 ≡ first_stage kind moves
+pub reading_first : (kind : CallKind) (moves : ℕ) → IsReading kind → ReadBegin ≡ first_stage kind moves
 reading_first kind moves (inl is) = ap (λ k. first_stage k moves) (sym is)
 reading_first kind moves (inr is) = ap (λ k. first_stage k moves) (sym is.1)
 
@@ -96,9 +94,9 @@ reading_stays kind (inl is) = ap is_move is
 reading_stays kind (inr is) = ap is_move is.1
 
 module _ (c : Contents) (kind : CallKind) (now number : ℕ) (layout : Layout) (kept : IsKept c) (is_reading : IsReading kind)
-    (same : layout_at (state_of c).object 0 ≡ layout) (is : number ≡ suc (length c.calls)) (after : c.last < now) where
+    (same : layout_at (state_of c).object c.base ≡ layout) (is : number ≡ suc (length c.calls)) (after : c.last < now) where
   pub called_sound : IsSound fragment (state_of (with_reading c kind number layout now)).object now
-  called_sound = subst (λ o. IsSound fragment o now) (called_is c kind now number layout same is) (go is_reading)
+  called_sound = subst (λ o. IsSound fragment o now) (called_is c kind now number layout kept.based same is) (go is_reading)
     where
       go : IsReading kind → IsSound fragment (called_object (state_of c).object kind now) now
       go (inl read) = subst (λ k. IsSound fragment (called_object (state_of c).object k now) now) (sym read)
@@ -108,7 +106,7 @@ module _ (c : Contents) (kind : CallKind) (now number : ℕ) (layout : Layout) (
           (steps_on c now (Step.CallWrite write.0) after kept write.2)
 
   abbrev new : Tracked
-  new = reading kind number layout now
+  new = reading kind number c.base layout now
 
   abbrev later : Object
   later = (state_of (with_reading c kind number layout now)).object
@@ -127,7 +125,7 @@ module _ (c : Contents) (kind : CallKind) (now number : ℕ) (layout : Layout) (
       kept.staged i u found ∙ ap (λ m. stage_after u.call.kind (suc i) (first_stage u.call.kind m) u.call.phases)
       (sym (same_source i (omega (arith, within))))
   staged i u (inr here) = subst (λ (u : Tracked). u.stage ≡ stage_of later i u.call) here.1
-      (reading_first kind (source_of later i) is_reading)
+      (ap (λ s. begun_at s c.base) (reading_first kind (source_of later i) is_reading))
 
   pub called_kept : length c.calls < MOST_CALLS → IsKept (with_reading c kind number layout now)
   called_kept few = record {
@@ -140,6 +138,7 @@ module _ (c : Contents) (kind : CallKind) (now number : ℕ) (layout : Layout) (
           (all_pushed (λ (call : Call). length call.phases ≤ MOST_PHASES) (calls_of c.calls) new.call kept.limits.phases (omega arith));
       stored = kept.limits.stored;
     };
+    based = kept.based;
     staged = λ i u e. staged i u (get_pushed c.calls new u i e);
     moving = kept.moving ∙ sym (ap has_open_move pushed ∙ any_push is_open_move (calls_of c.calls) new.call
         ∙ ap (λ b. has_open_move (calls_of c.calls) || (b && true)) (reading_stays kind is_reading)
@@ -168,7 +167,7 @@ pub reading_past : (object : Object) (kind : CallKind) (now : ℕ) → MOST_STEP
 reading_past object kind now past = step_past now _ past
 
 abbrev pub reading_mail : Contents → (number : ℕ) → Layout → List Message
-reading_mail c number layout = c.mail ++ requests number 1 Next 0 layout.members 0 empty_piece
+reading_mail c number layout = c.mail ++ requests number 1 Next c.base layout.members 0 empty_piece
 
 pub many_calls : (c : Contents) (kind : CallKind) (now : ℕ) → now ≤ MOST_STEPS → MOST_CALLS ≤ length c.calls
     → reading_cause (state_of c).object kind now ≡ Some Full
@@ -176,18 +175,18 @@ many_calls c kind now within many =
     step_within now _ within ∙ ap (λ b. unless b Full (mail_cause (called_object (state_of c).object kind now).mail))
     (not_lt (length (calls_of c.calls)) MOST_CALLS (subst (λ n. MOST_CALLS ≤ n) (sym (length_map (λ (u : Tracked). u.call) c.calls)) many))
 
-pub reading_cause_is : (c : Contents) (kind : CallKind) (now number : ℕ) (layout : Layout) → layout_at (state_of c).object 0 ≡ layout
-    → number ≡ suc (length c.calls) →
+pub reading_cause_is : (c : Contents) (kind : CallKind) (now number : ℕ) (layout : Layout) → c.base ≡ base_of (state_of c).object
+    → layout_at (state_of c).object c.base ≡ layout → number ≡ suc (length c.calls) →
     now ≤ MOST_STEPS → length c.calls < MOST_CALLS → reading_cause (state_of c).object kind now ≡ mail_cause (reading_mail c number layout)
-reading_cause_is c kind now number layout same is within few =
+reading_cause_is c kind now number layout based same is within few =
     step_within now _ within ∙ ap (λ b. unless b Full (mail_cause (called_object (state_of c).object kind now).mail))
     (is_lt (length (calls_of c.calls)) MOST_CALLS (subst (λ n. n < MOST_CALLS) (sym (length_map (λ (u : Tracked). u.call) c.calls)) few))
-    ∙ ap (λ (o : Object). mail_cause o.mail) (called_is c kind now number layout same is)
+    ∙ ap (λ (o : Object). mail_cause o.mail) (called_is c kind now number layout based same is)
 
 pub reading_room : (c : Contents) (number : ℕ) (layout : Layout) (count : ℕ) (b : Bool) → count ≡ length layout.members
     → b ≡ nat_le (length c.mail + count) MOST_MESSAGES →
     nat_le (length (reading_mail c number layout)) MOST_MESSAGES ≡ b
-reading_room c number layout count b is room = sum_few c.mail number 1 Next 0 layout.members empty_piece count b is room
+reading_room c number layout count b is room = sum_few c.mail number 1 Next c.base layout.members empty_piece count b is room
 
 -- bytes, by their places
 pub bytes_at : (xs : List ℕ) → ((i : ℕ) → get_or xs i 0 < 256) → AreBytes xs

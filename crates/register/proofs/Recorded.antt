@@ -15,8 +15,7 @@ use Rattle.phase.specs.declared.phase.Taken.{Taken}
 use Rattle.phase.specs.Phase.{Phase, lacks_pieces}
 use Rattle.record.specs.Records.{Call, Object, layout_at}
 use Rattle.record.specs.Fragments.{answer_piece, answer_tag, IfCoded}
-use Rattle.record.specs.Courses.{due}
-use Rattle.record.specs.Legal.{stage_of}
+use Rattle.record.specs.Legal.{due_of}
 use Rattle.record.specs.declared.stage.Want.{Want}
 use Rattle.record.specs.Wants.{current_phase, is_fetch, value_len, want_for, want_after, want_of}
 use Rattle.record.specs.declared.stage.Want.TheVariants as want
@@ -102,7 +101,7 @@ settles_is object index call u =
     ∙ ap (λ b. cond b want.Again settle) u.lacking
   where
     next : Option (Kind × ℕ)
-    next = due (stage_of object index call)
+    next = due_of object index call
 
     settle : Want
     settle = want.Settle (layout_at object u.phase.position).k (value_len u.phase.replies)

@@ -12,11 +12,10 @@ use Rattle.layout.specs.Layout.{Layout}
 use Rattle.phase.specs.Phase.{Phase}
 use Rattle.record.specs.Records.{Object, layout_at, no_layout}
 use Rattle.record.specs.Courses.{due}
-use Rattle.record.specs.Legal.{stage_of}
+use Rattle.record.specs.Legal.{due_of}
 use Rattle.record.specs.May.{IsPreWrite, WantsPieces, AwaitsPieces}
 use Rattle.record.specs.Sending.{sent_value, value_or_empty}
-use Rattle.record.specs.Wants.{current_phase, want_of}
-use Rattle.record.specs.declared.stage.Stage.{Stage}
+use Rattle.record.specs.Wants.{current_phase, want_of, want_after}
 use Rattle.record.specs.declared.stage.Want.{Want}
 use Rattle.record.specs.declared.stage.Want.TheVariants as want
 use Rattle.record.proofs.Sound.Sending.{sent_there}
@@ -26,7 +25,8 @@ use Rattle.register.specs.Position.{Position, layouts_of}
 use Rattle.register.specs.State.{Contents, object_of, state_of}
 use Rattle.register.specs.Tracked.{Tracked, tracked_want}
 use Rattle.register.specs.View.{coding_at, coding_of, to_code}
-use Rattle.register.proofs.Found.{IsFound, at_number, at_place, caused, wanted, staged, below}
+use Rattle.register.proofs.Bases.{begun_pieces}
+use Rattle.register.proofs.Found.{IsFound, at_number, at_place, caused, below, below_due, due_kept}
 use Rattle.register.proofs.Lists.{found_map, found_or}
 
 -- the layout that is read at a position
@@ -91,11 +91,12 @@ pub sending : {c : Contents} {number index : ℕ} {t : Tracked} {positions : Lis
 sending {c = c} {number = number} {t = t} {positions = positions} f is same matched = record {
   found = f;
   due =
-      ap (λ w. pieces_position w (due (stage_of (state_of c).object (pred number) t.call)) (current_phase t.call.phases))
-      (wanted f refl same)
-      ∙ ap (λ (s : Stage). pieces_position (tracked_want (object_of None positions [] []) t) (due s) (current_phase t.call.phases))
-      (sym (staged f))
-      ∙ sym is ∙ matched;
+      let current = current_phase t.call.phases in
+      sym (begun_pieces (state_of c).object (is_some t.call.answered) t.stage c.base t.call.settled current
+      ∙ ap (λ next. pieces_position (cond (is_some t.call.answered) want.Done (want_after (state_of c).object next t.call.settled current))
+      next current) (due_kept f))
+      ∙ sym (is ∙ ap (λ ps. pieces_position (tracked_want (object_of None ps [] []) t) (due t.stage) current) same)
+      ∙ matched;
 }
 
 pub value_cause_is : {c : Contents} {number index : ℕ} {t : Tracked} {to : Option ℕ} → IsSendingTo c number index t to
@@ -107,7 +108,7 @@ module _ {c : Contents} {number index : ℕ} {t : Tracked} {position : ℕ} (s :
   object = (state_of c).object
 
   abbrev next : Option (Kind × ℕ)
-  next = due (stage_of object (pred number) t.call)
+  next = due_of object (pred number) t.call
 
   pub takes : WantsPieces object (pred number) t.call ⊎ AwaitsPieces object (pred number) t.call
   takes = go (want_of object (pred number) t.call) refl s.due
@@ -129,8 +130,7 @@ module _ {c : Contents} {number index : ℕ} {t : Tracked} {position : ℕ} (s :
     where
       go : (w : Want) → pieces_position w next (current_phase t.call.phases) ≡ Some position → position < length c.positions
       go (want.Supply k n) e =
-          due_below (length c.positions) position next
-          (subst (λ (stage : Stage). IfSome (due stage) (λ asked. asked.1 < length c.positions)) (staged s.found) (below s.found).due) e
+          due_below (length c.positions) position next (below_due s.found) e
       go want.Replies e =
           let here = sending_of (current_phase t.call.phases) position e in
           subst (λ p. p < length c.positions) here.same ((below s.found).current here.phase here.is)

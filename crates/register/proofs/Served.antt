@@ -23,13 +23,15 @@ use Rattle.mail.specs.declared.message.Message.{Message}
 use Rattle.mail.specs.declared.message.Body.TheVariants as body
 use Rattle.mail.specs.Message.{request_bytes, answered}
 use Rattle.mail.specs.Mail.{mail_bytes, replied, replied_message}
-use Rattle.record.specs.Records.{Call, Object, bank_at, no_bank}
+use Rattle.record.specs.Records.{Call, Object, bank_at, no_bank, retired_first}
 use Rattle.record.specs.Sound.{IsSound}
+use Rattle.record.proofs.Sound.Banks.{served-retired}
 use Rattle.record.specs.Steps.{Step, on_message, served_by}
 use Rattle.register.specs.Position.{Position, layouts_of, banks_of, banks_bytes, all_bytes}
 use Rattle.register.specs.State.{Contents, object_of, state_of, made}
 use Rattle.register.specs.Kept.{IsKept}
 use Rattle.register.proofs.Lists.{same_some, found_within, found_or, found_map, map_set, set_same, sum_put}
+use Rattle.register.proofs.Bases.{first_set, member_set}
 use Rattle.register.proofs.Lists.{sum_at}
 use Rattle.register.proofs.Keeps.{steps_on}
 use Rattle.register.proofs.Short.{coded_short, reply_has_room, IsShort}
@@ -196,6 +198,15 @@ module _ {c : Contents} {place : ℕ} {m : Message} {p : Position} {q : Request}
         ∙ sym (ap (λ b. served_by (state_of c).object place m b now) s.is)
         ∙ sym (ap (λ o. on_message (state_of c).object o (λ message. served_by (state_of c).object place message message.body now)) waits)
 
+    -- the base is where it was
+    base_is : retired_first (banks_of (set c.positions m.position new)) ≡ retired_first (banks_of c.positions)
+    base_is =
+        ap retired_first (map_set (λ (p : Position). p.banks) c.positions m.position new)
+        ∙ first_set (banks_of c.positions) m.position p.banks new.banks
+        (found_map (λ (p : Position). p.banks) c.positions m.position p at)
+        (ap (λ (bs : List Bank). (get_or bs 0 no_bank).retired) banks
+        ∙ member_set p.banks m.member b (served_bank b q now) held (served-retired b q now))
+
     -- the bytes that all banks store
     stored_is : c.stored - bank_bytes b + bank_bytes (served_bank b q now) ≡ all_bytes (banks_of (set c.positions m.position new))
     stored_is =
@@ -226,6 +237,7 @@ module _ {c : Contents} {place : ℕ} {m : Message} {p : Position} {q : Request}
         phases = kept.limits.phases;
         stored = subst (λ n. n ≤ MOST_BYTES) stored_is (stored_fits room);
       };
+      based = kept.based ∙ sym base_is;
       staged = kept.staged;
       moving = kept.moving;
       stored = stored_is;

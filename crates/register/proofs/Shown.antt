@@ -18,12 +18,13 @@ use Rattle.phase.specs.Phase.{Phase, is_current, has_taken, with_reply, after_bo
 use Rattle.record.specs.declared.call.CallKind.{CallKind}
 use Rattle.record.specs.declared.call.CallKind.TheVariants.{Read, Write, Move}
 use Rattle.record.specs.declared.stage.Stage.{Stage}
-use Rattle.record.specs.declared.stage.Stage.TheVariants.{ReadNext, ReadSpread, QueryFrom, FetchAt, PreWriteAt, FinalizeAt, AgainNext}
+use Rattle.record.specs.declared.stage.Stage.TheVariants.{ReadBegin, ReadNext, ReadSpread, QueryFrom, FetchAt, PreWriteAt, FinalizeAt}
+use Rattle.record.specs.declared.stage.Stage.TheVariants.{AgainNext}
 use Rattle.record.specs.declared.stage.Stage.TheVariants.{AgainSpread, MoveSpread, MoveQuery, MoveFetch, MovePreWrite, MoveFinalize}
 use Rattle.record.specs.declared.stage.Stage.TheVariants.{MoveFinal, Ended, Moved}
 use Rattle.record.specs.Records.{Call, Object}
 use Rattle.record.specs.Courses.{shown_tag, greatest_tag, greatest_status, after_next, after_spread, after_again, tagged, after, passed}
-use Rattle.record.specs.Courses.{stage_after}
+use Rattle.record.specs.Courses.{begun_at, stage_past, stage_after}
 use Rattle.record.specs.Fragments.{Code, IsCoded, IfCoded, answer_tag, answer_piece}
 use Rattle.record.specs.Journals.{IsJournaled}
 use Rattle.record.specs.Legal.{first_stage, source_of, stage_of}
@@ -49,6 +50,7 @@ greatest_up_to n (t ∷ ts) shown = later_up_to n (shown_tag t.reply.answer) (gr
 
 after_up_to : (n : ℕ) (kind : CallKind) (number : ℕ) (stage : Stage) (replies : List Taken) (lacks : Bool)
     → AllByRecursion (ShownUpTo n) replies → FoundUpTo n stage → FoundUpTo n (after kind number stage replies lacks)
+after_up_to n kind number ReadBegin replies lacks shown so_far = tt
 after_up_to n kind number (ReadNext position finalized) replies lacks shown so_far = go (greatest_status replies)
   where
     go : (status : Status) → FoundUpTo n (after_next status position finalized)
@@ -78,7 +80,7 @@ after_up_to n kind number (QueryFrom position last greatest shown_at) replies la
     go b false kind = up_to
 after_up_to n kind number (FetchAt shown_at last tag) replies lacks shown so_far = go lacks (shown_at == last)
   where
-    go : (lacks b : Bool) → FoundUpTo n (cond lacks (ReadNext 0 0) (cond b (AgainNext last last tag) (PreWriteAt last tag)))
+    go : (lacks b : Bool) → FoundUpTo n (cond lacks ReadBegin (cond b (AgainNext last last tag) (PreWriteAt last tag)))
     go true b = tt
     go false true = tt
     go false false = tt
@@ -114,13 +116,34 @@ passed_up_to : (n : ℕ) (kind : CallKind) (number : ℕ) (stage : Stage) (end :
 passed_up_to n kind number stage None replies lacks shown so_far = so_far
 passed_up_to n kind number stage (Some end) replies lacks shown so_far = after_up_to n kind number stage replies lacks shown so_far
 
+-- nor does a first reading that begins
+pub begun_up_to : (n : ℕ) (stage : Stage) (position : ℕ) → FoundUpTo n stage → FoundUpTo n (begun_at stage position)
+begun_up_to n ReadBegin position so_far = tt
+begun_up_to n (ReadNext p f) position so_far = tt
+begun_up_to n (ReadSpread p f s) position so_far = tt
+begun_up_to n (QueryFrom p l t q) position so_far = so_far
+begun_up_to n (FetchAt q l t) position so_far = tt
+begun_up_to n (PreWriteAt l t) position so_far = tt
+begun_up_to n (FinalizeAt l t) position so_far = tt
+begun_up_to n (AgainNext l p t) position so_far = tt
+begun_up_to n (AgainSpread l p t s) position so_far = tt
+begun_up_to n (MoveSpread p) position so_far = tt
+begun_up_to n (MoveQuery p) position so_far = tt
+begun_up_to n (MoveFetch p t) position so_far = tt
+begun_up_to n (MovePreWrite p t) position so_far = tt
+begun_up_to n (MoveFinalize p t) position so_far = tt
+begun_up_to n (MoveFinal p t) position so_far = tt
+begun_up_to n (Ended l t) position so_far = tt
+begun_up_to n (Moved p t) position so_far = tt
+
 stage_up_to : (n : ℕ) (kind : CallKind) (number : ℕ) (stage : Stage) (phases : List Phase)
     → AllByRecursion (λ (phase : Phase). AllByRecursion (ShownUpTo n) phase.replies) phases → FoundUpTo n stage
     → FoundUpTo n (stage_after kind number stage phases)
 stage_up_to n kind number stage [] shown so_far = so_far
 stage_up_to n kind number stage (p ∷ ps) shown so_far =
-    stage_up_to n kind number (passed kind number stage p.end p.replies (lacks_pieces p)) ps shown.1
-    (passed_up_to n kind number stage p.end p.replies (lacks_pieces p) shown.0 so_far)
+    stage_up_to n kind number (stage_past kind number stage p) ps shown.1
+    (passed_up_to n kind number (begun_at stage p.position) p.end p.replies (lacks_pieces p) shown.0
+    (begun_up_to n stage p.position so_far))
 
 first_up_to : (n : ℕ) (kind : CallKind) (from : ℕ) → FoundUpTo n (first_stage kind from)
 first_up_to n Read from = tt
@@ -212,6 +235,7 @@ pub next_tag_there : (n : ℕ) (kind : CallKind) (stage : Stage) (replies : List
 next_tag_there n kind (QueryFrom position last greatest shown_at) replies few so_far shown =
     taggable n kind (later_tag greatest (greatest_tag replies))
     (later_up_to n greatest (greatest_tag replies) so_far (greatest_up_to n replies shown)) few
+next_tag_there n kind ReadBegin replies few so_far shown = tt
 next_tag_there n kind (ReadNext position finalized) replies few so_far shown = tt
 next_tag_there n kind (ReadSpread position finalized status) replies few so_far shown = tt
 next_tag_there n kind (FetchAt shown_at last tag) replies few so_far shown = tt

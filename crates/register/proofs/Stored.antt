@@ -5,13 +5,16 @@ use Rattle.std.specs.List.{AllByRecursion}
 use Rattle.std.proofs.lemmas.Option.{slice_get_read}
 use Rattle.std.proofs.Math.Seq.{drop-cons}
 use Rattle.std.proofs.lemmas.List.Sums.{sum_by-cons}
-use Rattle.layout.specs.Layout.{IsLawful}
+use Rattle.layout.specs.Layout.{Layout, IsLawful}
 use Rattle.bank.specs.Bank.{Bank}
 use Rattle.bank.specs.Bytes.{bank_bytes}
-use Rattle.record.specs.Accounts.{position_bytes, stored_bytes}
+use Rattle.record.specs.Accounts.{base_bytes_of, position_bytes, stored_bytes}
+use Rattle.record.specs.Records.{layout_at, no_layout}
 use Rattle.tag.specs.declared.limits.TheConstants.{MOST_BYTES}
 use Rattle.register.specs.Position.{Position, layouts_of, banks_of, banks_bytes, all_bytes}
-use Rattle.register.proofs.Lists.{all_found, found_map}
+use Rattle.register.specs.Kept.{IsKept}
+use Rattle.register.specs.State.{Contents, state_of}
+use Rattle.register.proofs.Lists.{all_found, found_map, found_or, sum_at}
 
 counted : (b : Bool) (n : ℕ) → (if b then n else 0) ≤ n
 counted true n = omega arith
@@ -56,3 +59,23 @@ pub layout_at_lawful : (ps : List Position) (i : ℕ) (p : Position) → i < len
 layout_at_lawful ps i p within read all =
     all_found IsLawful (layouts_of ps) i p.layout all
     (found_map (λ (p : Position). p.layout) ps i p (slice_get_read ps (length ps) i p refl within read))
+
+-- what a server stores at one position is no more than what all banks store
+pub part_of : (server : ℕ) (ps : List Position) (i : ℕ) (p : Position) → i < length ps → p ≡ get_or ps i p
+    → all_bytes (banks_of ps) ≤ MOST_BYTES → position_bytes server p.layout.members p.banks ≤ MOST_BYTES
+part_of server ps i p within read most =
+    let here = position_least server p.layout.members p.banks in
+    let part = sum_at banks_bytes (banks_of ps) i p.banks
+    (found_map (λ (p : Position). p.banks) ps i p (slice_get_read ps (length ps) i p refl within read)) in
+    omega (arith, here, part, most)
+
+-- what it stores at the base, as it is read
+pub base_stored : (c : Contents) (server : ℕ) (p : Position) → IsKept c → c.base < length c.positions → p ≡ get_or c.positions c.base p
+    → position_bytes server p.layout.members p.banks ≡ base_bytes_of (state_of c).object server
+base_stored c server p kept within read =
+    let at = slice_get_read c.positions (length c.positions) c.base p refl within read in
+    ap (λ (l : Layout). position_bytes server l.members p.banks)
+    (sym (found_or (layouts_of c.positions) c.base p.layout no_layout (found_map (λ (p : Position). p.layout) c.positions c.base p at)))
+    ∙ ap (position_bytes server (layout_at (state_of c).object c.base).members)
+    (sym (found_or (banks_of c.positions) c.base p.banks [] (found_map (λ (p : Position). p.banks) c.positions c.base p at)))
+    ∙ ap (λ n. position_bytes server (layout_at (state_of c).object n).members (get_or (banks_of c.positions) n [])) kept.based

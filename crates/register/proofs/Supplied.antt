@@ -2,6 +2,7 @@
 use Rattle.std.proofs.Common.{◌≡◌, ℕ, pred, ◌⊎◌, Bool, true, false, cond, is_some, List, ◌++◌, length, get_or}
 use Rattle.std.proofs.Common.{Option, Some, None, sym, ap, subst, ◌∙◌, inl, inr, refl}
 use Rattle.bank.specs.declared.kind.Kind.{Kind}
+use Rattle.bank.specs.declared.kind.Kind.TheVariants.{Next, PreWrite}
 use Rattle.mail.specs.Mail.{mail_cause}
 use Rattle.encoder.specs.Coded.{Coding}
 use Rattle.encoder.specs.Fragment.{fragment}
@@ -9,7 +10,7 @@ use Rattle.encoder.specs.declared.fragment.Piece.{Piece}
 use Rattle.layout.specs.Layout.{Layout}
 use Rattle.phase.specs.Phase.{Phase, members_of}
 use Rattle.record.specs.Courses.{due}
-use Rattle.record.specs.Legal.{stage_of}
+use Rattle.record.specs.Legal.{due_of}
 use Rattle.record.specs.May.{WantsPieces, AwaitsPieces}
 use Rattle.record.specs.Records.{Object, layout_at}
 use Rattle.record.specs.Steps.{Step, stepped}
@@ -27,7 +28,8 @@ use Rattle.register.specs.State.{Contents, made, state_of}
 use Rattle.register.specs.Tracked.{Tracked, calls_of, asked_again}
 use Rattle.register.proofs.Beginning.{IsBeginning}
 use Rattle.register.proofs.Calling.{with_due, with_due_is}
-use Rattle.register.proofs.Found.{IsFound, same, staged}
+use Rattle.register.proofs.Bases.{begun_due}
+use Rattle.register.proofs.Found.{IsFound, same, place, due_kept}
 use Rattle.register.proofs.Resending.{IsAsking, phase_members, phase_call}
 use Rattle.register.proofs.Sendings.{IsSending, sending_of, takes}
 use Rattle.register.proofs.Supplying.{IsSupplied, members_are, pieces_are, room_is, step_is}
@@ -59,6 +61,14 @@ module _ {c : Contents} {number index : ℕ} {t : Tracked} {coded : Coding} {pos
           let clash : true ≡ false = sym replied ∙ ap is_replied awaits.1.current ∙ ap is_some open_end in
           absurd (cc)
 
+  -- so the phase that is due, by the stage that is kept, is that of the record
+  pub same_due : WantsPieces object (pred number) t.call → due t.stage ≡ due_of object (pred number) t.call
+  same_due wants =
+      let sends = (supply_ready object (pred number) t.call wants.0 wants.1 wants.2.1).1 in
+      begun_due t.stage c.base (λ p e.
+      let clash : Some (PreWrite sends.tag, sends.position) ≡ Some (Next, p) = sym sends.is_due ∙ sym (due_kept found) ∙ e in absurd (cc))
+      ∙ due_kept found
+
   -- the phase that is due begins
   module _ (replied : is_replied (current_phase t.call.phases) ≡ true) {kind : Kind} {target : ℕ}
       (due_is : due t.stage ≡ Some (kind, target)) where
@@ -68,8 +78,8 @@ module _ {c : Contents} {number index : ℕ} {t : Tracked} {coded : Coding} {pos
     target_is : target ≡ position
     target_is = some_number target position
         (ap (λ next. pieces_position (want.Supply wanted.0 wanted.1) next (current_phase t.call.phases))
-        (sym due_is ∙ ap due (staged found))
-        ∙ ap (λ w. pieces_position w (due (stage_of object (pred number) t.call)) (current_phase t.call.phases)) (sym wanted.2.1)
+        (sym due_is ∙ same_due wanted)
+        ∙ ap (λ w. pieces_position w (due_of object (pred number) t.call) (current_phase t.call.phases)) (sym wanted.2.1)
         ∙ s.to.due)
 
     begun_is : (now : ℕ) → made (Step.Supply (pred number)) now (state_of c)
@@ -78,7 +88,8 @@ module _ {c : Contents} {number index : ℕ} {t : Tracked} {coded : Coding} {pos
         let ended = ended_phase (current_phase t.call.phases) replied in
         ap (λ o. record { object = o; last = now })
         (step_is s now ended.0 ended.1 true ended.2
-        ∙ ap (λ d. begun_object fragment object index t.call d now) (ap due (sym (found.kept.staged index t found.there)) ∙ due_is)
+        ∙ ap (λ d. begun_object fragment object index t.call d now)
+        (ap (λ i. due_of object i t.call) (place found) ∙ sym (same_due wanted) ∙ due_is)
         ∙ with_due_is c index t kind target layout now (sent_pieces fragment object t.call target)
         (ap (layout_at object) target_is ∙ s.placed)
         ∙ ap (λ (piece : ℕ → Piece). (state_of (with_due c index t kind target layout now piece)).object)
@@ -109,7 +120,7 @@ module _ {c : Contents} {number index : ℕ} {t : Tracked} {coded : Coding} {pos
     -- its current phase sends the pieces
     current : IsSending (current_phase t.call.phases) position
     current = sending_of (current_phase t.call.phases) position
-        (ap (λ w. pieces_position w (due (stage_of object (pred number) t.call)) (current_phase t.call.phases)) (sym awaited.1.wants.1)
+        (ap (λ w. pieces_position w (due_of object (pred number) t.call) (current_phase t.call.phases)) (sym awaited.1.wants.1)
         ∙ s.to.due)
 
     phase_layout : layout_at object current.phase.position ≡ layout

@@ -10,10 +10,11 @@ use Rattle.phase.specs.Phase.{Phase, is_current, has_taken, makes_quorum, with_r
 use Rattle.phase.specs.Phase.{took_body, took_by, lacks_pieces}
 use Rattle.record.specs.declared.call.CallKind.{CallKind}
 use Rattle.record.specs.declared.stage.Stage.{Stage}
-use Rattle.record.specs.Courses.{passed, stage_after}
+use Rattle.record.specs.Courses.{begun_at, passed, stage_past, stage_after}
 use Rattle.record.specs.Steps.{taking_phases}
 use Rattle.record.specs.Wants.{current_phase}
 use Rattle.register.specs.Tracked.{Tracked, stage_taken, taken_tracked}
+use Rattle.register.proofs.Bases.{begun_again, take_position}
 
 ended_body : (p : Phase) (m : Message) (now : ℕ) (b : Body) → is_some p.end ≡ true
     → (after_body p m.call m.phase m.member b now ≡ p) × (took_body p m.call m.phase m.member b ≡ took.Stale)
@@ -68,17 +69,23 @@ pub stage_taking : (kind : CallKind) (s : Stage) (ps : List Phase) (m : Message)
 stage_taking kind s [] m now = refl
 stage_taking kind s (p ∷ []) m now = step p.end refl
   where
+    begun : Stage
+    begun = begun_at s p.position
+
+    new : Phase
+    new = after_take p m now
+
     step : (o : Option ℕ) → p.end ≡ o
-        → cond (is_some o) (passed kind m.call s o p.replies (lacks_pieces p))
-        (passed kind m.call (passed kind m.call s o p.replies (lacks_pieces p)) (after_take p m now).end (after_take p m now).replies
-        (lacks_pieces (after_take p m now)))
-        ≡ passed kind m.call s (after_take p m now).end (after_take p m now).replies (lacks_pieces (after_take p m now))
-    step None e = refl
+        → cond (is_some o) (passed kind m.call begun o p.replies (lacks_pieces p))
+        (stage_past kind m.call (passed kind m.call begun o p.replies (lacks_pieces p)) new)
+        ≡ stage_past kind m.call s new
+    step None e =
+        ap (λ t. passed kind m.call t new.end new.replies (lacks_pieces new))
+        (begun_again s p.position new.position ∙ ap (begun_at s) (sym (take_position p m now)))
     step (Some end) e =
-        ap (λ o. passed kind m.call s o p.replies (lacks_pieces p)) (sym e)
-        ∙ ap (λ (x : Phase). passed kind m.call s x.end x.replies (lacks_pieces x)) (sym (ended_same p m now (ap is_some e)))
-stage_taking kind s (p ∷ q ∷ ps) m now =
-    stage_taking kind (passed kind m.call s p.end p.replies (lacks_pieces p)) (q ∷ ps) m now
+        ap (λ o. passed kind m.call begun o p.replies (lacks_pieces p)) (sym e)
+        ∙ ap (λ (x : Phase). stage_past kind m.call s x) (sym (ended_same p m now (ap is_some e)))
+stage_taking kind s (p ∷ q ∷ ps) m now = stage_taking kind (stage_past kind m.call s p) (q ∷ ps) m now
 
 -- a call that has begun no phase takes nothing
 pub taking_none : (ps : List Phase) (m : Message) (now : ℕ) → length ps ≡ 0 → taking_phases ps m now ≡ ps
@@ -100,13 +107,8 @@ taken_same t m now phases stage =
 
 pub stage_ended : (kind : CallKind) (s : Stage) (p : Phase) (m : Message) (now : ℕ) → is_some p.end ≡ true
     → stage_taken kind s (Some p) m now ≡ s
-stage_ended kind s p m now ended =
-    ap (λ b. cond b s (passed kind m.call s (after_take p m now).end (after_take p m now).replies (lacks_pieces (after_take p m now))))
-    ended
+stage_ended kind s p m now ended = ap (λ b. cond b s (stage_past kind m.call s (after_take p m now))) ended
 
 pub stage_open : (kind : CallKind) (s : Stage) (p : Phase) (m : Message) (now : ℕ) → is_some p.end ≡ false
-    → stage_taken kind s (Some p) m now
-    ≡ passed kind m.call s (after_take p m now).end (after_take p m now).replies (lacks_pieces (after_take p m now))
-stage_open kind s p m now open_yet =
-    ap (λ b. cond b s (passed kind m.call s (after_take p m now).end (after_take p m now).replies (lacks_pieces (after_take p m now))))
-    open_yet
+    → stage_taken kind s (Some p) m now ≡ stage_past kind m.call s (after_take p m now)
+stage_open kind s p m now open_yet = ap (λ b. cond b s (stage_past kind m.call s (after_take p m now))) open_yet

@@ -1,8 +1,8 @@
 -- The call that a reply names takes it.
-use Rattle.std.proofs.Common.{◌≡◌, ℕ, suc, pred, ◌+◌, ◌-◌, ◌<◌, ◌≤◌, ◌^◌, List, length, get_or, set, slice_get, Option, Some, None, IfSome}
+use Rattle.std.proofs.Common.{◌≡◌, ℕ, suc, pred, ◌-◌, ◌<◌, ◌≤◌, ◌^◌, List, length, get_or, set, slice_get, Some}
 use Rattle.std.proofs.Common.{sym, ap, subst, ◌∙◌, refl, arith}
 use Rattle.std.specs.List.{remove}
-use Rattle.tag.specs.declared.limits.TheConstants.{MOST_PHASES, MOST_POSITIONS}
+use Rattle.tag.specs.declared.limits.TheConstants.{MOST_PHASES}
 use Rattle.encoder.specs.Fragment.{fragment}
 use Rattle.bank.specs.declared.kind.Kind.{Kind}
 use Rattle.bank.specs.declared.reply.Reply.{Reply}
@@ -14,7 +14,7 @@ use Rattle.std.proofs.lemmas.Option.{slice_get_read}
 use Rattle.register.proofs.Found.{later}
 use Rattle.phase.specs.Phase.{Phase, after_take}
 use Rattle.record.specs.Records.{Call, Object}
-use Rattle.record.specs.Courses.{due}
+use Rattle.record.specs.Courses.{begun_at}
 use Rattle.record.specs.Legal.{stage_of, first_stage, source_of}
 use Rattle.record.specs.Sound.{IsSound, IsPosted}
 use Rattle.record.specs.Steps.{Step, on_message, taken_by, taken_calls, taking_call, taking_phases}
@@ -26,7 +26,8 @@ use Rattle.register.specs.Kept.{IsKept}
 use Rattle.register.specs.View.{took_message, took_at}
 use Rattle.register.proofs.Lists.{same_some, found_within, found_of_map, map_set, all_found}
 use Rattle.register.proofs.Keeps.{steps_on, call_found, call_kept, open_moves_set, is_below, few_positions, current_found}
-use Rattle.register.proofs.Shown.{stage_shown, current_shown, next_tag_there}
+use Rattle.register.proofs.Bases.{begun_near}
+use Rattle.register.proofs.Shown.{stage_shown, begun_up_to, current_shown, next_tag_there}
 use Rattle.register.proofs.Takes.{stage_taking, length_taking}
 
 -- the call that a waiting message names
@@ -90,24 +91,20 @@ module _ {c : Contents} {place : ℕ} {m : Message} {t : Tracked} (taken : IsTak
   here = call_found c.calls (m.call - 1) t at
 
   -- no position, and no tag, is too great for what the take does
-  pub below_limit : IsBelowLimit t.stage
-  below_limit = go (due t.stage) (is_below c kept (m.call - 1) t at).due
-    where
-      few : length c.positions ≤ MOST_POSITIONS
-      few = few_positions c kept
-
-      go : (next : Option (Kind × ℕ)) → IfSome next (λ asked. asked.1 < length c.positions) → IfSome next (λ asked. asked.1 + 1 < 2 ^ 32)
-      go None below = tt
-      go (Some asked) below = omega (arith, below, few)
+  pub below_limit : (p : Phase) → current_phase t.call.phases ≡ Some p → IsBelowLimit (begun_at t.stage p.position)
+  below_limit p current =
+      let below = is_below c kept (m.call - 1) t at in
+      begun_near (length c.positions) t.stage p.position (below.current p current) (few_positions c kept) below.due
 
   pub next_tag : {s : State} → state_of c ≡ s → s.last < now → now < 2 ^ 64 → (p : Phase) → current_phase t.call.phases ≡ Some p
-      → HasNextTag t.call.kind t.stage (after_take p m now).replies
+      → HasNextTag t.call.kind (begun_at t.stage p.position) (after_take p m now).replies
   next_tag view later_on fits p current =
       let after = later c view later_on in
       let spot = current_found t.call.phases p current in
-      next_tag_there c.last t.call.kind t.stage (after_take p m now).replies (omega (arith, after, fits))
+      next_tag_there c.last t.call.kind (begun_at t.stage p.position) (after_take p m now).replies (omega (arith, after, fits))
+      (begun_up_to c.last t.stage p.position
       (subst (λ s. Rattle.register.proofs.Shown.FoundUpTo c.last s) (sym (kept.staged (m.call - 1) t at))
-      (stage_shown fragment (state_of c).object c.last kept.sound (m.call - 1) t.call here))
+      (stage_shown fragment (state_of c).object c.last kept.sound (m.call - 1) t.call here)))
       (current_shown fragment (state_of c).object c.last kept.sound (m.call - 1) t.call here place m waits spot.0 p spot.1 now)
 
   -- the record after the take

@@ -1,6 +1,6 @@
 -- Why each step is refused: of all that hold, the first by the order of refusals. `NoMemory` comes after these.
-use Rattle.std.specs.Prelude.{ℕ, zero, suc, ◌+◌, Bool, true, false, not, nat_le, nat_lt, is_some, if◌then◌else◌, List}
-use Rattle.std.specs.Prelude.{length, Option, Some, None, slice_get, pred}
+use Rattle.std.specs.Prelude.{ℕ, zero, suc, ◌+◌, Bool, true, false, not, ◌&&◌, ◌==◌, nat_le, nat_lt, is_some}
+use Rattle.std.specs.Prelude.{if◌then◌else◌, List, [], ◌∷◌, length, Option, Some, None, slice_get, pred}
 use Rattle.tag.specs.declared.limits.TheConstants.{LONGEST_VALUE, MOST_BYTES, MOST_CALLS, MOST_PHASES, MOST_POSITIONS}
 use Rattle.tag.specs.declared.limits.TheConstants.{MOST_STEPS}
 use Rattle.tag.specs.declared.refusal.Refusal.{Refusal}
@@ -18,7 +18,8 @@ use Rattle.mail.specs.Mail.{mail_cause, repeated}
 use Rattle.phase.specs.Phase.{Phase}
 use Rattle.record.specs.declared.stage.Want.{Want}
 use Rattle.record.specs.declared.stage.Want.TheVariants as want
-use Rattle.record.specs.Records.{Call, Object, layout_at}
+use Rattle.record.specs.Records.{Call, Object, layout_at, base_of}
+use Rattle.record.specs.Legal.{is_move}
 use Rattle.record.specs.Wants.{current_phase, want_of}
 use Rattle.record.specs.Steps.{Step, stepped}
 use Rattle.record.specs.Sending.{sent_value, value_or_empty}
@@ -217,3 +218,20 @@ abbrev pub answer_cause : (now : ℕ) → Object → (number : ℕ) → Option R
 answer_cause now object number =
     if_call (call_at object number) (λ call. unless (is_answer (want_of object (pred number) call)) NotNow
     (if_step now None))
+
+-- Retiring
+
+-- whether the move out of a position was answered; the first move among these calls leads out of the position `from`
+abbrev pub is_moved_out : List Call → (from position : ℕ) → Bool
+is_moved_out [] from position = false
+is_moved_out (call ∷ calls) from position =
+    if is_move call.kind
+    then (if from == position then is_some call.answered else is_moved_out calls (suc from) position)
+    else is_moved_out calls from position
+
+-- whether a position is the base, and the move out of it was answered
+abbrev pub is_retirable : Object → (position : ℕ) → Bool
+is_retirable object position = position == base_of object && is_moved_out object.calls 0 position
+
+abbrev pub retire_cause : (now : ℕ) → Object → (position : ℕ) → Option Refusal
+retire_cause now object position = unless (is_retirable object position) NotNow (if_step now None)

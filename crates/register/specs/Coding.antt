@@ -14,8 +14,7 @@ use Rattle.bank.specs.declared.kind.Kind.TheVariants.{PreWrite}
 use Rattle.phase.specs.declared.phase.Taken.{Taken}
 use Rattle.phase.specs.Phase.{Phase}
 use Rattle.record.specs.Records.{Call, Object, layout_at}
-use Rattle.record.specs.Legal.{stage_of}
-use Rattle.record.specs.Courses.{due}
+use Rattle.record.specs.Legal.{due_of}
 use Rattle.record.specs.Fragments.{answer_piece}
 use Rattle.record.specs.declared.stage.Want.{Want}
 use Rattle.record.specs.declared.stage.Want.TheVariants as want
@@ -45,7 +44,7 @@ pieces_position _ next phase = None
 -- the position whose members are to get the pieces of the call at this place
 abbrev pub pieces_due : Object → (index : ℕ) → Call → Option ℕ
 pieces_due object index call =
-    pieces_position (want_of object index call) (due (stage_of object index call)) (current_phase call.phases)
+    pieces_position (want_of object index call) (due_of object index call) (current_phase call.phases)
 
 -- whether a coded value is this value, coded for a layout
 abbrev pub is_coded_for : Layout → (value : List ℕ) → Coding → Bool

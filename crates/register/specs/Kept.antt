@@ -5,7 +5,7 @@ use Rattle.tag.specs.declared.limits.TheConstants.{MOST_BYTES, MOST_CALLS, MOST_
 use Rattle.encoder.specs.Fragment.{fragment}
 use Rattle.mail.specs.declared.message.Message.{Message}
 use Rattle.mail.specs.Mail.{mail_bytes}
-use Rattle.record.specs.Records.{Call, Object}
+use Rattle.record.specs.Records.{Call, Object, base_of}
 use Rattle.record.specs.Legal.{is_move, stage_of}
 use Rattle.record.specs.Sound.{IsSound}
 use Rattle.register.specs.Position.{all_bytes}
@@ -37,6 +37,7 @@ AreStaged object calls = (index : ℕ) (t : Tracked) → slice_get calls index �
 pub record IsKept (c : Contents) : Type 0 where
   pub sound : IsSound fragment (state_of c).object c.last
   pub limits : IsWithinLimits (state_of c).object
+  pub based : c.base ≡ base_of (state_of c).object
   pub staged : AreStaged (state_of c).object c.calls
   pub moving : c.is_moving ≡ has_open_move (state_of c).object.calls
   pub stored : c.stored ≡ all_bytes (state_of c).object.banks

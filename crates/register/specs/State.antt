@@ -37,11 +37,12 @@ state_code layout bank message call =
 abbrev pub made : Step → (now : ℕ) → State → State
 made step now state = record { object = stepped fragment step now state.object; last = now }
 
--- what a register holds: the parts of the record, the stage of each call, whether a move is open, the bytes that all
--- banks store, and the number of the last step
+-- what a register holds: the parts of the record, the base, the stage of each call, whether a move is open, the bytes
+-- that all banks store, and the number of the last step
 pub record Contents : Type 0 where
   pub delta : Option ℕ
   pub positions : List Position
+  pub base : ℕ
   pub mail : List Message
   pub calls : List Tracked
   pub is_moving : Bool

@@ -7,13 +7,13 @@ use Rattle.bank.specs.declared.kind.Kind.{Kind}
 use Rattle.mail.specs.declared.message.Message.{Message}
 use Rattle.phase.specs.declared.phase.Took.{Took}
 use Rattle.phase.specs.declared.phase.Took.TheVariants as took
-use Rattle.phase.specs.Phase.{Phase, after_take, took_by, members_of, lacks_pieces}
+use Rattle.phase.specs.Phase.{Phase, after_take, took_by, members_of}
 use Rattle.record.specs.declared.call.CallKind.{CallKind}
 use Rattle.record.specs.declared.stage.Stage.{Stage}
 use Rattle.record.specs.declared.stage.Want.{Want}
 use Rattle.record.specs.declared.stage.Want.TheVariants as want
 use Rattle.record.specs.Records.{Call, Object}
-use Rattle.record.specs.Courses.{due, passed}
+use Rattle.record.specs.Courses.{begun_at, due, stage_past}
 use Rattle.record.specs.Steps.{taking_call, new_phase}
 use Rattle.record.specs.Sending.{missing, requests}
 use Rattle.record.specs.Wants.{current_phase, want_after}
@@ -33,23 +33,21 @@ tracked_want object t =
     if is_some t.call.answered then want.Done else want_after object (due t.stage) t.call.settled
     (current_phase t.call.phases)
 
--- the call of this number with one more phase
+-- the call of this number with one more phase; a first reading begins where that phase is
 abbrev pub with_begun : Tracked → (number : ℕ) → Kind → (position : ℕ) → Layout → (now : ℕ) → Tracked
 with_begun t number kind position layout now = record {
   call = record t.call {
     phases = t.call.phases ++ new_phase number
         (suc (length t.call.phases)) kind position layout now ∷ [];
   };
-  stage = t.stage;
+  stage = begun_at t.stage position;
 }
 
 -- the stage once the current phase took a message: it moves on where that take completed the phase
 abbrev pub stage_taken : CallKind → Stage → Option Phase → Message → (now : ℕ) → Stage
 stage_taken kind stage None message now = stage
 stage_taken kind stage (Some phase) message now =
-    if is_some phase.end then stage
-    else passed kind message.call stage (after_take phase message now).end (after_take phase message now).replies
-    (lacks_pieces (after_take phase message now))
+    if is_some phase.end then stage else stage_past kind message.call stage (after_take phase message now)
 
 -- a call once its current phase took a message
 abbrev pub taken_tracked : Message → (now : ℕ) → Tracked → Tracked

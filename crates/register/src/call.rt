@@ -8,6 +8,7 @@ ghost use Rattle.tag.specs.Refusal.{IsByCause};
 ghost use Rattle.encoder.specs.declared.fragment.Piece.{Piece};
 ghost use Rattle.mail.specs.Mail.{mail_cause};
 ghost use Rattle.phase.specs.Phase.{Phase as Asking, after_take};
+ghost use Rattle.record.specs.Courses.{begun_at};
 ghost use Rattle.record.specs.Steps.{new_call};
 ghost use Rattle.record.specs.Sending.{requests};
 ghost use Rattle.record.specs.Wants.{current_phase};
@@ -28,7 +29,7 @@ use record::{CallKind, Stage};
 use std::alloc::Global;
 use std::marker::Model;
 use tag::{MOST_PHASES, Refusal, Stamp};
-use transfer::passed;
+use transfer::{begun_at, passed};
 
 mod views;
 
@@ -77,7 +78,7 @@ impl Call {
     }
 
     /// The call, whose number this is, begins a phase at a position with this layout: its requests are posted, and the
-    /// call has the phase. Either both or, where it is refused, neither.
+    /// call has the phase; a first reading begins there. Either all or, where it is refused, nothing.
     pub(crate) fn begin(
         &mut self,
         number: u64,
@@ -122,6 +123,7 @@ impl Call {
         self.phases.reserve(1)?;
         mail.post_all(messages)?;
         self.phases.push_reserved(phase);
+        self.stage = begun_at(self.stage, position);
         Ok(())
     }
 
@@ -197,9 +199,10 @@ impl Call {
     /// The current phase takes a message at step `now`, and the stage moves on where that completes the phase. It takes
     /// no memory.
     pub(crate) fn take(&mut self, message: Message, now: Stamp) -> Took
-        requires near { IsBelowLimit self.old.stage }
+        requires near { (p : Asking) → current_phase self.old.call.phases ≡ Some p
+            → IsBelowLimit (begun_at self.old.stage p.position) }
         requires tags { (p : Asking) → current_phase self.old.call.phases ≡ Some p
-            → HasNextTag self.old.call.kind self.old.stage (after_take p message now).replies }
+            → HasNextTag self.old.call.kind (begun_at self.old.stage p.position) (after_take p message now).replies }
 
         ensures call { self.new ≡ taken_tracked message now self.old }
         ensures took { result ≡ took_current message (current_phase self.old.call.phases) }

@@ -1,6 +1,8 @@
-ghost use Rattle.std.specs.Prelude.{◌≡◌, ◌<◌, ◌^◌, length, slice_get, slice_set, slice_index, option_copied, Some};
+ghost use Rattle.std.specs.Prelude.{◌≡◌, ◌<◌, ◌^◌, length, map, slice_get, slice_set, slice_index, option_copied, Some};
 ghost use Rattle.std.specs.Prelude.{IfOk, IfErr, OnOk, OnErr, IfSome};
 ghost use Rattle.tag.specs.declared.refusal.Refusal.TheVariants.{NoMemory};
+ghost use Rattle.bank.specs.Collect.{retired_bank};
+ghost use Rattle.register.specs.Position.{banks_bytes};
 
 use bank::{Bank, Reply, Request};
 use layout::Layout;
@@ -101,6 +103,16 @@ impl Position {
         self.banks[usize::from(member)].serve(request, now)
     }
 
+    /// The banks drop all pieces, and those that come after step `now`. It answers how many bytes that frees.
+    pub(crate) fn retire(&mut self, now: Stamp) -> u64
+        requires room { banks_bytes self.old.banks < 2 ^ 64 }
+        ensures layout { self.new.layout ≡ self.old.layout }
+        ensures banks { self.new.banks ≡ map (λ bank. retired_bank bank now) self.old.banks }
+        ensures freed { result ≡ banks_bytes self.old.banks }
+    {
+        retire_all(&mut self.banks, now)
+    }
+
     /// How many bytes the banks store whose member is this server.
     pub(crate) fn stored(&self, server: u8) -> u64
         requires lawful { IsLawful self.now.layout }
@@ -116,4 +128,17 @@ impl Position {
             None => 0,
         }
     }
+}
+
+// All these banks drop their pieces, and those that come after step `now`. It answers how many bytes that frees.
+fn retire_all(banks: &mut [Bank], now: Stamp) -> u64
+    requires room { banks_bytes banks.old < 2 ^ 64 }
+    ensures banks { banks.new ≡ map (λ bank. retired_bank bank now) banks.old }
+    ensures freed { result ≡ banks_bytes banks.old }
+{
+    let mut freed = 0;
+    for member in 0..banks.len() {
+        freed += banks[member].retire(now);
+    }
+    freed
 }

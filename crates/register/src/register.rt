@@ -13,6 +13,7 @@ mod calls;
 mod coding;
 mod messages;
 mod phases;
+mod retiring;
 mod room;
 mod views;
 
@@ -26,6 +27,8 @@ pub struct Register {
     // How many finalized versions the banks keep beside the newest; all where there is none.
     delta: Option<u32>,
     positions: Vec<Position>,
+    // The first position that is not retired.
+    base: u32,
     mail: Mail,
     // By their numbers, from 1.
     calls: Vec<Call>,
@@ -50,6 +53,7 @@ impl Model for Register {
     ghost view = { λ r. state_of (record {
       delta = r.delta;
       positions = r.positions.items;
+      base = r.base;
       mail = r.mail;
       calls = r.calls.items;
       is_moving = r.is_moving;
@@ -60,6 +64,7 @@ impl Model for Register {
     ghost invariant = { λ r. IsKept (record {
       delta = r.delta;
       positions = r.positions.items;
+      base = r.base;
       mail = r.mail;
       calls = r.calls.items;
       is_moving = r.is_moving;
@@ -89,6 +94,7 @@ impl Register {
         Ok(Register {
             delta,
             positions,
+            base: 0,
             mail: Mail::new(alloc),
             calls: Vec::new(alloc),
             is_moving: false,

@@ -8,7 +8,7 @@ use std::alloc::Global;
 use std::test::Fail;
 use successor::greatest_tag;
 use tag::{Refusal, Tag};
-use transfer::{due, first_stage, next_phase, passed, stage_tag};
+use transfer::{begun_at, due, first_stage, next_phase, passed, stage_tag};
 
 const FIRST: Tag = Tag { number: 1, call: 1 };
 
@@ -90,20 +90,20 @@ fn writes_with_the_next_tag(rt: HostRuntime) -> Result<(), Fail> {
 fn reads_on_where_a_pointer_was_found(rt: HostRuntime) -> Result<(), Fail> {
     let alloc = rt.alloc();
     let stage = first_stage(&CallKind::Read, 0);
-    assert_eq!(rt; due(stage), Some((Kind::Next, 0)));
-    let next = complete(alloc, Kind::Next, 0, Answer::Pointer(Status::Final))?;
+    assert_eq!(rt; due(begun_at(stage, 5)), Some((Kind::Next, 5)));
+    let next = complete(alloc, Kind::Next, 5, Answer::Pointer(Status::Final))?;
     let stage = passed(&CallKind::Read, 2, stage, &next);
     let spread = Stage::ReadSpread {
-        position: 0,
-        finalized: 0,
+        position: 5,
+        finalized: 5,
         status: Status::Final,
     };
     assert_eq!(rt; stage, spread);
-    let told = complete(alloc, Kind::Spread(Status::Final), 0, Answer::Done)?;
+    let told = complete(alloc, Kind::Spread(Status::Final), 5, Answer::Done)?;
     let stage = passed(&CallKind::Read, 2, spread, &told);
     let next = Stage::ReadNext {
-        position: 1,
-        finalized: 1,
+        position: 6,
+        finalized: 6,
     };
     assert_eq!(rt; stage, next);
     Ok(())
@@ -119,7 +119,8 @@ fn begins_anew_where_pieces_are_lacking(rt: HostRuntime) -> Result<(), Fail> {
         tag: FIRST,
     };
     let stage = passed(&CallKind::Read, 2, stage, &fetch);
-    assert_eq!(rt; due(stage), Some((Kind::Next, 0)));
+    assert_eq!(rt; stage, Stage::ReadBegin);
+    assert_eq!(rt; due(begun_at(stage, 3)), Some((Kind::Next, 3)));
     assert_eq!(rt; stage_tag(stage), None);
     let mut done = Vec::new(alloc);
     done.push(complete(alloc, Kind::Spread(Status::Pending), 3, Answer::Done)?)?;

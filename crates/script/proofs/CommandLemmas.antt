@@ -57,6 +57,11 @@ pub none-Object : (rest : List Word)
 none-Object rest none (of.Object name layout delta) s = none name.now layout delta s.1
 none-Object rest none _ s = apart (codes "object") _ s.0 refl
 
+pub none-Retire : (rest : List Word) → ((name : Word) (n : ℕ) → ¬ (AreNameAndNumber name n rest)) → (c : Command)
+    → ¬ (Spells (codes "retire" ∷ rest) c)
+none-Retire rest none (of.Retire name position) s = none name.now position s.1
+none-Retire rest none _ s = apart (codes "retire") _ s.0 refl
+
 pub none-Down : (rest : List Word) → ((n : ℕ) → ¬ (AreNumber n rest)) → (c : Command)
     → ¬ (Spells (codes "down" ∷ rest) c)
 none-Down rest none (of.Down server) s = none server s.1

@@ -19,6 +19,7 @@ Spells words (of.Servers count) = Says (codes "servers") (AreServers count) word
 Spells words (of.Layout k members) = Says (codes "layout") (AreNumberAndMembers k members.items) words
 Spells words (of.Object name layout delta) =
     Says (codes "object") (AreNameNumberAndDelta name.now layout delta) words
+Spells words (of.Retire name position) = Says (codes "retire") (AreNameAndNumber name.now position) words
 Spells words (of.Down server) = Says (codes "down") (AreNumber server) words
 Spells words (of.Up server) = Says (codes "up") (AreNumber server) words
 Spells words (of.CallRead name) = Says (codes "call") (Says (codes "read") (AreName name.now)) words

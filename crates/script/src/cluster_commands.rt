@@ -4,7 +4,7 @@ ghost use Rattle.std.specs.Prelude.{◌∷◌, codes, map};
 ghost use Rattle.script.specs.Command.{IsReading};
 
 use crate::arguments::{
-    name_number_and_delta, no_words, number_and_members, one_number, servers_count,
+    name_and_number, name_number_and_delta, no_words, number_and_members, one_number, servers_count,
 };
 use crate::command::Command;
 use crate::error::LineError;
@@ -33,6 +33,13 @@ pub(crate) fn object<'a>(words: &[&'a str]) -> Result<Command<'a>, LineError>
         layout,
         delta,
     })
+}
+
+pub(crate) fn retire<'a>(words: &[&'a str]) -> Result<Command<'a>, LineError>
+    ensures { IsReading (codes "retire" ∷ map (λ w. w.now) words.now) result }
+{
+    let (name, position) = name_and_number(words)?;
+    Ok(Command::Retire { name, position })
 }
 
 pub(crate) fn down(words: &[&str]) -> Result<Command<'static>, LineError>

@@ -26,6 +26,11 @@ pub enum Command<'a> {
         layout: u64,
         delta: Option<u32>,
     },
+    /// `retire NAME P`: a position of an object, its base, is retired.
+    Retire {
+        name: &'a str,
+        position: u64,
+    },
     /// `down S`: a server goes down.
     Down {
         server: u64,
@@ -175,6 +180,7 @@ pub fn parse_command<'a>(alloc: Global, words: &[&'a str]) -> Result<Command<'a>
         "servers" => cluster_commands::servers(rest),
         "layout" => cluster_commands::layout(alloc, rest),
         "object" => cluster_commands::object(rest),
+        "retire" => cluster_commands::retire(rest),
         "down" => cluster_commands::down(rest),
         "up" => cluster_commands::up(rest),
         "call" => call_commands::call(alloc, rest),

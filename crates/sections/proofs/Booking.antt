@@ -10,8 +10,7 @@ use Rattle.mail.specs.declared.message.Message.{Message}
 use Rattle.mail.specs.declared.message.Body.{Body}
 use Rattle.mail.specs.declared.message.Body.TheVariants as body
 use Rattle.phase.specs.Phase.{Phase}
-use Rattle.record.specs.Courses.{due}
-use Rattle.record.specs.Legal.{stage_of}
+use Rattle.record.specs.Legal.{due_of}
 use Rattle.record.specs.Records.{Call, Object}
 use Rattle.record.specs.Wants.{current_phase}
 use Rattle.record.specs.Steps.{Step, stepped, on_call, on_message, begun_object, advanced_object, answered_object, asked_again}
@@ -87,7 +86,7 @@ supplied_quiet object index call now (Some phase) at = pick (is_some phase.end)
   where
     pick : (b : Bool)
         → IsQuiet object (if b then advanced_object fragment object index call now else asked_again fragment object call (Some phase))
-    pick true = begun_quiet object index call (due (stage_of object index call)) now at
+    pick true = begun_quiet object index call (due_of object index call) now at
     pick false = asked_quiet object call (Some phase)
 
 taken_count : (calls : List Call) (message : Message) (now : ℕ) (found : Option Call) → slice_get calls (pred message.call) ≡ found
@@ -121,12 +120,12 @@ count_stepped (Step.CallMove layout) now object = count_begun object.calls _ _
 count_stepped (Step.Advance index) now object =
     let same =
     on_call_quiet object index (slice_get object.calls index) (λ call. advanced_object fragment object index call now) refl
-    (λ call at. begun_quiet object index call (due (stage_of object index call)) now at) in
+    (λ call at. begun_quiet object index call (due_of object index call) now at) in
     omega (arith, same)
 count_stepped (Step.Again index) now object =
     let same =
     on_call_quiet object index (slice_get object.calls index) (λ call. advanced_object fragment object index call now) refl
-    (λ call at. begun_quiet object index call (due (stage_of object index call)) now at) in
+    (λ call at. begun_quiet object index call (due_of object index call) now at) in
     omega (arith, same)
 count_stepped (Step.Supply index) now object =
     let same =
@@ -156,6 +155,7 @@ count_stepped (Step.Take place) now object =
     on_message_quiet object (slice_get object.mail place) (λ message. taken_by object place message message.body now)
     (λ message. taken_quiet object place message message.body now) in
     omega (arith, same)
+count_stepped Step.Retire now object = omega arith
 count_stepped (Step.Lose place) now object = omega arith
 count_stepped (Step.Repeat place) now object =
     let same = on_message_quiet object (slice_get object.mail place) (λ message. repeated_object object message) (λ message. refl) in

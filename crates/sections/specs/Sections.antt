@@ -8,7 +8,7 @@ use Rattle.record.specs.Records.{Object}
 use Rattle.record.specs.Steps.{Step}
 use Rattle.record.specs.declared.stage.Want.{Want}
 use Rattle.record.specs.declared.stage.Want.TheVariants as want
-use Rattle.register.specs.Causes.{unless, supply_cause, settle_cause, lose_cause, repeat_cause}
+use Rattle.register.specs.Causes.{unless, supply_cause, settle_cause, lose_cause, repeat_cause, retire_cause}
 use Rattle.register.specs.State.{State}
 use Rattle.register.specs.View.{want_at}
 use Rattle.cluster.specs.Cluster.{Cluster, named}
@@ -207,6 +207,15 @@ abbrev pub order_cause : Cluster → Order → Option Refusal
 order_cause cluster (order.AddLayout layout) = layout_cause cluster layout
 order_cause cluster (order.Create name layout delta) = create_cause cluster name.now layout
 order_cause cluster (order.SetServer server up) = server_cause cluster server
+
+-- the base of the object of this name is retired
+abbrev pub retired : Cluster → (name : List ℕ) → Cluster
+retired cluster name = stepped cluster name Step.Retire
+
+-- why this position is not retired
+abbrev pub retiring_cause : Cluster → (name : List ℕ) → (position : ℕ) → Option Refusal
+retiring_cause cluster name position =
+    object_cause cluster name (λ object. retire_cause (next cluster) object position)
 
 -- why a move does not begin
 abbrev pub begin_move_cause : Cluster → Option Moving → (name : List ℕ) → (id : ℕ) → Option Refusal

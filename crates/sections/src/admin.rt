@@ -14,7 +14,7 @@ use std::marker::{Model, PhantomData};
 use std::snapshot::Snapshot;
 use tag::Refusal;
 
-/// The right to add layouts, to create and move objects and to turn servers on and off.
+/// The right to add layouts, to create and move objects, to retire positions and to turn servers on and off.
 #[derive(Drop)]
 pub struct Admin<L: StoreName> {
     // The number of the move that is not answered, and the name of its object.
@@ -83,7 +83,7 @@ impl<L: StoreName> Admin<L> {
         self.pending.is_some()
     }
 
-    /// How many orders were carried out for it: layouts, objects, servers, and moves that began.
+    /// How many orders were carried out for it: layouts, objects, servers, positions retired, and moves that began.
     pub fn orders(&self) -> u64
         ensures { result ≡ self.now.orders }
     {

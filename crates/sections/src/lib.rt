@@ -11,6 +11,7 @@ pub use messages::{disturb_in, stir_in};
 pub use moves::{begin_move_in, move_round_in};
 pub use opening::{Parts, open_in};
 pub use orders::admin_in;
+pub use retiring::retire_in;
 pub use rounds::{Hand, round_in};
 pub use seat::Seat;
 
@@ -25,5 +26,6 @@ mod messages;
 mod moves;
 mod opening;
 mod orders;
+mod retiring;
 mod rounds;
 mod seat;

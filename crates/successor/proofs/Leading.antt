@@ -1,5 +1,6 @@
 -- Where phases lead a reading.
-use Rattle.std.proofs.Common.{◌≡◌, ℕ, suc, Bool, List, [], ◌∷◌, Option, Some, None, refl, ap, sym, ◌∙◌, subst₂}
+use Rattle.std.proofs.Common.{◌≡◌, ℕ, suc, Bool, eqb, List, [], ◌∷◌, Option, Some, None, refl, ap, sym, ◌∙◌, subst₂}
+use Rattle.std.proofs.lemmas.Bool.{cond_both}
 use Rattle.std.specs.Prelude.{IsSome, ◌≢◌}
 use Rattle.tag.specs.declared.tag.Tag.{Tag}
 use Rattle.bank.specs.declared.kind.Kind.{Kind}
@@ -10,7 +11,8 @@ use Rattle.phase.specs.Phase.{Phase, lacks_pieces}
 use Rattle.phase.specs.declared.phase.Taken.{Taken}
 use Rattle.record.specs.declared.call.CallKind.{CallKind}
 use Rattle.record.specs.declared.stage.Stage.{Stage}
-use Rattle.record.specs.Courses.{greatest_status, after_next, after_again, after, passed, stage_after}
+use Rattle.record.specs.Courses.{begun_at, greatest_status, after_next, after_again, after, passed, stage_after}
+use Rattle.record.specs.declared.stage.Stage.TheVariants as stage
 use Rattle.record.specs.Grammar.{Asks, IsReading, finalized_after}
 use Rattle.successor.specs.declared.reading.Reading.{Reading}
 use Rattle.successor.specs.declared.reading.Reading.TheVariants.{Next, Spread, Ended}
@@ -55,20 +57,36 @@ again_after kind number last tag (Next position finalized) phase asks =
 again_after kind number last tag (Spread position finalized status) phase asks = refl
 again_after kind number last tag (Ended end finalized) phase asks = absurd (cc)
 
+-- a reading that goes on has begun
+
+first_begun : (reading : Reading) (position : ℕ) → begun_at (first_of reading) position ≡ first_of reading
+first_begun (Next at finalized) position = refl
+first_begun (Spread at finalized status) position = refl
+first_begun (Ended last finalized) position = refl
+
+again_begun : (last : ℕ) (tag : Tag) (reading : Reading) (position : ℕ)
+    → begun_at (again_of last tag reading) position ≡ again_of last tag reading
+again_begun last tag (Next at finalized) position = refl
+again_begun last tag (Spread at finalized status) position = refl
+again_begun last tag (Ended end finalized) position =
+    cond_both (eqb end last) (stage.Ended last tag) (stage.PreWriteAt end tag) (λ s. begun_at s position ≡ s) (λ e. refl) (λ e. refl)
+
 first_stages : (kind : CallKind) (number : ℕ) (reading to : Reading) (phases : List Phase) → Leads reading phases to
     → AreComplete phases → stage_after kind number (first_of reading) phases ≡ first_of to
 first_stages kind number reading to [] leads ended = ap first_of leads
 first_stages kind number reading to (phase ∷ phases) leads ended =
-    let passes = passed-ended kind number (first_of reading) phase.end phase.replies (lacks_pieces phase) ended.0 in
-    ap (λ stage. stage_after kind number stage phases) (passes ∙ first_after kind number reading phase leads.0)
+    let passes = passed-ended kind number (begun_at (first_of reading) phase.position) phase.end phase.replies (lacks_pieces phase) ended.0
+    ∙ ap (λ s. after kind number s phase.replies (lacks_pieces phase)) (first_begun reading phase.position) in
+    ap (λ s. stage_after kind number s phases) (passes ∙ first_after kind number reading phase leads.0)
     ∙ first_stages kind number (led_on reading (greatest_status phase.replies)) to phases leads.1 ended.1
 
 again_stages : (kind : CallKind) (number last : ℕ) (tag : Tag) (reading to : Reading) (phases : List Phase) → Leads reading phases to
     → AreComplete phases → stage_after kind number (again_of last tag reading) phases ≡ again_of last tag to
 again_stages kind number last tag reading to [] leads ended = ap (again_of last tag) leads
 again_stages kind number last tag reading to (phase ∷ phases) leads ended =
-    let passes = passed-ended kind number (again_of last tag reading) phase.end phase.replies (lacks_pieces phase) ended.0 in
-    ap (λ stage. stage_after kind number stage phases) (passes ∙ again_after kind number last tag reading phase leads.0)
+    let passes = passed-ended kind number (begun_at (again_of last tag reading) phase.position) phase.end phase.replies (lacks_pieces phase)
+    ended.0 ∙ ap (λ s. after kind number s phase.replies (lacks_pieces phase)) (again_begun last tag reading phase.position) in
+    ap (λ s. stage_after kind number s phases) (passes ∙ again_after kind number last tag reading phase leads.0)
     ∙ again_stages kind number last tag (led_on reading (greatest_status phase.replies)) to phases leads.1 ended.1
 
 pub readings_are_stages : ReadingsAreStages

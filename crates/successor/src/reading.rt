@@ -1,7 +1,7 @@
 ghost use Rattle.std.specs.Prelude.{◌≡◌, ℕ, ◌+◌, ◌<◌, ◌^◌, IsSome, IsTrue};
 ghost use Rattle.tag.specs.declared.tag.Tag.{Tag};
-ghost use Rattle.record.specs.declared.stage.Stage.TheVariants.{ReadNext, AgainNext};
-ghost use Rattle.record.specs.Courses.{due, after_next, after_spread, after_again};
+ghost use Rattle.record.specs.declared.stage.Stage.TheVariants.{ReadBegin, ReadNext, AgainNext};
+ghost use Rattle.record.specs.Courses.{begun_at, due, after_next, after_spread, after_again};
 ghost use Rattle.successor.specs.Reading.{is_next, is_spread, position_of, finalized_of, status_of, last_of};
 ghost use Rattle.successor.specs.Reading.{next_of, found_by, spread_by, first_of, again_of};
 
@@ -35,6 +35,7 @@ impl Reading {
     /// A reading that begins at a position.
     pub fn start(position: u32) -> Reading
         ensures first { first_of result ≡ ReadNext position position }
+        ensures begun { first_of result ≡ begun_at ReadBegin position }
         ensures again { (tag : Tag) → again_of position tag result ≡ AgainNext position position tag }
     {
         Reading::Next {

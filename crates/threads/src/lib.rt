@@ -13,6 +13,8 @@ mod coding;
 #[cfg(test)]
 mod collected;
 #[cfg(test)]
+mod crew;
+#[cfg(test)]
 mod disturbed;
 #[cfg(test)]
 mod greatest;
@@ -30,6 +32,8 @@ mod pool;
 mod pool_gate;
 #[cfg(test)]
 mod resumed;
+#[cfg(test)]
+mod retired;
 #[cfg(test)]
 mod seats;
 #[cfg(test)]

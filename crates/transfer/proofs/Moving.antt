@@ -13,7 +13,8 @@ use Rattle.record.specs.declared.call.CallKind.TheVariants.{Move}
 use Rattle.record.specs.declared.stage.Stage.{Stage}
 use Rattle.record.specs.declared.stage.Stage.TheVariants.{MoveSpread, MoveQuery, MoveFetch, MovePreWrite, MoveFinalize, MoveFinal}
 use Rattle.record.specs.declared.stage.Stage.TheVariants.{Ended, Moved}
-use Rattle.record.specs.Courses.{due, after, passed, stage_after, greatest_tag, IsCourse}
+use Rattle.record.specs.Courses.{begun_at, due, after, passed, stage_past, stage_after, greatest_tag, IsCourse}
+use Rattle.record.proofs.Begins.{begun_other}
 use Rattle.record.specs.Journals.{stage_tag}
 use Rattle.record.specs.Grammar.{IsMoveAttempt, move_attempt_phases, ArePhasesOfMove}
 use Rattle.record.specs.Shape.{FinishedAreWhole}
@@ -38,10 +39,46 @@ passed-ended : (stage : Stage) (end : Option ℕ) (replies : List Taken) (lacks 
 passed-ended stage None replies lacks some = absurd (cc)
 passed-ended stage (Some end) replies lacks some = refl
 
+-- a move's stages stay where a phase begins
+pub move_begun : (from : ℕ) (stage : Stage) (position : ℕ) → IsMoveFrom from stage → begun_at stage position ≡ stage
+move_begun from stage position moves = begun_other stage position (λ same. subst (IsMoveFrom from) same moves)
+
+-- where a move's phase leads, it is still the move, whatever its number
+move_after : (from : ℕ) (stage : Stage) (replies : List Taken) (lacks : Bool) → IsMoveFrom from stage
+    → IsMoveFrom from (after Move 0 stage replies lacks)
+    × ((number : ℕ) → after Move number stage replies lacks ≡ after Move 0 stage replies lacks)
+move_after from (MoveSpread position) replies lacks moves = (moves, λ number. refl)
+move_after from (MoveQuery position) replies lacks moves = (moves, λ number. refl)
+move_after from (MoveFetch position tag) replies true moves = (moves, λ number. refl)
+move_after from (MoveFetch position tag) replies false moves = (moves, λ number. refl)
+move_after from (MovePreWrite position tag) replies lacks moves = (moves, λ number. refl)
+move_after from (MoveFinalize position tag) replies lacks moves = (moves, λ number. refl)
+move_after from (MoveFinal position tag) replies lacks moves = (moves, λ number. refl)
+move_after from (Moved position tag) replies lacks moves = (moves, λ number. refl)
+move_after from stage replies lacks moves = absurd moves
+
+move_passed : (from : ℕ) (stage : Stage) (end : Option ℕ) (replies : List Taken) (lacks : Bool) → IsMoveFrom from stage
+    → IsMoveFrom from (passed Move 0 stage end replies lacks)
+    × ((number : ℕ) → passed Move number stage end replies lacks ≡ passed Move 0 stage end replies lacks)
+move_passed from stage None replies lacks moves = (moves, λ number. refl)
+move_passed from stage (Some end) replies lacks moves = move_after from stage replies lacks moves
+
+pub move_past : (from : ℕ) (stage : Stage) (phase : Phase) → IsMoveFrom from stage
+    → IsMoveFrom from (stage_past Move 0 stage phase)
+    × ((number : ℕ) → stage_past Move number stage phase ≡ stage_past Move 0 stage phase)
+move_past from stage phase moves =
+    subst (λ s. IsMoveFrom from (passed Move 0 s phase.end phase.replies (lacks_pieces phase))
+    × ((number : ℕ) → passed Move number s phase.end phase.replies (lacks_pieces phase)
+    ≡ passed Move 0 s phase.end phase.replies (lacks_pieces phase)))
+    (sym (move_begun from stage phase.position moves))
+    (move_passed from stage phase.end phase.replies (lacks_pieces phase) moves)
+
 led : (stage : Stage) (phase : Phase) (phases : List Phase) → IsSome phase.end
-    → stage_after Move 0 stage (phase ∷ phases) ≡ stage_after Move 0 (after Move 0 stage phase.replies (lacks_pieces phase)) phases
+    → stage_after Move 0 stage (phase ∷ phases)
+    ≡ stage_after Move 0 (after Move 0 (begun_at stage phase.position) phase.replies (lacks_pieces phase)) phases
 led stage phase phases some =
-    ap (λ next. stage_after Move 0 next phases) (passed-ended stage phase.end phase.replies (lacks_pieces phase) some)
+    ap (λ next. stage_after Move 0 next phases)
+    (passed-ended (begun_at stage phase.position) phase.end phase.replies (lacks_pieces phase) some)
 
 -- nothing follows the last phase
 nothing_due : (from : ℕ) (tag : Tag) (phases : List Phase) → AreComplete phases → due (stage_after Move 0 (Moved from tag) phases) ≡ None
@@ -112,7 +149,7 @@ complete_course number stage (phase ∷ []) course none = (some phase.end refl, 
     some (Some end) e = refl
 complete_course number stage (phase ∷ next ∷ later) course none = (
   ap is_some course.1.1,
-  complete_course number (passed Move number stage phase.end phase.replies (lacks_pieces phase)) (next ∷ later) course.2 none,
+  complete_course number (stage_past Move number stage phase) (next ∷ later) course.2 none,
 )
 
 -- attempts that were given up are told from the last one

@@ -1,8 +1,7 @@
 //! The stages of a call, one after another.
 
 ghost use Rattle.std.specs.Prelude.{◌≡◌};
-ghost use Rattle.phase.specs.Phase.{lacks_pieces};
-ghost use Rattle.record.specs.Courses.{due, passed};
+ghost use Rattle.record.specs.Courses.{begun_at, due, stage_past};
 ghost use Rattle.record.specs.Legal.{first_stage};
 ghost use Rattle.record.specs.Journals.{stage_tag};
 ghost use Rattle.transfer.specs.Limits.{IsBelowLimit, HasNextTag};
@@ -14,22 +13,36 @@ use record::{CallKind, Stage};
 use successor::Reading;
 use tag::Tag;
 
-/// Where a call stands that begins. A move leads from the position `from`; a read or a write begins at position 0.
+/// Where a call stands that begins. A move leads from the position `from`; a read or a write begins where `begun_at`
+/// says.
 pub fn first_stage(kind: &CallKind, from: u32) -> Stage
     ensures { result ≡ first_stage kind.now from }
 {
     match kind {
-        CallKind::Read | CallKind::Write(_) => first(Reading::start(0)),
+        CallKind::Read | CallKind::Write(_) => Stage::ReadBegin,
         CallKind::Move => Stage::MoveSpread { position: from },
     }
 }
 
-/// The phase that is due, with its position; none where the call may be answered.
+/// The stage once its phase begins at a position: a first reading begins there, which is to be the object's base. Any
+/// other stage stays.
+pub fn begun_at(stage: Stage, position: u32) -> Stage
+    ensures { result ≡ begun_at stage position }
+{
+    match stage {
+        Stage::ReadBegin => first(Reading::start(position)),
+        _ => stage,
+    }
+}
+
+/// The phase that is due, with its position; none where the call may be answered. A first reading is due where
+/// `begun_at` has it begin.
 pub fn due(stage: Stage) -> Option<(Kind, u32)>
     requires { IsBelowLimit stage }
     ensures { result ≡ due stage }
 {
     match stage {
+        Stage::ReadBegin => Some((Kind::Next, 0)),
         Stage::ReadNext { position, .. } => Some((Kind::Next, position)),
         Stage::AgainNext { position, .. } => Some((Kind::Next, position)),
         Stage::ReadSpread {
@@ -56,12 +69,13 @@ pub fn due(stage: Stage) -> Option<(Kind, u32)>
     }
 }
 
-/// Where a phase leads call number `number`; a phase that is not complete leaves the stage as it is.
+/// Where a phase leads call number `number`; a phase that is not complete only begins what was due.
 pub fn passed(kind: &CallKind, number: u64, stage: Stage, phase: &Phase) -> Stage
-    requires room { IsBelowLimit stage }
-    requires tags { HasNextTag kind.now stage phase.now.replies }
-    ensures { result ≡ passed kind.now number stage phase.now.end phase.now.replies (lacks_pieces phase.now) }
+    requires room { IsBelowLimit (begun_at stage phase.now.position) }
+    requires tags { HasNextTag kind.now (begun_at stage phase.now.position) phase.now.replies }
+    ensures { result ≡ stage_past kind.now number stage phase.now }
 {
+    let stage = begun_at(stage, phase.position());
     if phase.complete() {
         let lacks = phase.lacks_pieces();
         after(kind, number, stage, phase.replies(), lacks)
@@ -75,7 +89,8 @@ pub fn stage_tag(stage: Stage) -> Option<Tag>
     ensures { result ≡ stage_tag stage }
 {
     match stage {
-        Stage::ReadNext { .. }
+        Stage::ReadBegin
+        | Stage::ReadNext { .. }
         | Stage::ReadSpread { .. }
         | Stage::QueryFrom { .. }
         | Stage::MoveSpread { .. }

@@ -3,7 +3,7 @@
 
 ghost use Rattle.transfer.specs.Moves.{MovesAreInOrder};
 
-pub use course::{due, first_stage, passed, stage_tag};
+pub use course::{begun_at, due, first_stage, passed, stage_tag};
 pub use order::next_phase;
 
 mod course;

@@ -11,8 +11,8 @@ use phase::Phase;
 use record::{CallKind, Stage};
 
 /// The phase that is next, with its position, in a move from the position `from` to the one after it that has made the
-/// phases `done`; none where all six are made. A phase that is not complete leads nowhere, and a fetch that lacks
-/// pieces leads back to the query.
+/// phases `done`; none where all six are made. A phase that is not complete leads nowhere, and a fetch that lacks pieces
+/// leads back to the query.
 pub fn next_phase(from: u32, done: &[Phase]) -> Option<(Kind, u32)>
     requires { from + 2 < 2 ^ 32 }
     ensures stage { (number : ℕ) → result ≡ due (stage_after Move number (MoveSpread from) done.now) }

@@ -4,7 +4,7 @@ ghost use Rattle.std.specs.Prelude.{◌≡◌, ◌+◌, ◌<◌, ◌^◌, if◌t
 ghost use Rattle.tag.specs.Tag.{later_tag};
 ghost use Rattle.record.specs.Courses.{after, after_next, after_spread, after_query, after_fetch, after_again};
 ghost use Rattle.record.specs.Courses.{greatest_status, greatest_tag, tagged};
-ghost use Rattle.record.specs.declared.stage.Stage.TheVariants.{ReadNext};
+ghost use Rattle.record.specs.declared.stage.Stage.TheVariants.{ReadBegin};
 ghost use Rattle.successor.specs.Reading.{first_of, again_of, spread_by};
 ghost use Rattle.successor.specs.declared.reading.Reading.TheVariants.{Spread};
 ghost use Rattle.transfer.specs.Limits.{IsBelowLimit, IsTaggable, HasNextTag};
@@ -147,13 +147,13 @@ fn after_query(
     }
 }
 
-// Where pieces are lacking, the first reading begins anew. What the last position's own quorum finalized by its fetch
+// Where pieces are lacking, a first reading begins anew. What the last position's own quorum finalized by its fetch
 // need not be put there again.
 fn after_fetch(shown_at: u32, last: u32, tag: Tag, lacks: bool) -> Stage
-    ensures { result ≡ (if lacks then ReadNext 0 0 else after_fetch shown_at last tag) }
+    ensures { result ≡ (if lacks then ReadBegin else after_fetch shown_at last tag) }
 {
     if lacks {
-        first(Reading::start(0))
+        Stage::ReadBegin
     } else if shown_at == last {
         again(last, tag, Reading::start(last))
     } else {

@@ -1,7 +1,7 @@
 //! What the administrator does through the lock.
 
 ghost use Rattle.std.specs.Prelude.{◌≡◌, ◌⊎◌, None, IfErr, IfOk, OnErr};
-ghost use Rattle.client.specs.Locked.{AddsLayout, BeginsMove, Creates, Moves, MovesNot, SetsServer};
+ghost use Rattle.client.specs.Locked.{AddsLayout, BeginsMove, Creates, Moves, MovesNot, Retires, SetsServer};
 ghost use Rattle.sections.specs.Moves.{Ends, has_asked};
 
 use crate::store::Store;
@@ -10,7 +10,7 @@ use coding_pool::NoGate;
 use driver::Chooser;
 use layout::Layout;
 use register::Receipt;
-use sections::{Admin, Order, StoreName, admin_in, begin_move_in};
+use sections::{Admin, Order, StoreName, admin_in, begin_move_in, retire_in};
 use std::sync::Wait;
 use std::thread::Threads;
 use tag::Refusal;
@@ -86,6 +86,26 @@ impl<L: StoreName> Store<L> {
         let order = Order::SetServer { server, up };
         admin_in(&mut *self.booked.lock(rt), admin, order)?;
         Ok(())
+    }
+
+    /// The base position of an object is retired: its banks drop all pieces, and those that come from now on. Readings
+    /// that begin later begin at the next position. It answers how many bytes that frees.
+    ///
+    /// `NoObject` where there is none of this name, `NotNow` unless the position is the object's base and the move out
+    /// of it was answered, and `Full` where the limit of steps is met. It takes no memory.
+    pub fn retire<R: Wait>(
+        &self,
+        rt: &R,
+        admin: &mut Admin<L>,
+        name: &str,
+        position: u64,
+    ) -> Result<u64, Refusal>
+        ensures { Retires L.first admin.old name.now position result admin.new }
+    {
+        match retire_in(&mut *self.booked.lock(rt), admin, name, position) {
+            Ok(freed) => Ok(freed),
+            Err(refusal) => Err(refusal),
+        }
     }
 
     /// Moves an object to a layout, in at most so many turns beside the call step.

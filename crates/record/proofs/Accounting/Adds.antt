@@ -5,8 +5,7 @@ use Rattle.bank.specs.declared.kind.Kind.TheVariants.{PreWrite}
 use Rattle.mail.specs.Message.{request_bytes}
 use Rattle.phase.specs.Phase.{Phase}
 use Rattle.record.specs.Records.{Call, Object, layout_at}
-use Rattle.record.specs.Courses.{due}
-use Rattle.record.specs.Legal.{stage_of, IsLegal}
+use Rattle.record.specs.Legal.{IsLegal, due_of}
 use Rattle.record.specs.Fragments.{Code}
 use Rattle.record.specs.Accounts.{member_sum, some_bytes, due_bytes, again_bytes, supply_bytes, mailed_by}
 use Rattle.record.specs.Sending.{sent_pieces, request_to}
@@ -24,7 +23,7 @@ pub mailed_by-advance : (fragment : Code) (object : Object) (index : ℕ) (call 
     mailed_by fragment object (Step.Advance index) ≡ 0
 mailed_by-advance fragment object index call at wanted =
     let plain = (advance_ready object index call wanted).1 in
-    ap (λ o. some_bytes o (λ (c : Call). due_bytes fragment object c (due (stage_of object index c)))) at
+    ap (λ o. some_bytes o (λ (c : Call). due_bytes fragment object c (due_of object index c))) at
     ∙ ap (due_bytes fragment object call) plain.is_due
     ∙ none_sum (λ i. request_bytes (request_to plain.kind (sent_pieces fragment object call plain.position i)))
     (λ i. no_piece plain.kind plain.not_pre (sent_pieces fragment object call plain.position i)) 0
@@ -36,7 +35,7 @@ pub mailed_by-again : (fragment : Code) (object : Object) → IsLegal object →
     mailed_by fragment object (Step.Again index) ≡ 0
 mailed_by-again fragment object legal index call at wanted =
     let plain = anew_due object legal index call at (lacking_of object index call wanted) in
-    ap (λ o. some_bytes o (λ (c : Call). due_bytes fragment object c (due (stage_of object index c)))) at
+    ap (λ o. some_bytes o (λ (c : Call). due_bytes fragment object c (due_of object index c))) at
     ∙ ap (due_bytes fragment object call) plain.is_due
     ∙ none_sum (λ i. request_bytes (request_to plain.kind (sent_pieces fragment object call plain.position i)))
     (λ i. no_piece plain.kind plain.not_pre (sent_pieces fragment object call plain.position i)) 0
@@ -46,12 +45,12 @@ mailed_by-again fragment object legal index call at wanted =
 pub mailed_by-supply :
     (fragment : Code) (object : Object) (index : ℕ) (call : Call) (phase : Phase) (end : ℕ) (tag : Tag) (position : ℕ) →
     slice_get object.calls index ≡ Some call → current_phase call.phases ≡ Some phase → phase.end ≡ Some end →
-    due (stage_of object index call) ≡ Some (PreWrite tag, position) → mailed_by fragment object (Step.Supply index)
+    due_of object index call ≡ Some (PreWrite tag, position) → mailed_by fragment object (Step.Supply index)
     ≡ member_sum (λ i. length (sent_pieces fragment object call position i).bytes) 0 (length (layout_at object position).members)
 mailed_by-supply fragment object index call phase end tag position at current ended is_due =
     ap (λ o. some_bytes o (λ (c : Call). supply_bytes fragment object index c (current_phase c.phases))) at
     ∙ ap (supply_bytes fragment object index call) current
-    ∙ ap (λ o. cond (is_some o) (due_bytes fragment object call (due (stage_of object index call)))
+    ∙ ap (λ o. cond (is_some o) (due_bytes fragment object call (due_of object index call))
     (again_bytes fragment object call (Some phase))) ended
     ∙ ap (due_bytes fragment object call) is_due
 

@@ -17,7 +17,7 @@ use Rattle.phase.specs.Phase.{Phase, members_of}
 use Rattle.bank.specs.declared.status.Status.TheVariants.{Pending}
 use Rattle.record.specs.declared.call.CallKind.{CallKind}
 use Rattle.record.specs.declared.call.CallKind.TheVariants.{Move}
-use Rattle.record.specs.Records.{Call, Object, layout_at, bank_at}
+use Rattle.record.specs.Records.{Call, Object, layout_at, bank_at, base_of}
 use Rattle.record.specs.Fragments.{Code}
 use Rattle.record.specs.Accounts.{position_bytes, stored, mailed, member_sum}
 use Rattle.record.specs.Sending.{sent_pieces, request_to, requests}
@@ -83,7 +83,7 @@ mailed-plain object index call kind position now piece plain =
 pub mailed-called : (object : Object) (kind : CallKind) (now : ℕ) → mailed (called_object object kind now) ≡ mailed object
 mailed-called object kind now =
     mailed-plain (record object { calls = object.calls ++ new_call kind now ∷ [] }) (length object.calls)
-    (new_call kind now) Next 0 now empty_piece
+    (new_call kind now) Next (base_of object) now empty_piece
     (λ tag e. cc)
 
 pub mailed-moving : (object : Object) (layout : Layout) (now : ℕ) → mailed (moving_object object layout now) ≡ mailed object

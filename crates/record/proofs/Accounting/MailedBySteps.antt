@@ -11,13 +11,12 @@ use Rattle.mail.specs.Mail.{mail_bytes}
 use Rattle.phase.specs.Phase.{Phase}
 use Rattle.record.specs.declared.call.CallKind.TheVariants.{Read, Write}
 use Rattle.record.specs.Records.{Call, Object}
-use Rattle.record.specs.Courses.{due}
-use Rattle.record.specs.Legal.{stage_of}
+use Rattle.record.specs.Legal.{due_of}
 use Rattle.record.specs.Fragments.{Code}
 use Rattle.record.specs.Accounts.{mailed, some_bytes, reply_bytes, due_bytes, again_bytes}
 use Rattle.record.specs.Accounts.{supply_bytes, mailed_by, asked_bytes, told_bytes, unmailed_by}
 use Rattle.record.specs.Sending.{sent_pieces}
-use Rattle.record.specs.Steps.{called_object, moving_object, begun_object, advanced_object, settled_object}
+use Rattle.record.specs.Steps.{called_object, moving_object, begun_object, advanced_object, settled_object, retired_object}
 use Rattle.record.specs.Steps.{answered_object, served_by, taken_object, taken_by, lost_object, repeated_object}
 use Rattle.record.specs.Steps.{asked_again, supplied_by, supplied_object, Step, on_call, on_message, stepped}
 use Rattle.record.specs.Wants.{current_phase}
@@ -68,8 +67,8 @@ mailed-supplied fragment object index call now (Some phase) = go (is_some phase.
   where
     go : (b : Bool) → mailed (cond b (advanced_object fragment object index call now) (asked_again fragment object call (Some phase)))
         + 0 ≡ mailed object
-        + cond b (due_bytes fragment object call (due (stage_of object index call))) (again_bytes fragment object call (Some phase))
-    go true = mailed-begun fragment object index call (due (stage_of object index call)) now
+        + cond b (due_bytes fragment object call (due_of object index call)) (again_bytes fragment object call (Some phase))
+    go true = mailed-begun fragment object index call (due_of object index call) now
     go false = mailed-again fragment object call (Some phase)
 
 mailed-on_call : (object : Object) (o : Option Call) (change : Call → Object) (bytes : Call → ℕ) →
@@ -111,12 +110,12 @@ mailed-stepped fragment object now (Step.CallMove layout) = same_both (mailed (m
     (mailed-moving object layout now)
 mailed-stepped fragment object now (Step.Advance index) =
     mailed-on_call object (slice_get object.calls index) (λ call. advanced_object fragment object index call now)
-    (λ call. due_bytes fragment object call (due (stage_of object index call)))
-    (λ call. mailed-begun fragment object index call (due (stage_of object index call)) now)
+    (λ call. due_bytes fragment object call (due_of object index call))
+    (λ call. mailed-begun fragment object index call (due_of object index call) now)
 mailed-stepped fragment object now (Step.Again index) =
     mailed-on_call object (slice_get object.calls index) (λ call. advanced_object fragment object index call now)
-    (λ call. due_bytes fragment object call (due (stage_of object index call)))
-    (λ call. mailed-begun fragment object index call (due (stage_of object index call)) now)
+    (λ call. due_bytes fragment object call (due_of object index call))
+    (λ call. mailed-begun fragment object index call (due_of object index call) now)
 mailed-stepped fragment object now (Step.Supply index) =
     mailed-on_call object (slice_get object.calls index) (λ call. supplied_object fragment object index call now)
     (λ call. supply_bytes fragment object index call (current_phase call.phases))
@@ -157,3 +156,4 @@ mailed-stepped fragment object now (Step.Repeat place) = found (slice_get object
     found None = refl
     found (Some message) =
         more_left (mailed (repeated_object object message)) (mailed object) (message_bytes message) (mailed-repeated object message)
+mailed-stepped fragment object now Step.Retire = same_both (mailed (retired_object object now)) (mailed object) refl

@@ -13,8 +13,7 @@ use Rattle.mail.specs.declared.message.Message.{Message}
 use Rattle.mail.specs.declared.message.Body.{Body}
 use Rattle.phase.specs.Phase.{Phase}
 use Rattle.record.specs.Records.{Call, Object, layout_at, bank_at, no_bank, no_layout}
-use Rattle.record.specs.Courses.{due}
-use Rattle.record.specs.Legal.{stage_of}
+use Rattle.record.specs.Legal.{due_of}
 use Rattle.record.specs.Fragments.{Code}
 use Rattle.record.specs.Accounts.{position_bytes, stored_bytes, stored, server_at, for_server, stored_by_body, freed_by_body}
 use Rattle.record.specs.Steps.{with_bank, with_phase, opened_banks, moving_object, begun_object}
@@ -55,7 +54,7 @@ position-set server (x ∷ members) (old ∷ banks) (suc member) bank m b =
     (position-set server members banks member bank below there)
 
 -- other banks for a position
-stored-set : (server : ℕ) (layouts : List Layout) (banks : List (List Bank)) (position : ℕ) (row : List Bank) →
+pub stored-set : (server : ℕ) (layouts : List Layout) (banks : List (List Bank)) (position : ℕ) (row : List Bank) →
     position < length layouts → position < length banks → stored_bytes server layouts (set banks position row)
     + position_bytes server (get_or layouts position no_layout).members (get_or banks position [])
     ≡ stored_bytes server layouts banks + position_bytes server (get_or layouts position no_layout).members row
@@ -180,7 +179,7 @@ module _ (object : Object) (server : ℕ) where
       go : (b : Bool) →
           stored (cond b (advanced_object fragment object index call now) (asked_again fragment object call (Some phase))) server
           ≡ stored object server
-      go true = stored-begun fragment index call (due (stage_of object index call)) now
+      go true = stored-begun fragment index call (due_of object index call) now
       go false = refl
 
   pub stored-taken : (place : ℕ) (message : Message) (b : Body) (now : ℕ) →

@@ -1,10 +1,9 @@
 -- What each step adds to what a server stores, and what it frees.
-use Rattle.std.proofs.Common.{◌≡◌, ℕ, ◌+◌, ◌<◌, length, Option, Some, None, refl, arith, slice_get}
+use Rattle.std.proofs.Common.{◌≡◌, ℕ, ◌+◌, ◌<◌, length, Option, Some, None, refl, arith, slice_get, map, get_or, []}
 use Rattle.mail.specs.declared.message.Message.{Message}
 use Rattle.mail.specs.declared.message.Body.{Body}
-use Rattle.record.specs.Records.{Call, Object}
-use Rattle.record.specs.Courses.{due}
-use Rattle.record.specs.Legal.{stage_of}
+use Rattle.record.specs.Records.{Call, Object, base_of, layout_at}
+use Rattle.record.specs.Legal.{due_of}
 use Rattle.record.specs.Fragments.{Code}
 use Rattle.record.specs.Accounts.{stored, some_bytes, stored_by_body, stored_by, freed_by_body, freed_by}
 use Rattle.record.specs.Steps.{moving_object, advanced_object, settled_object, answered_object, served_by, taken_by}
@@ -14,7 +13,11 @@ use Rattle.record.specs.Sound.{IsPosted, IsSound}
 use Rattle.record.specs.Knowledge.{IsTruePhase}
 use Rattle.mail.specs.declared.message.Body.TheVariants as body
 use Rattle.record.proofs.Accounting.Stored.{stored-handled, stored-begun, stored-asked_again, stored-supplied, stored-taken, stored-moving}
+use Rattle.record.proofs.Accounting.Stored.{stored-set}
 use Rattle.record.proofs.Lists.{all_get}
+use Rattle.record.proofs.Sound.Due.{base_there}
+use Rattle.bank.specs.Collect.{retired_bank}
+use Rattle.record.proofs.Accounting.Retired.{position-retired}
 
 -- Each step, by its name
 
@@ -46,10 +49,10 @@ stored-changed fragment object step now (Step.CallMove layout) server sound =
     (stored-moving object server layout now sound.shape.banks)
 stored-changed fragment object step now (Step.Advance index) server sound =
     stored-on_call object server (slice_get object.calls index) (λ call. advanced_object fragment object index call now)
-    (λ call. stored-begun object server fragment index call (due (stage_of object index call)) now)
+    (λ call. stored-begun object server fragment index call (due_of object index call) now)
 stored-changed fragment object step now (Step.Again index) server sound =
     stored-on_call object server (slice_get object.calls index) (λ call. advanced_object fragment object index call now)
-    (λ call. stored-begun object server fragment index call (due (stage_of object index call)) now)
+    (λ call. stored-begun object server fragment index call (due_of object index call) now)
 stored-changed fragment object step now (Step.Supply index) server sound =
     stored-on_call object server (slice_get object.calls index) (λ call. supplied_object fragment object index call now)
     (λ call. stored-supplied object server fragment index call now (current_phase call.phases))
@@ -89,3 +92,10 @@ stored-changed fragment object step now (Step.Take place) server sound =
 stored-changed fragment object step now (Step.Lose place) server sound = same_more (stored object server) (stored object server) refl
 stored-changed fragment object step now (Step.Repeat place) server sound =
     stored-on_message object server (slice_get object.mail place) (λ message. repeated_object object message) (λ message. refl)
+stored-changed fragment object step now Step.Retire server sound =
+    let base = base_of object in
+    let below = base_there object sound.legal sound.shape in
+    let row = map (λ bank. retired_bank bank now) (get_or object.banks base []) in
+    let set = stored-set server object.layouts object.banks base row below (let b = sound.shape.banks in omega arith) in
+    let none = position-retired server (layout_at object base).members (get_or object.banks base []) now in
+    omega arith

@@ -19,12 +19,12 @@ use Rattle.record.proofs.Examples.WriteAndRead.{first_tag, letter, stored_greate
 -- A write, a move to another server, and a read, which follows the pointer to the new position
 
 -- the write is answered, and the move begins
-abbrev to_move_query : List Step
+abbrev pub to_move_query : List Step
 to_move_query =
     Take 0 ∷ Supply 0 ∷ Serve 0 ∷ Take 0 ∷ Advance 0 ∷ Serve 0 ∷ Take 0 ∷ Advance 0 ∷ Serve 0 ∷ Take 0 ∷ AnswerCall 0
     ∷ CallMove other_member ∷ Serve 0 ∷ Take 0 ∷ Advance 1 ∷ Serve 0 ∷ []
 
-abbrev to_move_fetch : List Step
+abbrev pub to_move_fetch : List Step
 to_move_fetch = Take 0 ∷ Advance 1 ∷ Serve 0 ∷ []
 
 -- the move puts the value into the new position and is answered; the read finds the final pointer, and asks at the new position
@@ -44,25 +44,25 @@ to_read_end = Take 0 ∷ Settle 2 (65 ∷ []) ∷ Advance 2 ∷ Serve 0 ∷ Take
 abbrev pub move_parts : List Step
 move_parts = to_query ++ (to_move_query ++ (to_move_fetch ++ (to_read_query ++ (to_read_fetch ++ to_read_end))))
 
-abbrev move_queried : Object
+abbrev pub move_queried : Object
 move_queried = run whole to_move_query 8 found
 
 move_queried-mail : move_queried.mail ≡ reply_of 2 2 0 Query 23 (answer.Greatest first_tag)
 move_queried-mail = ap (λ tag. reply_of 2 2 0 Query 23 (answer.Greatest tag)) (stored_greatest 0 2 10 13)
 
-abbrev move_found : Object
+abbrev pub move_found : Object
 move_found = record move_queried { mail = reply_of 2 2 0 Query 23 (answer.Greatest first_tag) }
 
 move_queried-is : move_queried ≡ move_found
 move_queried-is = ap (λ mail. record move_queried { mail = mail }) move_queried-mail
 
-abbrev move_fetched : Object
+abbrev pub move_fetched : Object
 move_fetched = run whole to_move_fetch 24 move_found
 
 move_fetched-mail : move_fetched.mail ≡ reply_of 2 3 0 (Fetch first_tag) 26 (answer.Piece (Some (letter 0)))
 move_fetched-mail = ap (λ piece. reply_of 2 3 0 (Fetch first_tag) 26 (answer.Piece piece)) (stored_piece 0 2 10 13)
 
-abbrev move_letter : Object
+abbrev pub move_letter : Object
 move_letter = record move_fetched { mail = reply_of 2 3 0 (Fetch first_tag) 26 (answer.Piece (Some (letter 0))) }
 
 move_fetched-is : move_fetched ≡ move_letter
@@ -104,7 +104,7 @@ no_open only none zero call at is =
     absurd (let clash : false ≡ true = sym none ∙ ap (λ (c : Call). is_move c.kind) same ∙ ap is_move is in cc)
 no_open only none (suc index) call at is = absurd (cc)
 
-moves_ask : Leads to_move_query 8 found move_found
+pub moves_ask : Leads to_move_query 8 found move_found
 moves_ask = record {
   gives = move_queried-is;
   may =
@@ -115,14 +115,14 @@ moves_ask = record {
       (also (_, (refl, (_, refl))) tt)))))))))))))));
 }
 
-moves_fetch : Leads to_move_fetch 24 move_found move_letter
+pub moves_fetch : Leads to_move_fetch 24 move_found move_letter
 moves_fetch = record {
   gives = move_fetched-is;
   may =
       also (_, (refl, (_, _, refl))) (also (_, (refl, refl)) (also (_, (refl, (_, refl))) tt));
 }
 
-moves_settle : MaySettle whole (run whole (Take 0 ∷ []) 27 move_letter) 1 (65 ∷ [])
+pub moves_settle : MaySettle whole (run whole (Take 0 ∷ []) 27 move_letter) 1 (65 ∷ [])
 moves_settle = record {
   call = _;
   k = _;

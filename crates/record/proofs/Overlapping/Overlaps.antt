@@ -21,7 +21,7 @@ use Rattle.bank.proofs.Counting.{one_if}
 use Rattle.bank.proofs.Entries.{Rows, find_sorted, t_true, is_lt-tag}
 use Rattle.phase.specs.Phase.{Phase}
 use Rattle.record.specs.declared.call.CallKind.TheVariants.{Read}
-use Rattle.record.specs.Records.{Call, Object, bank_at}
+use Rattle.record.specs.Records.{Call, Object, bank_at, IsRetiredBy}
 use Rattle.record.specs.Knowledge.{IsTrueReply, IsTruePhase}
 use Rattle.record.specs.Fragments.{Code, HasEnough, HasDropped}
 use Rattle.record.specs.Journals.{tag_of}
@@ -36,6 +36,7 @@ use Rattle.record.proofs.Lists.{all_get, all_weaker, none_twice}
 use Rattle.record.proofs.Sound.Enough.Counting.{enough_not_lacking}
 use Rattle.record.proofs.Sound.Enough.Fetches.{fetch_has_enough}
 use Rattle.record.proofs.Tags.{IsAtMost, not_below_at_most, opening_at_most, tag_lt-true}
+use Rattle.record.proofs.Atomic.Quorums.Replies.{came_by_later}
 
 -- a number that none of these equals is not among them
 apart_from : (xs : List ℕ) (x : ℕ) → AllByRecursion (λ y. y ≡ x → ⊥) xs → has xs x ≡ false
@@ -167,17 +168,17 @@ module _ (fragment : Code) (object : Object) (last : ℕ) (sound : IsSound fragm
         writes_of es sorted (λ k within d.
         ap row_finalized (map.get-entries bank.rows (get_or es k d).0 ∙ find_sorted es k d sorted within))
 
--- what was dropped by a step was exceeded by it
-exceeded : (bank : Bank) (tag : Tag) (step : ℕ) → bank.retired ≡ None → is_dropped_at bank tag step ≡ true →
-    exceeds bank.delta (finals_above_at bank tag step) ≡ true
-exceeded bank tag step none dropped =
-    go (came_by bank.retired step) (ap (λ o. came_by o step) none) (came_by (finalized_at bank tag) step)
+-- what was dropped by a step was exceeded by it, or the bank was retired
+exceeded : (bank : Bank) (tag : Tag) (step : ℕ) → is_dropped_at bank tag step ≡ true →
+    (came_by bank.retired step ≡ true) ⊎ (exceeds bank.delta (finals_above_at bank tag step) ≡ true)
+exceeded bank tag step dropped =
+    go (came_by bank.retired step) (came_by (finalized_at bank tag) step)
     (exceeds bank.delta (finals_above_at bank tag step)) dropped
   where
-    go : (r : Bool) → r ≡ false → (f e : Bool) → (r || (f && e)) ≡ true → e ≡ true
-    go true is f e h = absurd (cc)
-    go false is true e h = h
-    go false is false e h = absurd (cc)
+    go : (r f e : Bool) → (r || (f && e)) ≡ true → (r ≡ true) ⊎ (e ≡ true)
+    go true f e h = inl refl
+    go false true e h = inr h
+    go false false e h = absurd (cc)
 
 exceeds_some : (delta : Option ℕ) (n : ℕ) → exceeds delta n ≡ true → (d : ℕ) × (delta ≡ Some d) × (d + 1 ≤ n)
 exceeds_some None n e = absurd (cc)
@@ -185,7 +186,7 @@ exceeds_some (Some d) n e = (d, refl, leb-true (d + 1) n e)
 
 pub lacking_overlapped : (fragment : Code) (object : Object) (last : ℕ) → IsSound fragment object last → (index place end : ℕ)
     (call : Call) (phase : Phase) (tag : Tag) → IsLackingFetch object index place call phase tag end →
-    IsOverlapped object call place tag end
+    IsRetiredBy object phase.position end ⊎ IsOverlapped object call place tag end
 lacking_overlapped fragment object last sound index place end call phase tag lacking =
     go (fetch_has_enough object sound.legal sound.open_banks index place call phase lacking.at lacking.within truth (tag, lacking.fetch)
     end lacking.complete)
@@ -199,8 +200,11 @@ lacking_overlapped fragment object last sound index place end call phase tag lac
     found : HasTag object Read (suc index) since tag
     found = fetched_since object sound.legal index place call phase tag lacking.at lacking.kind lacking.within lacking.fetch
 
-    by_drop : HasDropped object phase tag → IsOverlapped object call place tag end
-    by_drop dropped =
+    by_more : (dropped : HasDropped object phase tag) →
+        exceeds (bank_at object phase.position dropped.reply.member).delta
+        (finals_above_at (bank_at object phase.position dropped.reply.member) tag dropped.reply.reply.step) ≡ true →
+        IsOverlapped object call place tag end
+    by_more dropped more =
         let member = dropped.reply.member in
         let bank = bank_at object phase.position member in
         let step = dropped.reply.reply.step in
@@ -209,7 +213,7 @@ lacking_overlapped fragment object last sound index place end call phase tag lac
         dropped.within in
         let order = reply.in_order in
         let some = exceeds_some bank.delta (finals_above_at bank tag step)
-        (exceeded bank tag step (sound.shape.unretired phase.position member) dropped.dropped) in
+        more in
         let all = bank_writes fragment object last sound (suc index) since end tag found bank step (omega arith)
         (λ greater final. written fragment object last sound step phase.position member greater step (omega arith) final) in
         record {
@@ -223,7 +227,30 @@ lacking_overlapped fragment object last sound index place end call phase tag lac
           };
         }
 
-    go : HasEnough object phase ⊎ HasDropped object phase tag → IsOverlapped object call place tag end
+    -- the bank had gone with its position, or kept newer versions alone
+    by_drop : (dropped : HasDropped object phase tag) →
+        IsRetiredBy object phase.position end ⊎ IsOverlapped object call place tag end
+    by_drop dropped = by_cause (exceeded bank tag step dropped.dropped)
+      where
+        bank : Bank
+        bank = bank_at object phase.position dropped.reply.member
+
+        step : ℕ
+        step = dropped.reply.reply.step
+
+        by_cause : (came_by bank.retired step ≡ true) ⊎ (exceeds bank.delta (finals_above_at bank tag step) ≡ true) →
+            IsRetiredBy object phase.position end ⊎ IsOverlapped object call place tag end
+        by_cause (inl retired) =
+            let reply = all_get (IsTrueReply object phase) phase.replies dropped.place dropped.reply truth.replies dropped.within in
+            let taken = all_get (λ r. r.step ≤ end) phase.replies dropped.place dropped.reply
+            (truth.complete end lacking.complete).1 dropped.within in
+            let order = reply.in_order in
+            inl (subst (λ o. came_by o end ≡ true) (sound.shape.retired phase.position dropped.reply.member truth.placed reply.within)
+            (came_by_later bank.retired step end (omega arith) retired))
+        by_cause (inr more) = inr (by_more dropped more)
+
+    go : HasEnough object phase ⊎ HasDropped object phase tag →
+        IsRetiredBy object phase.position end ⊎ IsOverlapped object call place tag end
     go (inl enough) =
         absurd (let clash : true ≡ false = sym lacking.lacks ∙ enough_not_lacking object phase truth enough in cc)
     go (inr dropped) = by_drop dropped

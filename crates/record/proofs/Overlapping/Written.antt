@@ -13,13 +13,13 @@ use Rattle.bank.specs.declared.kind.Kind.TheVariants.{Next, Spread, Query, PreWr
 use Rattle.bank.specs.declared.reply.Answer.{Answer}
 use Rattle.bank.specs.declared.reply.Answer.TheVariants as answer
 use Rattle.phase.specs.declared.phase.Taken.{Taken}
-use Rattle.phase.specs.Phase.{Phase, lacks_pieces}
+use Rattle.phase.specs.Phase.{Phase}
 use Rattle.record.specs.declared.call.CallKind.{CallKind}
 use Rattle.record.specs.declared.call.CallKind.TheVariants.{Read, Write, Move}
 use Rattle.record.specs.declared.stage.Stage.{Stage}
 use Rattle.record.specs.Records.{Call, Object, bank_at}
 use Rattle.record.specs.Knowledge.{IsTrueReply, IsTruePhase}
-use Rattle.record.specs.Courses.{shown_tag, greatest_tag, passed, IsCourse}
+use Rattle.record.specs.Courses.{shown_tag, greatest_tag, IsCourse, stage_past}
 use Rattle.record.specs.Fragments.{Code, kind_tag}
 use Rattle.record.specs.Journals.{tag_of}
 use Rattle.record.specs.Legal.{first_stage, source_of, HasBegun}
@@ -109,7 +109,7 @@ ended_earlier object lawful kind number (first ∷ next ∷ later) stage course 
 ended_earlier object lawful kind number (first ∷ next ∷ later) stage course truth zero (suc (suc late)) other phase less a b =
     let same = same_Some first other a in
     let rest = ended_earlier object lawful kind number (next ∷ later)
-    (passed kind number stage first.end first.replies (lacks_pieces first)) course.2 truth.1 zero (suc late) next phase
+    (stage_past kind number stage first) course.2 truth.1 zero (suc late) next phase
     (omega arith) refl b in
     let grew = start_before_end object next rest.end lawful truth.1.0 rest.ended in
     record {
@@ -118,7 +118,7 @@ ended_earlier object lawful kind number (first ∷ next ∷ later) stage course 
       before = (let e = course.1.2 in let r = rest.before in omega arith);
     }
 ended_earlier object lawful kind number (first ∷ next ∷ later) stage course truth (suc early) (suc late) other phase less a b =
-    ended_earlier object lawful kind number (next ∷ later) (passed kind number stage first.end first.replies (lacks_pieces first)) course.2
+    ended_earlier object lawful kind number (next ∷ later) (stage_past kind number stage first) course.2
     truth.1 early late other phase (omega arith) a b
 
 module _ (fragment : Code) (object : Object) (last : ℕ) (sound : IsSound fragment object last) where

@@ -10,7 +10,7 @@ use Rattle.phase.specs.Phase.{Phase}
 use Rattle.record.specs.declared.call.CallKind.{CallKind}
 use Rattle.record.specs.declared.stage.Stage.{Stage}
 use Rattle.record.specs.declared.stage.Stage.TheVariants.{QueryFrom, PreWriteAt, FinalizeAt, AgainNext, AgainSpread, Ended}
-use Rattle.record.specs.Courses.{after_again, tagged, greatest_status, greatest_tag}
+use Rattle.record.specs.Courses.{after_again, tagged, greatest_status, greatest_tag, begun_at}
 use Rattle.record.specs.Grammar.{Asks, finalized_after, IsReading, AreQueries, greatest_shown, Round, round_phases, AreRounds}
 use Rattle.record.proofs.Phases.Paths.{IsPath, asks_of, due_of}
 use Rattle.record.proofs.Phases.Queries.{place_after, later_place, query_last, query_on}
@@ -59,10 +59,11 @@ abbrev Shorter : CallKind → (number : ℕ) → List Phase → Stage → Type 0
 Shorter kind number phases end = (later : List Phase) → length later < length phases → (from position finalized : ℕ) (tag : Tag) →
     IsPath kind number (AgainNext from position tag) later end → AgainSplit from position finalized tag later
 
-nothing_due : (kind : CallKind) (number : ℕ) (stage end : Stage) (phases : List Phase) → IsLast stage →
-    IsPath kind number stage phases end → phases ≡ []
+nothing_due : (kind : CallKind) (number : ℕ) (stage end : Stage) (phases : List Phase) →
+    ((position : ℕ) → IsLast (begun_at stage position)) → IsPath kind number stage phases end → phases ≡ []
 nothing_due kind number stage end [] last path = refl
-nothing_due kind number stage end (phase ∷ phases) last path = absurd (not_last stage (phase.kind, phase.position) path.0 last)
+nothing_due kind number stage end (phase ∷ phases) last path =
+    absurd (not_last (begun_at stage phase.position) (phase.kind, phase.position) path.0 (last phase.position))
 
 again_put : (kind : CallKind) (number from position finalized : ℕ) (tag : Tag) (next : Phase) (more : List Phase) (end : Stage) →
     IsLast end → Shorter kind number (next ∷ more) end → Asks next Next position → greatest_status next.replies ≡ Unset →
@@ -94,7 +95,7 @@ again_unset : (kind : CallKind) (number from position finalized : ℕ) (tag : Ta
 again_unset kind number from position finalized tag next more end last again now none true h path = record {
   reading = next ∷ [];
   rounds = [];
-  split = ap (λ xs. next ∷ xs) (nothing_due kind number (Ended from tag) end more refl path);
+  split = ap (λ xs. next ∷ xs) (nothing_due kind number (Ended from tag) end more (λ position. refl) path);
   last = position;
   to = finalized;
   is_reading = (now, none, refl, refl);

@@ -1,5 +1,5 @@
 -- The phases of a read or a write up to its tag: attempts that were given up, then a reading and the queries.
-use Rattle.std.proofs.Common.{◌≡◌, ◌≢◌, ℕ, zero, suc, ◌+◌, ◌≤◌, Bool, true, false, List, [], ◌∷◌, ◌++◌}
+use Rattle.std.proofs.Common.{◌≡◌, ◌≢◌, ℕ, zero, suc, ◌≤◌, Bool, true, false, List, [], ◌∷◌, ◌++◌}
 use Rattle.std.proofs.Common.{length, Option, Some, is_some, refl, sym, subst, ap, ◌∙◌, arith, le_refl}
 use Rattle.std.proofs.lemmas.List.{append_assoc, length-append}
 use Rattle.tag.specs.declared.tag.Tag.{Tag}
@@ -10,11 +10,11 @@ use Rattle.phase.specs.Phase.{Phase, lacks_pieces}
 use Rattle.record.specs.declared.call.CallKind.{CallKind}
 use Rattle.record.specs.declared.call.CallKind.TheVariants.{Read, Write, Move}
 use Rattle.record.specs.declared.stage.Stage.{Stage}
-use Rattle.record.specs.declared.stage.Stage.TheVariants.{ReadNext, FetchAt}
+use Rattle.record.specs.declared.stage.Stage.TheVariants.{ReadBegin, FetchAt}
 use Rattle.record.specs.Courses.{after, tagged, stage_after, IsCourse}
 use Rattle.record.specs.Journals.{stage_tag}
 use Rattle.record.specs.Grammar.{IsReading, AreQueries, greatest_shown, place_shown, IsAttempt, AreAttempts, attempt_phases, FindsTag}
-use Rattle.record.proofs.Phases.Paths.{IsPath, HasTag, closed_of, asks_of}
+use Rattle.record.proofs.Phases.Paths.{IsPath, HasTag, untagged, closed_of, asks_of}
 use Rattle.record.proofs.Phases.Queries.{place_after, HasPiecesFirst, query_split, takes_of}
 use Rattle.record.proofs.Phases.Readings.{read_split}
 use Rattle.record.proofs.Phases.Turns.{place_after-place_shown}
@@ -33,7 +33,8 @@ pub record AttemptSplit (kind : CallKind) (number : ℕ) (phases : List Phase) (
   pub split : phases ≡ attempt_phases attempts ++ (first ++ (queries ++ rest))
   pub last : ℕ
   pub to : ℕ
-  pub reading : IsReading 0 0 first last to
+  pub start : ℕ
+  pub reading : IsReading start start first last to
   pub asked : AreQueries to last queries
   pub enough : HasPiecesFirst kind rest
   pub path : IsPath kind number (tagged kind number (place_after opening_tag to to queries) last (greatest_shown opening_tag queries))
@@ -45,12 +46,12 @@ no_attempts (Write value) reads = refl
 no_attempts Move reads = absurd (reads refl)
 
 -- one attempt, whose fetch lacks pieces
-attempt_of : (number : ℕ) (first queries : List Phase) (fetch : Phase) (last to : ℕ) → IsReading 0 0 first last to →
+attempt_of : (number : ℕ) (first queries : List Phase) (fetch : Phase) (start last to : ℕ) → IsReading start start first last to →
     AreQueries to last queries → lacks_pieces fetch ≡ true →
     ◌≡◌ {A = Option (Kind × ℕ)} (Some (Fetch (greatest_shown opening_tag queries), place_after opening_tag to to queries))
     (Some (fetch.kind, fetch.position)) →
     IsAttempt (first ++ (queries ++ fetch ∷ []))
-attempt_of number first queries fetch last to reading asked lacks is_due =
+attempt_of number first queries fetch start last to reading asked lacks is_due =
     let top = greatest_shown opening_tag queries in
     record {
       first = first;
@@ -59,6 +60,7 @@ attempt_of number first queries fetch last to reading asked lacks is_due =
       split = refl;
       last = last;
       finalized = to;
+      start = start;
       reading = reading;
       asked = asked;
       tag = top;
@@ -89,6 +91,7 @@ more_attempts number phases first queries later fetch end split attempt others =
       (others.first ++ (others.queries ++ others.rest)))));
   last = others.last;
   to = others.to;
+  start = others.start;
   reading = others.reading;
   asked = others.asked;
   enough = others.enough;
@@ -102,8 +105,8 @@ shorter first queries later fetch phases fuel split h =
     let b = length-append first (queries ++ fetch ∷ later) in
     let c = length-append queries (fetch ∷ later) in omega arith
 
-module _ (kind : CallKind) (number : ℕ) (end : Stage) (phases first queries : List Phase) (last to : ℕ)
-    (reading : IsReading 0 0 first last to) (asked : AreQueries to last queries) where
+module _ (kind : CallKind) (number : ℕ) (end : Stage) (phases first queries : List Phase) (start last to : ℕ)
+    (reading : IsReading start start first last to) (asked : AreQueries to last queries) where
   -- the last attempt
   final : (rest : List Phase) → kind ≢ Move → phases ≡ first ++ (queries ++ rest) → HasPiecesFirst kind rest →
       IsPath kind number (tagged kind number (place_after opening_tag to to queries) last (greatest_shown opening_tag queries)) rest end →
@@ -117,67 +120,58 @@ module _ (kind : CallKind) (number : ℕ) (end : Stage) (phases first queries : 
     split = split;
     last = last;
     to = to;
+    start = start;
     reading = reading;
     asked = asked;
     enough = enough;
     path = path;
   }
 
-read_attempt : (number : ℕ) (end : Stage) (phases first queries : List Phase) (last to : ℕ) (fetch : Phase) (later : List Phase) →
-    IsReading 0 0 first last to → AreQueries to last queries → phases ≡ first ++ (queries ++ fetch ∷ later) →
-    (IsPath Read number (ReadNext 0 0) later end → AttemptSplit Read number later end) → (b : Bool) → lacks_pieces fetch ≡ b →
+read_attempt : (number : ℕ) (end : Stage) (phases first queries : List Phase) (start last to : ℕ) (fetch : Phase)
+    (later : List Phase) → IsReading start start first last to → AreQueries to last queries → phases ≡ first ++ (queries ++ fetch ∷ later) →
+    (IsPath Read number ReadBegin later end → AttemptSplit Read number later end) → (b : Bool) → lacks_pieces fetch ≡ b →
     IsPath Read number (FetchAt (place_after opening_tag to to queries) last (greatest_shown opening_tag queries)) (fetch ∷ later) end →
     AttemptSplit Read number phases end
-read_attempt number end phases first queries last to fetch later reading asked split again true lacks path =
+read_attempt number end phases first queries start last to fetch later reading asked split again true lacks path =
     more_attempts number phases first queries later fetch end split
-    (attempt_of number first queries fetch last to reading asked lacks path.0)
+    (attempt_of number first queries fetch start last to reading asked lacks path.0)
     (again (subst (λ b. IsPath Read number
     (after Read number (FetchAt (place_after opening_tag to to queries) last (greatest_shown opening_tag queries)) fetch.replies b) later
     end) lacks path.1))
-read_attempt number end phases first queries last to fetch later reading asked split again false enough path =
-    final Read number end phases first queries last to reading asked (fetch ∷ later) (λ e. cc) split
+read_attempt number end phases first queries start last to fetch later reading asked split again false enough path =
+    final Read number end phases first queries start last to reading asked (fetch ∷ later) (λ e. cc) split
     (λ k other others same.
     let head : fetch ≡ other = (let s = same in cc) in
     subst (λ (p : Phase). lacks_pieces p ≡ false) head enough) path
 
-by_rest : (kind : CallKind) (number : ℕ) (end : Stage) (phases first queries : List Phase) (last to : ℕ) (rest : List Phase) →
-    kind ≢ Move → IsReading 0 0 first last to → AreQueries to last queries → phases ≡ first ++ (queries ++ rest) →
-    ((fetch : Phase) (later : List Phase) → rest ≡ fetch ∷ later → IsPath Read number (ReadNext 0 0) later end →
+by_rest : (kind : CallKind) (number : ℕ) (end : Stage) (phases first queries : List Phase) (start last to : ℕ) (rest : List Phase) →
+    kind ≢ Move → IsReading start start first last to → AreQueries to last queries → phases ≡ first ++ (queries ++ rest) →
+    ((fetch : Phase) (later : List Phase) → rest ≡ fetch ∷ later → IsPath Read number ReadBegin later end →
     AttemptSplit Read number later end) →
     IsPath kind number (tagged kind number (place_after opening_tag to to queries) last (greatest_shown opening_tag queries)) rest end →
     AttemptSplit kind number phases end
-by_rest Read number end phases first queries last to [] reads reading asked split again path =
-    final Read number end phases first queries last to reading asked [] reads split (λ k fetch later same. absurd (cc)) path
-by_rest Read number end phases first queries last to (fetch ∷ later) reads reading asked split again path =
-    read_attempt number end phases first queries last to fetch later reading asked split (again fetch later refl) (lacks_pieces fetch) refl
-    path
-by_rest (Write value) number end phases first queries last to rest reads reading asked split again path =
-    final (Write value) number end phases first queries last to reading asked rest reads split (λ k fetch later same. absurd (cc)) path
-by_rest Move number end phases first queries last to rest reads reading asked split again path = absurd (reads refl)
+by_rest Read number end phases first queries start last to [] reads reading asked split again path =
+    final Read number end phases first queries start last to reading asked [] reads split (λ k fetch later same. absurd (cc)) path
+by_rest Read number end phases first queries start last to (fetch ∷ later) reads reading asked split again path =
+    read_attempt number end phases first queries start last to fetch later reading asked split (again fetch later refl)
+    (lacks_pieces fetch) refl path
+by_rest (Write value) number end phases first queries start last to rest reads reading asked split again path =
+    final (Write value) number end phases first queries start last to reading asked rest reads split
+    (λ k fetch later same. absurd (cc)) path
+by_rest Move number end phases first queries start last to rest reads reading asked split again path = absurd (reads refl)
 
 pub attempt_split : (kind : CallKind) → kind ≢ Move → (number fuel : ℕ) (phases : List Phase) → length phases ≤ fuel →
-    (end : Stage) → HasTag end → IsPath kind number (ReadNext 0 0) phases end → AttemptSplit kind number phases end
-attempt_split kind reads number zero phases h end has path =
-    let read = read_split kind number phases 0 0 end has path in
+    (end : Stage) → HasTag end → IsPath kind number ReadBegin phases end → AttemptSplit kind number phases end
+attempt_split kind reads number fuel [] h end has path = absurd (untagged ReadBegin end refl has path)
+attempt_split kind reads number zero (next ∷ later) h end has path = absurd (omega arith)
+attempt_split kind reads number (suc fuel) (next ∷ phases) h end has path =
+    let all = next ∷ phases in
+    let read = read_split kind number all next.position next.position end has path in
     let asked = query_split kind number read.later read.to read.last opening_tag read.to end has read.path in
     let split = read.split ∙ ap (λ xs. read.first ++ xs) asked.split in
-    by_rest kind number end phases read.first asked.queries read.last read.to asked.rest reads read.reading asked.asked split
-    (λ fetch later same p. absurd (none read.first asked.queries asked.rest fetch later split same)) asked.path
-  where
-    none : (first queries rest : List Phase) (fetch : Phase) (later : List Phase) → phases ≡ first ++ (queries ++ rest) →
-        rest ≡ fetch ∷ later → ⊥
-    none first queries rest fetch later split same =
-        let a = ap length split in
-        let b = length-append first (queries ++ rest) in
-        let c = length-append queries rest in
-        let d = ap length same in omega arith
-attempt_split kind reads number (suc fuel) phases h end has path =
-    let read = read_split kind number phases 0 0 end has path in
-    let asked = query_split kind number read.later read.to read.last opening_tag read.to end has read.path in
-    let split = read.split ∙ ap (λ xs. read.first ++ xs) asked.split in
-    by_rest kind number end phases read.first asked.queries read.last read.to asked.rest reads read.reading asked.asked split
+    by_rest kind number end all read.first asked.queries next.position read.last read.to asked.rest reads read.reading asked.asked split
     (λ fetch later same p. attempt_split Read (λ e. cc) number fuel later
-    (shorter read.first asked.queries later fetch phases fuel
+    (shorter read.first asked.queries later fetch all fuel
     (split ∙ ap (λ xs. read.first ++ (asked.queries ++ xs)) same) h) end has p) asked.path
 
 split_on : (phases done last before first queries rest : List Phase) → phases ≡ done ++ last →
@@ -190,12 +184,13 @@ split_on phases done last before first queries rest a b =
 
 -- a read or a write that has its tag
 pub finds_tag : (kind : CallKind) (number : ℕ) → kind ≢ Move → (phases : List Phase) (tag : Tag) →
-    IsCourse kind number (ReadNext 0 0) phases → stage_tag (stage_after kind number (ReadNext 0 0) phases) ≡ Some tag →
+    IsCourse kind number ReadBegin phases → stage_tag (stage_after kind number ReadBegin phases) ≡ Some tag →
     FindsTag kind number phases tag
 finds_tag kind number reads phases tag course has =
-    let end = stage_after kind number (ReadNext 0 0) phases in
-    let closed = closed_of kind number phases (ReadNext 0 0) course in
-    let found = attempt_split kind reads number (length closed.done) closed.done (le_refl (length closed.done)) end (ap is_some has)
+    let closed = closed_of kind number phases ReadBegin course in
+    let end = closed.middle in
+    let tagged : stage_tag end ≡ Some tag = closed.same_tag ∙ has in
+    let found = attempt_split kind reads number (length closed.done) closed.done (le_refl (length closed.done)) end (ap is_some tagged)
     closed.path in
     record {
       attempts = found.attempts;
@@ -208,8 +203,9 @@ finds_tag kind number reads phases tag course has =
           found.split;
       last = found.last;
       finalized = found.to;
+      start = found.start;
       reading = found.reading;
       asked = found.asked;
       takes = takes_of kind number (place_after opening_tag found.to found.to found.queries) found.last
-          (greatest_shown opening_tag found.queries) found.rest end tag reads has found.enough found.path;
+          (greatest_shown opening_tag found.queries) found.rest end tag reads tagged found.enough found.path;
     }

@@ -7,13 +7,14 @@ use Rattle.record.specs.declared.call.CallKind.{CallKind}
 use Rattle.record.specs.declared.call.CallKind.TheVariants.{Read, Write, Move}
 use Rattle.record.specs.declared.stage.Stage.{Stage}
 use Rattle.record.specs.declared.stage.Stage.TheVariants.{Ended, Moved}
-use Rattle.record.specs.Courses.{due, after, tagged, passed, IsCourse, IsEndedBefore}
+use Rattle.record.specs.Courses.{due, after, tagged, passed, IsCourse, IsEndedBefore, begun_at}
 use Rattle.record.specs.Legal.{first_stage}
 use Rattle.record.specs.Journals.{stage_tag}
-use Rattle.record.specs.Grammar.{IsSentence}
+use Rattle.record.specs.Grammar.{Asks, IsSentence}
 use Rattle.record.specs.Shape.{AreBegun, SameReplies, Begin, IsBeginning, CoursesAreBeginnings}
 use Rattle.record.proofs.Phases.Finishes.{Finish, finish}
-use Rattle.record.proofs.Phases.Orderly.{IsOrderly, orderly_after, orderly_first}
+use Rattle.record.proofs.Phases.Orderly.{IsOrderly, orderly_after, orderly_first, orderly_begun}
+use Rattle.record.proofs.Begins.{begun_twice}
 use Rattle.record.proofs.Phases.Paths.{IsPath, asks_of, due_of}
 use Rattle.record.proofs.Phases.Turns.{IsLast}
 use Rattle.record.proofs.Phases.Moves.{move_of_path, path_of_move}
@@ -28,8 +29,9 @@ record Begun (kind : CallKind) (number : ℕ) (stage : Stage) (phases : List Pha
 
 -- a complete phase before what a later stage begins with
 begun_on : (kind : CallKind) (number : ℕ) (stage : Stage) (phase : Phase) (later : List Phase) →
-    due stage ≡ Some (phase.kind, phase.position) → IsEndedBefore phase later →
-    Begun kind number (after kind number stage phase.replies (lacks_pieces phase)) later → Begun kind number stage (phase ∷ later)
+    due (begun_at stage phase.position) ≡ Some (phase.kind, phase.position) → IsEndedBefore phase later →
+    Begun kind number (after kind number (begun_at stage phase.position) phase.replies (lacks_pieces phase)) later →
+    Begun kind number stage (phase ∷ later)
 begun_on kind number stage phase later e ended rest = record {
   in_turn = (ended, rest.in_turn);
   finish = record {
@@ -44,20 +46,35 @@ begun_on kind number stage phase later e ended rest = record {
 }
 
 -- a phase that is not complete is the one that is due
-begun_open : (kind : CallKind) (number : ℕ) (stage : Stage) (phase : Phase) → due stage ≡ Some (phase.kind, phase.position) →
+begun_open : (kind : CallKind) (number : ℕ) (stage : Stage) (phase : Phase) →
+    due (begun_at stage phase.position) ≡ Some (phase.kind, phase.position) →
     phase.end ≡ None → (more : List Phase) (end : Stage) (tag : Tag) → IsLast end → stage_tag end ≡ Some tag →
-    IsPath kind number stage more end → Begun kind number stage (phase ∷ [])
+    IsPath kind number (begun_at stage phase.position) more end → Begun kind number stage (phase ∷ [])
 begun_open kind number stage phase e none [] end tag last tagged path =
     absurd (let clash : Some (phase.kind, phase.position) ≡ None = sym e ∙ (ap (λ s. due s) path ∙ last) in cc)
 begun_open kind number stage phase e none (other ∷ others) end tag last tagged path = record {
   in_turn = (tt, tt);
-  finish = record { more = other ∷ others; end = end; tag = tag; last = last; tagged = tagged; path = path };
+  finish = record {
+    more = other ∷ others;
+    end = end;
+    tag = tag;
+    last = last;
+    tagged = tagged;
+    path = subst
+        (λ s. (due s ≡ Some (other.kind, other.position))
+        × IsPath kind number (after kind number s other.replies (lacks_pieces other)) others end)
+        (begun_twice stage phase.position other.position ∙ ap (λ p. begun_at stage p) (sym asks.1)) path;
+  };
   begin = (
-    asks_of phase.kind phase.position other (sym e ∙ path.0),
+    asks,
     (λ some. absurd (let clash : false ≡ true = ap is_some (sym none) ∙ some in cc)),
     tt,
   );
 }
+  where
+    asks : Asks other phase.kind phase.position
+    asks = asks_of phase.kind phase.position other
+        (sym e ∙ (ap (λ s. due s) (sym (begun_twice stage phase.position other.position)) ∙ path.0))
 
 begun_of : (kind : CallKind) (number : ℕ) (phases : List Phase) (stage : Stage) → IsOrderly stage →
     IsCourse kind number stage phases → Begun kind number stage phases
@@ -66,22 +83,25 @@ begun_of kind number (phase ∷ []) stage orderly course = by_end phase.end refl
   where
     by_end : (o : Option ℕ) → phase.end ≡ o → Begun kind number stage (phase ∷ [])
     by_end None h =
-        let rest = finish kind number stage orderly in
+        let rest = finish kind number (begun_at stage phase.position) (orderly_begun stage phase.position orderly) in
         begun_open kind number stage phase course.0 h rest.more rest.end rest.tag rest.last rest.tagged rest.path
     by_end (Some end) h =
         begun_on kind number stage phase [] course.0 tt
         (record {
           in_turn = tt;
           finish =
-              finish kind number (after kind number stage phase.replies (lacks_pieces phase))
-              (orderly_after kind number stage phase.replies (lacks_pieces phase) orderly);
+              finish kind number (after kind number (begun_at stage phase.position) phase.replies (lacks_pieces phase))
+              (orderly_after kind number (begun_at stage phase.position) phase.replies (lacks_pieces phase)
+              (orderly_begun stage phase.position orderly));
           begin = tt;
         })
 begun_of kind number (phase ∷ next ∷ later) stage orderly course =
     begun_on kind number stage phase (next ∷ later) course.0 course.1
-    (begun_of kind number (next ∷ later) (after kind number stage phase.replies (lacks_pieces phase))
-    (orderly_after kind number stage phase.replies (lacks_pieces phase) orderly)
-    (subst (λ o. IsCourse kind number (passed kind number stage o phase.replies (lacks_pieces phase)) (next ∷ later)) course.1.1 course.2))
+    (begun_of kind number (next ∷ later) (after kind number (begun_at stage phase.position) phase.replies (lacks_pieces phase))
+    (orderly_after kind number (begun_at stage phase.position) phase.replies (lacks_pieces phase)
+    (orderly_begun stage phase.position orderly))
+    (subst (λ o. IsCourse kind number
+    (passed kind number (begun_at stage phase.position) o phase.replies (lacks_pieces phase)) (next ∷ later)) course.1.1 course.2))
 
 -- and back
 
@@ -105,11 +125,15 @@ course_of_begin : (kind : CallKind) (number : ℕ) (phases whole : List Phase) (
 course_of_begin kind number [] whole stage end path turn begin = tt
 course_of_begin kind number (phase ∷ later) [] stage end path turn begin = absurd begin
 course_of_begin kind number (phase ∷ later) (other ∷ others) stage end path turn begin = (
-  path.0 ∙ sym (due_of phase.kind phase.position other begin.0),
+  subst (λ p. due (begun_at stage p) ≡ Some (other.kind, other.position)) begin.0.1 path.0
+      ∙ sym (due_of phase.kind phase.position other begin.0),
   turn.0,
-  course_step kind number stage phase later turn.0
-      (λ some. course_of_begin kind number later others (after kind number stage phase.replies (lacks_pieces phase)) end
-      (subst (λ s. IsPath kind number s others end) (same_after kind number stage phase other (begin.1 some)) path.1) turn.1
+  course_step kind number (begun_at stage phase.position) phase later turn.0
+      (λ some. course_of_begin kind number later others
+      (after kind number (begun_at stage phase.position) phase.replies (lacks_pieces phase)) end
+      (subst (λ s. IsPath kind number s others end)
+      (ap (λ p. after kind number (begun_at stage p) other.replies (lacks_pieces other)) begin.0.1
+      ∙ same_after kind number (begun_at stage phase.position) phase other (begin.1 some)) path.1) turn.1
       begin.2) phase.end refl,
 )
 

@@ -11,10 +11,10 @@ use Rattle.phase.specs.Phase.{Phase, begun}
 use Rattle.record.specs.declared.call.CallKind.{CallKind}
 use Rattle.record.specs.declared.call.CallKind.TheVariants.{Read, Write, Move}
 use Rattle.record.specs.declared.stage.Stage.{Stage}
-use Rattle.record.specs.declared.stage.Stage.TheVariants.{ReadNext, ReadSpread, QueryFrom, FetchAt, PreWriteAt}
+use Rattle.record.specs.declared.stage.Stage.TheVariants.{ReadBegin, ReadNext, ReadSpread, QueryFrom, FetchAt, PreWriteAt}
 use Rattle.record.specs.declared.stage.Stage.TheVariants.{FinalizeAt, AgainNext, AgainSpread, MoveSpread, MoveQuery}
 use Rattle.record.specs.declared.stage.Stage.TheVariants.{MoveFetch, MovePreWrite, MoveFinalize, MoveFinal, Ended, Moved}
-use Rattle.record.specs.Courses.{due, after, after_spread, tagged}
+use Rattle.record.specs.Courses.{due, after, after_spread, tagged, begun_at}
 use Rattle.record.specs.Journals.{stage_tag}
 use Rattle.record.proofs.Phases.Orderly.{IsOrderly}
 use Rattle.record.proofs.Phases.Paths.{IsPath}
@@ -35,8 +35,9 @@ pub record Finish (kind : CallKind) (number : ℕ) (stage : Stage) : Type 0 wher
   pub tagged : stage_tag end ≡ Some tag
   pub path : IsPath kind number stage more end
 
-finish_by : (kind : CallKind) (number : ℕ) (stage : Stage) (asked : Kind) (position : ℕ) → due stage ≡ Some (asked, position) →
-    Finish kind number (after kind number stage [] false) →
+finish_by : (kind : CallKind) (number : ℕ) (stage : Stage) (asked : Kind) (position : ℕ) →
+    due (begun_at stage position) ≡ Some (asked, position) →
+    Finish kind number (after kind number (begun_at stage position) [] false) →
     Finish kind number stage
 finish_by kind number stage asked position e rest = record {
   more = silent asked position ∷ rest.more;
@@ -135,6 +136,8 @@ finish_move kind number position tag =
     finish_by kind number (MoveFetch position tag) (Fetch tag) position refl (finish_pre_write kind number position tag)
 
 pub finish : (kind : CallKind) (number : ℕ) (stage : Stage) → IsOrderly stage → Finish kind number stage
+finish kind number ReadBegin h =
+    finish_by kind number ReadBegin Next 0 refl (finish_query kind number 0 0 opening_tag 0 (le_refl 0))
 finish kind number (ReadNext position finalized) h = finish_read kind number position finalized h
 finish kind number (ReadSpread position finalized status) h =
     finish_by kind number (ReadSpread position finalized status) (Spread status) position refl

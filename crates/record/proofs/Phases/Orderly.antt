@@ -9,13 +9,14 @@ use Rattle.phase.specs.declared.phase.Taken.{Taken}
 use Rattle.record.specs.declared.call.CallKind.{CallKind}
 use Rattle.record.specs.declared.call.CallKind.TheVariants.{Read, Write, Move}
 use Rattle.record.specs.declared.stage.Stage.{Stage}
-use Rattle.record.specs.declared.stage.Stage.TheVariants.{ReadNext, ReadSpread, QueryFrom, FetchAt, PreWriteAt}
+use Rattle.record.specs.declared.stage.Stage.TheVariants.{ReadBegin, ReadNext, ReadSpread, QueryFrom, FetchAt, PreWriteAt}
 use Rattle.record.specs.declared.stage.Stage.TheVariants.{FinalizeAt, AgainNext, AgainSpread, MoveSpread, MoveQuery}
 use Rattle.record.specs.declared.stage.Stage.TheVariants.{MoveFetch, MovePreWrite, MoveFinalize, MoveFinal, Ended, Moved}
-use Rattle.record.specs.Courses.{after, after_next, after_spread, after_query, after_fetch}
+use Rattle.record.specs.Courses.{after, after_next, after_spread, after_query, after_fetch, begun_at}
 use Rattle.record.specs.Courses.{after_again, tagged, greatest_status, greatest_tag}
 use Rattle.record.specs.Legal.{first_stage}
 use Rattle.record.proofs.Phases.Queries.{later_place, query_last, query_on}
+use Rattle.record.proofs.Begins.{begun_has}
 
 -- stages that can come to an end: positions are in order
 abbrev pub IsOrderly : Stage → Type 0
@@ -72,11 +73,12 @@ orderly_fetch place last tag = go (eqb place last)
 
 pub orderly_after : (kind : CallKind) (number : ℕ) (stage : Stage) (replies : List Taken) (lacks : Bool) → IsOrderly stage →
     IsOrderly (after kind number stage replies lacks)
+orderly_after kind number ReadBegin replies lacks h = tt
 orderly_after kind number (ReadNext position finalized) replies lacks h = orderly_next (greatest_status replies) position finalized h
 orderly_after kind number (ReadSpread position finalized status) replies lacks h = orderly_spread status position finalized h
 orderly_after kind number (QueryFrom position last greatest shown_at) replies lacks h =
     orderly_query kind number (greatest_tag replies) position last greatest shown_at (eqb position last) refl h
-orderly_after kind number (FetchAt place last tag) replies true h = le_refl 0
+orderly_after kind number (FetchAt place last tag) replies true h = tt
 orderly_after kind number (FetchAt place last tag) replies false h = orderly_fetch place last tag
 orderly_after kind number (PreWriteAt last tag) replies lacks h = tt
 orderly_after kind number (FinalizeAt last tag) replies lacks h = tt
@@ -93,6 +95,9 @@ orderly_after kind number (Ended last tag) replies lacks h = tt
 orderly_after kind number (Moved position tag) replies lacks h = tt
 
 pub orderly_first : (kind : CallKind) (from : ℕ) → IsOrderly (first_stage kind from)
-orderly_first Read from = le_refl 0
-orderly_first (Write value) from = le_refl 0
+orderly_first Read from = tt
+orderly_first (Write value) from = tt
 orderly_first Move from = tt
+
+pub orderly_begun : (stage : Stage) (position : ℕ) → IsOrderly stage → IsOrderly (begun_at stage position)
+orderly_begun stage position h = begun_has (λ s. IsOrderly s) stage position (λ first. le_refl position) h

@@ -12,7 +12,7 @@ use Rattle.phase.specs.Phase.{Phase, lacks_pieces}
 use Rattle.record.specs.declared.call.CallKind.{CallKind}
 use Rattle.record.specs.declared.stage.Stage.{Stage}
 use Rattle.record.specs.declared.stage.Stage.TheVariants.{AgainNext, AgainSpread}
-use Rattle.record.specs.Courses.{due, after_again, passed, stage_after, IsCourse, greatest_status, greatest_tag}
+use Rattle.record.specs.Courses.{due, after_again, passed, stage_after, IsCourse, greatest_status, greatest_tag, begun_at, stage_past}
 use Rattle.record.specs.Grammar.{finalized_after, IsReading, greatest_shown, place_shown}
 use Rattle.record.specs.Shape.{AreInTurn}
 use Rattle.record.proofs.Phases.Paths.{IsPath, due_of}
@@ -41,17 +41,21 @@ path_of_course kind number (phase ∷ []) stage course last = by_end phase.end r
         IsSome phase.end × IsPath kind number stage (phase ∷ []) (stage_after kind number stage (phase ∷ []))
     by_end None h =
         absurd
-        (not_last stage (phase.kind, phase.position) course.0
-        (subst (λ o. IsLast (passed kind number stage o phase.replies (lacks_pieces phase))) h last))
-    by_end (Some end) h = (ap is_some h, (course.0, ap (λ o. passed kind number stage o phase.replies (lacks_pieces phase)) (sym h)))
+        (not_last (begun_at stage phase.position) (phase.kind, phase.position) course.0
+        (subst (λ o. IsLast (passed kind number (begun_at stage phase.position) o phase.replies (lacks_pieces phase))) h last))
+    by_end (Some end) h = (
+      ap is_some h,
+      (course.0, ap (λ o. passed kind number (begun_at stage phase.position) o phase.replies (lacks_pieces phase)) (sym h)),
+    )
 path_of_course kind number (phase ∷ next ∷ later) stage course last =
     let ended = course.1.1 in
     let rest = path_of_course kind number (next ∷ later)
-    (passed kind number stage phase.end phase.replies (lacks_pieces phase)) course.2 last in (
+    (stage_past kind number stage phase) course.2 last in (
       (course.1, rest.0),
       (
         course.0,
-        subst (λ o. IsPath kind number (passed kind number stage o phase.replies (lacks_pieces phase)) (next ∷ later)
+        subst (λ o. IsPath kind number
+            (passed kind number (begun_at stage phase.position) o phase.replies (lacks_pieces phase)) (next ∷ later)
             (stage_after kind number stage (phase ∷ next ∷ later))) ended rest.1,
       ),
     )
@@ -65,11 +69,12 @@ pub course_of_path : (kind : CallKind) (number : ℕ) (phases : List Phase) (sta
 course_of_path kind number [] stage end turn path = (tt, path)
 course_of_path kind number (phase ∷ []) stage end turn path =
     let ended = some_end phase.end turn in
-    ((path.0, tt, tt), ap (λ o. passed kind number stage o phase.replies (lacks_pieces phase)) ended.1 ∙ path.1)
+    ((path.0, tt, tt), ap (λ o. passed kind number (begun_at stage phase.position) o phase.replies (lacks_pieces phase)) ended.1 ∙ path.1)
 course_of_path kind number (phase ∷ next ∷ later) stage end turn path =
     let ended = turn.0.1 in
-    let rest = course_of_path kind number (next ∷ later) (passed kind number stage phase.end phase.replies (lacks_pieces phase)) end turn.1
-    (subst (λ o. IsPath kind number (passed kind number stage o phase.replies (lacks_pieces phase)) (next ∷ later) end)
+    let rest = course_of_path kind number (next ∷ later) (stage_past kind number stage phase) end turn.1
+    (subst (λ o. IsPath kind number
+    (passed kind number (begun_at stage phase.position) o phase.replies (lacks_pieces phase)) (next ∷ later) end)
     (sym ended) path.1) in
     ((path.0, turn.0, rest.0), rest.1)
 

@@ -7,7 +7,7 @@ use Rattle.phase.specs.Phase.{Phase}
 use Rattle.record.specs.declared.call.CallKind.{CallKind}
 use Rattle.record.specs.declared.call.CallKind.TheVariants.{Read, Write, Move}
 use Rattle.record.specs.declared.stage.Stage.{Stage}
-use Rattle.record.specs.declared.stage.Stage.TheVariants.{ReadNext, ReadSpread, QueryFrom, FetchAt, PreWriteAt}
+use Rattle.record.specs.declared.stage.Stage.TheVariants.{ReadBegin, ReadNext, ReadSpread, QueryFrom, FetchAt, PreWriteAt}
 use Rattle.record.specs.declared.stage.Stage.TheVariants.{FinalizeAt, AgainNext, AgainSpread, MoveSpread, MoveQuery}
 use Rattle.record.specs.declared.stage.Stage.TheVariants.{MoveFetch, MovePreWrite, MoveFinalize, MoveFinal, Ended, Moved}
 use Rattle.record.specs.Courses.{tagged, stage_after}
@@ -19,13 +19,13 @@ use Rattle.record.proofs.Phases.Again.{queries_path}
 use Rattle.record.proofs.Phases.Attempts.{place_same, attempt_split}
 use Rattle.record.proofs.Phases.Backward.{attempts_path}
 use Rattle.record.proofs.Phases.Moves.{move_of_path, path_of_move}
-use Rattle.record.proofs.Phases.Paths.{IsPath, path-append, reading_path}
+use Rattle.record.proofs.Phases.Paths.{IsPath, path-append, reading_path, begin_path}
 use Rattle.record.proofs.Phases.Queries.{place_after, takes_of}
 use Rattle.record.proofs.Phases.Rests.{rest_of, rest_path, rest_placed, rest_from}
 use Rattle.record.proofs.Phases.Turns.{IsLast, path_of_course, course_of_path, reading-bound}
 
 pub whole_of_path : (kind : CallKind) (number : ℕ) (phases : List Phase) (end : Stage) (tag : Tag) → kind ≢ Move → IsLast end →
-    stage_tag end ≡ Some tag → IsPath kind number (ReadNext 0 0) phases end → ArePhasesOfCall kind number phases tag
+    stage_tag end ≡ Some tag → IsPath kind number ReadBegin phases end → ArePhasesOfCall kind number phases tag
 whole_of_path kind number phases end tag reads ends has path =
     let found = attempt_split kind reads number (length phases) phases (le_refl (length phases)) end (ap is_some has) path in
     let place = place_after opening_tag found.to found.to found.queries in
@@ -41,6 +41,7 @@ whole_of_path kind number phases end tag reads ends has path =
         split = found.split;
         last = found.last;
         finalized = found.to;
+        start = found.start;
         reading = found.reading;
         asked = found.asked;
         takes = takes;
@@ -69,18 +70,21 @@ after_queries kind number (query ∷ later) rest last finalized tag h asked take
     )
 
 pub path_of_whole : (kind : CallKind) (number : ℕ) (phases : List Phase) (tag : Tag) → ArePhasesOfCall kind number phases tag →
-    (at : ℕ) × IsPath kind number (ReadNext 0 0) phases (Ended at tag)
+    (at : ℕ) × IsPath kind number ReadBegin phases (Ended at tag)
 path_of_whole kind number phases tag whole =
     let finds = whole.finds in
     let way = after_queries kind number finds.queries finds.rest finds.last finds.finalized tag
-    (reading-bound finds.first 0 0 finds.last finds.finalized (le_refl 0) finds.reading) finds.asked finds.takes whole.rest in (
+    (reading-bound finds.first finds.start finds.start finds.last finds.finalized (le_refl finds.start) finds.reading)
+    finds.asked finds.takes whole.rest in (
       way.0,
-      subst (λ xs. IsPath kind number (ReadNext 0 0) xs (Ended way.0 tag)) (sym finds.split)
-          (path-append kind number (attempt_phases finds.attempts) (finds.first ++ (finds.queries ++ finds.rest)) (ReadNext 0 0)
-          (ReadNext 0 0) (Ended way.0 tag) (attempts_path kind number finds.attempts finds.given_up)
-          (path-append kind number finds.first (finds.queries ++ finds.rest) (ReadNext 0 0)
+      subst (λ xs. IsPath kind number ReadBegin xs (Ended way.0 tag)) (sym finds.split)
+          (path-append kind number (attempt_phases finds.attempts) (finds.first ++ (finds.queries ++ finds.rest)) ReadBegin
+          ReadBegin (Ended way.0 tag) (attempts_path kind number finds.attempts finds.given_up)
+          (begin_path kind number finds.first (finds.queries ++ finds.rest) finds.start finds.start finds.last finds.finalized
+          (Ended way.0 tag) finds.reading
+          (path-append kind number finds.first (finds.queries ++ finds.rest) (ReadNext finds.start finds.start)
           (QueryFrom finds.finalized finds.last opening_tag finds.finalized) (Ended way.0 tag)
-          (reading_path kind number finds.first 0 0 finds.last finds.finalized finds.reading) way.1)),
+          (reading_path kind number finds.first finds.start finds.start finds.last finds.finalized finds.reading) way.1))),
     )
 
 -- finished calls
@@ -96,16 +100,16 @@ finished_of kind number stage end phases tag turn path last has =
     }
 
 read_finished : (kind : CallKind) (number : ℕ) (phases : List Phase) (tag : Tag) → kind ≢ Move →
-    IsFinished kind number (ReadNext 0 0) phases tag → AreInTurn phases × ArePhasesOfCall kind number phases tag
+    IsFinished kind number ReadBegin phases tag → AreInTurn phases × ArePhasesOfCall kind number phases tag
 read_finished kind number phases tag reads done =
-    let way = path_of_course kind number phases (ReadNext 0 0) done.course done.none_due in
-    (way.0, whole_of_path kind number phases (stage_after kind number (ReadNext 0 0) phases) tag reads done.none_due done.tagged way.1)
+    let way = path_of_course kind number phases ReadBegin done.course done.none_due in
+    (way.0, whole_of_path kind number phases (stage_after kind number ReadBegin phases) tag reads done.none_due done.tagged way.1)
 
 read_whole : (kind : CallKind) (number : ℕ) (phases : List Phase) (tag : Tag) → AreInTurn phases × ArePhasesOfCall kind number phases tag →
-    IsFinished kind number (ReadNext 0 0) phases tag
+    IsFinished kind number ReadBegin phases tag
 read_whole kind number phases tag (turn, whole) =
     let way = path_of_whole kind number phases tag whole in
-    finished_of kind number (ReadNext 0 0) (Ended way.0 tag) phases tag turn way.1 refl refl
+    finished_of kind number ReadBegin (Ended way.0 tag) phases tag turn way.1 refl refl
 
 pub finished_are_whole : FinishedAreWhole
 finished_are_whole Read number from phases tag = (read_finished Read number phases tag (λ e. cc), read_whole Read number phases tag)
@@ -125,6 +129,7 @@ finished_are_whole Move number from phases tag = (
 last_tag : (stage : Stage) → IsLast stage → (tag : Tag) × (stage_tag stage ≡ Some tag)
 last_tag (Ended last tag) ends = (tag, refl)
 last_tag (Moved position tag) ends = (tag, refl)
+last_tag ReadBegin ends = absurd (cc)
 last_tag (ReadNext position finalized) ends = absurd (cc)
 last_tag (ReadSpread position finalized status) ends = absurd (cc)
 last_tag (QueryFrom position last greatest shown_at) ends = absurd (cc)
@@ -147,4 +152,4 @@ answered_are_whole object index call step legal at answered =
     let found = last_tag (stage_of object index call) none_due in
     let whole = (finished_are_whole call.kind (suc index) (source_of object index) call.phases found.0).0
     (record { course = c.course; none_due = none_due; tagged = found.1 }) in
-    record { tag = found.0; tagged = found.1; in_turn = whole.0; whole = whole.1 }
+    record { tag = found.0; tagged = found.1; in_turn = whole.0; whole = whole.1; from_base = c.from_base }

@@ -6,10 +6,10 @@ use Rattle.layout.specs.Layout.{IsLawful, Layout}
 use Rattle.bank.specs.declared.kind.Kind.{Kind}
 use Rattle.phase.specs.declared.phase.Taken.{Taken}
 use Rattle.record.specs.declared.call.CallKind.{CallKind}
-use Rattle.record.specs.Records.{Call, Object, layout_at, bank_at}
+use Rattle.record.specs.Records.{Call, Object, layout_at, bank_at, retired_at}
 use Rattle.record.specs.declared.call.CallKind.TheVariants.{Read, Write, Move}
 use Rattle.record.specs.Knowledge.{IsTrueReply, IsTruePhase}
-use Rattle.record.specs.Legal.{is_move, moves_in, first_stage, HasBegun, IsCaused}
+use Rattle.record.specs.Legal.{is_move, moves_in, first_stage, source_of, HasBegun, IsMovedOut, IsCaused}
 use Rattle.record.specs.Journals.{stage_tag}
 use Rattle.record.specs.Fragments.{Code, IfCoded, kind_tag, request_tag, request_piece}
 use Rattle.record.specs.Sound.{IsPhasePast, IsSound}
@@ -55,6 +55,7 @@ pub record Wider (fragment : Code) (now : ℕ) (old new : Object) : Type 0 where
   pub more : length old.layouts ≤ length new.layouts
   pub same_layouts : (p : ℕ) → p < length old.layouts → layout_at new p ≡ layout_at old p
   pub same_banks : (p i : ℕ) → p < length old.layouts → bank_at new p i ≡ bank_at old p i
+  pub same_retired : (p : ℕ) → retired_at new p ≡ retired_at old p
   pub caused : (p i : ℕ) → length old.layouts ≤ p → IsCaused new p (bank_at new p i)
   pub rest : (p i : ℕ) → length old.layouts ≤ p → BankRest fragment new now p i (bank_at new p i)
 
@@ -93,4 +94,18 @@ begun_more object new there k p s b = record {
   same_kind = b.same_kind;
   same_position = b.same_position;
   before = b.before;
+}
+
+-- and a move that was answered
+pub moved_more : (object new : Object) →
+    ((i : ℕ) (c : Call) → slice_get object.calls i ≡ Some c → slice_get new.calls i ≡ Some c) →
+    ((i : ℕ) (c : Call) → slice_get object.calls i ≡ Some c → source_of new i ≡ source_of object i) →
+    (p answered : ℕ) → IsMovedOut object p answered → IsMovedOut new p answered
+moved_more object new there source p answered m = record {
+  index = m.index;
+  call = m.call;
+  at = there m.index m.call m.at;
+  kind = m.kind;
+  source = source m.index m.call m.at ∙ m.source;
+  was = m.was;
 }

@@ -7,10 +7,11 @@ use Rattle.tag.specs.declared.tag.Tag.{Tag}
 use Rattle.bank.specs.declared.kind.Kind.{Kind}
 use Rattle.phase.specs.Phase.{Phase}
 use Rattle.record.specs.declared.call.CallKind.{CallKind}
-use Rattle.record.specs.Records.{Call, Object, layout_at, bank_at}
+use Rattle.record.specs.Records.{Call, Object, layout_at, bank_at, base_at}
 use Rattle.record.specs.declared.call.CallKind.TheVariants.{Write, Move}
 use Rattle.record.specs.Knowledge.{IsTruePhase}
-use Rattle.record.specs.Courses.{due, stage_after, EndsBefore, IsCourse}
+use Rattle.record.specs.Courses.{begun_at, due, stage_after, EndsBefore, IsCourse, BeginAtBase}
+use Rattle.record.specs.declared.stage.Stage.TheVariants.{ReadBegin}
 use Rattle.record.specs.Legal.{moves_in, first_stage, source_of, IsOpenedAt, IsOpenedBy, AreOpened, IsLegalCall, IsCaused, IsLegal}
 use Rattle.record.specs.Journals.{stage_tag, tag_of}
 use Rattle.record.specs.Fragments.{Code, IsValue, kind_tag}
@@ -21,9 +22,11 @@ use Rattle.bank.specs.Bank.{empty_piece}
 use Rattle.bank.specs.Facts.{SameBefore}
 use Rattle.layout.specs.Layout.{Layout}
 use Rattle.tag.specs.Tag.{opening_tag}
+use Rattle.record.proofs.Bases.{base_kept, base_everywhere, bases_same}
+use Rattle.record.proofs.Begins.{begun_tag}
 use Rattle.record.proofs.Lists.{all_weaker, all_pairs, get_push, none_twice}
 use Rattle.record.proofs.Sound.Added.{moves_push, take_all, made_before, first_untagged}
-use Rattle.record.proofs.Sound.Added.{Wider, begun, answered_past, none_coded, begun_more}
+use Rattle.record.proofs.Sound.Added.{Wider, begun, answered_past, none_coded, begun_more, moved_more}
 use Rattle.record.proofs.Sound.Beginning.{get_pushed, get_last}
 use Rattle.record.proofs.Sound.Changing.{same_call, caused_more}
 use Rattle.record.proofs.Sound.Keeping.{agree_same, Keeps, phase_kept}
@@ -35,11 +38,13 @@ pub added_sound : (fragment : Code) (object new : Object) (step now : ℕ) → s
     (kind : CallKind) (asked : Kind) (position : ℕ) → Wider fragment now object new → Sizes new →
     new.calls ≡ object.calls ++ begun kind (length object.calls) now asked position (layout_at new position) ∷ [] →
     new.mail ≡ object.mail ++ requests (suc (length object.calls)) 1 asked position (layout_at new position).members 0 empty_piece →
-    due (first_stage kind (moves_in object.calls)) ≡ Some (asked, position) → position < length object.layouts →
+    due (begun_at (first_stage kind (moves_in object.calls)) position) ≡ Some (asked, position) →
+    (first_stage kind (moves_in object.calls) ≡ ReadBegin → position ≡ base_at new now) → position < length object.layouts →
     kind_tag asked ≡ None → ((value : List ℕ) → kind ≡ Write value → IsValue value) → (kind ≡ Move →
     (index : ℕ) (call : Call) → slice_get object.calls index ≡ Some call → call.kind ≡ Move → IsSome call.answered) →
     IsSound fragment new now
-added_sound fragment object new step now less sound kind asked position wide sizes calls_are mail_is is_due placed untagged bytes no_open =
+added_sound fragment object new step now less sound kind asked position wide sizes calls_are mail_is is_due at_base placed untagged
+    bytes no_open =
     sound_of fragment new now legal sizes
     (λ i c e. rests i c (split i c e))
     (λ p i. banks p i (below_or p))
@@ -114,6 +119,9 @@ added_sound fragment object new step now less sound kind asked position wide siz
           (all_pairs (λ phase. AllByRecursion (λ reply. reply.reply.step < now) phase.replies) (IsTruePhase object) c.phases
           (made_before fragment object step now less sound i c e) l.phases);
       course = subst (λ from. IsCourse c.kind (suc i) (first_stage c.kind from) c.phases) same l.course;
+      from_base = subst (λ from. BeginAtBase (base_at new) c.kind (suc i) (first_stage c.kind from) c.phases) same
+          (base_kept (base_at object) (base_at new) c.kind (suc i) c.phases (first_stage c.kind (source_of object i))
+          (base_everywhere (base_at object) (base_at new) (bases_same object new wide.same_retired) c.phases) l.from_base);
       answer =
           λ s a. subst (λ from. (due (stage_after c.kind (suc i) (first_stage c.kind from) c.phases) ≡ None) × EndsBefore c.phases s)
           same (l.answer s a);
@@ -132,7 +140,15 @@ added_sound fragment object new step now less sound kind asked position wide siz
         },
         tt,
       );
-      course = (subst (λ from. due (first_stage kind from) ≡ Some (asked, position)) (sym source_last) is_due, tt, tt);
+      course = (
+        subst (λ from. due (begun_at (first_stage kind from) position) ≡ Some (asked, position)) (sym source_last) is_due,
+        tt,
+        tt,
+      );
+      from_base = (
+        subst (λ from. first_stage kind from ≡ ReadBegin → position ≡ base_at new now) (sym source_last) at_base,
+        tt,
+      );
       answer = λ s a. absurd (cc);
     })
 
@@ -159,7 +175,8 @@ added_sound fragment object new step now less sound kind asked position wide siz
 
     caused : (p i : ℕ) → (p < length object.layouts) ⊎ (length object.layouts ≤ p) → IsCaused new p (bank_at new p i)
     caused p i (inl h) = subst (IsCaused new p) (sym (wide.same_banks p i h))
-        (caused_more object new (begun_more object new there) p (bank_at object p i) (sound.legal.banks p i))
+        (caused_more object new (begun_more object new there) (moved_more object new there source_old) p (bank_at object p i)
+        (sound.legal.banks p i))
     caused p i (inr h) = wide.caused p i h
 
     legal : IsLegal new
@@ -221,7 +238,8 @@ added_sound fragment object new step now less sound kind asked position wide siz
         omega arith
     tags i c tag t (inr here) =
         let t' : tag_of new index call ≡ Some tag = subst₂ (λ k d. tag_of new k d ≡ Some tag) here.0 (sym here.1) t in
-        absurd (let no : None ≡ Some tag = sym (first_untagged kind (source_of new index)) ∙ t' in cc)
+        absurd (let no : None ≡ Some tag = sym (begun_tag (first_stage kind (source_of new index)) position
+        ∙ first_untagged kind (source_of new index)) ∙ t' in cc)
 
     request : (member : ℕ) → member < length (layout_at new position).members →
         MessageRest fragment new now (request_message (suc index) 1 asked position empty_piece member)

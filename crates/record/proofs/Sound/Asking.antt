@@ -8,7 +8,7 @@ use Rattle.phase.specs.Phase.{Phase, members_of, lacks_pieces}
 use Rattle.record.specs.declared.call.CallKind.{CallKind}
 use Rattle.record.specs.Records.{Call, Object, layout_at}
 use Rattle.record.specs.declared.stage.Stage.{Stage}
-use Rattle.record.specs.Courses.{due, passed, stage_after, IsCourse}
+use Rattle.record.specs.Courses.{due, passed, stage_after, IsCourse, begun_at, stage_past}
 use Rattle.record.specs.Legal.{first_stage, source_of, stage_of}
 use Rattle.record.specs.Fragments.{Code, Determines}
 use Rattle.record.specs.Sound.{IsSound}
@@ -29,11 +29,13 @@ current_due kind number [] stage phase course current none = absurd (cc)
 current_due kind number (first ∷ []) stage phase course current none =
     let same = same_Some first phase current in
     let end_is : first.end ≡ None = ap (λ (p : Phase). p.end) same ∙ none in
-    subst (λ o. due (passed kind number stage o first.replies (lacks_pieces first)) ≡ Some (phase.kind, phase.position)) (sym end_is)
-    (subst (λ (p : Phase). due stage ≡ Some (p.kind, p.position)) same course.0)
+    subst (λ o. due (passed kind number (begun_at stage first.position) o first.replies (lacks_pieces first))
+    ≡ Some (phase.kind, phase.position))
+    (sym end_is)
+    (subst (λ (p : Phase). due (begun_at stage first.position) ≡ Some (p.kind, p.position)) same course.0)
 current_due kind number (first ∷ next ∷ later) stage phase course current none =
     current_due kind number (next ∷ later)
-    (passed kind number stage first.end first.replies (lacks_pieces first)) phase course.2 current none
+    (stage_past kind number stage first) phase course.2 current none
 
 -- the current phase asks again
 pub asked_sound : (fragment : Code) (object : Object) (step now : ℕ) → step < now → Determines fragment →
@@ -85,5 +87,6 @@ asked_sound fragment object step now less determines sound index call at phase c
         reply = λ kind made b. absurd (cc);
       };
       past = λ kind made b. absurd (cc);
-      coded = request_coded fragment object step determines sound index call at phase.kind phase.position piece e sends member;
+      coded = request_coded fragment object step determines sound index call at phase.kind phase.position piece
+          (stage_of object index call) refl e sends member;
     }

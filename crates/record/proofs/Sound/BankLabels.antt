@@ -16,8 +16,8 @@ use Rattle.bank.specs.declared.row.Row.{Row}
 use Rattle.bank.specs.Bank.{Bank, finalized_label, row_after_pre_write, row_after_finalize, pre_written, finalized}
 use Rattle.bank.specs.Bank.{opening_row, opened_bank}
 use Rattle.bank.specs.Serve.{kind_of, served_bank}
-use Rattle.bank.specs.Collect.{emptied_row, collected}
-use Rattle.bank.specs.Knowledge.{is_dropped}
+use Rattle.bank.specs.Collect.{emptied_row, collected, retired_bank}
+use Rattle.bank.specs.Knowledge.{since, is_dropped}
 use Rattle.bank.proofs.Collecting.{get-collected}
 use Rattle.bank.proofs.Changes.{get-with_row}
 use Rattle.record.specs.Records.{no_bank}
@@ -116,6 +116,11 @@ served_gives bank (request.Fetch asked) now tag label e = go
         (label_at bank tag ≡ Some label) ⊎ Gives (Fetch asked) tag label now
     go (inl old) = inl old
     go (inr new) = inr (inr (inr (ap Fetch new.0), new.1))
+
+-- a bank that is retired keeps its labels
+pub retired_label : (bank : Bank) (now : ℕ) (tag : Tag) → label_at (retired_bank bank now) tag ≡ label_at bank tag
+retired_label bank now tag =
+    label-collected (record { rows = bank.rows; pointer = bank.pointer; delta = bank.delta; retired = since bank.retired now }) tag
 
 -- Banks that open
 

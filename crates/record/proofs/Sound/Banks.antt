@@ -2,8 +2,7 @@
 use Rattle.std.proofs.Common.{◌≡◌, ℕ, suc, Bool, true, false, cond, Option, Some, None, IsSome}
 use Rattle.std.proofs.Common.{is_some, option_map, refl, sym, subst, ap, ◌∙◌, inl, inr, arith}
 use Rattle.tag.specs.declared.tag.Tag.{Tag}
-use Rattle.tag.specs.Tag.{opening_tag, tag_eq}
-use Rattle.tag.proofs.Tags.{tag_eq-true}
+use Rattle.tag.specs.Tag.{opening_tag}
 use Rattle.encoder.specs.declared.fragment.Piece.{Piece}
 use Rattle.bank.specs.declared.row.Arrival.{Arrival}
 use Rattle.bank.specs.declared.row.Row.{Row}
@@ -11,15 +10,15 @@ use Rattle.bank.specs.declared.request.Request.{Request}
 use Rattle.bank.specs.Bank.{Bank, filled_arrival, row_after_pre_write, row_after_finalize, pre_written, finalized, piece_of}
 use Rattle.bank.specs.Bank.{piece_that_came}
 use Rattle.bank.specs.Bank.{piece_of_row, knows}
-use Rattle.bank.specs.Collect.{emptied_arrival, emptied_row, collected, IsCollected, is_outside, fetched_piece}
+use Rattle.bank.specs.Collect.{emptied_arrival, emptied_row, collected, IsCollected, is_outside, retired_bank}
 use Rattle.bank.specs.Knowledge.{since, row_finalized, finalized_at, arrived_at, is_dropped, IsTrueAnswer}
-use Rattle.bank.specs.Facts.{IsBefore}
+use Rattle.bank.specs.Facts.{IsBefore, SameBefore}
 use Rattle.bank.specs.Serve.{kind_of, greatest_final, served_bank, answer_to}
-use Rattle.bank.proofs.Collecting.{get-collected}
+use Rattle.bank.proofs.Collecting.{get-collected, finalized_at-collected, arrived_at-collected}
 use Rattle.bank.proofs.Changes.{Comes, with_row, all_rows}
-use Rattle.bank.proofs.Growth.{served_grows}
+use Rattle.bank.proofs.Growth.{served_grows, retired_grows}
 use Rattle.bank.proofs.Query.{greatest_final_is}
-use Rattle.bank.proofs.Truth.{grows_order, served_truth}
+use Rattle.bank.proofs.Truth.{grows_order, grows_past, served_truth}
 use Rattle.record.specs.Records.{Object}
 use Rattle.record.specs.Legal.{IsOpenedAt}
 use Rattle.record.specs.Fragments.{Code, IsCoded, IfCoded, answer_tag, answer_piece, request_tag, request_piece}
@@ -138,6 +137,12 @@ module _ (fragment : Code) (object : Object) (position member : ℕ) where
   served_coded bank (request.Fetch tag) now new coded =
       collected_rows RowCoded emptied_coded (finalized bank tag now) (finalized_coded bank tag now new coded)
 
+  -- and once it is retired
+  pub retired_coded : (bank : Bank) (now : ℕ) → BankCoded bank → BankCoded (retired_bank bank now)
+  retired_coded bank now coded =
+      collected_rows RowCoded emptied_coded
+      (record { rows = bank.rows; pointer = bank.pointer; delta = bank.delta; retired = since bank.retired now }) coded
+
   finalized_known : (bank : Bank) (tag : Tag) → IsSome (finalized_at bank tag) → knows bank tag ≡ true
   finalized_known bank tag some = go (map.get bank.rows tag) some
     where
@@ -185,3 +190,27 @@ served-retired bank request.Query now = refl
 served-retired bank (request.PreWrite tag piece) now = refl
 served-retired bank (request.Finalize tag) now = refl
 served-retired bank (request.Fetch tag) now = refl
+
+-- A bank that is retired keeps labels and arrivals
+pub retired_finalized : (bank : Bank) (now : ℕ) (tag : Tag) → finalized_at (retired_bank bank now) tag ≡ finalized_at bank tag
+retired_finalized bank now tag =
+    finalized_at-collected
+    (record { rows = bank.rows; pointer = bank.pointer; delta = bank.delta; retired = since bank.retired now }) tag
+
+pub retired_arrived : (bank : Bank) (now : ℕ) (tag : Tag) → arrived_at (retired_bank bank now) tag ≡ arrived_at bank tag
+retired_arrived bank now tag =
+    arrived_at-collected
+    (record { rows = bank.rows; pointer = bank.pointer; delta = bank.delta; retired = since bank.retired now }) tag
+
+pub retired_past : (bank : Bank) (now : ℕ) → IsBefore bank now → IsBefore (retired_bank bank now) (suc now)
+retired_past bank now before =
+    grows_order bank (retired_bank bank now) now (suc now) (retired_grows bank now) (omega arith) before
+
+pub retired_opened_at : (bank : Bank) (now step : ℕ) → IsOpenedAt bank step → IsOpenedAt (retired_bank bank now) step
+retired_opened_at bank now step opened = record {
+  finalized = retired_finalized bank now opening_tag ∙ opened.finalized;
+  arrived = retired_arrived bank now opening_tag ∙ opened.arrived;
+}
+
+pub retired_agrees : (bank : Bank) (now : ℕ) → SameBefore bank (retired_bank bank now) now
+retired_agrees bank now = grows_past bank (retired_bank bank now) now (retired_grows bank now)

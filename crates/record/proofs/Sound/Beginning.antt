@@ -9,10 +9,10 @@ use Rattle.bank.specs.declared.kind.Kind.{Kind}
 use Rattle.mail.specs.declared.message.Message.{Message}
 use Rattle.phase.specs.Phase.{Phase, lacks_pieces}
 use Rattle.record.specs.declared.call.CallKind.{CallKind}
-use Rattle.record.specs.Records.{Call, Object, layout_at}
+use Rattle.record.specs.Records.{Call, Object, layout_at, base_of}
 use Rattle.record.specs.declared.stage.Stage.{Stage}
-use Rattle.record.specs.Courses.{due, passed, stage_after, EndsBefore}
-use Rattle.record.specs.Legal.{first_stage, source_of, stage_of, AreOpened}
+use Rattle.record.specs.Courses.{passed, stage_after, EndsBefore, begun_at, stage_past}
+use Rattle.record.specs.Legal.{first_stage, source_of, stage_of, AreOpened, due_of}
 use Rattle.record.specs.Journals.{stage_tag}
 use Rattle.record.specs.Fragments.{Code, Determines, IsFetch, IsSettled, request_tag, request_piece}
 use Rattle.record.specs.Sound.{IsPhasePast, IsCallPast, IsSound}
@@ -29,10 +29,12 @@ use Rattle.record.proofs.Sound.Due.{due_there}
 use Rattle.record.proofs.Sound.Fetching.{FetchDue, late_due, course_late}
 use Rattle.record.proofs.Sound.Later.{if_coded_grows}
 use Rattle.record.proofs.Sound.Mailing.{request_message, kind_of-request_to, all_requests, all_append}
-use Rattle.record.proofs.Sound.Parts.{ReplyCoded, CallRest, MessageRest, call_rest, mail_rest}
+use Rattle.record.proofs.Sound.Parts.{ReplyCoded, CallRest, MessageRest, call_rest, mail_rest, base_past}
 use Rattle.record.proofs.Sound.Enough.Counting.{pieces_not_lacking}
 use Rattle.record.proofs.Sound.Waiting.{LastAt, last_at}
 use Rattle.record.proofs.Sound.Wanting.{MayGoOn, ended_before}
+use Rattle.record.proofs.Begins.{begun_tag}
+use Rattle.record.proofs.Sound.Late.{late_begun}
 
 pub get_pushed : {A : Type 0} (xs : List A) (y x : A) (i : ℕ) → slice_get (xs ++ y ∷ []) i ≡ Some x →
     (slice_get xs i ≡ Some x) ⊎ ((i ≡ length xs) × (y ≡ x))
@@ -51,10 +53,11 @@ get_last [] y = refl
 get_last (x ∷ xs) y = get_last xs y
 
 stage_push : (kind : CallKind) (number : ℕ) (phases : List Phase) (stage : Stage) (next : Phase) → next.end ≡ None →
-    stage_after kind number stage (phases ++ next ∷ []) ≡ stage_after kind number stage phases
-stage_push kind number [] stage next none = ap (λ o. passed kind number stage o next.replies (lacks_pieces next)) none
+    stage_after kind number stage (phases ++ next ∷ []) ≡ begun_at (stage_after kind number stage phases) next.position
+stage_push kind number [] stage next none =
+    ap (λ o. passed kind number (begun_at stage next.position) o next.replies (lacks_pieces next)) none
 stage_push kind number (phase ∷ phases) stage next none =
-    stage_push kind number phases (passed kind number stage phase.end phase.replies (lacks_pieces phase)) next none
+    stage_push kind number phases (stage_past kind number stage phase) next none
 
 settled_pushed : (fragment : Code) (object : Object) (call : Call) (next : Phase) (value : List ℕ) → (IsFetch next.kind → ⊥) →
     IsSettled fragment object call value →
@@ -77,12 +80,19 @@ settled_pushed fragment object call next value other s = record {
 pub begun_sound : (fragment : Code) (object : Object) (step now : ℕ) → step < now →
     Determines fragment → IsSound fragment object step → (index : ℕ) (call : Call) →
     slice_get object.calls index ≡ Some call → (kind : Kind) (position : ℕ) (piece : ℕ → Piece) → MayGoOn call →
-    due (stage_of object index call) ≡ Some (kind, position) → Sends fragment (layout_at object position) call kind piece →
+    due_of object index call ≡ Some (kind, position) → Sends fragment (layout_at object position) call kind piece →
     IsSound fragment (with_phase object index call kind position now piece) now
 begun_sound fragment object step now less determines sound index call at kind position piece ready e sends =
     call_step fragment object step now less sound index call new mail at changed stays
     (begun_keeps object index call kind position now piece sound.legal
-    (record { at = at; open_call = ready.open_call; ended = ends; is_due = e; placed = placed }))
+    (record {
+      at = at;
+      open_call = ready.open_call;
+      ended = ends;
+      is_due = e;
+      placed = placed;
+      base = base_past fragment object step now less sound;
+    }))
     (record {
       opened = λ place phase within. opened place phase (get_pushed call.phases next phase place within);
       coded = λ place phase within. coded place phase (get_pushed call.phases next phase place within);
@@ -143,7 +153,7 @@ begun_sound fragment object step now less determines sound index call at kind po
     stays =
         λ value k tag t. ap stage_tag (stage_push call.kind (suc index) call.phases
         (first_stage call.kind (source_of object index)) next refl)
-        ∙ t
+        ∙ begun_tag (stage_of object index call) position ∙ t
 
     was : CallRest fragment object' now call
     was = old_call fragment object step now less sound index call new mail at changed stays
@@ -173,11 +183,12 @@ begun_sound fragment object step now less determines sound index call at kind po
     once value s fetch =
         let has = sound.settled.settled index call value at s in
         let c = sound.legal.calls index call at in
-        late_due (stage_of object index call)
-        ((course_late call.kind (suc index) call.phases (first_stage call.kind (source_of object index))
+        late_due (begun_at (stage_of object index call) (base_of object))
+        ((late_begun (stage_of object index call) (base_of object) has.fetch.0
+        (course_late call.kind (suc index) call.phases (first_stage call.kind (source_of object index))
         c.course now ends has.place has.phase has.fetch.0 has.within has.fetch.1
         (pieces_not_lacking fragment object has.phase value
-        (all_get (IsTruePhase object) call.phases has.place has.phase c.phases has.within) has.pieces)).0)
+        (all_get (IsTruePhase object) call.phases has.place has.phase c.phases has.within) has.pieces))).0)
         (subst FetchDue (sym e) fetch)
 
     there : LastAt call.phases ready.phase
@@ -219,5 +230,7 @@ begun_sound fragment object step now less determines sound index call at kind po
       past = λ kind made b. absurd (cc);
       coded = if_coded_grows now fragment object object' (call_grown now object index call new mail at changed stays) position member refl
           (request_tag (request_to kind (piece member))) (request_piece (request_to kind (piece member)))
-          (request_coded fragment object step determines sound index call at kind position piece e sends member);
+          (request_coded fragment object step determines sound index call at kind position piece
+          (begun_at (stage_of object index call) (base_of object)) (begun_tag (stage_of object index call) (base_of object)) e sends
+          member);
     }

@@ -100,6 +100,8 @@ call_step fragment object step now less sound index old new mail at changed stay
       members = sizes.members;
       opened = sizes.opened;
       delta = sizes.delta;
+      retired = sizes.retired;
+      leading = sizes.leading;
     })
     (λ i c e. go i c (get_set object.calls index i old new c at e))
     (λ p i. bank_grows fragment step now object (WithCall object mail index new) (le_of_lt less) grown p i (bank_at object p i) refl

@@ -5,14 +5,16 @@ use Rattle.std.proofs.lemmas.Option.{same_Some}
 use Rattle.bank.specs.declared.kind.Kind.{Kind}
 use Rattle.encoder.specs.declared.fragment.Piece.{Piece}
 use Rattle.mail.specs.declared.message.Message.{Message}
-use Rattle.record.specs.Records.{Call, Object, layout_at, bank_at}
+use Rattle.record.specs.Records.{Call, Object, layout_at, bank_at, base_at, base_of}
 use Rattle.record.specs.Knowledge.{IsTruePhase}
-use Rattle.record.specs.Courses.{due, stage_after, IsCourse, EndsBefore}
+use Rattle.record.specs.Courses.{due, stage_after, IsCourse, BeginAtBase, EndsBefore}
 use Rattle.record.specs.Legal.{first_stage, source_of, stage_of, IsLegalCall, IsLegal}
 use Rattle.record.specs.Steps.{new_phase, with_phase, answered_object}
 use Rattle.record.specs.Sending.{requests}
 use Rattle.record.proofs.Lists.{all_weaker, all_push, get_push, get_set, none_twice}
-use Rattle.record.proofs.Sound.Changing.{moves_set, Others, phase_same, begun_call, Changed, was, changed_has, caused_more}
+use Rattle.record.proofs.Bases.{base_push}
+use Rattle.record.proofs.Begins.{begun_due, begun_base}
+use Rattle.record.proofs.Sound.Changing.{moves_set, Others, phase_same, begun_call, Changed, was, changed_has, changed_moved, caused_more}
 use Rattle.record.proofs.Sound.Growing.{course_push, numbered_push, begins_push}
 use Rattle.record.proofs.Sound.Mays.{MayBegin}
 
@@ -43,7 +45,12 @@ begun_legal object index call kind position now mail legal may =
       course = subst (λ from. IsCourse call.kind (suc index) (first_stage call.kind from) (call.phases ++ next ∷ []))
           (sym (moves_set object.calls index index call (begun_call index call kind position (layout_at object position) now) may.at refl))
           (course_push call.kind (suc index) call.phases
-          (first_stage call.kind (source_of object index)) next c.course may.ended may.is_due);
+          (first_stage call.kind (source_of object index)) next c.course may.ended
+          (begun_due (stage_of object index call) (base_of object) kind position may.is_due));
+      from_base = subst (λ from. BeginAtBase (base_at object) call.kind (suc index) (first_stage call.kind from) (call.phases ++ next ∷ []))
+          (sym (moves_set object.calls index index call (begun_call index call kind position (layout_at object position) now) may.at refl))
+          (base_push (base_at object) call.kind (suc index) call.phases (first_stage call.kind (source_of object index)) next c.from_base
+          (λ first. begun_base (stage_of object index call) (base_of object) kind position first may.is_due ∙ sym may.base));
       answer = λ step e. absurd (let n = may.open_call in cc);
     }
 
@@ -62,6 +69,7 @@ other_legal object index old new mail legal at kinds i c there =
           (λ phase truth. phase_same object mail calls phase truth) c.phases
           was.phases;
       course = subst (λ from. IsCourse c.kind (suc i) (first_stage c.kind from) c.phases) same was.course;
+      from_base = subst (λ from. BeginAtBase (base_at object) c.kind (suc i) (first_stage c.kind from) c.phases) same was.from_base;
       answer = λ step e. subst
           (λ from. (due (stage_after c.kind (suc i) (first_stage c.kind from) c.phases) ≡ None) × EndsBefore c.phases step) same
           (was.answer step e);
@@ -85,7 +93,8 @@ changed_keeps object index old new mail legal at changed here_legal = record {
       let order = legal.moves i j wa.old wb.old wa.at wb.at less (sym wa.changed.same_kind ∙ k) (sym wb.changed.same_kind ∙ l) in
       (order.0, wa.changed.same_answer order.0 order.1, let y = wb.changed.same_called in let z = order.2 in omega arith);
   banks = λ p i. caused_more object (Others object mail (set object.calls index new))
-      (λ k q step begun. changed_has object index old new mail at changed k q step begun) p (bank_at object p i) (legal.banks p i);
+      (λ k q step begun. changed_has object index old new mail at changed k q step begun)
+      (λ q answered moved. changed_moved object index old new mail at changed q answered moved) p (bank_at object p i) (legal.banks p i);
 }
   where
     go : (i : ℕ) (c : Call) → ((i ≡ index) × (new ≡ c)) ⊎ (slice_get object.calls i ≡ Some c) →
@@ -135,6 +144,8 @@ answered_keeps object index call now legal at open_call is_due ended =
       phases = all_weaker (IsTruePhase object) (IsTruePhase (Others object object.mail calls))
           (λ phase truth. phase_same object object.mail calls phase truth) call.phases c.phases;
       course = subst (λ from. IsCourse call.kind (suc index) (first_stage call.kind from) call.phases) same c.course;
+      from_base =
+          subst (λ from. BeginAtBase (base_at object) call.kind (suc index) (first_stage call.kind from) call.phases) same c.from_base;
       answer = λ step e. (
         subst (λ from. due (stage_after call.kind (suc index) (first_stage call.kind from) call.phases) ≡ None) same is_due,
         subst (λ n. EndsBefore call.phases n) (same_Some now step e) ended,

@@ -14,7 +14,7 @@ use Rattle.phase.specs.declared.phase.Taken.{Taken}
 use Rattle.phase.specs.Phase.{Phase}
 use Rattle.record.specs.Records.{Call, Object}
 use Rattle.record.specs.Knowledge.{IsTrueReply, IsTruePhase}
-use Rattle.record.specs.Legal.{is_move, moves_in, HasBegun, IsCaused}
+use Rattle.record.specs.Legal.{is_move, moves_in, HasBegun, IsMovedOut, IsCaused}
 use Rattle.record.specs.Steps.{new_phase}
 use Rattle.bank.specs.declared.status.Status.TheVariants as status
 use Rattle.record.proofs.Lists.{all_weaker, get_set, set_here, set_there}
@@ -128,13 +128,44 @@ changed_has object index old new mail at changed k p step begun = go (cases_eq b
       before = begun.before;
     }
 
+-- a move that was answered
+pub changed_moved : (object : Object) (index : ℕ) (old new : Call) (mail : List Message) →
+    slice_get object.calls index ≡ Some old → Changed old new → (p answered : ℕ) → IsMovedOut object p answered →
+    IsMovedOut (Others object mail (set object.calls index new)) p answered
+changed_moved object index old new mail at changed p answered moved = go (cases_eq moved.index index)
+  where
+    source : moves_in (take moved.index (set object.calls index new)) ≡ p
+    source = moves_set object.calls index moved.index old new at changed.same_kind ∙ moved.source
+
+    go : (moved.index ≡ index) ⊎ (moved.index ≡ index → ⊥) → IsMovedOut (Others object mail (set object.calls index new)) p answered
+    go (inl here) =
+        let same : moved.call ≡ old = same_Some moved.call old (sym moved.at ∙ ap (λ i. slice_get object.calls i) here ∙ at) in
+        record {
+          index = moved.index;
+          call = new;
+          at = subst (λ i. slice_get (set object.calls index new) i ≡ Some new) (sym here) (set_here object.calls index old new at);
+          kind = changed.same_kind ∙ sym (ap (λ (c : Call). c.kind) same) ∙ moved.kind;
+          source = source;
+          was = changed.same_answer answered (sym (ap (λ (c : Call). c.answered) same) ∙ moved.was);
+        }
+    go (inr other) = record {
+      index = moved.index;
+      call = moved.call;
+      at = set_there object.calls index moved.index new moved.call other moved.at;
+      kind = moved.kind;
+      source = source;
+      was = moved.was;
+    }
+
 pub caused_more : (old new : Object) → ((k : Kind) (p step : ℕ) → HasBegun old k p step → HasBegun new k p step) →
-    (position : ℕ) (bank : Bank) → IsCaused old position bank → IsCaused new position bank
-caused_more old new more position bank caused = record {
+    ((p answered : ℕ) → IsMovedOut old p answered → IsMovedOut new p answered) → (position : ℕ) (bank : Bank) →
+    IsCaused old position bank → IsCaused new position bank
+caused_more old new more moved position bank caused = record {
   finalized = λ tag step e. fin tag step (caused.finalized tag step e);
   arrived = λ tag step e. arr tag step (caused.arrived tag step e);
   pending = λ step e. pen step (caused.pending step e);
   final = λ step e. more (Spread status.Final) position step (caused.final step e);
+  retired = λ step e. let was = caused.retired step e in (was.0, moved position was.0 was.1, was.2);
 }
   where
     fin : (tag : Tag) (step : ℕ) →

@@ -4,7 +4,7 @@ use Rattle.std.proofs.Common.{None, IsSome, refl, sym, subst, ap, ◌∙◌, inl
 use Rattle.std.proofs.lemmas.Bool.{cases_eq}
 use Rattle.std.proofs.lemmas.Option.{same_Some, slice_get_within, slice_get-get_or}
 use Rattle.phase.specs.Phase.{Phase, lacks_pieces}
-use Rattle.record.specs.Records.{Call, Object}
+use Rattle.record.specs.Records.{Call, Object, base_of}
 use Rattle.record.specs.declared.call.CallKind.TheVariants.{Read}
 use Rattle.record.specs.Courses.{due, stage_after, IsCourse}
 use Rattle.record.specs.Legal.{first_stage, source_of, stage_of, IsLegalCall}
@@ -22,6 +22,7 @@ use Rattle.record.proofs.Sound.Later.{settled_grows}
 use Rattle.record.proofs.Sound.Parts.{CallRest, call_rest, mail_rest}
 use Rattle.record.proofs.Sound.Waiting.{LastAt, last_at, Ready, Unsettled}
 use Rattle.record.proofs.Sound.Wanting.{answer_ready, unsettled_of, ended_before}
+use Rattle.record.proofs.Begins.{begun_none}
 
 marked : (call : Call) (answered : Option ℕ) (settled : Option (List ℕ)) → call.answered ≡ None →
     Changed call (record call { answered = answered; settled = settled })
@@ -79,6 +80,7 @@ pub answered_sound : (fragment : Code) (object : Object) (step now : ℕ) → st
 answered_sound fragment object step now less sound index call at e =
     let both = answer_ready object index call e in
     let ready = both.0 in
+    let none = begun_none (stage_of object index call) (base_of object) both.1 in
     let new : Call = record call { answered = Some now } in
     let past = (call_rest fragment object step sound index call at).past in
     let ends = ended_before call ready.phase ready.end step now ready.current ready.ended past less in
@@ -86,14 +88,14 @@ answered_sound fragment object step now less sound index call at e =
     let stays : TagStays object index call new = λ value k tag t. t in
     let was = old_call fragment object step now less sound index call new object.mail at changed stays in
     call_step fragment object step now less sound index call new object.mail at changed stays
-    (answered_keeps object index call now sound.legal at ready.open_call both.1 ends)
+    (answered_keeps object index call now sound.legal at ready.open_call none ends)
     (record {
       opened = was.opened;
       coded = was.coded;
       settled = λ value s. settled_same fragment (WithCall object object.mail index new) call (Some now) call.settled value
           (was.settled value s);
       before_next = was.before_next;
-      before_answer = λ kind answered. read_settled fragment object step sound index call at kind ready both.1;
+      before_answer = λ kind answered. read_settled fragment object step sound index call at kind ready none;
       values = was.values;
       past = record {
         called = was.past.called;
@@ -111,7 +113,14 @@ pub settled_sound : (fragment : Code) (object : Object) (step now : ℕ) → ste
 settled_sound fragment object step now less sound index value may =
     call_step fragment object step now less sound index call new object.mail at changed stays
     (changed_keeps object index call new object.mail sound.legal at changed
-    (record { numbered = legal.numbered; begins = legal.begins; phases = legal.phases; course = legal.course; answer = legal.answer }))
+    (record {
+      numbered = legal.numbered;
+      begins = legal.begins;
+      phases = legal.phases;
+      course = legal.course;
+      from_base = legal.from_base;
+      answer = legal.answer;
+    }))
     (record {
       opened = was.opened;
       coded = was.coded;

@@ -3,10 +3,10 @@ use Rattle.std.proofs.Common.{◌≡◌, ℕ, zero, suc, ◌<◌, ◌⊎◌, Lis
 use Rattle.std.proofs.Common.{Some, refl, sym, subst, subst₂, ap, ◌∙◌, inl, inr, arith, slice_get}
 use Rattle.std.proofs.lemmas.Bool.{cases_eq}
 use Rattle.std.proofs.lemmas.Option.{same_Some}
-use Rattle.phase.specs.Phase.{Phase, lacks_pieces}
+use Rattle.phase.specs.Phase.{Phase}
 use Rattle.record.specs.declared.call.CallKind.{CallKind}
 use Rattle.record.specs.declared.stage.Stage.{Stage}
-use Rattle.record.specs.Courses.{due, passed, IsCourse, EndsBefore}
+use Rattle.record.specs.Courses.{due, IsCourse, EndsBefore, begun_at, stage_past}
 use Rattle.record.specs.Legal.{AreNumbered, BeginsAt}
 use Rattle.record.proofs.Lists.{set_here, set_there}
 
@@ -20,7 +20,7 @@ course_set kind number (phase ∷ []) stage zero old new course at last k p s =
     let same = same_Some phase old at in
     let kinds : phase.kind ≡ new.kind = ap (λ (q : Phase). q.kind) same ∙ sym k in
     let positions : phase.position ≡ new.position = ap (λ (q : Phase). q.position) same ∙ sym p in
-    (subst₂ (λ a b. due stage ≡ Some (a, b)) kinds positions course.0, tt, tt)
+    (subst₂ (λ a b. due (begun_at stage b) ≡ Some (a, b)) kinds positions course.0, tt, tt)
 course_set kind number (phase ∷ []) stage (suc place) old new course at last k p s = absurd (cc)
 course_set kind number (phase ∷ next ∷ phases) stage zero old new course at last k p s = absurd (omega arith)
 course_set kind number (phase ∷ next ∷ phases) stage (suc zero) old new course at last k p s =
@@ -29,13 +29,13 @@ course_set kind number (phase ∷ next ∷ phases) stage (suc zero) old new cour
       course.0,
       (course.1.0, course.1.1, subst (λ n. course.1.0 < n) starts course.1.2),
       course_set kind number (next ∷ phases)
-          (passed kind number stage phase.end phase.replies (lacks_pieces phase)) zero old new course.2 at
+          (stage_past kind number stage phase) zero old new course.2 at
           (omega arith) k p s,
     )
 course_set kind number (phase ∷ next ∷ phases) stage (suc (suc place)) old new course at last k p s = (
   course.0,
   course.1,
-  course_set kind number (next ∷ phases) (passed kind number stage phase.end phase.replies (lacks_pieces phase))
+  course_set kind number (next ∷ phases) (stage_past kind number stage phase)
       (suc place) old new course.2 at
       (omega arith) k p s,
 )

@@ -9,16 +9,18 @@ use Rattle.bank.specs.declared.kind.Kind.{Kind}
 use Rattle.phase.specs.declared.phase.Taken.{Taken}
 use Rattle.phase.specs.Phase.{Phase}
 use Rattle.record.specs.declared.call.CallKind.{CallKind}
-use Rattle.record.specs.Records.{Call, Object, bank_at}
+use Rattle.record.specs.Records.{Call, Object, bank_at, base_of}
 use Rattle.record.specs.declared.call.CallKind.TheVariants.{Read, Write, Move}
 use Rattle.bank.specs.Knowledge.{pointer_at, pending_since, final_since, status_le, IsTrueAnswer}
 use Rattle.record.specs.Knowledge.{IsTrueReply, IsTruePhase}
-use Rattle.record.specs.Courses.{shown_status, greatest_status, due, later_status}
-use Rattle.record.specs.Legal.{is_move, moves_in, first_stage, source_of, stage_of, IsLegal}
+use Rattle.record.specs.Courses.{begun_at, shown_status, greatest_status, later_status}
+use Rattle.record.specs.Legal.{is_move, moves_in, first_stage, source_of, stage_of, due_of, IsLegal}
 use Rattle.record.specs.Sound.{HasNext, HasShape}
 use Rattle.record.proofs.Atomic.Quorums.Replies.{true_next}
+use Rattle.record.proofs.Bases.{before_base}
 use Rattle.record.proofs.Lists.{all_weaker}
-use Rattle.record.proofs.Sound.Placed.{Placed, KindPlaced, DuePlaced, due_placed, kind_placed, PhaseFinds, placed_end, placed_at}
+use Rattle.record.proofs.Sound.Placed.{Placed, KindPlaced, DuePlaced, due_placed, placed_begun, kind_placed, PhaseFinds, placed_end}
+use Rattle.record.proofs.Sound.Placed.{placed_at}
 use Rattle.record.proofs.Statuses.{rank}
 
 -- what a bank's pointer shows
@@ -53,17 +55,20 @@ some_shown P (reply ∷ replies) h all =
 
 phase_finds : (object : Object) → HasShape object → (phase : Phase) → IsTruePhase object phase →
     PhaseFinds (length object.layouts) phase
-phase_finds object shape phase truth = λ k some.
-    let found = some_shown (IsTrueReply object phase) phase.replies some truth.replies in
-    let reply = found.0 in
-    let bank = bank_at object phase.position reply.member in
-    let shown =
-    ap rank (true_next bank reply.reply.step reply.reply.answer (subst
-    (λ kind. IsTrueAnswer bank reply.reply.step kind reply.reply.answer) k found.1.says)) in
-    pointer_names (length object.layouts) phase.position bank reply.reply.step (shape.next phase.position reply.member)
-    (let h = found.2 in omega arith)
+phase_finds object shape phase truth = (
+  truth.placed,
+  λ k some.
+      let found = some_shown (IsTrueReply object phase) phase.replies some truth.replies in
+      let reply = found.0 in
+      let bank = bank_at object phase.position reply.member in
+      let shown =
+      ap rank (true_next bank reply.reply.step reply.reply.answer (subst
+      (λ kind. IsTrueAnswer bank reply.reply.step kind reply.reply.answer) k found.1.says)) in
+      pointer_names (length object.layouts) phase.position bank reply.reply.step (shape.next phase.position reply.member)
+      (let h = found.2 in omega arith),
+)
 
-move_counted : (calls : List Call) (index : ℕ) (call : Call) → slice_get calls index ≡ Some call → call.kind ≡ Move →
+pub move_counted : (calls : List Call) (index : ℕ) (call : Call) → slice_get calls index ≡ Some call → call.kind ≡ Move →
     suc (moves_in (take index calls)) ≤ moves_in calls
 move_counted [] index call at k = absurd (cc)
 move_counted (first ∷ calls) zero call at k =
@@ -80,8 +85,8 @@ move_counted (first ∷ calls) (suc index) call at k =
 
 first_placed : (object : Object) → HasShape object → (index : ℕ) (call : Call) → slice_get object.calls index ≡ Some call →
     (kind : CallKind) → call.kind ≡ kind → Placed (length object.layouts) (first_stage kind (source_of object index))
-first_placed object shape index call at Read k = let n = shape.positions in (omega arith, omega arith)
-first_placed object shape index call at (Write value) k = let n = shape.positions in (omega arith, omega arith)
+first_placed object shape index call at Read k = let n = shape.positions in omega arith
+first_placed object shape index call at (Write value) k = let n = shape.positions in omega arith
 first_placed object shape index call at Move k = let n = shape.positions in let m = move_counted object.calls index call at k in omega arith
 
 pub call_placed : (object : Object) → IsLegal object → HasShape object → (index : ℕ) (call : Call) →
@@ -93,14 +98,30 @@ call_placed object legal shape index call at =
     (λ phase truth. phase_finds object shape phase truth) call.phases c.phases)
     (first_placed object shape index call at call.kind refl)
 
+-- the base is there
+pub base_there : (object : Object) → IsLegal object → HasShape object → base_of object < length object.layouts
+base_there object legal shape = go (base_of object) refl
+  where
+    go : (n : ℕ) → base_of object ≡ n → n < length object.layouts
+    go zero e = let n = shape.positions in omega arith
+    go (suc last) e =
+        let at = before_base object.banks last (omega arith) in
+        let cause = (legal.banks last 0).retired at.0 at.1 in
+        let moved = cause.1 in
+        let counted = move_counted object.calls moved.index moved.call moved.at moved.kind in
+        let source : moves_in (take moved.index object.calls) ≡ last = moved.source in
+        let n = shape.positions in omega arith
+
 -- a due position is there
 pub due_there : (object : Object) → IsLegal object → HasShape object → (index : ℕ) (call : Call) →
     slice_get object.calls index ≡ Some call → (kind : Kind) (position : ℕ) →
-    due (stage_of object index call) ≡ Some (kind, position) → position < length object.layouts
+    due_of object index call ≡ Some (kind, position) → position < length object.layouts
 due_there object legal shape index call at kind position e =
     kind_placed (length object.layouts) kind position
-    (subst (λ next. DuePlaced (length object.layouts) next) e (due_placed (length object.layouts) (stage_of object index call)
-    (call_placed object legal shape index call at)))
+    (subst (λ next. DuePlaced (length object.layouts) next) e (due_placed (length object.layouts)
+    (begun_at (stage_of object index call) (base_of object))
+    (placed_begun (length object.layouts) (stage_of object index call) (base_of object) (base_there object legal shape)
+    (call_placed object legal shape index call at))))
 
 -- what a phase spreads names a position that is there
 pub spread_there : (object : Object) → IsLegal object → HasShape object → (index : ℕ) (call : Call) →

@@ -12,17 +12,19 @@ use Rattle.record.specs.declared.call.CallKind.{CallKind}
 use Rattle.bank.specs.declared.status.Status.TheVariants.{Unset, Pending, Final}
 use Rattle.bank.specs.declared.kind.Kind.TheVariants.{Next, Spread, Query, PreWrite, Finalize, Fetch}
 use Rattle.record.specs.declared.call.CallKind.TheVariants.{Read}
-use Rattle.record.specs.Courses.{greatest_status, greatest_tag, due, after, passed, stage_after, IsCourse}
+use Rattle.record.specs.Courses.{begun_at, greatest_status, greatest_tag, due, after, passed, stage_past, stage_after, IsCourse}
 use Rattle.record.specs.Courses.{EndsBefore, after_next, after_spread, after_query, tagged}
 use Rattle.record.specs.declared.stage.Stage.{Stage}
-use Rattle.record.specs.declared.stage.Stage.TheVariants.{ReadNext, ReadSpread, QueryFrom, FetchAt, PreWriteAt}
+use Rattle.record.specs.declared.stage.Stage.TheVariants.{ReadBegin, ReadNext, ReadSpread, QueryFrom, FetchAt, PreWriteAt}
 use Rattle.record.specs.declared.stage.Stage.TheVariants.{FinalizeAt, AgainNext, AgainSpread}
 use Rattle.record.specs.declared.stage.Stage.TheVariants.{MovePreWrite, MoveFinalize, MoveFinal, Ended, Moved}
 use Rattle.record.specs.Fragments.{IsFetch}
+use Rattle.record.proofs.Begins.{begun_has}
 use Rattle.record.proofs.Sound.Late.{IsLate, IsLateWith, fetch_late, late_stays}
 
 -- a read that has not fetched
 abbrev pub IsEarly : Stage → Type 0
+IsEarly ReadBegin = Unit {0}
 IsEarly (ReadNext p m) = Unit {0}
 IsEarly (ReadSpread p m s) = Unit {0}
 IsEarly (QueryFrom p l t q) = Unit {0}
@@ -57,6 +59,7 @@ early_query number found p l greatest q = go (tag_lt found greatest) (eqb p l)
 
 early_after : (number : ℕ) (stage : Stage) (replies : List Taken) (lacks : Bool) → IsEarly stage →
     (FetchDue (due stage) × (lacks ≡ false)) ⊎ IsEarly (after Read number stage replies lacks)
+early_after number ReadBegin replies lacks early = inr tt
 early_after number (ReadNext p m) replies lacks early = inr (early_next p m (greatest_status replies))
 early_after number (ReadSpread p m s) replies lacks early = inr (early_spread p m s)
 early_after number (QueryFrom p l t q) replies lacks early = inr (early_query number (greatest_tag replies) p l t q)
@@ -70,6 +73,7 @@ early_passed number stage None replies lacks early = inr early
 early_passed number stage (Some end) replies lacks early = early_after number stage replies lacks early
 
 pub early_due : (stage : Stage) → IsEarly stage → due stage ≡ None → ⊥
+early_due ReadBegin early e = cc
 early_due (ReadNext p m) early e = cc
 early_due (ReadSpread p m s) early e = cc
 early_due (QueryFrom p l t q) early e = cc
@@ -82,12 +86,13 @@ pub has_fetch : (number : ℕ) (phases : List Phase) (stage : Stage) → IsCours
     (place : ℕ) × (phase : Phase) × (slice_get phases place ≡ Some phase) × IsFetch phase.kind × (lacks_pieces phase ≡ false)
 has_fetch number [] stage course early none = absurd (none early)
 has_fetch number (phase ∷ phases) stage course early none =
-    go (early_passed number stage phase.end phase.replies (lacks_pieces phase) early)
-    (λ e. has_fetch number phases (passed Read number stage phase.end phase.replies (lacks_pieces phase)) course.2 e none)
+    go (early_passed number (begun_at stage phase.position) phase.end phase.replies (lacks_pieces phase)
+    (begun_has (λ s. IsEarly s) stage phase.position (λ first. tt) early))
+    (λ e. has_fetch number phases (stage_past Read number stage phase) course.2 e none)
   where
-    go : (FetchDue (due stage) × (lacks_pieces phase ≡ false))
-        ⊎ IsEarly (passed Read number stage phase.end phase.replies (lacks_pieces phase)) →
-        (IsEarly (passed Read number stage phase.end phase.replies (lacks_pieces phase)) → (place : ℕ) × (p : Phase)
+    go : (FetchDue (due (begun_at stage phase.position)) × (lacks_pieces phase ≡ false))
+        ⊎ IsEarly (stage_past Read number stage phase) →
+        (IsEarly (stage_past Read number stage phase) → (place : ℕ) × (p : Phase)
         × (slice_get phases place ≡ Some p) × IsFetch p.kind × (lacks_pieces p ≡ false)) →
         (place : ℕ) × (p : Phase) × (slice_get (phase ∷ phases) place ≡ Some p) × IsFetch p.kind × (lacks_pieces p ≡ false)
     go (inl fetch) rest = (0, phase, refl, subst FetchDue course.0 fetch.0, fetch.1)
@@ -131,13 +136,13 @@ pub course_late : (kind : CallKind) (number : ℕ) (phases : List Phase) (stage 
     phase.kind ≡ Fetch tag → lacks_pieces phase ≡ false → IsLateWith tag (stage_after kind number stage phases)
 course_late kind number [] stage course now ends place phase tag at fetch enough = absurd (cc)
 course_late kind number (first ∷ []) stage course now ends zero phase tag at fetch enough =
-    subst (λ o. IsLateWith tag (passed kind number stage o first.replies (lacks_pieces first))) (sym ends.1)
-    (first_late kind number stage first phase tag course.0 (same_Some first phase at) fetch enough)
+    subst (λ o. IsLateWith tag (passed kind number (begun_at stage first.position) o first.replies (lacks_pieces first))) (sym ends.1)
+    (first_late kind number (begun_at stage first.position) first phase tag course.0 (same_Some first phase at) fetch enough)
 course_late kind number (first ∷ []) stage course now ends (suc place) phase tag at fetch enough = absurd (cc)
 course_late kind number (first ∷ next ∷ later) stage course now ends zero phase tag at fetch enough =
-    late_stays kind number (next ∷ later) (passed kind number stage first.end first.replies (lacks_pieces first)) tag
-    (subst (λ o. IsLateWith tag (passed kind number stage o first.replies (lacks_pieces first))) (sym course.1.1)
-    (first_late kind number stage first phase tag course.0 (same_Some first phase at) fetch enough))
+    late_stays kind number (next ∷ later) (stage_past kind number stage first) tag
+    (subst (λ o. IsLateWith tag (passed kind number (begun_at stage first.position) o first.replies (lacks_pieces first))) (sym course.1.1)
+    (first_late kind number (begun_at stage first.position) first phase tag course.0 (same_Some first phase at) fetch enough))
 course_late kind number (first ∷ next ∷ later) stage course now ends (suc place) phase tag at fetch enough =
-    course_late kind number (next ∷ later) (passed kind number stage first.end first.replies (lacks_pieces first)) course.2 now ends place
+    course_late kind number (next ∷ later) (stage_past kind number stage first) course.2 now ends place
     phase tag at fetch enough

@@ -13,20 +13,21 @@ use Rattle.mail.specs.declared.message.Message.{Message}
 use Rattle.mail.specs.declared.message.Body.{Body}
 use Rattle.mail.specs.declared.message.Body.TheVariants as body
 use Rattle.phase.specs.Phase.{Phase}
-use Rattle.record.specs.Records.{Call, Object, bank_at, no_bank}
-use Rattle.record.specs.Courses.{due}
-use Rattle.record.specs.Legal.{stage_of}
+use Rattle.record.specs.Records.{Call, Object, bank_at, no_bank, base_of}
+use Rattle.record.specs.Legal.{due_of}
 use Rattle.record.specs.Fragments.{Code}
 use Rattle.record.specs.Wants.{current_phase}
 use Rattle.record.specs.Sound.{IsPosted, IsPhasePast, IsCallPast, IsSound}
 use Rattle.record.specs.Steps.{Step, stepped, on_call, on_message, opened_banks, moving_object, begun_object, advanced_object}
-use Rattle.record.specs.Steps.{settled_object, answered_object, handled_object, served_by, taken_by, repeated_object}
+use Rattle.record.specs.Steps.{settled_object, answered_object, handled_object, served_by, taken_by, repeated_object, retired_object}
 use Rattle.record.specs.Steps.{asked_again, supplied_by, supplied_object}
 use Rattle.record.specs.Origins.{label_at, Gives, ComesByRequest, ComesByOpening, ComesWithIts}
 use Rattle.record.proofs.Lists.{all_get}
 use Rattle.record.proofs.Sound.Knowing.{bank_at_set}
 use Rattle.record.proofs.Sound.Opening.{opened_get}
-use Rattle.record.proofs.Sound.BankLabels.{served_gives, opened_label, unknown_label}
+use Rattle.record.proofs.Sound.Retiring.{retired_cases}
+use Rattle.record.proofs.Sound.BankLabels.{retired_label, served_gives, opened_label, unknown_label}
+use Rattle.bank.specs.Collect.{retired_bank}
 
 appended : {A : Type 0} (xs : List A) (y d : A) (i : ℕ) →
     (get_or (xs ++ y ∷ []) i d ≡ get_or xs i d) ⊎ ((i ≡ length xs) × (get_or (xs ++ y ∷ []) i d ≡ y))
@@ -67,7 +68,7 @@ banks_supplied fragment object index call now (Some phase) = go (is_some phase.e
   where
     go : (b : Bool) →
         (cond b (advanced_object fragment object index call now) (asked_again fragment object call (Some phase))).banks ≡ object.banks
-    go true = banks_begun fragment object index call (due (stage_of object index call)) now
+    go true = banks_begun fragment object index call (due_of object index call) now
     go false = refl
 
 banks_taken : (object : Object) (place : ℕ) (message : Message) (b : Body) (now : ℕ) →
@@ -182,11 +183,11 @@ module _ (fragment : Code) (object : Object) (last now position member : ℕ) (t
   labels_stepped (Step.Advance index) e =
       kept (Step.Advance index) (stepped fragment (Step.Advance index) now object)
       (banks_on_call object (slice_get object.calls index) (λ call. advanced_object fragment object index call now)
-      (λ call. banks_begun fragment object index call (due (stage_of object index call)) now)) e
+      (λ call. banks_begun fragment object index call (due_of object index call) now)) e
   labels_stepped (Step.Again index) e =
       kept (Step.Again index) (stepped fragment (Step.Again index) now object)
       (banks_on_call object (slice_get object.calls index) (λ call. advanced_object fragment object index call now)
-      (λ call. banks_begun fragment object index call (due (stage_of object index call)) now)) e
+      (λ call. banks_begun fragment object index call (due_of object index call) now)) e
   labels_stepped (Step.Supply index) e =
       kept (Step.Supply index) (stepped fragment (Step.Supply index) now object)
       (banks_on_call object (slice_get object.calls index) (λ call. supplied_object fragment object index call now)
@@ -210,3 +211,13 @@ module _ (fragment : Code) (object : Object) (last now position member : ℕ) (t
   labels_stepped (Step.Repeat place) e =
       kept (Step.Repeat place) (stepped fragment (Step.Repeat place) now object)
       (banks_on_message object (slice_get object.mail place) (λ message. repeated_object object message) (λ message. refl)) e
+  labels_stepped Step.Retire e = go (retired_cases object now position member)
+    where
+      new : Bank
+      new = bank_at (retired_object object now) position member
+
+      go : (new ≡ bank_at object position member)
+          ⊎ ((position ≡ base_of object) × (new ≡ retired_bank (bank_at object position member) now)) → Comes Step.Retire
+      go (inl same) = inl (sym (ap (λ bank. label_at bank tag) same) ∙ e)
+      go (inr at_base) =
+          inl (sym (ap (λ bank. label_at bank tag) at_base.1 ∙ retired_label (bank_at object position member) now tag) ∙ e)

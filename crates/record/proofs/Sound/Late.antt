@@ -12,11 +12,12 @@ use Rattle.phase.specs.Phase.{Phase, lacks_pieces}
 use Rattle.record.specs.declared.call.CallKind.{CallKind}
 use Rattle.record.specs.declared.call.CallKind.TheVariants.{Read, Write, Move}
 use Rattle.record.specs.Legal.{first_stage}
-use Rattle.record.specs.Courses.{greatest_status, greatest_tag, due, after, passed, stage_after}
+use Rattle.record.specs.Courses.{begun_at, greatest_status, greatest_tag, due, after, passed, stage_past, stage_after}
 use Rattle.record.specs.Courses.{after_next, after_spread, after_query, after_again}
 use Rattle.record.specs.Journals.{stage_tag}
 use Rattle.record.specs.declared.stage.Stage.{Stage}
-use Rattle.record.specs.declared.stage.Stage.TheVariants.{ReadNext, ReadSpread, QueryFrom, FetchAt, PreWriteAt}
+use Rattle.record.proofs.Begins.{begun_has}
+use Rattle.record.specs.declared.stage.Stage.TheVariants.{ReadBegin, ReadNext, ReadSpread, QueryFrom, FetchAt, PreWriteAt}
 use Rattle.record.specs.declared.stage.Stage.TheVariants.{FinalizeAt, AgainNext, AgainSpread, MoveSpread, MoveQuery}
 use Rattle.record.specs.declared.stage.Stage.TheVariants.{MoveFetch, MovePreWrite, MoveFinalize, MoveFinal, Ended, Moved}
 
@@ -63,17 +64,27 @@ pub late_passed : (kind : CallKind) (number : ℕ) (stage : Stage) (end : Option
 late_passed kind number stage None replies lacks tag late = late
 late_passed kind number stage (Some end) replies lacks tag late = late_after kind number stage replies lacks tag late
 
+pub late_begun : (stage : Stage) (position : ℕ) (tag : Tag) → IsLateWith tag stage → IsLateWith tag (begun_at stage position)
+late_begun stage position tag late =
+    begun_has (λ s. IsLateWith tag s) stage position (λ first. absurd (let none = subst (λ s. IsLate s) first late.0 in none)) late
+
+pub late_past : (kind : CallKind) (number : ℕ) (stage : Stage) (phase : Phase) (tag : Tag) → IsLateWith tag stage →
+    IsLateWith tag (stage_past kind number stage phase)
+late_past kind number stage phase tag late =
+    late_passed kind number (begun_at stage phase.position) phase.end phase.replies (lacks_pieces phase) tag
+    (late_begun stage phase.position tag late)
+
 pub late_stays : (kind : CallKind) (number : ℕ) (phases : List Phase) (stage : Stage) (tag : Tag) → IsLateWith tag stage →
     IsLateWith tag (stage_after kind number stage phases)
 late_stays kind number [] stage tag late = late
 late_stays kind number (phase ∷ phases) stage tag late =
-    late_stays kind number phases (passed kind number stage phase.end phase.replies (lacks_pieces phase)) tag
-    (late_passed kind number stage phase.end phase.replies (lacks_pieces phase) tag late)
+    late_stays kind number phases (stage_past kind number stage phase) tag (late_past kind number stage phase tag late)
 
 -- the tag that is fetched is the call's
 pub fetch_due : (stage : Stage) (tag : Tag) (position : ℕ) → due stage ≡ Some (Fetch tag, position) → stage_tag stage ≡ Some tag
 fetch_due (FetchAt q l t) tag position e = let same = (some_pair_parts (Fetch t) (Fetch tag) q position e).0 in cc
 fetch_due (MoveFetch p t) tag position e = let same = (some_pair_parts (Fetch t) (Fetch tag) p position e).0 in cc
+fetch_due ReadBegin tag position e = absurd (let other = (some_pair_parts Next (Fetch tag) 0 position e).0 in cc)
 fetch_due (ReadNext a b) tag position e = absurd (let other = (some_pair_parts Next (Fetch tag) a position e).0 in cc)
 fetch_due (ReadSpread a b c) tag position e = absurd (let other = (some_pair_parts (Spread c) (Fetch tag) a position e).0 in cc)
 fetch_due (QueryFrom a b c d) tag position e = absurd (let other = (some_pair_parts Query (Fetch tag) a position e).0 in cc)
@@ -96,6 +107,7 @@ fetch_late kind number (FetchAt q l t) replies tag position e =
     let same = fetch_due (FetchAt q l t) tag position e in
     cond_both (eqb q l) (AgainNext l l t) (PreWriteAt l t) (λ stage. IsLateWith tag stage) (λ _. (tt, same)) (λ _. (tt, same))
 fetch_late kind number (MoveFetch p t) replies tag position e = (tt, fetch_due (MoveFetch p t) tag position e)
+fetch_late kind number ReadBegin replies tag position e = absurd (let no = fetch_due ReadBegin tag position e in cc)
 fetch_late kind number (ReadNext a b) replies tag position e = absurd (let no = fetch_due (ReadNext a b) tag position e in cc)
 fetch_late kind number (ReadSpread a b c) replies tag position e = absurd (let no = fetch_due (ReadSpread a b c) tag position e in cc)
 fetch_late kind number (QueryFrom a b c d) replies tag position e = absurd (let no = fetch_due (QueryFrom a b c d) tag position e in cc)
@@ -117,6 +129,7 @@ fetch_late kind number (Moved p t) replies tag position e = (tt, fetch_due (Move
 
 -- a stage that a write may come to
 abbrev pub IsOfWrite : Stage → Type 0
+IsOfWrite ReadBegin = Unit {0}
 IsOfWrite (ReadNext p m) = Unit {0}
 IsOfWrite (ReadSpread p m s) = Unit {0}
 IsOfWrite (QueryFrom p l t q) = Unit {0}
@@ -136,6 +149,7 @@ late_of_write (MoveFinalize p t) of tag e = (tt, e)
 late_of_write (MoveFinal p t) of tag e = (tt, e)
 late_of_write (Ended l t) of tag e = (tt, e)
 late_of_write (Moved p t) of tag e = (tt, e)
+late_of_write ReadBegin of tag e = absurd (cc)
 late_of_write (ReadNext a b) of tag e = absurd (cc)
 late_of_write (ReadSpread a b c) of tag e = absurd (cc)
 late_of_write (QueryFrom a b c d) of tag e = absurd (cc)
@@ -167,6 +181,7 @@ of_write_query value number found p l greatest q =
 
 of_write_after : (value : List ℕ) (number : ℕ) (stage : Stage) (replies : List Taken) (lacks : Bool) → IsOfWrite stage →
     IsOfWrite (after (Write value) number stage replies lacks)
+of_write_after value number ReadBegin replies lacks of = tt
 of_write_after value number (ReadNext p m) replies lacks of = of_write_next p m (greatest_status replies)
 of_write_after value number (ReadSpread p m s) replies lacks of = of_write_spread p m s
 of_write_after value number (QueryFrom p l t q) replies lacks of = of_write_query value number (greatest_tag replies) p l t q
@@ -194,6 +209,13 @@ pub of_write_on : (value : List ℕ) (kind : CallKind) → kind ≡ Write value 
     (replies : List Taken) (lacks : Bool) → IsOfWrite stage → IsOfWrite (passed kind number stage end replies lacks)
 of_write_on value kind k number stage end replies lacks of =
     subst (λ c. IsOfWrite (passed c number stage end replies lacks)) (sym k) (of_write_passed value number stage end replies lacks of)
+
+-- and after a phase
+pub of_write_past : (value : List ℕ) (kind : CallKind) → kind ≡ Write value → (number : ℕ) (stage : Stage) (phase : Phase) →
+    IsOfWrite stage → IsOfWrite (stage_past kind number stage phase)
+of_write_past value kind k number stage phase of =
+    of_write_on value kind k number (begun_at stage phase.position) phase.end phase.replies (lacks_pieces phase)
+    (begun_has (λ s. IsOfWrite s) stage phase.position (λ first. tt) of)
 
 pub of_write_first : (value : List ℕ) (kind : CallKind) (from : ℕ) → kind ≡ Write value → IsOfWrite (first_stage kind from)
 of_write_first value (Write other) from k = tt

@@ -238,5 +238,4 @@ bank_grows fragment step now old new less grows position member bank same more r
   coded = λ tag known. coded_grows now fragment old new grows position member same tag (piece_of bank tag) (rest.coded tag known);
   next = record { pending = λ s e. le_trans (rest.next.pending s e) more; final = λ s e. le_trans (rest.next.final s e) more };
   collected = rest.collected;
-  unretired = rest.unretired;
 }

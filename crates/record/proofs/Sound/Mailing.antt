@@ -20,7 +20,7 @@ use Rattle.record.proofs.Sound.Changing.{Others, phase_same, same_call, caused_m
 use Rattle.record.proofs.Sound.Keeping.{agree_same}
 use Rattle.record.proofs.Sound.Later.{Grows, message_grows, call_grows, bank_grows, tags_same}
 use Rattle.record.proofs.Sound.Parts.{MessageRest, sound_of, sizes_of, call_rest, bank_rest, mail_rest}
-use Rattle.record.proofs.Sound.Requests.{has_same}
+use Rattle.record.proofs.Sound.Requests.{has_same, moved_same}
 
 -- the record with other mail
 abbrev pub Mailed : Object → List Message → Object
@@ -43,11 +43,13 @@ mailed_legal object mail legal = record {
         (λ phase truth. phase_same object mail object.calls phase truth)
         call.phases c.phases;
     course = c.course;
+    from_base = c.from_base;
     answer = c.answer;
   };
   in_turn = legal.in_turn;
   moves = legal.moves;
-  banks = λ p i. caused_more object (Mailed object mail) (λ k q step b. has_same object (Mailed object mail) refl k q step b) p
+  banks = λ p i. caused_more object (Mailed object mail) (λ k q step b. has_same object (Mailed object mail) refl k q step b)
+      (λ q answered m. moved_same object (Mailed object mail) refl q answered m) p
       (bank_at object p i)
       (legal.banks p i);
 }
@@ -59,7 +61,15 @@ mailed_sound fragment object step now mail less sound rests =
     let new = Mailed object mail in
     let sizes = sizes_of fragment object step sound in
     sound_of fragment new now (mailed_legal object mail sound.legal)
-    (record { positions = sizes.positions; banks = sizes.banks; members = sizes.members; opened = sizes.opened; delta = sizes.delta })
+    (record {
+      positions = sizes.positions;
+      banks = sizes.banks;
+      members = sizes.members;
+      opened = sizes.opened;
+      delta = sizes.delta;
+      retired = sizes.retired;
+      leading = sizes.leading;
+    })
     (λ index call at. call_grows fragment step now object new (le_of_lt less) grown call (sound.legal.calls index call at).phases
     (call_rest fragment object step sound index call at))
     (λ p i. bank_grows fragment step now object new (le_of_lt less) grown p i (bank_at object p i) refl (le_refl (length object.layouts))

@@ -10,18 +10,19 @@ use Rattle.bank.specs.Serve.{kind_of}
 use Rattle.mail.specs.declared.message.Message.{Message}
 use Rattle.phase.specs.declared.phase.Taken.{Taken}
 use Rattle.phase.specs.Phase.{Phase, members_of}
-use Rattle.record.specs.Records.{Call, Object, layout_at}
+use Rattle.record.specs.Records.{Call, Object, layout_at, base_at, base_of}
 use Rattle.record.specs.Knowledge.{IsTrueReply}
 use Rattle.record.specs.Courses.{due, EndsBefore}
-use Rattle.record.specs.Legal.{stage_of, HasBegun}
+use Rattle.record.specs.Legal.{stage_of, due_of, HasBegun}
 
 -- this phase of the call is due
 pub record MayBegin (object : Object) (index : ℕ) (call : Call) (kind : Kind) (position now : ℕ) : Type 0 where
   pub at : slice_get object.calls index ≡ Some call
   pub open_call : call.answered ≡ None
   pub ended : EndsBefore call.phases now
-  pub is_due : due (stage_of object index call) ≡ Some (kind, position)
+  pub is_due : due_of object index call ≡ Some (kind, position)
   pub placed : position < length object.layouts
+  pub base : base_at object now ≡ base_of object
 
 -- no phase of the call is due
 pub record MayAnswer (object : Object) (index : ℕ) (call : Call) (now : ℕ) : Type 0 where

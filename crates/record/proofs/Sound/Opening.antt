@@ -108,6 +108,7 @@ no_bank_caused object position = record {
   arrived = λ tag step e. absurd (no_bank_gives row_arrived tag step refl e);
   pending = λ step e. absurd (cc);
   final = λ step e. absurd (cc);
+  retired = λ step e. absurd (cc);
 }
 
 pub opened_caused : (object : Object) (position member : ℕ) (delta : Option ℕ) (now : ℕ) →
@@ -117,6 +118,7 @@ opened_caused object position member delta now = record {
   arrived = λ tag step e. inl ((opened_cases row_arrived member delta now tag step refl e).0);
   pending = λ step e. absurd (cc);
   final = λ step e. absurd (cc);
+  retired = λ step e. absurd (cc);
 }
 
 pub either_caused : (object : Object) (delta : Option ℕ) (now position member : ℕ) (bank : Bank) →
@@ -125,6 +127,12 @@ either_caused object delta now position member bank (inl none) =
     subst (IsCaused object position) (sym none) (no_bank_caused object position)
 either_caused object delta now position member bank (inr new) =
     subst (IsCaused object position) (sym new) (opened_caused object position (0 + member) delta now)
+
+-- none is retired
+pub either_unretired : (delta : Option ℕ) (now member : ℕ) (bank : Bank) →
+    (bank ≡ no_bank) ⊎ (bank ≡ opened_bank (0 + member) delta now) → bank.retired ≡ None
+either_unretired delta now member bank (inl none) = ap (λ (b : Bank). b.retired) none
+either_unretired delta now member bank (inr new) = ap (λ (b : Bank). b.retired) new
 
 -- what is so of banks that are not there, and of banks that were just opened
 
@@ -141,7 +149,6 @@ no_bank_rest fragment object now position member = record {
   next = record { pending = λ s e. absurd (cc); final = λ s e. absurd (cc) };
   collected = λ tag. ap (λ row. is_some (piece_of_row row)) (none_there tag)
       ∙ sym (ap (λ row. is_some (row_arrived row) && not (is_dropped no_bank tag)) (none_there tag));
-  unretired = refl;
 }
 
 opened_piece : (member : ℕ) (delta : Option ℕ) (now : ℕ) (kept : Piece) → piece_of (opened_bank member delta now) opening_tag ≡ Some kept →
@@ -157,7 +164,6 @@ opened_rest fragment code object delta now position member = record {
       (sym (opened_known (0 + member) delta now tag known)) opening;
   next = record { pending = λ s e. absurd (cc); final = λ s e. absurd (cc) };
   collected = opened_collected (0 + member) delta now;
-  unretired = refl;
 }
   where
     opening : IsCoded fragment object position member opening_tag (piece_of (opened_bank (0 + member) delta now) opening_tag)
@@ -207,6 +213,8 @@ opening_sound fragment code layout delta now lawful =
       members = λ p h. members p h;
       opened = λ p i h k. opened p i h k;
       delta = λ p i h k. deltas p i h k;
+      retired = λ p i h k. unretired p i ∙ sym (unretired p 0);
+      leading = λ p h. unretired p 0;
     })
     (λ index call at. absurd (cc))
     (λ p i. rests p i)
@@ -228,6 +236,11 @@ opening_sound fragment code layout delta now lawful =
     deltas : (p i : ℕ) → p < 1 → i < length (layout_at object p).members → (bank_at object p i).delta ≡ delta
     deltas zero i h k = ap (λ (bank : Bank). bank.delta) (opened_there layout.members 0 delta now i k)
     deltas (suc p) i h k = absurd (omega arith)
+
+    unretired : (p i : ℕ) → (bank_at object p i).retired ≡ None
+    unretired zero i = either_unretired delta now i (get_or (opened_banks layout.members 0 delta now) i no_bank)
+        (opened_get layout.members 0 delta now i)
+    unretired (suc p) i = refl
 
     rests : (p i : ℕ) → BankRest fragment object now p i (bank_at object p i)
     rests zero i = either_rest fragment code object delta now zero i (get_or (opened_banks layout.members 0 delta now) i no_bank)

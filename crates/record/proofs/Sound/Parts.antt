@@ -1,6 +1,6 @@
 -- The parts of soundness, one for each call, bank and message.
 use Rattle.std.proofs.Common.{◌≡◌, ℕ, suc, ◌<◌, ◌≤◌, true, List, []}
-use Rattle.std.proofs.Common.{◌∷◌, length, get_or, ◌⊎◌, Option, Some, None, IsSome, refl, slice_get}
+use Rattle.std.proofs.Common.{◌∷◌, length, get_or, ◌⊎◌, Option, Some, None, IsSome, refl, arith, slice_get}
 use Rattle.std.specs.List.{AllByRecursion}
 use Rattle.tag.specs.declared.tag.Tag.{Tag}
 use Rattle.bank.specs.Bank.{Bank, knows, piece_of}
@@ -13,12 +13,13 @@ use Rattle.phase.specs.declared.phase.Taken.{Taken}
 use Rattle.phase.specs.Phase.{Phase, lacks_pieces}
 use Rattle.record.specs.declared.call.CallKind.{CallKind}
 use Rattle.record.specs.declared.call.CallKind.TheVariants.{Read, Write}
-use Rattle.record.specs.Records.{Call, Object, layout_at, bank_at}
+use Rattle.record.specs.Records.{Call, Object, layout_at, bank_at, retired_at, base_at, base_of}
 use Rattle.record.specs.Legal.{moves_in, IsOpenedAt, AreOpened, IsLegal}
 use Rattle.record.specs.Journals.{tag_of}
 use Rattle.record.specs.Fragments.{Code, IsValue, IsCoded, IfCoded, answer_tag, answer_piece, body_tag, body_piece, IsFetch, IsSettled}
 use Rattle.record.specs.Sound.{IsPosted, IsCallPast, HasNext, IsSound}
 use Rattle.mail.specs.declared.message.Body.TheVariants as body
+use Rattle.record.proofs.Bases.{base_now}
 use Rattle.record.proofs.Lists.{all_weaker, all_get}
 
 abbrev pub ReplyCoded : Code → Object → Phase → Taken → Type 0
@@ -48,7 +49,6 @@ pub record BankRest (fragment : Code) (object : Object) (now position member : �
   pub coded : (tag : Tag) → knows bank tag ≡ true → IsCoded fragment object position member tag (piece_of bank tag)
   pub next : HasNext (length object.layouts) position bank
   pub collected : IsCollected bank
-  pub unretired : bank.retired ≡ None
 
 -- of a message
 pub record MessageRest (fragment : Code) (object : Object) (now : ℕ) (message : Message) : Type 0 where
@@ -66,6 +66,9 @@ pub record Sizes (object : Object) : Type 0 where
       (step : ℕ) × IsOpenedAt (bank_at object position member) step
   pub delta : (position member : ℕ) → position < length object.layouts → member < length (layout_at object position).members →
       (bank_at object position member).delta ≡ object.delta
+  pub retired : (position member : ℕ) → position < length object.layouts → member < length (layout_at object position).members →
+      (bank_at object position member).retired ≡ retired_at object position
+  pub leading : (position : ℕ) → base_of object ≤ position → retired_at object position ≡ None
 
 -- no tag of a call has a greater number
 abbrev pub TagsPast : ℕ → Object → Type 0
@@ -101,7 +104,8 @@ sound_of fragment object now legal sizes calls banks mail tags = record {
     delta = sizes.delta;
     next = λ position member. (banks position member).next;
     collected = λ position member. (banks position member).collected;
-    unretired = λ position member. (banks position member).unretired;
+    retired = sizes.retired;
+    leading = sizes.leading;
   };
   values = record {
     written = λ index call value at e. (calls index call at).values.written value e;
@@ -128,6 +132,8 @@ sizes_of fragment object now sound = record {
   members = sound.shape.members;
   opened = sound.shape.opened;
   delta = sound.shape.delta;
+  retired = sound.shape.retired;
+  leading = sound.shape.leading;
 }
 
 pub call_rest : (fragment : Code) (object : Object) (now : ℕ) → IsSound fragment object now → (index : ℕ) (call : Call) →
@@ -152,7 +158,6 @@ bank_rest fragment object now sound position member = record {
   coded = sound.coded.banks position member;
   next = sound.shape.next position member;
   collected = sound.shape.collected position member;
-  unretired = sound.shape.unretired position member;
 }
 
 mail_rests : (fragment : Code) (object : Object) (now : ℕ) (mail : List Message) → AllByRecursion (IsPosted object) mail →
@@ -166,3 +171,9 @@ mail_rests fragment object now (message ∷ mail) posted past coded =
 pub mail_rest : (fragment : Code) (object : Object) (now : ℕ) → IsSound fragment object now →
     AllByRecursion (MessageRest fragment object now) object.mail
 mail_rest fragment object now sound = mail_rests fragment object now object.mail sound.mail sound.past.mail sound.coded.mail
+
+-- the base of a later step is that of now
+pub base_past : (fragment : Code) (object : Object) (step now : ℕ) → step < now → IsSound fragment object step →
+    base_at object now ≡ base_of object
+base_past fragment object step now less sound =
+    base_now object.banks now (λ p at e. let past = (sound.past.banks p 0).retired at e in omega arith)

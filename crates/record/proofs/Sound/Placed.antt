@@ -14,16 +14,18 @@ use Rattle.record.specs.declared.call.CallKind.{CallKind}
 use Rattle.bank.specs.declared.status.Status.TheVariants.{Unset, Pending, Final}
 use Rattle.bank.specs.declared.kind.Kind.TheVariants.{Next, Spread, Query, PreWrite, Finalize, Fetch}
 use Rattle.record.specs.declared.call.CallKind.TheVariants.{Read, Write, Move}
-use Rattle.record.specs.Courses.{greatest_status, greatest_tag, due, after, passed, stage_after}
+use Rattle.record.specs.Courses.{begun_at, greatest_status, greatest_tag, due, after, passed, stage_past, stage_after}
 use Rattle.record.specs.Courses.{IsCourse, after_next, after_spread, after_query, after_again, tagged}
 use Rattle.record.specs.declared.stage.Stage.{Stage}
-use Rattle.record.specs.declared.stage.Stage.TheVariants.{ReadNext, ReadSpread, QueryFrom, FetchAt, PreWriteAt}
+use Rattle.record.specs.declared.stage.Stage.TheVariants.{ReadBegin, ReadNext, ReadSpread, QueryFrom, FetchAt, PreWriteAt}
 use Rattle.record.specs.declared.stage.Stage.TheVariants.{FinalizeAt, AgainNext, AgainSpread, MoveSpread, MoveQuery}
 use Rattle.record.specs.declared.stage.Stage.TheVariants.{MoveFetch, MovePreWrite, MoveFinalize, MoveFinal, Ended, Moved}
+use Rattle.record.proofs.Begins.{begun_has}
 use Rattle.record.proofs.Statuses.{rank}
 
 -- the positions of a stage are among `count` positions
 abbrev pub Placed : (count : ℕ) → Stage → Type 0
+Placed count ReadBegin = 0 < count
 Placed count (ReadNext position finalized) = (finalized ≤ position) × (position < count)
 Placed count (ReadSpread position finalized status) = (finalized ≤ position) × (suc position < count)
 Placed count (QueryFrom position last greatest shown_at) = (position ≤ last) × (shown_at < count) × (last < count)
@@ -51,6 +53,7 @@ DuePlaced count None = Unit {0}
 DuePlaced count (Some next) = KindPlaced count next.0 next.1
 
 pub due_placed : (count : ℕ) (stage : Stage) → Placed count stage → DuePlaced count (due stage)
+due_placed count ReadBegin placed = placed
 due_placed count (ReadNext p m) placed = placed.1
 due_placed count (ReadSpread p m s) placed = placed.1
 due_placed count (QueryFrom p l t q) placed = let a = placed.0 in let b = placed.2 in omega arith
@@ -121,12 +124,13 @@ query_placed count kind number found p l greatest q low a b = go (tag_lt found g
 
 placed_after : (count : ℕ) (kind : CallKind) (number : ℕ) (stage : Stage) (replies : List Taken) (lacks : Bool) →
     DueFinds count (due stage) replies → Placed count stage → Placed count (after kind number stage replies lacks)
+placed_after count kind number ReadBegin replies lacks finds placed = placed
 placed_after count kind number (ReadNext p m) replies lacks finds placed =
     after_next_placed count p m (greatest_status replies) (finds refl) placed.0 placed.1
 placed_after count kind number (ReadSpread p m s) replies lacks finds placed = after_spread_placed count p m s placed.0 placed.1
 placed_after count kind number (QueryFrom p l t q) replies lacks finds placed =
     query_placed count kind number (greatest_tag replies) p l t q placed.0 placed.1 placed.2
-placed_after count kind number (FetchAt q l t) replies true finds placed = (le_refl 0, omega arith)
+placed_after count kind number (FetchAt q l t) replies true finds placed = omega arith
 placed_after count kind number (FetchAt q l t) replies false finds placed =
     cond_both (eqb q l) (AgainNext l l t) (PreWriteAt l t) (λ stage. Placed count stage) (λ e. (placed.1, placed.1)) (λ e. placed.1)
 placed_after count kind number (PreWriteAt l t) replies lacks finds placed = placed
@@ -151,7 +155,13 @@ placed_passed count kind number stage (Some end) replies lacks finds placed =
     placed_after count kind number stage replies lacks finds placed
 
 abbrev pub PhaseFinds : (count : ℕ) → Phase → Type 0
-PhaseFinds count phase = Finds count phase.kind phase.position phase.replies
+PhaseFinds count phase = (phase.position < count) × Finds count phase.kind phase.position phase.replies
+
+-- a stage whose phase begins at a position that is there
+pub placed_begun : (count : ℕ) (stage : Stage) (position : ℕ) → position < count → Placed count stage →
+    Placed count (begun_at stage position)
+placed_begun count stage position below placed =
+    begun_has (λ s. Placed count s) stage position (λ first. (le_refl position, below)) placed
 
 -- so is the stage after the phases of a course
 pub placed_end : (count : ℕ) (kind : CallKind) (number : ℕ) (phases : List Phase) (stage : Stage) →
@@ -159,9 +169,10 @@ pub placed_end : (count : ℕ) (kind : CallKind) (number : ℕ) (phases : List P
     Placed count (stage_after kind number stage phases)
 placed_end count kind number [] stage course finds placed = placed
 placed_end count kind number (phase ∷ phases) stage course finds placed =
-    placed_end count kind number phases (passed kind number stage phase.end phase.replies (lacks_pieces phase)) course.2 finds.1
-    (placed_passed count kind number stage phase.end phase.replies (lacks_pieces phase)
-    (subst (λ next. DueFinds count next phase.replies) (sym course.0) finds.0) placed)
+    placed_end count kind number phases (stage_past kind number stage phase) course.2 finds.1
+    (placed_passed count kind number (begun_at stage phase.position) phase.end phase.replies (lacks_pieces phase)
+    (subst (λ next. DueFinds count next phase.replies) (sym course.0) finds.0.1)
+    (placed_begun count stage phase.position finds.0.0 placed))
 
 -- and each phase
 pub placed_at : (count : ℕ) (kind : CallKind) (number : ℕ) (phases : List Phase) (stage : Stage) →
@@ -170,8 +181,10 @@ pub placed_at : (count : ℕ) (kind : CallKind) (number : ℕ) (phases : List Ph
 placed_at count kind number [] stage course finds placed place phase e = absurd (cc)
 placed_at count kind number (first ∷ phases) stage course finds placed zero phase e =
     subst (λ p. KindPlaced count p.kind p.position) (same_Some first phase e)
-    (subst (λ next. DuePlaced count next) course.0 (due_placed count stage placed))
+    (subst (λ next. DuePlaced count next) course.0
+    (due_placed count (begun_at stage first.position) (placed_begun count stage first.position finds.0.0 placed)))
 placed_at count kind number (first ∷ phases) stage course finds placed (suc place) phase e =
-    placed_at count kind number phases (passed kind number stage first.end first.replies (lacks_pieces first)) course.2 finds.1
-    (placed_passed count kind number stage first.end first.replies (lacks_pieces first) (subst (λ next. DueFinds count next first.replies)
-    (sym course.0) finds.0) placed) place phase e
+    placed_at count kind number phases (stage_past kind number stage first) course.2 finds.1
+    (placed_passed count kind number (begun_at stage first.position) first.end first.replies (lacks_pieces first)
+    (subst (λ next. DueFinds count next first.replies) (sym course.0) finds.0.1)
+    (placed_begun count stage first.position finds.0.0 placed)) place phase e

@@ -7,10 +7,11 @@ use Rattle.layout.specs.Layout.{quorum_of}
 use Rattle.mail.specs.declared.message.Message.{Message}
 use Rattle.phase.specs.declared.phase.Taken.{Taken}
 use Rattle.phase.specs.Phase.{Phase, members_of}
-use Rattle.record.specs.Records.{Call, Object, layout_at}
+use Rattle.record.specs.Records.{Call, Object, layout_at, base_at}
 use Rattle.record.specs.Knowledge.{IsTrueReply, IsTruePhase}
-use Rattle.record.specs.Courses.{IsCourse}
+use Rattle.record.specs.Courses.{IsCourse, BeginAtBase}
 use Rattle.record.specs.Legal.{first_stage, source_of, IsLegal}
+use Rattle.record.proofs.Bases.{base_set}
 use Rattle.record.proofs.Lists.{all_weaker, all_get, all_set}
 use Rattle.record.proofs.Sound.Calls.{changed_keeps}
 use Rattle.record.proofs.Sound.Changing.{moves_set, Others, phase_same}
@@ -52,6 +53,10 @@ recorded_keeps object index place call phase reply end mail legal at within last
       course = subst (λ from. IsCourse call.kind (suc index) (first_stage call.kind from) (set call.phases place grown)) same
           (course_set call.kind (suc index) call.phases
           (first_stage call.kind (source_of object index)) place phase grown c.course within last refl refl refl);
+      from_base = subst (λ from. BeginAtBase (base_at object) call.kind (suc index) (first_stage call.kind from)
+          (set call.phases place grown)) same
+          (base_set (base_at object) call.kind (suc index) call.phases
+          (first_stage call.kind (source_of object index)) place phase grown c.from_base within last refl refl);
       answer = λ step e. absurd (let ended = last_ended call.phases step place phase (c.answer step e).1 within last in
           let both : None ≡ Some ended.0 = sym open_phase ∙ ended.1 in cc);
     })

@@ -1,5 +1,5 @@
 -- A request that is served keeps the record legal.
-use Rattle.std.proofs.Common.{◌≡◌, ℕ, ◌<◌, ◌⊎◌, Some, refl, sym, subst, subst₂, ap, ◌∙◌, inl, inr, slice_get}
+use Rattle.std.proofs.Common.{◌≡◌, ℕ, suc, ◌<◌, ◌⊎◌, take, Some, refl, sym, subst, subst₂, ap, ◌∙◌, inl, inr, slice_get}
 use Rattle.std.proofs.lemmas.Option.{same_Some}
 use Rattle.std.specs.List.{AllByRecursion}
 use Rattle.tag.specs.declared.tag.Tag.{Tag}
@@ -16,13 +16,15 @@ use Rattle.bank.specs.Serve.{served_bank, kind_of}
 use Rattle.bank.specs.Knowledge.{finalized_at, arrived_at, pending_since, final_since}
 use Rattle.bank.specs.Facts.{SameBefore}
 use Rattle.mail.specs.declared.message.Message.{Message}
-use Rattle.record.specs.Records.{Object, bank_at}
+use Rattle.record.specs.Records.{Object, bank_at, retired_at, base_at}
 use Rattle.record.specs.Knowledge.{IsTruePhase}
-use Rattle.record.specs.Legal.{HasBegun, IsCaused, IsLegal}
+use Rattle.record.specs.Legal.{moves_in, first_stage, source_of, HasBegun, IsMovedOut, IsCaused, IsLegal}
 use Rattle.record.specs.Steps.{handled_object}
 use Rattle.bank.specs.declared.status.Status.TheVariants as status
 use Rattle.bank.specs.declared.request.Request.TheVariants as request
+use Rattle.record.proofs.Bases.{base_kept, base_everywhere, bases_same}
 use Rattle.record.proofs.Lists.{all_weaker, all_pairs}
+use Rattle.record.proofs.Sound.Banks.{served-retired}
 use Rattle.record.proofs.Sound.Changing.{caused_more}
 use Rattle.record.proofs.Sound.Keeping.{agree_same, served_agrees, Keeps, phase_kept}
 use Rattle.record.proofs.Sound.Knowing.{label_arrived, piece_finalized, label_cases, piece_cases, bank_at_set}
@@ -65,6 +67,7 @@ raised_caused object position now s bank begun caused = record {
   arrived = caused.arrived;
   pending = λ step e. go step (raised_pending bank.pointer s now step e);
   final = λ step e. end step (raised_final bank.pointer s now step e);
+  retired = caused.retired;
 }
   where
     spread : (t : Status) (step : ℕ) → s ≡ t → step ≡ now → HasBegun object (Spread t) position step
@@ -92,6 +95,7 @@ served_caused object position now (request.PreWrite tag piece) bank begun caused
   arrived = λ other step e. go other step (piece_cases bank tag piece now other step e);
   pending = caused.pending;
   final = caused.final;
+  retired = caused.retired;
 }
   where
     go : (other : Tag) (step : ℕ) → ((tag ≡ other) × (step ≡ now)) ⊎ (arrived_at bank other ≡ Some step) →
@@ -104,6 +108,7 @@ served_caused object position now (request.Finalize tag) bank begun caused = rec
   arrived = λ other step e. caused.arrived other step (sym (label_arrived bank tag now other) ∙ e);
   pending = caused.pending;
   final = caused.final;
+  retired = caused.retired;
 }
   where
     go : (other : Tag) (step : ℕ) → ((tag ≡ other) × (step ≡ now)) ⊎ (finalized_at bank other ≡ Some step) →
@@ -117,6 +122,7 @@ served_caused object position now (request.Fetch tag) bank begun caused = record
   arrived = λ other step e. caused.arrived other step (sym (label_arrived bank tag now other) ∙ e);
   pending = caused.pending;
   final = caused.final;
+  retired = caused.retired;
 }
   where
     go : (other : Tag) (step : ℕ) → ((tag ≡ other) × (step ≡ now)) ⊎ (finalized_at bank other ≡ Some step) →
@@ -139,6 +145,17 @@ has_same old new e k p step begun = record {
   before = begun.before;
 }
 
+pub moved_same : (old new : Object) → new.calls ≡ old.calls → (p answered : ℕ) → IsMovedOut old p answered →
+    IsMovedOut new p answered
+moved_same old new e p answered moved = record {
+  index = moved.index;
+  call = moved.call;
+  at = ap (λ calls. slice_get calls moved.index) e ∙ moved.at;
+  kind = moved.kind;
+  source = ap (λ calls. moves_in (take moved.index calls)) e ∙ moved.source;
+  was = moved.was;
+}
+
 -- A request that is served keeps the record legal
 pub served_keeps : (object : Object) (place : ℕ) (message : Message) (asked : Request) (now : ℕ) →
     IsLegal object → MadeBefore object now → HasBegun object (kind_of asked) message.position now →
@@ -154,6 +171,9 @@ served_keeps object place message asked now legal made begun = record {
         (all_pairs (λ phase. AllByRecursion (λ taken. taken.reply.step < now) phase.replies) (IsTruePhase object) call.phases
         (made index call at) c.phases);
     course = c.course;
+    from_base = base_kept (base_at object) (base_at new) call.kind (suc index) call.phases
+        (first_stage call.kind (source_of object index))
+        (base_everywhere (base_at object) (base_at new) (bases_same object new unretired) call.phases) c.from_base;
     answer = c.answer;
   };
   in_turn = legal.in_turn;
@@ -166,6 +186,20 @@ served_keeps object place message asked now legal made begun = record {
 
     new : Object
     new = handled_object object place message asked now
+
+    retired_as : (p i : ℕ) → (bank_at new p i ≡ bank_at object p i)
+        ⊎ ((p ≡ message.position) × (i ≡ message.member) × (bank_at new p i ≡ served)) →
+        (bank_at new p i).retired ≡ (bank_at object p i).retired
+    retired_as p i (inl same) = ap (λ (bank : Bank). bank.retired) same
+    retired_as p i (inr here) =
+        let was : bank_at object p i ≡ bank_at object message.position message.member =
+        subst₂ (λ q j. bank_at object q j ≡ bank_at object message.position message.member) (sym here.0) (sym here.1) refl in
+        ap (λ (bank : Bank). bank.retired) here.2
+        ∙ served-retired (bank_at object message.position message.member) asked now
+        ∙ sym (ap (λ (bank : Bank). bank.retired) was)
+
+    unretired : (p : ℕ) → retired_at new p ≡ retired_at object p
+    unretired p = retired_as p 0 (bank_at_set object message.position message.member served p 0)
 
     agrees : (p i : ℕ) → (bank_at new p i ≡ bank_at object p i)
         ⊎ ((p ≡ message.position) × (i ≡ message.member) × (bank_at new p i ≡ served)) →
@@ -184,9 +218,11 @@ served_keeps object place message asked now legal made begun = record {
 
     go : (p i : ℕ) → (bank_at new p i ≡ bank_at object p i)
         ⊎ ((p ≡ message.position) × (i ≡ message.member) × (bank_at new p i ≡ served)) → IsCaused new p (bank_at new p i)
-    go p i (inl same) = caused_more object new (λ k q step b. has_same object new refl k q step b) p (bank_at new p i)
+    go p i (inl same) = caused_more object new (λ k q step b. has_same object new refl k q step b)
+        (λ q answered m. moved_same object new refl q answered m) p (bank_at new p i)
         (subst (λ bank. IsCaused object p bank) (sym same) (legal.banks p i))
-    go p i (inr here) = caused_more object new (λ k q step b. has_same object new refl k q step b) p (bank_at new p i)
+    go p i (inr here) = caused_more object new (λ k q step b. has_same object new refl k q step b)
+        (λ q answered m. moved_same object new refl q answered m) p (bank_at new p i)
         (subst₂ (λ q bank. IsCaused object q bank) (sym here.0) (sym here.2)
         (served_caused object message.position now asked (bank_at object message.position message.member) begun
         (legal.banks message.position message.member)))

@@ -13,6 +13,7 @@ use Rattle.record.specs.Steps.{Step, stepped, run, opened_object}
 use Rattle.record.proofs.Atomic.Sequences.Whole.{atomic_of_legal}
 use Rattle.record.proofs.Atomic.Values.Coded.{reads_journaled}
 use Rattle.record.proofs.Sound.Opening.{opening_sound}
+use Rattle.record.proofs.Sound.Retiring.{retired_sound}
 use Rattle.record.proofs.Sound.Stepping.{advance_sound, again_sound, supply_sound, post_sound, settle_sound}
 use Rattle.record.proofs.Sound.Stepping.{answer_sound, serve_sound, take_sound, lose_sound, repeat_sound}
 use Rattle.record.proofs.Sound.Widening.{called_sound, moving_sound}
@@ -30,9 +31,10 @@ pub step_sound : (fragment : Code) (object : Object) (step now : ℕ) → IsCode
     step < now → IsSound fragment object step → (made : Step) → MayStep fragment object made →
     IsSound fragment (stepped fragment made now object) now
 step_sound fragment object step now code less sound Step.CallRead may =
-    called_sound fragment code object step now less sound Read refl (λ moves. refl) (λ value e. absurd (cc))
+    called_sound fragment code object step now less sound Read refl (λ moves position. refl) (λ value e. absurd (cc))
 step_sound fragment object step now code less sound (Step.CallWrite value) may =
-    called_sound fragment code object step now less sound (Write value) refl (λ moves. refl) (λ other e. written_bytes value other e may)
+    called_sound fragment code object step now less sound (Write value) refl (λ moves position. refl)
+    (λ other e. written_bytes value other e may)
 step_sound fragment object step now code less sound (Step.CallMove layout) may =
     moving_sound fragment code object step now less sound layout may.0 may.1
 step_sound fragment object step now code less sound (Step.Advance index) may =
@@ -50,6 +52,7 @@ step_sound fragment object step now code less sound (Step.Serve place) may = ser
 step_sound fragment object step now code less sound (Step.Take place) may = take_sound fragment object step now less sound place may
 step_sound fragment object step now code less sound (Step.Lose place) may = lose_sound fragment object step now less sound place
 step_sound fragment object step now code less sound (Step.Repeat place) may = repeat_sound fragment object step now less sound place may
+step_sound fragment object step now code less sound Step.Retire may = retired_sound fragment object step now less sound may.0 may.1
 
 pub run_sound : (fragment : Code) → IsCode fragment → (steps : List Step) (object : Object) (step : ℕ) →
     IsSound fragment object step → MayRun fragment steps (suc step) object →

@@ -9,10 +9,10 @@ use Rattle.bank.specs.declared.kind.Kind.TheVariants.{Next, Spread, Query, PreWr
 use Rattle.phase.specs.Phase.{Phase, lacks_pieces}
 use Rattle.record.specs.declared.call.CallKind.{CallKind}
 use Rattle.record.specs.declared.call.CallKind.TheVariants.{Read, Write, Move}
-use Rattle.record.specs.Records.{Call, Object, layout_at}
-use Rattle.record.specs.Courses.{due, IsCourse}
+use Rattle.record.specs.Records.{Call, Object, layout_at, base_of}
+use Rattle.record.specs.Courses.{IsCourse}
 use Rattle.record.specs.declared.stage.Stage.{Stage}
-use Rattle.record.specs.Legal.{first_stage, source_of, stage_of}
+use Rattle.record.specs.Legal.{first_stage, source_of, due_of}
 use Rattle.record.specs.Fragments.{Code, IsFetch}
 use Rattle.record.specs.Sound.{IsSound}
 use Rattle.record.specs.Sending.{sent_value}
@@ -74,7 +74,7 @@ settled_of fragment object step sound index call at fetches takes = go takes
         let next = both.1 in
         settled_after fragment object step sound index call at both.0.phase both.0.current both.0.settled
         (fetched_before_due call.kind fetches (suc index) call.phases first course (unfetched_first call.kind (source_of object index))
-        (next.tag, next.position, next.is_due))
+        (base_of object) (next.tag, next.position, next.is_due))
     go (inr awaits) =
         let phase = awaits.0 in
         let there = last_at call.phases phase awaits.1.current in
@@ -111,7 +111,7 @@ after_end (Some end) (Finalize tag) settled next settle ended has = refl
 
 -- a call that is ready wants what is due
 pub ready_wants : (object : Object) (index : ℕ) (call : Call) → Ready call →
-    want_of object index call ≡ want_for object (due (stage_of object index call))
+    want_of object index call ≡ want_for object (due_of object index call)
 ready_wants object index call ready =
     ap (λ a. cond (is_some a) wants.Done (want_after object next call.settled (current_phase call.phases))) ready.open_call
     ∙ ap (λ p. want_after object next call.settled p) ready.current
@@ -119,11 +119,11 @@ ready_wants object index call ready =
     (want_of_fetch object ready.phase) (ap is_some ready.ended) ready.settled
   where
     next : Option (Kind × ℕ)
-    next = due (stage_of object index call)
+    next = due_of object index call
 
 -- the pieces that a call wants are for the threshold and the members of the layout where they are due
 pub supply_counts : (object : Object) (index : ℕ) (call : Call) (k n : ℕ) → want_of object index call ≡ wants.Supply k n →
-    (tag : Tag) × (position : ℕ) × (due (stage_of object index call) ≡ Some (PreWrite tag, position))
+    (tag : Tag) × (position : ℕ) × (due_of object index call ≡ Some (PreWrite tag, position))
     × (k ≡ (layout_at object position).k) × (n ≡ length (layout_at object position).members)
 supply_counts object index call k n e =
     let both = supply_ready object index call k n e in

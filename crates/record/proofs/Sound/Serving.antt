@@ -21,6 +21,7 @@ use Rattle.record.specs.Sound.{IsPosted, IsSound}
 use Rattle.record.specs.Steps.{with_bank, handled_object, served_by}
 use Rattle.record.specs.May.{IsRequestAt}
 use Rattle.mail.specs.declared.message.Body.TheVariants as body
+use Rattle.record.proofs.Bases.{leading_same}
 use Rattle.record.proofs.Lists.{all_weaker, all_pairs, all_get, all_set}
 use Rattle.record.proofs.Sound.Banks.{served-delta, served-retired, BankCoded, served_past, served_next, served_opened_at}
 use Rattle.record.proofs.Sound.Banks.{served_true, served_coded, answer_coded}
@@ -68,6 +69,8 @@ handled_sound fragment object step now place less sound message asked at is =
       members = λ p h. members_kept object message.position message.member served p ∙ sizes.members p h;
       opened = λ p i h k. let o = sizes.opened p i h k in (o.0, grows.opened p i o.0 h o.1);
       delta = λ p i h k. same_delta p i (bank_at_set object message.position message.member served p i) ∙ sizes.delta p i h k;
+      retired = λ p i h k. same_retired p i ∙ sizes.retired p i h k ∙ sym (same_retired p 0);
+      leading = leading_same object new (λ p. same_retired p 0) sizes.leading;
     })
     (λ index call e. call_grows fragment step now object new (le_of_lt less) grows call (sound.legal.calls index call e).phases
     (call_rest fragment object step sound index call e))
@@ -161,6 +164,17 @@ handled_sound fragment object step now place less sound message asked at is =
         let was : bank_at object p i ≡ old = subst₂ (λ q j. bank_at object q j ≡ old) (sym here.0) (sym here.1) refl in
         ap (λ (bank : Bank). bank.delta) here.2 ∙ served-delta old asked now ∙ sym (ap (λ (bank : Bank). bank.delta) was)
 
+    retired_as : (p i : ℕ) → (bank_at new p i ≡ bank_at object p i)
+        ⊎ ((p ≡ message.position) × (i ≡ message.member) × (bank_at new p i ≡ served)) →
+        (bank_at new p i).retired ≡ (bank_at object p i).retired
+    retired_as p i (inl same) = ap (λ (bank : Bank). bank.retired) same
+    retired_as p i (inr here) =
+        let was : bank_at object p i ≡ old = subst₂ (λ q j. bank_at object q j ≡ old) (sym here.0) (sym here.1) refl in
+        ap (λ (bank : Bank). bank.retired) here.2 ∙ served-retired old asked now ∙ sym (ap (λ (bank : Bank). bank.retired) was)
+
+    same_retired : (p i : ℕ) → (bank_at new p i).retired ≡ (bank_at object p i).retired
+    same_retired p i = retired_as p i (bank_at_set object message.position message.member served p i)
+
     grows : Grows now object new
     grows = record {
       keeps = record {
@@ -196,7 +210,6 @@ handled_sound fragment object step now place less sound message asked at is =
       coded = served_coded fragment new message.position message.member old asked now sent old_coded;
       next = served_next (length object.layouts) message.position old asked now kind_there old_rest.next;
       collected = served_collected old asked now old_rest.collected;
-      unretired = served-retired old asked now ∙ old_rest.unretired;
     }
 
     banks : (p i : ℕ) → (bank_at new p i ≡ bank_at object p i)

@@ -6,8 +6,7 @@ use Rattle.bank.specs.declared.kind.Kind.TheVariants.{PreWrite}
 use Rattle.mail.specs.declared.message.Message.{Message}
 use Rattle.phase.specs.Phase.{Phase}
 use Rattle.record.specs.Records.{Call, Object, layout_at}
-use Rattle.record.specs.Courses.{due}
-use Rattle.record.specs.Legal.{stage_of}
+use Rattle.record.specs.Legal.{due_of}
 use Rattle.record.specs.Fragments.{Code, Determines}
 use Rattle.record.specs.Sound.{IsSound}
 use Rattle.record.specs.Wants.{current_phase}
@@ -35,7 +34,7 @@ at_message : (fragment : Code) (now : ℕ) (object : Object) (o : Option Message
 at_message fragment now object o message f e sound = subst (λ c. IsSound fragment (on_message object c f) now) (sym e) sound
 
 at_due : (fragment : Code) (now : ℕ) (object : Object) (index : ℕ) (call : Call) (kind : Kind) (position : ℕ) →
-    due (stage_of object index call) ≡ Some (kind, position) →
+    due_of object index call ≡ Some (kind, position) →
     IsSound fragment (begun_object fragment object index call (Some (kind, position)) now) now →
     IsSound fragment (advanced_object fragment object index call now) now
 at_due fragment now object index call kind position e sound =

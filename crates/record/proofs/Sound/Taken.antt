@@ -15,14 +15,15 @@ use Rattle.record.specs.declared.call.CallKind.{CallKind}
 use Rattle.record.specs.declared.call.CallKind.TheVariants.{Write}
 use Rattle.record.specs.Records.{Call, Object, layout_at}
 use Rattle.record.specs.declared.stage.Stage.{Stage}
-use Rattle.record.specs.Courses.{passed, stage_after}
+use Rattle.record.specs.Courses.{passed, stage_after, begun_at, stage_past}
 use Rattle.record.specs.Legal.{AreNumbered}
 use Rattle.record.specs.Journals.{stage_tag}
 use Rattle.record.specs.Fragments.{Code, IsFetch, IsSettled, HasPiece}
 use Rattle.record.specs.Steps.{taking_phases}
 use Rattle.record.proofs.Lists.{all_weaker, get_push, get_set, set_here, set_there}
-use Rattle.record.proofs.Sound.Late.{IsOfWrite, late_of_write, late_passed, of_write_on}
+use Rattle.record.proofs.Sound.Late.{IsOfWrite, late_of_write, late_past, of_write_past}
 use Rattle.record.proofs.Sound.Mays.{grown_phase}
+use Rattle.record.proofs.Begins.{begun_tag}
 
 pub numbered_at : (call number : ℕ) (phases : List Phase) (place : ℕ) (phase : Phase) → AreNumbered call number phases →
     slice_get phases place ≡ Some phase → (phase.call ≡ call) × (phase.number ≡ number + place)
@@ -42,14 +43,15 @@ pub tag_set : (value : List ℕ) (kind : CallKind) → kind ≡ Write value → 
 tag_set value kind k number [] stage of place old new tag at last none e = absurd (cc)
 tag_set value kind k number (first ∷ []) stage of zero old new tag at last none e =
     let end_is : first.end ≡ None = ap (λ (p : Phase). p.end) (same_Some first old at) ∙ none in
-    (late_passed kind number stage new.end new.replies (lacks_pieces new) tag
-    (late_of_write stage of tag
-    (subst (λ o. stage_tag (passed kind number stage o first.replies (lacks_pieces first)) ≡ Some tag) end_is e))).1
+    (late_past kind number stage new tag
+    (late_of_write stage of tag (sym (begun_tag stage first.position) ∙
+    subst (λ o. stage_tag (passed kind number (begun_at stage first.position) o first.replies (lacks_pieces first)) ≡ Some tag)
+    end_is e))).1
 tag_set value kind k number (first ∷ []) stage of (suc place) old new tag at last none e = absurd (cc)
 tag_set value kind k number (first ∷ next ∷ later) stage of zero old new tag at last none e = absurd (omega arith)
 tag_set value kind k number (first ∷ next ∷ later) stage of (suc place) old new tag at last none e =
-    tag_set value kind k number (next ∷ later) (passed kind number stage first.end first.replies (lacks_pieces first))
-    (of_write_on value kind k number stage first.end first.replies (lacks_pieces first) of) place old new tag at (omega arith) none e
+    tag_set value kind k number (next ∷ later) (stage_past kind number stage first)
+    (of_write_past value kind k number stage first of) place old new tag at (omega arith) none e
 
 -- the test on the replies is one on their members
 has-members_of : (replies : List Taken) (member : ℕ) → has (members_of replies) member ≡ has_taken replies member

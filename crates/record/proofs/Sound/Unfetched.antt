@@ -12,18 +12,21 @@ use Rattle.phase.specs.declared.phase.Taken.{Taken}
 use Rattle.phase.specs.Phase.{Phase, lacks_pieces}
 use Rattle.record.specs.declared.call.CallKind.{CallKind}
 use Rattle.record.specs.declared.call.CallKind.TheVariants.{Read, Write, Move}
-use Rattle.record.specs.Courses.{greatest_status, greatest_tag, due, after, passed, stage_after}
+use Rattle.record.specs.Courses.{begun_at, greatest_status, greatest_tag, due, after, passed, stage_past, stage_after}
 use Rattle.record.specs.Courses.{IsCourse, after_next, after_spread, after_query, tagged}
 use Rattle.record.specs.declared.stage.Stage.{Stage}
-use Rattle.record.specs.declared.stage.Stage.TheVariants.{ReadNext, ReadSpread, QueryFrom, FetchAt, MoveSpread, MoveQuery, MoveFetch}
+use Rattle.record.specs.declared.stage.Stage.TheVariants.{ReadBegin, ReadNext, ReadSpread, QueryFrom, FetchAt, MoveSpread, MoveQuery}
+use Rattle.record.specs.declared.stage.Stage.TheVariants.{MoveFetch}
 use Rattle.record.specs.Legal.{first_stage}
 use Rattle.record.specs.Fragments.{IsFetch}
 use Rattle.record.specs.May.{IsPreWrite}
+use Rattle.record.proofs.Begins.{begun_has}
 
 -- Before the fetch
 
 -- a call that has not fetched
 abbrev IsUnfetched : Stage → Type 0
+IsUnfetched ReadBegin = Unit {0}
 IsUnfetched (ReadNext p m) = Unit {0}
 IsUnfetched (ReadSpread p m s) = Unit {0}
 IsUnfetched (QueryFrom p l t q) = Unit {0}
@@ -79,6 +82,7 @@ unfetched_query kind fetches number found p l greatest q = go (eqb p l)
 unfetched_after : (kind : CallKind) → Fetches kind → (number : ℕ) (stage : Stage) (replies : List Taken) (lacks : Bool) →
     IsUnfetched stage →
     (IsFetchDue stage × (lacks ≡ false)) ⊎ IsUnfetched (after kind number stage replies lacks)
+unfetched_after kind fetches number ReadBegin replies lacks none = inr tt
 unfetched_after kind fetches number (ReadNext p m) replies lacks none = inr (unfetched_next p m (greatest_status replies))
 unfetched_after kind fetches number (ReadSpread p m s) replies lacks none = inr (unfetched_spread p m s)
 unfetched_after kind fetches number (QueryFrom p l t q) replies lacks none =
@@ -96,12 +100,17 @@ unfetched_passed : (kind : CallKind) → Fetches kind → (number : ℕ) (stage 
 unfetched_passed kind fetches number stage None replies lacks none = inr none
 unfetched_passed kind fetches number stage (Some end) replies lacks none = unfetched_after kind fetches number stage replies lacks none
 
+-- and it has not where its phase begins
+unfetched_begun : (stage : Stage) (position : ℕ) → IsUnfetched stage → IsUnfetched (begun_at stage position)
+unfetched_begun stage position none = begun_has (λ s. IsUnfetched s) stage position (λ first. tt) none
+
 -- whether what is due sends pieces
 abbrev sends : Option (Kind × ℕ) → Bool
 sends (Some (PreWrite tag, position)) = true
 sends _ = false
 
 unfetched_sends : (stage : Stage) → IsUnfetched stage → sends (due stage) ≡ false
+unfetched_sends ReadBegin none = refl
 unfetched_sends (ReadNext p m) none = refl
 unfetched_sends (ReadSpread p m s) none = refl
 unfetched_sends (QueryFrom p l t q) none = refl
@@ -146,12 +155,16 @@ fetched_from phase phases stage is (inr still) later =
 
 -- a read or a move that is to send pieces has fetched
 pub fetched_before_due : (kind : CallKind) → Fetches kind → (number : ℕ) (phases : List Phase) (stage : Stage) →
-    IsCourse kind number stage phases → IsUnfetched stage → IsSendingDue (stage_after kind number stage phases) → Fetched phases
-fetched_before_due kind fetches number [] stage course none sending = absurd (unfetched_due stage none sending)
-fetched_before_due kind fetches number (phase ∷ phases) stage course none sending =
-    fetched_from phase phases stage course.0 (unfetched_passed kind fetches number stage phase.end phase.replies (lacks_pieces phase) none)
+    IsCourse kind number stage phases → IsUnfetched stage → (base : ℕ) →
+    IsSendingDue (begun_at (stage_after kind number stage phases) base) → Fetched phases
+fetched_before_due kind fetches number [] stage course none base sending =
+    absurd (unfetched_due (begun_at stage base) (unfetched_begun stage base none) sending)
+fetched_before_due kind fetches number (phase ∷ phases) stage course none base sending =
+    fetched_from phase phases (begun_at stage phase.position) course.0
+    (unfetched_passed kind fetches number (begun_at stage phase.position) phase.end phase.replies (lacks_pieces phase)
+    (unfetched_begun stage phase.position none))
     (λ still. fetched_before_due kind fetches number phases
-    (passed kind number stage phase.end phase.replies (lacks_pieces phase)) course.2 still sending)
+    (stage_past kind number stage phase) course.2 still base sending)
 
 -- and so has one that sends them
 pub fetched_before_sent : (kind : CallKind) → Fetches kind → (number : ℕ) (phases : List Phase) (stage : Stage) →
@@ -161,11 +174,14 @@ fetched_before_sent kind fetches number [] stage course none place sent at pre =
 fetched_before_sent kind fetches number (phase ∷ phases) stage course none zero sent at pre =
     let same : phase ≡ sent = same_Some phase sent at in
     let asked : phase.kind ≡ PreWrite pre.0 = ap (λ (p : Phase). p.kind) same ∙ pre.1 in
-    absurd (unfetched_due stage none (pre.0, phase.position, course.0 ∙ ap (λ (k : Kind). Some (k, phase.position)) asked))
+    absurd (unfetched_due (begun_at stage phase.position) (unfetched_begun stage phase.position none)
+    (pre.0, phase.position, course.0 ∙ ap (λ (k : Kind). Some (k, phase.position)) asked))
 fetched_before_sent kind fetches number (phase ∷ phases) stage course none (suc place) sent at pre =
-    fetched_from phase phases stage course.0 (unfetched_passed kind fetches number stage phase.end phase.replies (lacks_pieces phase) none)
+    fetched_from phase phases (begun_at stage phase.position) course.0
+    (unfetched_passed kind fetches number (begun_at stage phase.position) phase.end phase.replies (lacks_pieces phase)
+    (unfetched_begun stage phase.position none))
     (λ still. fetched_before_sent kind fetches number phases
-    (passed kind number stage phase.end phase.replies (lacks_pieces phase)) course.2 still place sent at pre)
+    (stage_past kind number stage phase) course.2 still place sent at pre)
 
 pub unfetched_first : (kind : CallKind) (moves : ℕ) → IsUnfetched (first_stage kind moves)
 unfetched_first Read moves = tt

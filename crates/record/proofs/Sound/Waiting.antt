@@ -6,8 +6,8 @@ use Rattle.bank.specs.declared.kind.Kind.{Kind}
 use Rattle.phase.specs.Phase.{Phase, lacks_pieces}
 use Rattle.record.specs.Records.{Call, Object, layout_at}
 use Rattle.bank.specs.declared.kind.Kind.TheVariants.{Next, Spread, Query, PreWrite, Finalize, Fetch}
-use Rattle.record.specs.Courses.{due, EndsBefore}
-use Rattle.record.specs.Legal.{stage_of}
+use Rattle.record.specs.Courses.{EndsBefore}
+use Rattle.record.specs.Legal.{due_of}
 use Rattle.record.specs.Fragments.{IsFetch}
 use Rattle.record.specs.declared.stage.Want.{Want}
 use Rattle.record.specs.Wants.{current_phase, is_fetch, value_len, want_for, want_of_fetch, want_after, want_of}
@@ -186,5 +186,5 @@ want_cases object call next want e = on_answer call.answered refl
     on_answer (Some step) a = inl (sym (rw a at e))
 
 pub cases_of : (object : Object) (index : ℕ) (call : Call) (want : Want) → want_of object index call ≡ want →
-    Cases object call (due (stage_of object index call)) want
-cases_of object index call want e = want_cases object call (due (stage_of object index call)) want e
+    Cases object call (due_of object index call) want
+cases_of object index call want e = want_cases object call (due_of object index call) want e

@@ -5,8 +5,8 @@ use Rattle.bank.specs.declared.kind.Kind.{Kind}
 use Rattle.phase.specs.Phase.{Phase, lacks_pieces}
 use Rattle.record.specs.Records.{Call, Object, layout_at}
 use Rattle.bank.specs.declared.kind.Kind.TheVariants.{Next, Spread, Query, PreWrite, Finalize, Fetch}
-use Rattle.record.specs.Courses.{due, EndsBefore}
-use Rattle.record.specs.Legal.{stage_of}
+use Rattle.record.specs.Courses.{EndsBefore}
+use Rattle.record.specs.Legal.{due_of}
 use Rattle.record.specs.Fragments.{IsFetch}
 use Rattle.record.specs.Sound.{IsPhasePast, IsCallPast}
 use Rattle.record.specs.declared.stage.Want.{Want}
@@ -73,11 +73,11 @@ not_due object next want other e = go other (due_cases object next)
 ready_of : (object : Object) (index : ℕ) (call : Call) (want : Want) → want_of object index call ≡ want →
     (want ≡ wants.Done → ⊥) → (want ≡ wants.Replies → ⊥) → ((k len : ℕ) → want ≡ wants.Settle k len → ⊥) →
     (want ≡ wants.Again → ⊥) →
-    Ready call × (want_for object (due (stage_of object index call)) ≡ want)
+    Ready call × (want_for object (due_of object index call) ≡ want)
 ready_of object index call want e not_done not_replies not_settle not_again = go (cases_of object index call want e)
   where
-    go : Cases object call (due (stage_of object index call)) want →
-        Ready call × (want_for object (due (stage_of object index call)) ≡ want)
+    go : Cases object call (due_of object index call) want →
+        Ready call × (want_for object (due_of object index call) ≡ want)
     go (inl d) = absurd (not_done d)
     go (inr (inl r)) = absurd (not_replies r.0)
     go (inr (inr (inl s))) = absurd (not_settle s.k s.len s.is)
@@ -85,11 +85,11 @@ ready_of object index call want e not_done not_replies not_settle not_again = go
     go (inr (inr (inr (inr ready)))) = ready
 
 pub answer_ready : (object : Object) (index : ℕ) (call : Call) → want_of object index call ≡ wants.Answer →
-    Ready call × (due (stage_of object index call) ≡ None)
+    Ready call × (due_of object index call ≡ None)
 answer_ready object index call e = (ready.0, go (due_cases object next))
   where
     next : Option (Kind × ℕ)
-    next = due (stage_of object index call)
+    next = due_of object index call
 
     ready : Ready call × (want_for object next ≡ wants.Answer)
     ready = ready_of object index call wants.Answer e (λ d. absurd (cc)) (λ d. absurd (cc)) (λ k len d. absurd (cc)) (λ d. absurd (cc))
@@ -100,11 +100,11 @@ answer_ready object index call e = (ready.0, go (due_cases object next))
     go (inr (inr s)) = absurd (let clash : supply_at object s.position ≡ wants.Answer = sym s.wants ∙ ready.1 in cc)
 
 pub advance_ready : (object : Object) (index : ℕ) (call : Call) → want_of object index call ≡ wants.Advance →
-    Ready call × Plain (due (stage_of object index call))
+    Ready call × Plain (due_of object index call)
 advance_ready object index call e = (ready.0, go (due_cases object next))
   where
     next : Option (Kind × ℕ)
-    next = due (stage_of object index call)
+    next = due_of object index call
 
     ready : Ready call × (want_for object next ≡ wants.Advance)
     ready = ready_of object index call wants.Advance e (λ d. absurd (cc)) (λ d. absurd (cc)) (λ k len d. absurd (cc)) (λ d. absurd (cc))
@@ -115,11 +115,11 @@ advance_ready object index call e = (ready.0, go (due_cases object next))
     go (inr (inr s)) = absurd (let clash : supply_at object s.position ≡ wants.Advance = sym s.wants ∙ ready.1 in cc)
 
 pub supply_ready : (object : Object) (index : ℕ) (call : Call) (k n : ℕ) → want_of object index call ≡ wants.Supply k n →
-    Ready call × Sending object (due (stage_of object index call))
+    Ready call × Sending object (due_of object index call)
 supply_ready object index call k n e = (ready.0, go (due_cases object next))
   where
     next : Option (Kind × ℕ)
-    next = due (stage_of object index call)
+    next = due_of object index call
 
     ready : Ready call × (want_for object next ≡ wants.Supply k n)
     ready =
@@ -135,36 +135,36 @@ pub unsettled_of : (object : Object) (index : ℕ) (call : Call) (k len : ℕ) �
     want_of object index call ≡ wants.Settle k len → Unsettled call false
 unsettled_of object index call k len e = go (cases_of object index call (wants.Settle k len) e)
   where
-    go : Cases object call (due (stage_of object index call)) (wants.Settle k len) → Unsettled call false
+    go : Cases object call (due_of object index call) (wants.Settle k len) → Unsettled call false
     go (inl d) = absurd (cc)
     go (inr (inl r)) = absurd (let clash = r.0 in cc)
     go (inr (inr (inl s))) = s.unsettled
     go (inr (inr (inr (inl again)))) = absurd (let clash = again.0 in cc)
     go (inr (inr (inr (inr ready)))) =
-        absurd (not_due object (due (stage_of object index call)) (wants.Settle k len) (inr (inl (k, len, refl))) ready.1)
+        absurd (not_due object (due_of object index call) (wants.Settle k len) (inr (inl (k, len, refl))) ready.1)
 
 -- a call that wants to begin anew
 pub lacking_of : (object : Object) (index : ℕ) (call : Call) → want_of object index call ≡ wants.Again → Unsettled call true
 lacking_of object index call e = go (cases_of object index call wants.Again e)
   where
-    go : Cases object call (due (stage_of object index call)) wants.Again → Unsettled call true
+    go : Cases object call (due_of object index call) wants.Again → Unsettled call true
     go (inl d) = absurd (cc)
     go (inr (inl r)) = absurd (let clash = r.0 in cc)
     go (inr (inr (inl s))) = absurd (let clash = s.is in cc)
     go (inr (inr (inr (inl again)))) = again.1
     go (inr (inr (inr (inr ready)))) =
-        absurd (not_due object (due (stage_of object index call)) wants.Again (inr (inr refl)) ready.1)
+        absurd (not_due object (due_of object index call) wants.Again (inr (inr refl)) ready.1)
 
 -- a call that waits for replies
 pub waiting_of : (object : Object) (index : ℕ) (call : Call) → want_of object index call ≡ wants.Replies → Waiting call
 waiting_of object index call e = go (cases_of object index call wants.Replies e)
   where
-    go : Cases object call (due (stage_of object index call)) wants.Replies → Waiting call
+    go : Cases object call (due_of object index call) wants.Replies → Waiting call
     go (inl d) = absurd (cc)
     go (inr (inl r)) = r.1
     go (inr (inr (inl s))) = absurd (let clash = s.is in cc)
     go (inr (inr (inr (inl again)))) = absurd (let clash = again.0 in cc)
-    go (inr (inr (inr (inr ready)))) = absurd (not_due object (due (stage_of object index call)) wants.Replies (inl refl) ready.1)
+    go (inr (inr (inr (inr ready)))) = absurd (not_due object (due_of object index call) wants.Replies (inl refl) ready.1)
 
 -- the current phase ended before now
 pub ended_before : (call : Call) (phase : Phase) (end step now : ℕ) → current_phase call.phases ≡ Some phase →

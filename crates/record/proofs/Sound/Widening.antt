@@ -5,21 +5,23 @@ use Rattle.std.proofs.lemmas.List.{length_push, get_or_append_left}
 use Rattle.layout.specs.Layout.{Layout, IsLawful}
 use Rattle.bank.specs.Bank.{Bank, opened_bank}
 use Rattle.record.specs.declared.call.CallKind.{CallKind}
-use Rattle.record.specs.Records.{Call, Object, layout_at, bank_at, no_bank, no_layout}
+use Rattle.record.specs.Records.{Call, Object, layout_at, bank_at, no_bank, no_layout, retired_at, base_of}
 use Rattle.bank.specs.declared.status.Status.TheVariants.{Pending}
 use Rattle.bank.specs.declared.kind.Kind.TheVariants.{Next, Spread}
 use Rattle.record.specs.declared.call.CallKind.TheVariants.{Write, Move}
-use Rattle.record.specs.Courses.{due}
+use Rattle.record.specs.Courses.{begun_at, due}
 use Rattle.record.specs.Legal.{is_move, moves_in, first_stage, IsOpenedAt}
 use Rattle.record.specs.Fragments.{Code, IsValue, IsCode}
 use Rattle.record.specs.May.{NoOpenMove}
 use Rattle.record.specs.Sound.{IsSound}
 use Rattle.record.specs.Steps.{new_call, opened_banks, called_object, moving_object}
+use Rattle.record.proofs.Bases.{leading_same}
 use Rattle.record.proofs.Lists.{all_push}
 use Rattle.record.proofs.Sound.Added.{Wider, begun}
 use Rattle.record.proofs.Sound.Adding.{added_sound}
-use Rattle.record.proofs.Sound.Opening.{opened_get, opened_at, opened_there, opened_length, either_rest, either_caused}
-use Rattle.record.proofs.Sound.Parts.{Sizes, sizes_of}
+use Rattle.record.proofs.Sound.Due.{base_there}
+use Rattle.record.proofs.Sound.Opening.{opened_get, opened_at, opened_there, opened_length, either_rest, either_caused, either_unretired}
+use Rattle.record.proofs.Sound.Parts.{Sizes, sizes_of, base_past}
 
 set_last : {A : Type 0} (xs : List A) (y z : A) → set (xs ++ y ∷ []) (length xs) z ≡ xs ++ z ∷ []
 set_last [] y z = refl
@@ -60,10 +62,10 @@ bank_none object p i h = ap (λ banks. get_or banks i no_bank) (get_or_past obje
 
 pub called_sound : (fragment : Code) → IsCode fragment → (object : Object) (step now : ℕ) →
     step < now → IsSound fragment object step → (kind : CallKind) → is_move kind ≡ false →
-    ((moves : ℕ) → due (first_stage kind moves) ≡ Some (Next, 0)) →
+    ((moves position : ℕ) → due (begun_at (first_stage kind moves) position) ≡ Some (Next, position)) →
     ((value : List ℕ) → kind ≡ Write value → IsValue value) → IsSound fragment (called_object object kind now) now
 called_sound fragment code object step now less sound kind no_move first bytes =
-    added_sound fragment object new step now less sound kind Next 0 wide
+    added_sound fragment object new step now less sound kind Next base wide
     (record {
       positions = sizes.positions
           ∙ ap suc (sym (ap moves_in calls_are ∙ moves_added object.calls call
@@ -72,15 +74,21 @@ called_sound fragment code object step now less sound kind no_move first bytes =
       members = sizes.members;
       opened = sizes.opened;
       delta = sizes.delta;
+      retired = sizes.retired;
+      leading = sizes.leading;
     })
-    calls_are refl (first (moves_in object.calls)) (let p = sizes.positions in omega arith) refl bytes
+    calls_are refl (first (moves_in object.calls) base) (λ _. sym (base_past fragment object step now less sound))
+    (base_there object sound.legal sound.shape) refl bytes
     (λ k index c at is. absurd (let clash : false ≡ true = sym no_move ∙ ap is_move k in cc))
   where
     new : Object
     new = called_object object kind now
 
+    base : ℕ
+    base = base_of object
+
     call : Call
-    call = begun kind (length object.calls) now Next 0 (layout_at object 0)
+    call = begun kind (length object.calls) now Next base (layout_at object base)
 
     sizes : Sizes object
     sizes = sizes_of fragment object step sound
@@ -97,6 +105,7 @@ called_sound fragment code object step now less sound kind no_move first bytes =
       more = le_refl (length object.layouts);
       same_layouts = λ p h. refl;
       same_banks = λ p i h. refl;
+      same_retired = λ p. refl;
       caused = λ p i h. either_caused new object.delta now p i (bank_at object p i) (inl (gone p i h));
       rest = λ p i h. either_rest fragment code new object.delta now p i (bank_at object p i) (inl (gone p i h));
     }
@@ -114,8 +123,10 @@ moving_sound fragment code object step now less sound layout lawful no_open =
       members = λ p h. members p h (either p (grown_below p h));
       opened = λ p i h k. opened p i (either p (grown_below p h)) k;
       delta = λ p i h k. deltas p i (either p (grown_below p h)) k;
+      retired = λ p i h k. retireds p i (either p (grown_below p h)) k;
+      leading = leading_same object new same_retired sizes.leading;
     })
-    calls_are refl (ap (λ p. Some (Spread Pending, p)) source) below refl (λ value e. absurd (cc)) (λ k. no_open)
+    calls_are refl (ap (λ p. Some (Spread Pending, p)) source) (λ first. absurd (cc)) below refl (λ value e. absurd (cc)) (λ k. no_open)
   where
     new : Object
     new = moving_object object layout now
@@ -205,12 +216,34 @@ moving_sound fragment code object step now less sound layout lawful no_open =
     beyond : (p i : ℕ) → length object.layouts ≤ p → (bank_at new p i ≡ no_bank) ⊎ (bank_at new p i ≡ opened_bank (0 + i) object.delta now)
     beyond p i h = further p i (get_or_after object.banks fresh [] p (let b = sizes.banks in omega arith))
 
+    in_both : (p : ℕ) → (p < length object.layouts) ⊎ (length object.layouts ≤ p) → retired_at new p ≡ retired_at object p
+    in_both p (inl old) = ap (λ banks. (get_or banks 0 no_bank).retired) (old_banks p old)
+    in_both p (inr past) =
+        either_unretired object.delta now 0 (bank_at new p 0) (beyond p 0 past)
+        ∙ sym (ap (λ (bank : Bank). bank.retired) (bank_none object p 0 (let b = sizes.banks in omega arith)))
+
+    same_retired : (p : ℕ) → retired_at new p ≡ retired_at object p
+    same_retired p = in_both p (within p)
+      where
+        within : (p : ℕ) → (p < length object.layouts) ⊎ (length object.layouts ≤ p)
+        within p = grind arith
+
+    retireds : (p i : ℕ) → (p < length object.layouts) ⊎ (p ≡ length object.layouts) → i < length (layout_at new p).members →
+        (bank_at new p i).retired ≡ retired_at new p
+    retireds p i (inl old) k = subst (λ banks. (get_or banks i no_bank).retired ≡ (get_or banks 0 no_bank).retired) (sym (old_banks p old))
+        (sizes.retired p i old (subst (λ (l : Layout). i < length l.members) (old_layout p old) k))
+    retireds p i (inr end) k =
+        let past : length object.layouts ≤ p = omega arith in
+        either_unretired object.delta now i (bank_at new p i) (beyond p i past)
+        ∙ sym (either_unretired object.delta now 0 (bank_at new p 0) (beyond p 0 past))
+
     wide : Wider fragment now object new
     wide = record {
       layouts = all_push IsLawful object.layouts layout sound.legal.layouts lawful;
       more = (let l : length new.layouts ≡ length object.layouts + 1 = length_push object.layouts layout in omega arith);
       same_layouts = old_layout;
       same_banks = λ p i h. ap (λ banks. get_or banks i no_bank) (old_banks p h);
+      same_retired = same_retired;
       caused = λ p i h. either_caused new object.delta now p i (bank_at new p i) (beyond p i h);
       rest = λ p i h. either_rest fragment code new object.delta now p i (bank_at new p i) (beyond p i h);
     }

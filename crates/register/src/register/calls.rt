@@ -27,7 +27,7 @@ use tag::{LONGEST_VALUE, MOST_STEPS, Refusal, Stamp};
 use transfer::first_stage;
 
 impl Register {
-    /// A read begins, with its first phase. It answers the call's number.
+    /// A read begins, with its first phase, at the base. It answers the call's number.
     ///
     /// `Full` where a limit of the steps, of the calls or of the messages is met.
     pub fn call_read(&mut self, now: Stamp) -> Result<u64, Refusal>
@@ -40,7 +40,7 @@ impl Register {
         self.begin_reading(CallKind::Read, now)
     }
 
-    /// A write of a value begins, with its first phase. It answers the call's number.
+    /// A write of a value begins, with its first phase, at the base. It answers the call's number.
     ///
     /// `TooLong` where the value is longer than `LONGEST_VALUE`, and `Full` as for a read.
     pub fn call_write(&mut self, value: Bytes, now: Stamp) -> Result<u64, Refusal>
@@ -74,8 +74,8 @@ impl Register {
         call.begin(
             number,
             Kind::Next,
-            0,
-            self.positions[0].layout(),
+            self.base,
+            self.positions[self.base as usize].layout(),
             None,
             &mut self.mail,
             now,

@@ -21,7 +21,7 @@ use bank::{Answer, Kind};
 use phase::{Phase, Taken};
 use record::Want;
 use tag::{MOST_STEPS, Refusal, Stamp};
-use transfer::due;
+use transfer::{begun_at, due};
 
 impl Register {
     /// What the call of this number wants. `NoCall` where there is no such call.
@@ -48,8 +48,8 @@ impl Register {
         self.begin_due(call, false, now)
     }
 
-    /// The call of this number, whose fetch lacks pieces, begins anew: a read its first reading, a move its query. Its
-    /// phases are numbered on.
+    /// The call of this number, whose fetch lacks pieces, begins anew: a read its first reading, at the base of now, a
+    /// move its query. Its phases are numbered on.
     ///
     /// `NoCall` where there is no such call, `NotNow` unless it wants to begin anew, and `Full` as for `advance`.
     pub fn again(&mut self, call: u64, now: Stamp) -> Result<(), Refusal>
@@ -75,7 +75,7 @@ impl Register {
         if now > MOST_STEPS {
             return Err(Refusal::Full);
         }
-        let Some((kind, position)) = due(self.calls[index].stage()) else {
+        let Some((kind, position)) = due(begun_at(self.calls[index].stage(), self.base)) else {
             unreachable!();
         };
         match self.calls[index].begin(

@@ -17,7 +17,7 @@ impl Register {
         requires after { self.now.last < now }
         ensures cause { IsExactlyByCause (read_cause now self.now.object) result }
     {
-        let members = usize::from(self.positions[0].layout().n());
+        let members = usize::from(self.positions[self.base as usize].layout().n());
         if now > MOST_STEPS {
             return Err(Refusal::Full);
         }

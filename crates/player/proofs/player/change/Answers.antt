@@ -5,6 +5,7 @@ pub unreachable-requires : goal.unreachable-requires
 unreachable-requires c = no_other c.args.command c.requires (record {
   layout = c.in_default.not-Layout;
   object = c.in_default.not-Object;
+  retire = c.in_default.not-Retire;
   down = c.in_default.not-Down;
   up = c.in_default.not-Up;
   call_read = c.in_default.not-CallRead;

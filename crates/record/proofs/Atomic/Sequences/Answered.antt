@@ -8,7 +8,7 @@ use Rattle.record.specs.Records.{Call, Object}
 use Rattle.record.specs.declared.call.CallKind.TheVariants.{Read, Write, Move}
 use Rattle.record.specs.declared.stage.Stage.{Stage}
 use Rattle.record.specs.Courses.{due}
-use Rattle.record.specs.declared.stage.Stage.TheVariants.{ReadNext, ReadSpread, QueryFrom, FetchAt, PreWriteAt}
+use Rattle.record.specs.declared.stage.Stage.TheVariants.{ReadBegin, ReadNext, ReadSpread, QueryFrom, FetchAt, PreWriteAt}
 use Rattle.record.specs.declared.stage.Stage.TheVariants.{FinalizeAt, AgainNext, AgainSpread, MoveSpread, MoveQuery}
 use Rattle.record.specs.declared.stage.Stage.TheVariants.{MoveFetch, MovePreWrite, MoveFinalize, MoveFinal, Ended, Moved}
 use Rattle.record.specs.Legal.{is_move, source_of, stage_of, IsLegal}
@@ -34,6 +34,7 @@ tag_facts object kind from number called now (AgainSpread a b t c) tag e reads f
     subst (λ u. HasTag object kind number called u) (same_Some t tag e) facts.1
 tag_facts object kind from number called now (Ended a t) tag e reads facts =
     subst (λ u. HasTag object kind number called u) (same_Some t tag e) facts.1
+tag_facts object kind from number called now ReadBegin tag e reads facts = absurd (cc)
 tag_facts object kind from number called now (ReadNext a b) tag e reads facts = absurd (cc)
 tag_facts object kind from number called now (ReadSpread a b c) tag e reads facts = absurd (cc)
 tag_facts object kind from number called now (QueryFrom a b c d) tag e reads facts = absurd (cc)
@@ -58,6 +59,7 @@ finished_facts : (object : Object) (kind : CallKind) (from number called now : �
 finished_facts object kind from number called now (Ended a t) e reads facts =
     record { last = a; tag = t; tagged = refl; reached = facts.0; put = facts.2 }
 finished_facts object kind from number called now (Moved a b) e reads facts = absurd (let m = ap is_move facts.0.0 in cc)
+finished_facts object kind from number called now ReadBegin e reads facts = absurd (cc)
 finished_facts object kind from number called now (ReadNext a b) e reads facts = absurd (cc)
 finished_facts object kind from number called now (ReadSpread a b c) e reads facts = absurd (cc)
 finished_facts object kind from number called now (QueryFrom a b c d) e reads facts = absurd (cc)

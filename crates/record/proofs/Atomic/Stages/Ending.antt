@@ -1,5 +1,5 @@
 -- Each phase of a call keeps what is so of it.
-use Rattle.std.proofs.Common.{◌≡◌, ℕ, suc, ◌≤◌, Bool, true, false, eqb, inl}
+use Rattle.std.proofs.Common.{◌≡◌, ℕ, suc, ◌≤◌, Bool, true, false, eqb}
 use Rattle.std.proofs.Common.{List, Some, refl, sym, subst, arith, le_trans, le_refl, eqb-true}
 use Rattle.std.proofs.lemmas.Bool.{cond_both}
 use Rattle.tag.specs.declared.tag.Tag.{Tag}
@@ -14,7 +14,7 @@ use Rattle.bank.specs.declared.status.Status.TheVariants.{Unset, Pending, Final}
 use Rattle.bank.specs.declared.kind.Kind.TheVariants.{Next, Fetch}
 use Rattle.record.specs.Courses.{greatest_status, due, after, after_fetch, after_again}
 use Rattle.record.specs.declared.stage.Stage.{Stage}
-use Rattle.record.specs.declared.stage.Stage.TheVariants.{ReadNext, ReadSpread, QueryFrom, FetchAt, PreWriteAt}
+use Rattle.record.specs.declared.stage.Stage.TheVariants.{ReadBegin, ReadNext, ReadSpread, QueryFrom, FetchAt, PreWriteAt}
 use Rattle.record.specs.declared.stage.Stage.TheVariants.{FinalizeAt, AgainNext, AgainSpread, MoveSpread, MoveQuery}
 use Rattle.record.specs.declared.stage.Stage.TheVariants.{MoveFetch, MovePreWrite, MoveFinalize, MoveFinal, Ended, Moved}
 use Rattle.record.proofs.Atomic.Quorums.Meeting.{Stored, Pointed, stored_later, pointed_later}
@@ -80,6 +80,7 @@ pub facts_after : (object : Object) (kind : CallKind) (from number called now : 
     end : ℕ) (replies : List Taken) (lacks : Bool) → due stage ≡ Some (asked, position) → Done object asked position start end replies →
     called ≤ now → now ≤ start → Facts object kind from number called now stage →
     Facts object kind from number called end (after kind number stage replies lacks)
+facts_after object kind from number called now ReadBegin asked position start end replies lacks e done since onward facts = facts
 facts_after object kind from number called now (ReadNext p m) asked position start end replies lacks e done since onward facts =
     next_facts object kind from number called now p m start end replies (greatest_status replies) refl
     (done_at object _ asked _ position start end replies done e) since onward facts
@@ -92,7 +93,7 @@ facts_after object kind from number called now (QueryFrom p last greatest shown_
     (done_at object _ asked _ position start end replies done e)
     onward facts
 facts_after object kind from number called now (FetchAt shown_at last tag) asked position start end replies true e done since onward facts =
-    (λ j below. absurd (omega arith), le_refl 0, inl refl, no_move object kind number called tag facts.1)
+    no_move object kind number called tag facts.1
 facts_after object kind from number called now
     (FetchAt shown_at last tag) asked position start end replies false e done since onward facts =
     fetch_facts object kind from number called now shown_at last tag start end replies
@@ -129,12 +130,15 @@ facts_after object kind from number called now (MoveQuery p) asked position star
 facts_after object kind from number called now (MoveFetch p tag) asked position start end replies true e done since onward facts =
     (facts.0, pointed_later object p now end (le_trans onward done.later) facts.2)
 facts_after object kind from number called now (MoveFetch p tag) asked position start end replies false e done since onward facts =
-    (facts.0, facts.1)
-facts_after object kind from number called now (MovePreWrite p tag) asked position start end replies lacks e done since onward facts = facts
+    (facts.0, facts.1, pointed_later object p now end (le_trans onward done.later) facts.2)
+facts_after object kind from number called now (MovePreWrite p tag) asked position start end replies lacks e done since onward facts =
+    (facts.0, facts.1, pointed_later object p now end (le_trans onward done.later) facts.2)
 facts_after object kind from number called now (MoveFinalize p tag) asked position start end replies lacks e done since onward facts =
-    let here = done_at object _ asked _ position start end replies done e in (facts.0, facts.1, here.stores tag refl)
+    let here = done_at object _ asked _ position start end replies done e in
+    (facts.0, facts.1, here.stores tag refl, pointed_later object p now end (le_trans onward done.later) facts.2)
 facts_after object kind from number called now (MoveFinal p tag) asked position start end replies lacks e done since onward facts =
-    (facts.0, facts.1, stored_later object (suc p) tag now end (le_trans onward done.later) facts.2)
+    let over : now ≤ end = le_trans onward done.later in
+    (facts.0, facts.1, stored_later object (suc p) tag now end over facts.2, pointed_later object p now end over facts.3)
 facts_after object kind from number called now (Moved p tag) asked position start end replies lacks e done since onward facts = absurd (cc)
 facts_after object kind from number called now (Ended last tag) asked position start end replies lacks e done since onward facts =
     absurd (cc)

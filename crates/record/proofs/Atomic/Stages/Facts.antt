@@ -17,8 +17,8 @@ use Rattle.record.specs.declared.call.CallKind.TheVariants.{Read, Write, Move}
 use Rattle.record.specs.Knowledge.{IsTruePhase}
 use Rattle.record.specs.Courses.{greatest_status, greatest_tag}
 use Rattle.record.specs.declared.stage.Stage.{Stage}
-use Rattle.record.specs.Legal.{is_move}
-use Rattle.record.specs.declared.stage.Stage.TheVariants.{ReadNext, ReadSpread, QueryFrom, FetchAt, PreWriteAt}
+use Rattle.record.specs.Legal.{is_move, IsMovedOut}
+use Rattle.record.specs.declared.stage.Stage.TheVariants.{ReadBegin, ReadNext, ReadSpread, QueryFrom, FetchAt, PreWriteAt}
 use Rattle.record.specs.declared.stage.Stage.TheVariants.{FinalizeAt, AgainNext, AgainSpread, MoveSpread, MoveQuery}
 use Rattle.record.specs.declared.stage.Stage.TheVariants.{MoveFetch, MovePreWrite, MoveFinalize, MoveFinal, Ended, Moved}
 use Rattle.record.proofs.Atomic.Quorums.Meeting.{Stored, Pointed, SeenFinal, stored_later, pointed_later}
@@ -49,13 +49,20 @@ done_of object phase end lawful truth e = record {
   fetches = λ tag k. stored_by_fetch object phase end tag k truth e;
 }
 
--- every earlier position had a pointer at a quorum
-abbrev pub Reached : Object → ℕ → ℕ → Type 0
-Reached object position now = (j : ℕ) → j < position → Pointed object j now
+-- the move out of a position was answered by a step
+pub record IsLeft (object : Object) (position now : ℕ) : Type 0 where
+  pub answered : ℕ
+  pub moved : IsMovedOut object position answered
+  pub by : answered ≤ now
 
--- the first position, or the one after a final pointer
+-- every earlier position had a pointer at a quorum, or was left
+abbrev pub Reached : Object → ℕ → ℕ → Type 0
+Reached object position now = (j : ℕ) → j < position → Pointed object j now ⊎ IsLeft object j now
+
+-- the first position, or the one after a final pointer or after one that was left
 abbrev pub IsBased : Object → ℕ → ℕ → Type 0
-IsBased object finalized now = (finalized ≡ 0) ⊎ ((before : ℕ) × (finalized ≡ suc before) × SeenFinal object before now)
+IsBased object finalized now =
+    (finalized ≡ 0) ⊎ ((before : ℕ) × (finalized ≡ suc before) × (SeenFinal object before now ⊎ IsLeft object before now))
 
 -- a first reading that ended at `last`, and the greatest tag that its queries showed at the positions below `upto`
 pub record Found (object : Object) (called : ℕ) (last upto : ℕ) (greatest : Tag) : Type 0 where
@@ -94,6 +101,7 @@ IsMoveFrom kind from position = (kind ≡ Move) × (position ≡ from)
 
 -- what is so, when a call has come to a stage
 abbrev pub Facts : Object → CallKind → (from number called now : ℕ) → Stage → Type 0
+Facts object kind from number called now ReadBegin = is_move kind ≡ false
 Facts object kind from number called now (ReadNext position finalized) =
     Reached object position now × (finalized ≤ position) × IsBased object finalized now × (is_move kind ≡ false)
 Facts object kind from number called now (ReadSpread position finalized status) =
@@ -115,33 +123,46 @@ Facts object kind from number called now (MoveSpread position) = IsMoveFrom kind
 Facts object kind from number called now (MoveQuery position) = IsMoveFrom kind from position × Pointed object position now
 Facts object kind from number called now (MoveFetch position tag) =
     IsMoveFrom kind from position × Carried object called position tag × Pointed object position now
-Facts object kind from number called now (MovePreWrite position tag) = IsMoveFrom kind from position × Carried object called position tag
-Facts object kind from number called now (MoveFinalize position tag) = IsMoveFrom kind from position × Carried object called position tag
+Facts object kind from number called now (MovePreWrite position tag) =
+    IsMoveFrom kind from position × Carried object called position tag × Pointed object position now
+Facts object kind from number called now (MoveFinalize position tag) =
+    IsMoveFrom kind from position × Carried object called position tag × Pointed object position now
 Facts object kind from number called now (MoveFinal position tag) =
     IsMoveFrom kind from position × Carried object called position tag × Stored object (suc position) tag now
+    × Pointed object position now
 Facts object kind from number called now (Moved position tag) =
     IsMoveFrom kind from position × Carried object called position tag × Stored object (suc position) tag now
+    × Pointed object position now
 Facts object kind from number called now (Ended last tag) =
     Reached object last now × HasTag object kind number called tag × Put object now last tag
 
+pub left_later : (object : Object) (position s u : ℕ) → s ≤ u → IsLeft object position s → IsLeft object position u
+left_later object position s u h left = record { answered = left.answered; moved = left.moved; by = le_trans left.by h }
+
 pub reached_later : (object : Object) (position s u : ℕ) → s ≤ u → Reached object position s → Reached object position u
-reached_later object position s u h reached = λ j below. pointed_later object j s u h (reached j below)
+reached_later object position s u h reached = λ j below. go j (reached j below)
+  where
+    go : (j : ℕ) → Pointed object j s ⊎ IsLeft object j s → Pointed object j u ⊎ IsLeft object j u
+    go j (inl pointed) = inl (pointed_later object j s u h pointed)
+    go j (inr left) = inr (left_later object j s u h left)
 
 pub reached_more : (object : Object) (position s u : ℕ) → s ≤ u → Reached object position s → Pointed object position u →
     Reached object (suc position) u
 reached_more object position s u h reached pointed = λ j below. go j below (cases_lt j position)
   where
-    go : (j : ℕ) → j < suc position → (j < position) ⊎ (position ≤ j) → Pointed object j u
-    go j below (inl less) = pointed_later object j s u h (reached j less)
-    go j below (inr more) = let same : position ≡ j = omega arith in subst (λ q. Pointed object q u) same pointed
+    go : (j : ℕ) → j < suc position → (j < position) ⊎ (position ≤ j) → Pointed object j u ⊎ IsLeft object j u
+    go j below (inl less) = reached_later object position s u h reached j less
+    go j below (inr more) = let same : position ≡ j = omega arith in inl (subst (λ q. Pointed object q u) same pointed)
 
 pub based_later : (object : Object) (finalized s u : ℕ) → s ≤ u → IsBased object finalized s → IsBased object finalized u
 based_later object finalized s u h (inl zero_at) = inl zero_at
-based_later object finalized s u h (inr (before, e, seen)) = inr (before, e, final_later object before s u h seen)
+based_later object finalized s u h (inr (before, e, inl seen)) = inr (before, e, inl (final_later object before s u h seen))
+based_later object finalized s u h (inr (before, e, inr left)) = inr (before, e, inr (left_later object before s u h left))
 
 -- the facts last
 pub facts_later : (object : Object) (kind : CallKind) (from number called s u : ℕ) (stage : Stage) → s ≤ u →
     Facts object kind from number called s stage → Facts object kind from number called u stage
+facts_later object kind from number called s u ReadBegin h facts = facts
 facts_later object kind from number called s u (ReadNext position finalized) h facts =
     (reached_later object position s u h facts.0, facts.1, based_later object finalized s u h facts.2, facts.3)
 facts_later object kind from number called s u (ReadSpread position finalized status) h facts = (
@@ -170,12 +191,14 @@ facts_later object kind from number called s u (MoveSpread position) h facts = f
 facts_later object kind from number called s u (MoveQuery position) h facts = (facts.0, pointed_later object position s u h facts.1)
 facts_later object kind from number called s u (MoveFetch position tag) h facts =
     (facts.0, facts.1, pointed_later object position s u h facts.2)
-facts_later object kind from number called s u (MovePreWrite position tag) h facts = facts
-facts_later object kind from number called s u (MoveFinalize position tag) h facts = facts
+facts_later object kind from number called s u (MovePreWrite position tag) h facts =
+    (facts.0, facts.1, pointed_later object position s u h facts.2)
+facts_later object kind from number called s u (MoveFinalize position tag) h facts =
+    (facts.0, facts.1, pointed_later object position s u h facts.2)
 facts_later object kind from number called s u (MoveFinal position tag) h facts =
-    (facts.0, facts.1, stored_later object (suc position) tag s u h facts.2)
+    (facts.0, facts.1, stored_later object (suc position) tag s u h facts.2, pointed_later object position s u h facts.3)
 facts_later object kind from number called s u (Moved position tag) h facts =
-    (facts.0, facts.1, stored_later object (suc position) tag s u h facts.2)
+    (facts.0, facts.1, stored_later object (suc position) tag s u h facts.2, pointed_later object position s u h facts.3)
 facts_later object kind from number called s u (Ended last tag) h facts = (
   reached_later object last s u h facts.0,
   facts.1,

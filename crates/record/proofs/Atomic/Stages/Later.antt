@@ -6,10 +6,10 @@ use Rattle.tag.specs.declared.tag.Tag.{Tag}
 use Rattle.record.specs.Records.{Call, Object}
 use Rattle.record.specs.Courses.{after}
 use Rattle.record.specs.Legal.{source_of, stage_of, IsLegal}
-use Rattle.record.proofs.Atomic.Quorums.Meeting.{Stored, stored_later, pointed_later}
+use Rattle.record.proofs.Atomic.Quorums.Meeting.{Stored, Pointed, SeenFinal, stored_later, pointed_later}
 use Rattle.record.proofs.Atomic.Stages.Ends.{call_at_end}
-use Rattle.record.proofs.Atomic.Stages.Facts.{Found, Carried, Put, Reached, IsBased, IsMoveFrom}
-use Rattle.record.proofs.Atomic.Stages.Moved.{final_rests, Prior, prior_move, finished_move, carried_here}
+use Rattle.record.proofs.Atomic.Stages.Facts.{Found, Carried, Put, Reached, IsBased, IsLeft, IsMoveFrom}
+use Rattle.record.proofs.Atomic.Stages.Moved.{MovedFrom, final_rests, Prior, prior_move, finished_move, carried_here}
 use Rattle.record.proofs.Tags.{IsAtMost, at_most_trans}
 
 -- what the move before carried, and when
@@ -68,6 +68,39 @@ carried_on object legal now last tag put (suc r) low index call at is_from moved
     go before rest (inr more) =
         at_most_trans tag before.tag moved (rest more before) (carried_more object call.called r moved before carried)
 
+-- what the move out of a position that was left carried
+left_moved : (object : Object) → IsLegal object → (position step : ℕ) → IsLeft object position step →
+    MovedFrom object position step
+left_moved object legal position step left =
+    let moved = left.moved in
+    let end = call_at_end object legal moved.index moved.call moved.at in
+    let answer = (legal.calls moved.index moved.call moved.at).answer left.answered moved.was in
+    let fin = finished_move object moved.call.kind (source_of object moved.index) (suc moved.index) moved.call.called end.now
+    (stage_of object moved.index moved.call) moved.kind answer.0 end.facts in
+    record {
+      index = moved.index;
+      call = moved.call;
+      at = moved.at;
+      is_from = (moved.kind, sym moved.source);
+      tag = fin.0;
+      carried = subst (λ p. Carried object moved.call.called p fin.0) moved.source fin.1;
+      stored = stored_later object (suc position) fin.0 end.now step
+          (let a = end.until left.answered answer.1 in let b = left.by in omega arith)
+          (subst (λ p. Stored object (suc p) fin.0 end.now) moved.source fin.2);
+    }
+
+-- and so it had a pointer at a quorum
+left_pointed : (object : Object) → IsLegal object → (position step : ℕ) → IsLeft object position step →
+    Pointed object position step
+left_pointed object legal position step left =
+    let moved = left.moved in
+    let end = call_at_end object legal moved.index moved.call moved.at in
+    let answer = (legal.calls moved.index moved.call moved.at).answer left.answered moved.was in
+    let fin = finished_move object moved.call.kind (source_of object moved.index) (suc moved.index) moved.call.called end.now
+    (stage_of object moved.index moved.call) moved.kind answer.0 end.facts in
+    pointed_later object position end.now step (let a = end.until left.answered answer.1 in let b = left.by in omega arith)
+    (subst (λ p. Pointed object p end.now) moved.source fin.3)
+
 -- A call that comes after an answer finds at least the answered call's tag
 pub later_found : (object : Object) → IsLegal object → (now last : ℕ) (tag : Tag) → Reached object last now →
     Put object now last tag → (called there : ℕ) (greatest : Tag) → Found object called there (suc there) greatest →
@@ -75,15 +108,24 @@ pub later_found : (object : Object) → IsLegal object → (now last : ℕ) (tag
 later_found object legal now last tag reached put called there greatest found after =
     go (cases_lt there last) (cases_lt last found.finalized) found.based
   where
+    was_pointed : Pointed object there now ⊎ IsLeft object there now → Pointed object there now
+    was_pointed (inl pointed) = pointed
+    was_pointed (inr left) = left_pointed object legal there now left
+
+    was_moved : (before : ℕ) → SeenFinal object before found.asked ⊎ IsLeft object before found.asked →
+        MovedFrom object before found.asked
+    was_moved before (inl seen) = final_rests object legal found.asked before found.asked (le_refl found.asked) seen
+    was_moved before (inr left) = left_moved object legal before found.asked left
+
     go : (there < last) ⊎ (last ≤ there) → (last < found.finalized) ⊎ (found.finalized ≤ last) →
         IsBased object found.finalized found.asked → IsAtMost tag greatest
-    go (inl short) side based = absurd (found.unpointed (pointed_later object there now called after (reached there short)))
+    go (inl short) side based = absurd (found.unpointed (pointed_later object there now called after (was_pointed (reached there short))))
     go (inr long) (inr asked) based =
         found.answers last asked (omega arith) tag
         (stored_later object last tag put.at found.asked (let a = put.until in let b = found.since in omega arith) put.stored)
     go (inr long) (inl above) (inl start) = absurd (omega arith)
-    go (inr long) (inl above) (inr (before, e, seen)) =
-        let moved = final_rests object legal found.asked before found.asked (le_refl found.asked) seen in
+    go (inr long) (inl above) (inr (before, e, why)) =
+        let moved = was_moved before why in
         let low : last ≤ before = omega arith in
         let carried = carried_on object legal now last tag put before low moved.index moved.call moved.at moved.is_from
         moved.tag moved.carried in

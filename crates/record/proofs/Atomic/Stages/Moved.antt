@@ -14,11 +14,11 @@ use Rattle.record.specs.declared.call.CallKind.TheVariants.{Read, Write, Move}
 use Rattle.bank.specs.Knowledge.{came_by, pending_since, final_since, pointer_at}
 use Rattle.record.specs.declared.stage.Stage.{Stage}
 use Rattle.record.specs.Courses.{due}
-use Rattle.record.specs.declared.stage.Stage.TheVariants.{ReadNext, ReadSpread, QueryFrom, FetchAt, PreWriteAt}
+use Rattle.record.specs.declared.stage.Stage.TheVariants.{ReadBegin, ReadNext, ReadSpread, QueryFrom, FetchAt, PreWriteAt}
 use Rattle.record.specs.declared.stage.Stage.TheVariants.{FinalizeAt, AgainNext, AgainSpread, MoveSpread, MoveQuery}
 use Rattle.record.specs.declared.stage.Stage.TheVariants.{MoveFetch, MovePreWrite, MoveFinalize, MoveFinal, Ended, Moved}
 use Rattle.record.specs.Legal.{is_move, moves_in, source_of, IsLegal}
-use Rattle.record.proofs.Atomic.Quorums.Meeting.{Stored, SeenFinal, stored_later, pointed_later}
+use Rattle.record.proofs.Atomic.Quorums.Meeting.{Stored, Pointed, SeenFinal, stored_later, pointed_later}
 use Rattle.record.proofs.Atomic.Stages.Ends.{call_at_phase}
 use Rattle.record.proofs.Atomic.Stages.Facts.{Facts, HasTag, Carried, Put, IsMoveFrom}
 use Rattle.record.proofs.Tags.{IsAtMost}
@@ -75,6 +75,8 @@ spread_rests object index call now position (MoveFinal p tag) at facts e =
     let parts = some_pair_parts (Spread Final) (Spread Final) p position e in
     inr (subst (λ q. MovedFrom object q now) parts.1
     (record { index = index; call = call; at = at; is_from = facts.0; tag = tag; carried = facts.1; stored = facts.2 }))
+spread_rests object index call now position ReadBegin at facts e =
+    absurd (let other = (some_pair_parts Next (Spread Final) 0 position e).0 in cc)
 spread_rests object index call now position (ReadNext a b) at facts e =
     absurd (let other = (some_pair_parts Next (Spread Final) a position e).0 in cc)
 spread_rests object index call now position (QueryFrom a b c d) at facts e =
@@ -188,11 +190,16 @@ prior_move object legal index call at r is_from =
 -- a move that may be answered
 pub finished_move : (object : Object) (kind : CallKind) (from number called now : ℕ) (stage : Stage) →
     kind ≡ Move → due stage ≡ None → Facts object kind from number called now stage →
-    (tag : Tag) × Carried object called from tag × Stored object (suc from) tag now
-finished_move object kind from number called now (Moved position tag) k e facts =
-    (tag, subst (λ p. Carried object called p tag) facts.0.1 facts.1, subst (λ p. Stored object (suc p) tag now) facts.0.1 facts.2)
+    (tag : Tag) × Carried object called from tag × Stored object (suc from) tag now × Pointed object from now
+finished_move object kind from number called now (Moved position tag) k e facts = (
+  tag,
+  subst (λ p. Carried object called p tag) facts.0.1 facts.1,
+  subst (λ p. Stored object (suc p) tag now) facts.0.1 facts.2,
+  subst (λ p. Pointed object p now) facts.0.1 facts.3,
+)
 finished_move object kind from number called now (Ended last tag) k e facts =
     absurd (let none : HasTag object Move number called tag = subst (λ c. HasTag object c number called tag) k facts.1 in none)
+finished_move object kind from number called now ReadBegin k e facts = absurd (cc)
 finished_move object kind from number called now (ReadNext a b) k e facts = absurd (cc)
 finished_move object kind from number called now (ReadSpread a b c) k e facts = absurd (cc)
 finished_move object kind from number called now (QueryFrom a b c d) k e facts = absurd (cc)

@@ -84,7 +84,7 @@ spread_facts object kind from number called now p m start end replies Final done
     let over : now ≤ end = le_trans onward done.later in (
       reached_more object p now end over facts.0 (done.spreads Final refl facts.3),
       le_refl (suc p),
-      inr (p, refl, final_later object p now end over (facts.4 refl)),
+      inr (p, refl, inl (final_later object p now end over (facts.4 refl))),
       facts.5,
     )
 

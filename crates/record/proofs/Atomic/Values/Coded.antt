@@ -14,7 +14,7 @@ use Rattle.bank.specs.declared.kind.Kind.TheVariants.{Fetch}
 use Rattle.record.specs.declared.call.CallKind.TheVariants.{Write}
 use Rattle.record.specs.Knowledge.{IsTruePhase, IsTrueReply}
 use Rattle.record.specs.declared.stage.Stage.{Stage}
-use Rattle.record.specs.Courses.{passed, stage_after, IsCourse}
+use Rattle.record.specs.Courses.{passed, stage_after, IsCourse, begun_at, stage_past}
 use Rattle.record.specs.Legal.{IsLegal, source_of, first_stage}
 use Rattle.record.specs.Atomic.{IsAtomic}
 use Rattle.record.specs.Journals.{stage_tag, tag_of, IsJournaled, ReadsJournaled, entries}
@@ -37,18 +37,18 @@ fetched_tag kind number (first ∷ []) stage course zero phase tag at e enough =
     by_end : (o : Option ℕ) → first.end ≡ o → stage_tag (stage_after kind number stage (first ∷ [])) ≡ Some tag
     by_end None h =
         let asked : first.kind ≡ Fetch tag = ap (λ (p : Phase). p.kind) (same_Some first phase at) ∙ e in
-        subst (λ o. stage_tag (passed kind number stage o first.replies (lacks_pieces first)) ≡ Some tag) (sym h)
-        (fetch_due stage tag first.position (course.0 ∙ ap (λ (k : Kind). Some (k, first.position)) asked))
+        subst (λ o. stage_tag (passed kind number (begun_at stage first.position) o first.replies (lacks_pieces first)) ≡ Some tag) (sym h)
+        (fetch_due (begun_at stage first.position) tag first.position (course.0 ∙ ap (λ (k : Kind). Some (k, first.position)) asked))
     by_end (Some end) h =
-        subst (λ o. stage_tag (passed kind number stage o first.replies (lacks_pieces first)) ≡ Some tag) (sym h)
-        ((first_late kind number stage first phase tag course.0 (same_Some first phase at) e enough).1)
+        subst (λ o. stage_tag (passed kind number (begun_at stage first.position) o first.replies (lacks_pieces first)) ≡ Some tag) (sym h)
+        ((first_late kind number (begun_at stage first.position) first phase tag course.0 (same_Some first phase at) e enough).1)
 fetched_tag kind number (first ∷ []) stage course (suc place) phase tag at e enough = absurd (cc)
 fetched_tag kind number (first ∷ next ∷ later) stage course zero phase tag at e enough =
-    (late_stays kind number (next ∷ later) (passed kind number stage first.end first.replies (lacks_pieces first)) tag
-    (subst (λ o. IsLateWith tag (passed kind number stage o first.replies (lacks_pieces first))) (sym course.1.1)
-    (first_late kind number stage first phase tag course.0 (same_Some first phase at) e enough))).1
+    (late_stays kind number (next ∷ later) (stage_past kind number stage first) tag
+    (subst (λ o. IsLateWith tag (passed kind number (begun_at stage first.position) o first.replies (lacks_pieces first))) (sym course.1.1)
+    (first_late kind number (begun_at stage first.position) first phase tag course.0 (same_Some first phase at) e enough))).1
 fetched_tag kind number (first ∷ next ∷ later) stage course (suc place) phase tag at e enough =
-    fetched_tag kind number (next ∷ later) (passed kind number stage first.end first.replies (lacks_pieces first)) course.2 place phase tag
+    fetched_tag kind number (next ∷ later) (stage_past kind number stage first) course.2 place phase tag
     at e enough
 
 -- so is the tag of which a value was settled

@@ -2,19 +2,20 @@
 use Rattle.std.proofs.Common.{◌≡◌, ℕ, zero, suc, List, [], ◌∷◌, Some, refl, sym, ap, ◌∙◌, inr, slice_get}
 use Rattle.std.proofs.lemmas.Option.{same_Some}
 use Rattle.tag.specs.declared.tag.Tag.{Tag}
-use Rattle.phase.specs.Phase.{Phase, lacks_pieces}
+use Rattle.phase.specs.Phase.{Phase}
 use Rattle.record.specs.declared.call.CallKind.{CallKind}
 use Rattle.record.specs.declared.call.CallKind.TheVariants.{Read, Write, Move}
 use Rattle.record.specs.declared.stage.Stage.{Stage}
 use Rattle.record.specs.Records.{Call, Object}
-use Rattle.record.specs.Courses.{passed, stage_after, IsCourse}
+use Rattle.record.specs.Courses.{stage_after, IsCourse, begun_at, stage_past}
 use Rattle.record.specs.Legal.{first_stage, source_of}
 use Rattle.record.specs.Journals.{stage_tag, tag_of}
 use Rattle.record.specs.Fragments.{Code, kind_tag}
 use Rattle.record.specs.Sound.{IsSound}
 use Rattle.record.proofs.Atomic.Values.Known.{Known, IsNoWrite, opening_known, phase_known, known_at, known_first, known_tag}
 use Rattle.record.proofs.Atomic.Values.Sent.{due_tag}
-use Rattle.record.proofs.Sound.Late.{IsOfWrite, late_of_write, late_stays, of_write_on, of_write_first}
+use Rattle.record.proofs.Begins.{begun_tag}
+use Rattle.record.proofs.Sound.Late.{IsOfWrite, late_of_write, late_stays, of_write_past, of_write_first}
 
 -- a tag that a write sends was due where the write had this tag, which stays
 pub sent_tag : (value : List ℕ) (kind : CallKind) → kind ≡ Write value → (number : ℕ) (phases : List Phase) (stage : Stage) →
@@ -24,10 +25,11 @@ sent_tag value kind k number [] stage of course place phase tag at e = absurd (c
 sent_tag value kind k number (first ∷ phases) stage of course zero phase tag at e =
     let same : kind_tag first.kind ≡ Some tag = ap (λ (p : Phase). kind_tag p.kind) (same_Some first phase at) ∙ e in
     (late_stays kind number (first ∷ phases) stage tag
-    (late_of_write stage of tag (due_tag stage first.kind first.position tag course.0 same))).1
+    (late_of_write stage of tag (sym (begun_tag stage first.position)
+    ∙ due_tag (begun_at stage first.position) first.kind first.position tag course.0 same))).1
 sent_tag value kind k number (first ∷ phases) stage of course (suc place) phase tag at e =
-    sent_tag value kind k number phases (passed kind number stage first.end first.replies (lacks_pieces first))
-    (of_write_on value kind k number stage first.end first.replies (lacks_pieces first) of) course.2 place phase tag at e
+    sent_tag value kind k number phases (stage_past kind number stage first)
+    (of_write_past value kind k number stage first of) course.2 place phase tag at e
 
 -- the tag that a phase of a write sends is the write's
 pub sent_by_write : (fragment : Code) (object : Object) (step : ℕ) → IsSound fragment object step →

@@ -15,10 +15,10 @@ use Rattle.record.specs.declared.call.CallKind.{CallKind}
 use Rattle.record.specs.Records.{Call, Object}
 use Rattle.bank.specs.declared.status.Status.TheVariants.{Unset, Pending, Final}
 use Rattle.record.specs.declared.call.CallKind.TheVariants.{Read, Write, Move}
-use Rattle.record.specs.Courses.{shown_tag, greatest_status, greatest_tag, due, after, passed, stage_after, IsCourse}
+use Rattle.record.specs.Courses.{shown_tag, greatest_status, greatest_tag, due, after, passed, stage_after, IsCourse, stage_past, begun_at}
 use Rattle.record.specs.Courses.{after_next, after_spread, after_query, after_again, tagged}
 use Rattle.record.specs.declared.stage.Stage.{Stage}
-use Rattle.record.specs.declared.stage.Stage.TheVariants.{ReadNext, ReadSpread, QueryFrom, FetchAt, PreWriteAt}
+use Rattle.record.specs.declared.stage.Stage.TheVariants.{ReadBegin, ReadNext, ReadSpread, QueryFrom, FetchAt, PreWriteAt}
 use Rattle.record.specs.declared.stage.Stage.TheVariants.{FinalizeAt, AgainNext, AgainSpread, MoveSpread, MoveQuery}
 use Rattle.record.specs.declared.stage.Stage.TheVariants.{MoveFetch, MovePreWrite, MoveFinalize, MoveFinal, Ended, Moved}
 use Rattle.record.specs.Legal.{first_stage, source_of, stage_of}
@@ -29,6 +29,7 @@ use Rattle.bank.specs.declared.reply.Answer.TheVariants as answer
 use Rattle.record.proofs.Lists.{all_weaker}
 use Rattle.record.proofs.Sound.Enough.Had.{greatest_is}
 use Rattle.record.proofs.Sound.Parts.{ReplyCoded, all_from}
+use Rattle.record.proofs.Begins.{begun_has}
 
 -- some value of the tag is in the journal
 abbrev pub Known : Object → Tag → Type 0
@@ -105,6 +106,7 @@ known_after : (P : Tag → Type 0) → P opening_tag → (kind : CallKind) (numb
     IsNoWrite kind →
     P (greatest_tag replies) → TagIs P stage →
     TagIs P (after kind number stage replies lacks)
+known_after P opening kind number ReadBegin replies lacks plain shown known = tt
 known_after P opening kind number (ReadNext p m) replies lacks plain shown known = known_next P opening p m (greatest_status replies)
 known_after P opening kind number (ReadSpread p m s) replies lacks plain shown known = known_spread P p m s
 known_after P opening kind number (QueryFrom p l t q) replies lacks plain shown known =
@@ -134,13 +136,19 @@ known_passed P opening kind number stage None replies lacks plain shown known = 
 known_passed P opening kind number stage (Some end) replies lacks plain shown known =
     known_after P opening kind number stage replies lacks plain shown known
 
+known_past : (P : Tag → Type 0) → P opening_tag → (kind : CallKind) (number : ℕ) (stage : Stage) (phase : Phase) →
+    IsNoWrite kind → P (greatest_tag phase.replies) → TagIs P stage → TagIs P (stage_past kind number stage phase)
+known_past P opening kind number stage phase plain shown known =
+    known_passed P opening kind number (begun_at stage phase.position) phase.end phase.replies (lacks_pieces phase) plain shown
+    (begun_has (λ s. TagIs P s) stage phase.position (λ first. tt) known)
+
 pub known_end : (P : Tag → Type 0) → P opening_tag → (kind : CallKind) (number : ℕ) (phases : List Phase) (stage : Stage) → IsNoWrite kind →
     AllByRecursion (λ phase. P (greatest_tag phase.replies)) phases →
     TagIs P stage → TagIs P (stage_after kind number stage phases)
 known_end P opening kind number [] stage plain shown known = known
 known_end P opening kind number (phase ∷ phases) stage plain shown known =
-    known_end P opening kind number phases (passed kind number stage phase.end phase.replies (lacks_pieces phase)) plain shown.1
-    (known_passed P opening kind number stage phase.end phase.replies (lacks_pieces phase) plain shown.0 known)
+    known_end P opening kind number phases (stage_past kind number stage phase) plain shown.1
+    (known_past P opening kind number stage phase plain shown.0 known)
 
 -- and at the stage where a phase was due
 pub known_at : (P : Tag → Type 0) → P opening_tag → (kind : CallKind) (number : ℕ) (phases : List Phase) (stage : Stage) →
@@ -149,11 +157,15 @@ pub known_at : (P : Tag → Type 0) → P opening_tag → (kind : CallKind) (num
     TagIs P stage → (there : Stage) × (due there ≡ Some (phase.kind, phase.position)) × TagIs P there
 known_at P opening kind number [] stage plain course place phase at shown known = absurd (cc)
 known_at P opening kind number (first ∷ phases) stage plain course zero phase at shown known =
-    (stage, subst (λ (p : Phase). due stage ≡ Some (p.kind, p.position)) (same_Some first phase at) course.0, known)
+    let there = begun_at stage first.position in (
+      there,
+      subst (λ (p : Phase). due there ≡ Some (p.kind, p.position)) (same_Some first phase at) course.0,
+      begun_has (λ s. TagIs P s) stage first.position (λ begins. tt) known,
+    )
 known_at P opening kind number (first ∷ phases) stage plain course (suc place) phase at shown known =
-    known_at P opening kind number phases (passed kind number stage first.end first.replies (lacks_pieces first)) plain course.2 place
+    known_at P opening kind number phases (stage_past kind number stage first) plain course.2 place
     phase at (λ before other less e. shown (suc before) other (omega arith) e)
-    (known_passed P opening kind number stage first.end first.replies (lacks_pieces first) plain (shown 0 first (omega arith) refl) known)
+    (known_past P opening kind number stage first plain (shown 0 first (omega arith) refl) known)
 
 pub known_tag : (P : Tag → Type 0) (stage : Stage) (tag : Tag) → TagIs P stage → stage_tag stage ≡ Some tag → P tag
 known_tag P (FetchAt q l t) tag known e = subst P (same_Some t tag e) known
@@ -167,6 +179,7 @@ known_tag P (MoveFinalize p t) tag known e = subst P (same_Some t tag e) known
 known_tag P (MoveFinal p t) tag known e = subst P (same_Some t tag e) known
 known_tag P (Ended l t) tag known e = subst P (same_Some t tag e) known
 known_tag P (Moved p t) tag known e = subst P (same_Some t tag e) known
+known_tag P ReadBegin tag known e = absurd (cc)
 known_tag P (ReadNext p m) tag known e = absurd (cc)
 known_tag P (ReadSpread p m s) tag known e = absurd (cc)
 known_tag P (QueryFrom p l t q) tag known e = absurd (cc)

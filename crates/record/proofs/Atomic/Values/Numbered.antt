@@ -13,10 +13,10 @@ use Rattle.record.specs.declared.call.CallKind.{CallKind}
 use Rattle.record.specs.Records.{Object}
 use Rattle.bank.specs.declared.status.Status.TheVariants.{Unset, Pending, Final}
 use Rattle.record.specs.declared.call.CallKind.TheVariants.{Read, Write, Move}
-use Rattle.record.specs.Courses.{shown_tag, greatest_status, greatest_tag, after, passed, stage_after}
+use Rattle.record.specs.Courses.{shown_tag, greatest_status, greatest_tag, after, passed, stage_after, stage_past, begun_at}
 use Rattle.record.specs.Courses.{after_next, after_spread, after_query, after_again, tagged}
 use Rattle.record.specs.declared.stage.Stage.{Stage}
-use Rattle.record.specs.declared.stage.Stage.TheVariants.{ReadNext, ReadSpread, QueryFrom, FetchAt, PreWriteAt}
+use Rattle.record.specs.declared.stage.Stage.TheVariants.{ReadBegin, ReadNext, ReadSpread, QueryFrom, FetchAt, PreWriteAt}
 use Rattle.record.specs.declared.stage.Stage.TheVariants.{FinalizeAt, AgainNext, AgainSpread, MoveSpread, MoveQuery}
 use Rattle.record.specs.declared.stage.Stage.TheVariants.{MoveFetch, MovePreWrite, MoveFinalize, MoveFinal, Ended, Moved}
 use Rattle.record.specs.Legal.{first_stage}
@@ -28,6 +28,7 @@ use Rattle.record.proofs.Atomic.Values.Sent.{known_past}
 use Rattle.record.proofs.Lists.{all_weaker}
 use Rattle.record.proofs.Sound.Enough.Had.{greatest_is}
 use Rattle.record.proofs.Sound.Parts.{ReplyCoded, all_from}
+use Rattle.record.proofs.Begins.{begun_has}
 
 -- the number of a tag at a stage: one that was found is past, a call's own is past or the next
 abbrev NumberedAt : (step : ℕ) → Stage → Type 0
@@ -83,6 +84,7 @@ numbered_query step kind number found p l greatest q new old =
 
 numbered_after : (step : ℕ) (kind : CallKind) (number : ℕ) (stage : Stage) (replies : List Taken) (lacks : Bool) →
     (greatest_tag replies).number ≤ step → NumberedAt step stage → NumberedAt step (after kind number stage replies lacks)
+numbered_after step kind number ReadBegin replies lacks shown h = tt
 numbered_after step kind number (ReadNext p m) replies lacks shown h = numbered_next step p m (greatest_status replies)
 numbered_after step kind number (ReadSpread p m s) replies lacks shown h = numbered_spread step p m s
 numbered_after step kind number (QueryFrom p l t q) replies lacks shown h =
@@ -114,8 +116,9 @@ numbered_end : (step : ℕ) (kind : CallKind) (number : ℕ) (phases : List Phas
     NumberedAt step stage → NumberedAt step (stage_after kind number stage phases)
 numbered_end step kind number [] stage shown h = h
 numbered_end step kind number (phase ∷ phases) stage shown h =
-    numbered_end step kind number phases (passed kind number stage phase.end phase.replies (lacks_pieces phase)) shown.1
-    (numbered_passed step kind number stage phase.end phase.replies (lacks_pieces phase) shown.0 h)
+    numbered_end step kind number phases (stage_past kind number stage phase) shown.1
+    (numbered_passed step kind number (begun_at stage phase.position) phase.end phase.replies (lacks_pieces phase) shown.0
+    (begun_has (λ s. NumberedAt step s) stage phase.position (λ first. tt) h))
 
 numbered_tag : (step : ℕ) (stage : Stage) (tag : Tag) → NumberedAt step stage → stage_tag stage ≡ Some tag →
     tag.number ≤ suc step
@@ -130,6 +133,7 @@ numbered_tag step (MoveFinalize p t) tag h e = subst (λ u. u.number ≤ suc ste
 numbered_tag step (MoveFinal p t) tag h e = subst (λ u. u.number ≤ suc step) (same_Some t tag e) h
 numbered_tag step (Ended l t) tag h e = subst (λ u. u.number ≤ suc step) (same_Some t tag e) h
 numbered_tag step (Moved p t) tag h e = subst (λ u. u.number ≤ suc step) (same_Some t tag e) h
+numbered_tag step ReadBegin tag h e = absurd (cc)
 numbered_tag step (ReadNext p m) tag h e = absurd (cc)
 numbered_tag step (ReadSpread p m s) tag h e = absurd (cc)
 numbered_tag step (QueryFrom p l t q) tag h e = absurd (cc)

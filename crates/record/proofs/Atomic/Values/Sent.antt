@@ -13,10 +13,9 @@ use Rattle.bank.specs.declared.kind.Kind.TheVariants.{Next, Spread, Query, PreWr
 use Rattle.record.specs.declared.call.CallKind.TheVariants.{Read, Write, Move}
 use Rattle.record.specs.Courses.{due}
 use Rattle.record.specs.declared.stage.Stage.{Stage}
-use Rattle.record.specs.declared.stage.Stage.TheVariants.{ReadNext, ReadSpread, QueryFrom, FetchAt, PreWriteAt}
+use Rattle.record.specs.declared.stage.Stage.TheVariants.{ReadBegin, ReadNext, ReadSpread, QueryFrom, FetchAt, PreWriteAt}
 use Rattle.record.specs.declared.stage.Stage.TheVariants.{FinalizeAt, AgainNext, AgainSpread, MoveSpread, MoveQuery}
 use Rattle.record.specs.declared.stage.Stage.TheVariants.{MoveFetch, MovePreWrite, MoveFinalize, MoveFinal, Ended, Moved}
-use Rattle.record.specs.Legal.{stage_of}
 use Rattle.record.specs.Journals.{stage_tag, tag_of, IsJournaled}
 use Rattle.record.specs.Fragments.{Code, Determines, IsFragment, IsCoded, IfCoded, kind_tag, request_tag, request_piece}
 use Rattle.record.specs.Sound.{IsSound}
@@ -50,6 +49,7 @@ DueTag None has = Unit {0}
 DueTag (Some next) has = (t : Tag) → kind_tag next.0 ≡ Some t → has ≡ Some t
 
 due_tags : (stage : Stage) → DueTag (due stage) (stage_tag stage)
+due_tags ReadBegin = λ t e. absurd (cc)
 due_tags (ReadNext p m) = λ t e. absurd (cc)
 due_tags (ReadSpread p m s) = λ t e. absurd (cc)
 due_tags (QueryFrom p l t q) = λ t e. absurd (cc)
@@ -105,14 +105,14 @@ sends_some fragment object call kind position some = λ tag pre. are_sent fragme
 -- a request's tag and piece are coded, where its phase is due
 pub request_coded : (fragment : Code) (object : Object) (step : ℕ) → Determines fragment →
     IsSound fragment object step → (index : ℕ) (call : Call) → slice_get object.calls index ≡ Some call →
-    (kind : Kind) (position : ℕ) (piece : ℕ → Piece) → due (stage_of object index call) ≡ Some (kind, position) →
-    Sends fragment (layout_at object position) call kind piece → (member : ℕ) →
+    (kind : Kind) (position : ℕ) (piece : ℕ → Piece) → (stage : Stage) → stage_tag stage ≡ tag_of object index call →
+    due stage ≡ Some (kind, position) → Sends fragment (layout_at object position) call kind piece → (member : ℕ) →
     IfCoded fragment object position member (request_tag (request_to kind (piece member))) (request_piece (request_to kind (piece member)))
-request_coded fragment object step determines sound index call at kind position piece e sends member = go kind refl
+request_coded fragment object step determines sound index call at kind position piece stage same e sends member = go kind refl
   where
     known : (tag : Tag) → kind_tag kind ≡ Some tag → IsCoded fragment object position member tag None
     known tag k =
-        let found = call_known fragment object step sound index call at tag (due_tag (stage_of object index call) kind position tag e k) in
+        let found = call_known fragment object step sound index call at tag (sym same ∙ due_tag stage kind position tag e k) in
         record { value = found.0; journaled = found.1; fits = λ kept p. absurd (cc) }
 
     go : (k : Kind) → kind ≡ k →
@@ -127,7 +127,7 @@ request_coded fragment object step determines sound index call at kind position 
         record {
           value = sent.value;
           journaled = sent_journaled fragment object step determines sound index call at tag
-              (due_tag (stage_of object index call) kind position tag e (ap kind_tag k)) sent.value sent.is_value;
+              (sym same ∙ due_tag stage kind position tag e (ap kind_tag k)) sent.value sent.is_value;
           fits = λ kept p. subst (IsFragment fragment (layout_at object position) member sent.value)
               (sym (sent.pieces member) ∙ same_Some (piece member) kept p)
               (record { point = refl; len = refl; bytes = refl });

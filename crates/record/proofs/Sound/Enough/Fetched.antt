@@ -11,7 +11,7 @@ use Rattle.bank.specs.declared.kind.Kind.TheVariants.{Next, Spread, Query, PreWr
 use Rattle.bank.specs.Knowledge.{came_by, finalized_at, HasFinalized}
 use Rattle.record.specs.Courses.{due}
 use Rattle.record.specs.declared.stage.Stage.{Stage}
-use Rattle.record.specs.declared.stage.Stage.TheVariants.{ReadNext, ReadSpread, QueryFrom, FetchAt, PreWriteAt}
+use Rattle.record.specs.declared.stage.Stage.TheVariants.{ReadBegin, ReadNext, ReadSpread, QueryFrom, FetchAt, PreWriteAt}
 use Rattle.record.specs.declared.stage.Stage.TheVariants.{FinalizeAt, AgainNext, AgainSpread, MoveSpread, MoveQuery}
 use Rattle.record.specs.declared.stage.Stage.TheVariants.{MoveFetch, MovePreWrite, MoveFinalize, MoveFinal, Ended, Moved}
 use Rattle.record.specs.Legal.{IsLegal, HasBegun}
@@ -29,6 +29,7 @@ fetch_rests object now position (MoveFetch q t) tag facts e =
     let parts = some_pair_parts (Fetch t) (Fetch tag) q position e in
     let same : t ≡ tag = (let k = parts.0 in cc) in
     subst₂ (λ p u. Somewhere object p u now) parts.1 same facts
+fetch_rests object now position ReadBegin tag facts e = absurd (let other = (some_pair_parts Next (Fetch tag) 0 position e).0 in cc)
 fetch_rests object now position (ReadNext a b) tag facts e = absurd (let other = (some_pair_parts Next (Fetch tag) a position e).0 in cc)
 fetch_rests object now position (ReadSpread a b c) tag facts e =
     absurd (let other = (some_pair_parts (Spread c) (Fetch tag) a position e).0 in cc)
@@ -64,6 +65,7 @@ fin_rests object now position (MoveFinalize q t) tag facts e =
     let parts = some_pair_parts (Finalize t) (Finalize tag) (suc q) position e in
     let same : t ≡ tag = (let k = parts.0 in cc) in
     subst₂ (λ p u. Had object p u now) parts.1 same facts
+fin_rests object now position ReadBegin tag facts e = absurd (let other = (some_pair_parts Next (Finalize tag) 0 position e).0 in cc)
 fin_rests object now position (ReadNext a b) tag facts e = absurd (let other = (some_pair_parts Next (Finalize tag) a position e).0 in cc)
 fin_rests object now position (ReadSpread a b c) tag facts e =
     absurd (let other = (some_pair_parts (Spread c) (Finalize tag) a position e).0 in cc)

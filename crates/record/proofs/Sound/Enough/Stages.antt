@@ -18,10 +18,10 @@ use Rattle.bank.specs.declared.status.Status.TheVariants.{Unset, Pending, Final}
 use Rattle.bank.specs.declared.kind.Kind.TheVariants.{Query, PreWrite}
 use Rattle.record.specs.declared.call.CallKind.TheVariants.{Read, Write, Move}
 use Rattle.record.specs.Knowledge.{IsTruePhase}
-use Rattle.record.specs.Courses.{greatest_status, greatest_tag, due, after, passed, IsCourse}
+use Rattle.record.specs.Courses.{greatest_status, greatest_tag, due, after, passed, IsCourse, stage_past, begun_at}
 use Rattle.record.specs.Courses.{after_next, after_spread, after_query, after_again, tagged}
 use Rattle.record.specs.declared.stage.Stage.{Stage}
-use Rattle.record.specs.declared.stage.Stage.TheVariants.{ReadNext, ReadSpread, QueryFrom, FetchAt, PreWriteAt}
+use Rattle.record.specs.declared.stage.Stage.TheVariants.{ReadBegin, ReadNext, ReadSpread, QueryFrom, FetchAt, PreWriteAt}
 use Rattle.record.specs.declared.stage.Stage.TheVariants.{FinalizeAt, AgainNext, AgainSpread, MoveSpread, MoveQuery}
 use Rattle.record.specs.declared.stage.Stage.TheVariants.{MoveFetch, MovePreWrite, MoveFinalize, MoveFinal, Ended, Moved}
 use Rattle.record.specs.Legal.{IsLegal, first_stage, source_of}
@@ -29,6 +29,7 @@ use Rattle.record.proofs.Atomic.Quorums.Meeting.{start_before_end}
 use Rattle.record.proofs.Sound.Enough.Had.{Had, Somewhere, somewhere_later, Says, says_of}
 use Rattle.record.proofs.Starts.{StartsFrom}
 use Rattle.record.proofs.Tags.{tag_lt-true, at_most_of_below, not_below_at_most}
+use Rattle.record.proofs.Begins.{begun_has}
 
 -- what is so of pieces, when a call has come to a stage
 abbrev pub PieceFacts : Object → (now : ℕ) → Stage → Type 0
@@ -98,6 +99,7 @@ pieces_after :
     (lacks : Bool) →
     due stage ≡ Some (asked, position) → Says object asked position end replies → now ≤ end → PieceFacts object now stage →
     PieceFacts object end (after kind number stage replies lacks)
+pieces_after object kind number now ReadBegin asked position end replies lacks e says over facts = tt
 pieces_after object kind number now (ReadNext p m) asked position end replies lacks e says over facts =
     after_next_pieces object end (greatest_status replies) p m
 pieces_after object kind number now (ReadSpread p m status) asked position end replies lacks e says over facts =
@@ -141,7 +143,13 @@ at_phase : (object : Object) → AllByRecursion IsLawful object.layouts →
 at_phase object lawful kind number [] now stage course truth starts facts place phase e = absurd (cc)
 at_phase object lawful kind number (first ∷ phases) now stage course truth starts facts zero phase e =
     subst (λ p. AtPhase object p) (same_Some first phase e)
-    (record { stage = stage; now = now; before = starts; is_due = course.0; facts = facts })
+    (record {
+      stage = begun_at stage first.position;
+      now = now;
+      before = starts;
+      is_due = course.0;
+      facts = begun_has (λ s. PieceFacts object now s) stage first.position (λ begins. tt) facts;
+    })
 at_phase object lawful kind number (first ∷ []) now stage course truth starts facts (suc place) phase e = absurd (cc)
 at_phase object lawful kind number (first ∷ next ∷ later) now stage course truth starts facts (suc place) phase e =
     let end = course.1.0 in
@@ -149,12 +157,14 @@ at_phase object lawful kind number (first ∷ next ∷ later) now stage course t
     let grew = start_before_end object first end lawful truth.0 ended in
     let before : now ≤ first.start = starts in
     at_phase object lawful kind number (next ∷ later) end
-    (passed kind number stage first.end first.replies (lacks_pieces first)) course.2 truth.1
+    (stage_past kind number stage first) course.2 truth.1
     (le_of_lt course.1.2)
-    (subst (λ o. PieceFacts object end (passed kind number stage o first.replies (lacks_pieces first))) (sym ended)
-    (pieces_after object kind number now stage first.kind first.position end first.replies (lacks_pieces first) course.0
+    (subst (λ o. PieceFacts object end (passed kind number (begun_at stage first.position) o first.replies (lacks_pieces first)))
+    (sym ended)
+    (pieces_after object kind number now (begun_at stage first.position) first.kind first.position end first.replies
+    (lacks_pieces first) course.0
     (says_of object first end truth.0 ended)
-    (le_trans before grew) facts))
+    (le_trans before grew) (begun_has (λ s. PieceFacts object now s) stage first.position (λ begins. tt) facts)))
     place phase e
 
 first_pieces : (object : Object) (kind : CallKind) (from now : ℕ) → PieceFacts object now (first_stage kind from)

@@ -1,6 +1,8 @@
-use Rattle.std.proofs.Common.{arith}
+use Rattle.std.proofs.Common.{◌≡◌, ℕ, ◌+◌, List, [], ◌∷◌, drop, refl, sym, subst, ap, ◌∙◌, arith}
 use Rattle.std.proofs.lemmas.Grind.{common_steps}
-use Rattle.transfer.proofs.Moving.{due-moves}
+use Rattle.record.specs.declared.call.CallKind.TheVariants.{Move}
+use Rattle.record.specs.Courses.{stage_after}
+use Rattle.transfer.proofs.Moving.{IsMoveFrom, due-moves, move_past}
 use Rattle.transfer.proofs.order.next_phase.Goals as goal
 
 pub returns-clause-order : goal.returns-clause-order
@@ -8,3 +10,17 @@ returns-clause-order c = λ complete.
     let ordered = due-moves c.args.from c.args.done.now complete in
     let rest = c.loop-phase.invariant.rest 0 in
     grind (arith, common_steps)
+
+pub loop-phase-preserved : goal.loop-phase-preserved
+loop-phase-preserved c =
+    let past = move_past c.args.from c.loop-phase.stage c.phase-item.result c.loop-phase.invariant.moves in
+    let there : c.phase-item.result ∷ drop (c.loop-phase.phase-index + 1) c.args.done.now ≡ drop c.loop-phase.phase-index c.args.done.now =
+    grind (arith, common_steps) in
+    record {
+      moves = subst (IsMoveFrom c.args.from) (sym c.passed-stage.ensures) past.0;
+      rest = λ number.
+          ap (λ stage. stage_after Move number stage (drop (c.loop-phase.phase-index + 1) c.args.done.now))
+          (c.passed-stage.ensures ∙ sym (past.1 number))
+          ∙ ap (λ phases. stage_after Move number c.loop-phase.stage phases) there
+          ∙ c.loop-phase.invariant.rest number;
+    }

@@ -4,7 +4,8 @@ use Rattle.bank.specs.declared.status.Status.{Status}
 use Rattle.phase.specs.declared.phase.Taken.{Taken}
 use Rattle.record.specs.declared.call.CallKind.{CallKind}
 use Rattle.record.specs.declared.stage.Stage.{Stage}
-use Rattle.record.specs.declared.stage.Stage.TheVariants.{ReadNext, ReadSpread, QueryFrom, FetchAt, PreWriteAt, FinalizeAt, AgainNext}
+use Rattle.record.specs.declared.stage.Stage.TheVariants.{ReadBegin, ReadNext, ReadSpread, QueryFrom, FetchAt, PreWriteAt, FinalizeAt}
+use Rattle.record.specs.declared.stage.Stage.TheVariants.{AgainNext}
 use Rattle.record.specs.declared.stage.Stage.TheVariants.{AgainSpread, MoveSpread, MoveQuery, MoveFetch, MovePreWrite, MoveFinalize}
 use Rattle.record.specs.declared.stage.Stage.TheVariants.{MoveFinal, Ended, Moved}
 use Rattle.record.specs.Courses.{after}
@@ -22,6 +23,7 @@ after_move_is : (kind : CallKind) (number : ℕ) (stage : Stage) (replies : List
     → ((last position : ℕ) (tag : Tag) → stage ≡ AgainNext last position tag → ⊥)
     → ((last position : ℕ) (tag : Tag) (status : Status) → stage ≡ AgainSpread last position tag status → ⊥)
     → after_move stage replies lacks ≡ after kind number stage replies lacks
+after_move_is kind number ReadBegin replies lacks _ _ _ _ _ _ _ _ = refl
 after_move_is kind number (ReadNext position finalized) replies lacks n _ _ _ _ _ _ _ = absurd (n position finalized refl)
 after_move_is kind number (ReadSpread position finalized status) replies lacks _ n _ _ _ _ _ _ = absurd (n position finalized status refl)
 after_move_is kind number (QueryFrom position last tag shown_at) replies lacks _ _ n _ _ _ _ _ = absurd (n position last tag shown_at refl)

@@ -1,13 +1,14 @@
 use Rattle.std.proofs.Common.{◌≡◌, ℕ, Option, ◌+◌, ◌-◌, ◌<◌, List, length, is_some, true, false, Some, sym, ap, subst, ◌∙◌, arith}
 use Rattle.std.proofs.lemmas.List.{get_or_read, get_or-set_same}
-use Rattle.phase.specs.Phase.{Phase, after_take, lacks_pieces}
+use Rattle.phase.specs.Phase.{Phase, after_take}
 use Rattle.record.specs.declared.call.CallKind.{CallKind}
 use Rattle.record.specs.declared.stage.Stage.{Stage}
-use Rattle.record.specs.Courses.{passed}
+use Rattle.record.specs.Courses.{begun_at, stage_past}
 use Rattle.record.specs.Steps.{taking_phases}
 use Rattle.record.specs.Wants.{current_phase}
-use Rattle.transfer.specs.Limits.{HasNextTag}
+use Rattle.transfer.specs.Limits.{IsBelowLimit, HasNextTag}
 use Rattle.register.specs.Tracked.{Tracked, taken_tracked, took_current, stage_taken}
+use Rattle.register.proofs.Bases.{take_position}
 use Rattle.register.proofs.Lists.{set_read}
 use Rattle.register.proofs.Takes.{ended_same, ended_stale, current_at, taking_at, taking_none, current_none, taken_same, stage_ended}
 use Rattle.register.proofs.Takes.{stage_open}
@@ -68,6 +69,23 @@ returns-then-complete-clause-took c =
     sym (ap (took_current c.args.message) (ap (λ (t : Tracked). current_phase t.call.phases) (sym c.self.view_is)
     ∙ current_at ps i p last c.index.ensures) ∙ ended_stale p c.args.message ended)
 
+pub passed-self-inside-requires-clause-room : goal.passed-self-inside-requires-clause-room
+passed-self-inside-requires-clause-room c =
+    let k = c.self.inside in
+    let ps = k.phases.items in
+    let i = c.len-count.result - 1 in
+    let p = c.index_mut.result.now in
+    let last : i + 1 ≡ length ps = omega (arith, c.len-count.ensures, c.if-count-eq0.false) in
+    let within : i < length ps = omega (arith, last) in
+    let new : c.index-2.result.now ≡ c.take-took.new.self =
+    c.index-2.ensures ∙ get_or-set_same ps i c.take-took.new.self c.index-2.result.now within in
+    let here : current_phase ps ≡ Some p = current_at ps i p last c.index_mut.ensures.value in
+    let near = c.requires.near p (ap (λ (t : Tracked). current_phase t.call.phases) (sym c.self.view_is) ∙ here) in
+    let same : p.position ≡ c.index-2.result.now.position =
+    sym (ap (λ (x : Phase). x.position) (new ∙ c.take-took.ensures.phase) ∙ take_position p c.args.message c.args.now) in
+    subst (λ n. IsBelowLimit (begun_at k.stage n)) same
+    (subst (λ (t : Tracked). IsBelowLimit (begun_at t.stage p.position)) (sym c.self.view_is) near)
+
 pub passed-self-inside-requires-clause-tags : goal.passed-self-inside-requires-clause-tags
 passed-self-inside-requires-clause-tags c =
     let k = c.self.inside in
@@ -79,9 +97,12 @@ passed-self-inside-requires-clause-tags c =
     let new : c.index-2.result.now ≡ q = c.index-2.ensures ∙ get_or-set_same ps i q c.index-2.result.now within in
     let here : current_phase ps ≡ Some c.index_mut.result.now = current_at ps i c.index_mut.result.now last c.index_mut.ensures.value in
     let asked = c.requires.tags c.index_mut.result.now (ap (λ (t : Tracked). current_phase t.call.phases) (sym c.self.view_is) ∙ here) in
-    subst (λ (x : Phase). HasNextTag k.kind k.stage x.replies) (sym (new ∙ c.take-took.ensures.phase))
-    (subst (λ (t : Tracked). HasNextTag t.call.kind t.stage (after_take c.index_mut.result.now c.args.message c.args.now).replies)
-    (sym c.self.view_is) asked)
+    let p = c.index_mut.result.now in
+    subst (λ (x : Phase). HasNextTag k.kind (begun_at k.stage x.position) x.replies) (sym (new ∙ c.take-took.ensures.phase))
+    (subst (λ n. HasNextTag k.kind (begun_at k.stage n) (after_take p c.args.message c.args.now).replies)
+    (sym (take_position p c.args.message c.args.now))
+    (subst (λ (t : Tracked). HasNextTag t.call.kind (begun_at t.stage p.position) (after_take p c.args.message c.args.now).replies)
+    (sym c.self.view_is) asked))
 
 pub returns-clause-call : goal.returns-clause-call
 returns-clause-call c =
@@ -99,7 +120,7 @@ returns-clause-call c =
     ∙ c.if-complete.false in
     let new : c.index-2.result.now ≡ q = c.index-2.ensures ∙ get_or-set_same ps i q c.index-2.result.now within in
     let stage = c.passed-self-inside.ensures
-    ∙ ap (λ (x : Phase). passed k.kind m.call k.stage x.end x.replies (lacks_pieces x)) (new ∙ c.take-took.ensures.phase)
+    ∙ ap (λ (x : Phase). stage_past k.kind m.call k.stage x) (new ∙ c.take-took.ensures.phase)
     ∙ sym (ap (λ o. stage_taken k.kind k.stage o m now) (current_at ps i p last c.index_mut.ensures.value)
     ∙ stage_open k.kind k.stage p m now open_yet) in
     ap (λ qs. tracked_of k.kind k.called k.answered k.settled qs c.passed-self-inside.result)

@@ -31,17 +31,17 @@ unreachable-requires c =
     let f = is_found c.self.invariant c.in_ok-index.ensures.place c.deref.ensures.value c.index.ensures in
     let w = wanting f c.want_of.ensures c.deref-2.ensures.value refl in
     let is = sym c.wants_due.ensures ∙ c.if-not-wants_due.false in
-    some_due c.args.anew w is (due_read f c.index-2.ensures c.stage.ensures c.in_default.ensures refl)
+    some_due c.args.anew w is (due_read f c.index-2.ensures c.stage.ensures c.begun_at.ensures c.in_default.ensures refl)
 
 pub due-requires : goal.due-requires
 due-requires c =
     let f = is_found c.self.invariant c.in_ok-index.ensures.place c.deref.ensures.value c.index.ensures in
-    stage_below (again f c.index-2.ensures) c.stage.ensures
+    stage_below (again f c.index-2.ensures) c.stage.ensures c.begun_at.ensures
 
 pub index-requires-3 : goal.index-requires-3
 index-requires-3 c =
     let f = is_found c.self.invariant c.in_ok-index.ensures.place c.deref.ensures.value c.index.ensures in
-    let d = due_read f c.index-2.ensures c.stage.ensures c.due.ensures c.in-Some.is in
+    let d = due_read f c.index-2.ensures c.stage.ensures c.begun_at.ensures c.due.ensures c.in-Some.is in
     let there = due_there f d in
     omega (arith, there, c.deref-2.ensures.len, ap length c.deref-2.ensures.value)
 
@@ -50,14 +50,14 @@ begin-requires-clause-pieces c =
     let f = is_found c.self.invariant c.in_ok-index.ensures.place c.deref.ensures.value c.index.ensures in
     let w = wanting f c.want_of.ensures c.deref-2.ensures.value refl in
     let is = sym c.wants_due.ensures ∙ c.if-not-wants_due.false in
-    let d = due_read f c.index-2.ensures c.stage.ensures c.due.ensures c.in-Some.is in
+    let d = due_read f c.index-2.ensures c.stage.ensures c.begun_at.ensures c.due.ensures c.in-Some.is in
     needs_none c.args.anew w is d _
 
 pub begin-requires-clause-room : goal.begin-requires-clause-room
 begin-requires-clause-room c =
     let f = is_found c.self.invariant c.in_ok-index.ensures.place c.deref.ensures.value c.index.ensures in
     let w = wanting f c.want_of.ensures c.deref-2.ensures.value refl in
-    let d = due_read f c.index-2.ensures c.stage.ensures c.due.ensures c.in-Some.is in
+    let d = due_read f c.index-2.ensures c.stage.ensures c.begun_at.ensures c.due.ensures c.in-Some.is in
     let is = sym c.wants_due.ensures ∙ c.if-not-wants_due.false in
     let b = beginning c.args.anew w is d c.index-3.ensures c.layout.ensures c.index_mut.ensures.value in
     begin_room b c.args.now c.self.view_is c.requires.after
@@ -66,7 +66,7 @@ pub invariant_of-self : goal.invariant_of-self
 invariant_of-self c =
     let f = is_found c.self.invariant c.in_ok-index.ensures.place c.deref.ensures.value c.index.ensures in
     let w = wanting f c.want_of.ensures c.deref-2.ensures.value refl in
-    let d = due_read f c.index-2.ensures c.stage.ensures c.due.ensures c.in-Some.is in
+    let d = due_read f c.index-2.ensures c.stage.ensures c.begun_at.ensures c.due.ensures c.in-Some.is in
     let is = sym c.wants_due.ensures ∙ c.if-not-wants_due.false in
     let b = beginning c.args.anew w is d c.index-3.ensures c.layout.ensures c.index_mut.ensures.value in
     begin_kept b c.args.now c.in-Ok.ensures.mail c.in-Ok.ensures.call c.self.view_is c.requires.after c.in-Ok.ensures.cause
@@ -75,7 +75,7 @@ pub returns-in-Ok-clause-step : goal.returns-in-Ok-clause-step
 returns-in-Ok-clause-step c =
     let f = is_found c.self.invariant c.in_ok-index.ensures.place c.deref.ensures.value c.index.ensures in
     let w = wanting f c.want_of.ensures c.deref-2.ensures.value refl in
-    let d = due_read f c.index-2.ensures c.stage.ensures c.due.ensures c.in-Some.is in
+    let d = due_read f c.index-2.ensures c.stage.ensures c.begun_at.ensures c.due.ensures c.in-Some.is in
     let is = sym c.wants_due.ensures ∙ c.if-not-wants_due.false in
     let b = beginning c.args.anew w is d c.index-3.ensures c.layout.ensures c.index_mut.ensures.value in
     rw (← c.self.view_is) (begin_step b c.args.now c.in-Ok.ensures.mail c.in-Ok.ensures.call)
@@ -84,7 +84,7 @@ pub returns-in-Ok-clause-cause : goal.returns-in-Ok-clause-cause
 returns-in-Ok-clause-cause c =
     let f = is_found c.self.invariant c.in_ok-index.ensures.place c.deref.ensures.value c.index.ensures in
     let w = wanting f c.want_of.ensures c.deref-2.ensures.value refl in
-    let d = due_read f c.index-2.ensures c.stage.ensures c.due.ensures c.in-Some.is in
+    let d = due_read f c.index-2.ensures c.stage.ensures c.begun_at.ensures c.due.ensures c.in-Some.is in
     let is = sym c.wants_due.ensures ∙ c.if-not-wants_due.false in
     let b = beginning c.args.anew w is d c.index-3.ensures c.layout.ensures c.index_mut.ensures.value in
     rw (← c.self.view_is) (begin_cause b c.args.now c.if-now-gt-MOST_STEPS.false ∙ c.in-Ok.ensures.cause)
@@ -93,7 +93,7 @@ pub returns-in-Err-clause-cause : goal.returns-in-Err-clause-cause
 returns-in-Err-clause-cause c =
     let f = is_found c.self.invariant c.in_ok-index.ensures.place c.deref.ensures.value c.index.ensures in
     let w = wanting f c.want_of.ensures c.deref-2.ensures.value refl in
-    let d = due_read f c.index-2.ensures c.stage.ensures c.due.ensures c.in-Some.is in
+    let d = due_read f c.index-2.ensures c.stage.ensures c.begun_at.ensures c.due.ensures c.in-Some.is in
     let is = sym c.wants_due.ensures ∙ c.if-not-wants_due.false in
     let b = beginning c.args.anew w is d c.index-3.ensures c.layout.ensures c.index_mut.ensures.value in
     rw (← c.self.view_is) (by_cause (begin_cause b c.args.now c.if-now-gt-MOST_STEPS.false) c.in-Err.ensures.cause)

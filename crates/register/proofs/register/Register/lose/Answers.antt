@@ -12,6 +12,7 @@ invariant_of-self c =
       positions = r.positions.items;
       mail = r.mail;
       calls = r.calls.items;
+      base = r.base;
       is_moving = r.is_moving;
       stored = r.stored;
       last = r.last;

@@ -7,9 +7,26 @@ use Rattle.register.specs.State.{Contents, State, state_of}
 use Rattle.register.proofs.Calling.{layout_is}
 use Rattle.register.proofs.Rooms.{few_room, many_full}
 use Rattle.register.proofs.Calling.{sound_room}
-use Rattle.register.proofs.Reading.{called_sound, some_position, reading_cause, reading_mail, reading_past, many_calls, reading_cause_is}
+use Rattle.register.proofs.Keeps.{base_within}
+use Rattle.register.proofs.Reading.{called_sound, reading_cause, reading_mail, reading_past, many_calls, reading_cause_is}
 use Rattle.register.proofs.Reading.{reading_room}
 use Rattle.register.proofs.register.Register.may_call.Goals as goal
+
+pub index-requires : goal.index-requires
+index-requires c =
+    let r = c.self.inside in
+    let o : Contents = record {
+      delta = r.delta;
+      positions = r.positions.items;
+      mail = r.mail;
+      calls = r.calls.items;
+      base = r.base;
+      is_moving = r.is_moving;
+      stored = r.stored;
+      last = r.last;
+    } in
+    let within = base_within o c.self.invariant in
+    omega (arith, within)
 
 pub returns-then-now-gt-MOST_STEPS : goal.returns-then-now-gt-MOST_STEPS
 returns-then-now-gt-MOST_STEPS c = record { cause = reading_past c.args.self.now.object Read c.args.now c.if-now-gt-MOST_STEPS.true }
@@ -22,6 +39,7 @@ returns-then-len-ge-MOST_CALLS c =
       positions = r.positions.items;
       mail = r.mail;
       calls = r.calls.items;
+      base = r.base;
       is_moving = r.is_moving;
       stored = r.stored;
       last = r.last;
@@ -41,6 +59,7 @@ returns-then-not-has_room c =
       positions = r.positions.items;
       mail = r.mail;
       calls = r.calls.items;
+      base = r.base;
       is_moving = r.is_moving;
       stored = r.stored;
       last = r.last;
@@ -48,14 +67,14 @@ returns-then-not-has_room c =
     let view : reading_cause c.args.self.now.object Read c.args.now ≡ reading_cause (state_of o).object Read c.args.now =
     ap (λ (s : State). reading_cause s.object Read c.args.now) (sym c.self.view_is) in
     let layout = c.layout.result.now in
-    let same : layout_at (state_of o).object 0 ≡ layout = layout_is o.delta o.positions o.mail o.calls 0 c.index.result.now
-    (slice_get_read o.positions (length o.positions) 0 c.index.result.now refl (some_position o c.self.invariant) c.index.ensures)
+    let same : layout_at (state_of o).object o.base ≡ layout = layout_is o.delta o.positions o.mail o.calls o.base c.index.result.now
+    (slice_get_read o.positions (length o.positions) o.base c.index.result.now refl (base_within o c.self.invariant) c.index.ensures)
     ∙ sym c.layout.ensures in
     let few : length o.calls < MOST_CALLS = omega (arith, c.len.ensures, c.if-len-ge-MOST_CALLS.false) in
     let members : c.from-members.result ≡ length layout.members = c.from-members.ensures ∙ c.n.ensures.value in
     let number : ℕ = suc (length o.calls) in
     record {
-      cause = view ∙ reading_cause_is o Read c.args.now number layout same refl c.if-now-gt-MOST_STEPS.false few
+      cause = view ∙ reading_cause_is o Read c.args.now number layout c.self.invariant.based same refl c.if-now-gt-MOST_STEPS.false few
           ∙ many_full (reading_mail o number layout)
           (reading_room o number layout c.from-members.result c.has_room.result members c.has_room.ensures ∙ c.if-not-has_room.true);
     }
@@ -68,6 +87,7 @@ returns c =
       positions = r.positions.items;
       mail = r.mail;
       calls = r.calls.items;
+      base = r.base;
       is_moving = r.is_moving;
       stored = r.stored;
       last = r.last;
@@ -75,15 +95,15 @@ returns c =
     let view : reading_cause c.args.self.now.object Read c.args.now ≡ reading_cause (state_of o).object Read c.args.now =
     ap (λ (s : State). reading_cause s.object Read c.args.now) (sym c.self.view_is) in
     let layout = c.layout.result.now in
-    let same : layout_at (state_of o).object 0 ≡ layout = layout_is o.delta o.positions o.mail o.calls 0 c.index.result.now
-    (slice_get_read o.positions (length o.positions) 0 c.index.result.now refl (some_position o c.self.invariant) c.index.ensures)
+    let same : layout_at (state_of o).object o.base ≡ layout = layout_is o.delta o.positions o.mail o.calls o.base c.index.result.now
+    (slice_get_read o.positions (length o.positions) o.base c.index.result.now refl (base_within o c.self.invariant) c.index.ensures)
     ∙ sym c.layout.ensures in
     let few : length o.calls < MOST_CALLS = omega (arith, c.len.ensures, c.if-len-ge-MOST_CALLS.false) in
     let members : c.from-members.result ≡ length layout.members = c.from-members.ensures ∙ c.n.ensures.value in
     let number : ℕ = suc (length o.calls) in
     let after : o.last < c.args.now = subst (λ (s : State). s.last < c.args.now) (sym c.self.view_is) c.requires.after in
     record {
-      cause = view ∙ reading_cause_is o Read c.args.now number layout same refl c.if-now-gt-MOST_STEPS.false few
+      cause = view ∙ reading_cause_is o Read c.args.now number layout c.self.invariant.based same refl c.if-now-gt-MOST_STEPS.false few
           ∙ few_room (reading_mail o number layout)
           (sound_room _ c.args.now (called_sound o Read c.args.now number layout c.self.invariant (inl refl) same refl after))
           (reading_room o number layout c.from-members.result c.has_room.result members c.has_room.ensures ∙ c.if-not-has_room.false);

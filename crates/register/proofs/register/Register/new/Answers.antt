@@ -15,6 +15,7 @@ contents delta positions mail calls now = record {
   positions = positions;
   mail = mail;
   calls = calls;
+  base = 0;
   is_moving = false;
   stored = 0;
   last = now;

@@ -1,0 +1,97 @@
+use Rattle.std.proofs.Common.{◌+◌, ◌≤◌, refl, sym, ◌∙◌, arith}
+use Rattle.tag.specs.declared.limits.TheConstants.{MOST_STEPS}
+use Rattle.record.specs.Steps.{Step}
+use Rattle.register.specs.Causes.{retire_cause}
+use Rattle.cluster.proofs.Places.{at_place}
+use Rattle.cluster.proofs.Retiring.{past_retired, part_loaded, load_within, part_freed, retire_counted, freed_exactly}
+use Rattle.cluster.proofs.Stepping.{stepped_at, unchanged_at, last_before, cause_at, no_object}
+use Rattle.cluster.proofs.Summing.{refused_counted}
+use Rattle.cluster.proofs.cluster.Cluster.retire.Goals as goal
+
+pub returns-in_default-clause-cause : goal.returns-in_default-clause-cause
+returns-in_default-clause-cause c =
+    no_object c.self.inside.objects.entries c.args.name.now c.self.view_is c.in_default.ensures.found _
+
+pub may_retire-requires : goal.may_retire-requires
+may_retire-requires c =
+    let at = at_place c.self.inside.objects.entries c.args.name.now c.in-Some.place c.index_mut-register.result.now c.in-Some.ensures.index
+    c.index_mut-register.ensures.value in
+    record { after = last_before c.self.invariant.kept at }
+
+pub invariant_of-self : goal.invariant_of-self
+invariant_of-self c =
+    let at = at_place c.self.inside.objects.entries c.args.name.now c.in-Some.place c.index_mut-register.result.now c.in-Some.ensures.index
+    c.index_mut-register.ensures.value in
+    refused_counted c.self.invariant at refl
+
+pub returns-in-Err-clause-cause : goal.returns-in-Err-clause-cause
+returns-in-Err-clause-cause c =
+    let at = at_place c.self.inside.objects.entries c.args.name.now c.in-Some.place c.index_mut-register.result.now c.in-Some.ensures.index
+    c.index_mut-register.ensures.value in
+    cause_at c.self.view_is at (λ now object. retire_cause now object c.args.position) ∙ c.in-Err.ensures.cause
+
+pub returns-in-Err-clause-unchanged : goal.returns-in-Err-clause-unchanged
+returns-in-Err-clause-unchanged c =
+    let at = at_place c.self.inside.objects.entries c.args.name.now c.in-Some.place c.index_mut-register.result.now c.in-Some.ensures.index
+    c.index_mut-register.ensures.value in
+    unchanged_at at refl ∙ c.self.view_is
+
+pub unload-requires-clause-count : goal.unload-requires-clause-count
+unload-requires-clause-count c = let same = c.self.invariant.summed.servers in omega (arith, same, c.count.ensures)
+
+pub unload-requires-clause-part : goal.unload-requires-clause-part
+unload-requires-clause-part c server there =
+    let at = at_place c.self.inside.objects.entries c.args.name.now c.in-Some.place c.index_mut-register.result.now c.in-Some.ensures.index
+    c.index_mut-register.ensures.value in
+    part_loaded c.self.invariant at c.soundness.ensures.sound server there
+
+pub unload-requires-clause-within : goal.unload-requires-clause-within
+unload-requires-clause-within c server there =
+    let at = at_place c.self.inside.objects.entries c.args.name.now c.in-Some.place c.index_mut-register.result.now c.in-Some.ensures.index
+    c.index_mut-register.ensures.value in
+    load_within c.self.invariant at c.soundness.ensures.sound server there
+
+pub retire-requires : goal.retire-requires
+retire-requires c =
+    let at = at_place c.self.inside.objects.entries c.args.name.now c.in-Some.place c.index_mut-register.result.now c.in-Some.ensures.index
+    c.index_mut-register.ensures.value in
+    record { after = last_before c.self.invariant.kept at }
+
+pub overflow_sub-self : goal.overflow_sub-self
+overflow_sub-self c =
+    let at = at_place c.self.inside.objects.entries c.args.name.now c.in-Some.place c.index_mut-register.result.now c.in-Some.ensures.index
+    c.index_mut-register.ensures.value in
+    let part = part_freed c.self.invariant at c.soundness.ensures.sound c.in-Ok-retire.ensures.freed in
+    omega (arith, part)
+
+pub invariant_of-self-in-Ok-retire : goal.invariant_of-self-in-Ok-retire
+invariant_of-self-in-Ok-retire c =
+    let at = at_place c.self.inside.objects.entries c.args.name.now c.in-Some.place c.index_mut-register.result.now c.in-Some.ensures.index
+    c.index_mut-register.ensures.value in
+    let few : c.self.inside.counter + 1 ≤ MOST_STEPS = past_retired c.in-Ok-retire.ensures.cause in
+    retire_counted c.self.invariant at c.soundness.ensures.sound c.in-Ok-retire.ensures.step few c.in-Ok-retire.ensures.freed
+    c.unload.ensures.count c.unload.ensures.freed
+
+pub returns-in-Ok-retire-clause-step : goal.returns-in-Ok-retire-clause-step
+returns-in-Ok-retire-clause-step c =
+    let at = at_place c.self.inside.objects.entries c.args.name.now c.in-Some.place c.index_mut-register.result.now c.in-Some.ensures.index
+    c.index_mut-register.ensures.value in
+    stepped_at c.self.view_is at Step.Retire c.in-Ok-retire.ensures.step
+
+pub returns-in-Ok-retire-clause-freed : goal.returns-in-Ok-retire-clause-freed
+returns-in-Ok-retire-clause-freed c =
+    let at = at_place c.self.inside.objects.entries c.args.name.now c.in-Some.place c.index_mut-register.result.now c.in-Some.ensures.index
+    c.index_mut-register.ensures.value in
+    let few : c.self.inside.counter + 1 ≤ MOST_STEPS = past_retired c.in-Ok-retire.ensures.cause in
+    freed_exactly c.self.invariant at c.soundness.ensures.sound c.in-Ok-retire.ensures.step few c.in-Ok-retire.ensures.freed
+    c.unload.ensures.count c.unload.ensures.freed c.self.view_is
+
+pub returns-in-Ok-retire-clause-cause : goal.returns-in-Ok-retire-clause-cause
+returns-in-Ok-retire-clause-cause c =
+    let at = at_place c.self.inside.objects.entries c.args.name.now c.in-Some.place c.index_mut-register.result.now c.in-Some.ensures.index
+    c.index_mut-register.ensures.value in
+    cause_at c.self.view_is at (λ now object. retire_cause now object c.args.position) ∙ c.in-Ok-retire.ensures.cause
+
+-- what the register refuses it would have refused before
+pub unreachable-requires : goal.unreachable-requires
+unreachable-requires c = absurd (let clash = sym c.in-Ok.ensures.cause ∙ c.in-Err-retire.ensures.cause in cc)

@@ -1,0 +1,66 @@
+//! How positions are retired.
+
+ghost use Rattle.std.specs.Prelude.{◌≡◌, ◌+◌, ◌≤◌, ◌<◌, ℕ, length, get_or, IfOk, OnOk, OnErr};
+ghost use Rattle.tag.specs.Refusal.{IsExactlyByCause};
+ghost use Rattle.tag.specs.declared.limits.TheConstants.{MOST_BYTES};
+ghost use Rattle.record.specs.Accounts.{base_bytes_of};
+ghost use Rattle.record.specs.Steps.{Step};
+ghost use Rattle.register.specs.Causes.{retire_cause};
+ghost use Rattle.cluster.specs.Accounts.{stored_all};
+ghost use Rattle.cluster.specs.Causes.{next, object_cause};
+ghost use Rattle.cluster.specs.Steps.{stepped};
+
+use crate::cluster::Cluster;
+use crate::loads::Loads;
+use register::Register;
+use tag::Refusal;
+
+impl Cluster {
+    /// The base position of an object is retired: its banks drop all pieces, and those that come from now on. Readings
+    /// that begin later begin at the next position. It answers how many bytes that frees.
+    ///
+    /// `NoObject` where there is none, `NotNow` unless the position is the object's base and the move out of it was
+    /// answered, and `Full` where the limit of steps is met. It takes no memory.
+    pub fn retire(&mut self, name: &str, position: u64) -> Result<u64, Refusal>
+        ensures step { OnOk result (self.new ≡ stepped self.old name.entry.now Step.Retire) }
+        ensures freed { IfOk result (λ bytes. stored_all self.new + bytes ≡ stored_all self.old) }
+        ensures cause { IsExactlyByCause
+            (object_cause self.old name.entry.now (λ object. retire_cause (next self.old) object position)) result }
+        ensures unchanged { OnErr result (self.new ≡ self.old) }
+    {
+        let Some(place) = self.objects.get_index_of(name) else {
+            return Err(Refusal::NoObject);
+        };
+        let now = self.counter + 1;
+        let register = &mut self.objects[place];
+        register.soundness();
+        match register.may_retire(position, now) {
+            Ok(()) => (),
+            Err(refusal) => return Err(refusal),
+        }
+        unload(&mut self.loads, register, self.servers.count());
+        match register.retire(position, now) {
+            Ok(freed) => {
+                self.stored -= freed;
+                self.counter = now;
+                Ok(freed)
+            }
+            Err(_) => unreachable!(),
+        }
+    }
+}
+
+// What each of so many servers stores without what an object's base stores there.
+fn unload(loads: &mut Loads, register: &Register, servers: u8)
+    requires count { servers ≡ length loads.old }
+    requires part { (server : ℕ) → server < length loads.old
+        → base_bytes_of register.now.object server ≤ get_or loads.old server 0 }
+    requires within { (server : ℕ) → server < length loads.old → get_or loads.old server 0 ≤ MOST_BYTES }
+    ensures count { length loads.new ≡ length loads.old }
+    ensures freed { (server : ℕ) → server < length loads.old
+        → get_or loads.new server 0 + base_bytes_of register.now.object server ≡ get_or loads.old server 0 }
+{
+    for server in 0..servers {
+        loads.exchange(server, register.stored_at_base(server), 0);
+    }
+}

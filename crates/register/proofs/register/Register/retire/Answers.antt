@@ -1,0 +1,46 @@
+use Rattle.std.proofs.Common.{ap, ◌∙◌, arith}
+use Rattle.record.specs.Accounts.{base_bytes}
+use Rattle.register.specs.State.{State}
+use Rattle.register.proofs.Keeps.{base_within}
+use Rattle.register.proofs.Retiring.{base_part, freed_is, retire_kept, retire_step, retiring}
+use Rattle.register.proofs.register.Register.retire.Goals as goal
+
+pub index_mut-requires : goal.index_mut-requires
+index_mut-requires c = let within = base_within _ c.self.invariant in omega (arith, within)
+
+pub retire-freed-requires : goal.retire-freed-requires
+retire-freed-requires c =
+    let part = base_part c.self.invariant c.index_mut.ensures.value in
+    let few = c.self.invariant.limits.stored in
+    let total = c.self.invariant.stored in
+    omega (arith, part, few, total)
+
+pub overflow_sub-self : goal.overflow_sub-self
+overflow_sub-self c =
+    let part = base_part c.self.invariant c.index_mut.ensures.value in
+    let freed = c.retire-freed.ensures.freed in
+    omega (arith, part, freed)
+
+pub overflow_add-self : goal.overflow_add-self
+overflow_add-self c =
+    let within = base_within _ c.self.invariant in
+    let few = c.self.invariant.limits.positions in
+    omega (arith, within, few)
+
+pub invariant_of-self : goal.invariant_of-self
+invariant_of-self c =
+    let r = retiring c.args.position c.args.now c.self.invariant c.self.view_is c.in-Ok.ensures.cause c.index_mut.ensures.value
+    c.retire-freed.ensures.layout c.retire-freed.ensures.banks in
+    retire_kept r c.retire-freed.ensures.freed c.self.view_is c.requires.after
+
+pub returns-in-Ok-clause-step : goal.returns-in-Ok-clause-step
+returns-in-Ok-clause-step c =
+    let r = retiring c.args.position c.args.now c.self.invariant c.self.view_is c.in-Ok.ensures.cause c.index_mut.ensures.value
+    c.retire-freed.ensures.layout c.retire-freed.ensures.banks in
+    rw (← c.self.view_is) (retire_step r c.retire-freed.ensures.freed)
+
+pub returns-in-Ok-clause-freed : goal.returns-in-Ok-clause-freed
+returns-in-Ok-clause-freed c =
+    let r = retiring c.args.position c.args.now c.self.invariant c.self.view_is c.in-Ok.ensures.cause c.index_mut.ensures.value
+    c.retire-freed.ensures.layout c.retire-freed.ensures.banks in
+    freed_is r c.retire-freed.ensures.freed ∙ ap (λ (s : State). base_bytes s.object) c.self.view_is
