@@ -1,11 +1,13 @@
 -- What calls cost, as sums over the record.
-use Rattle.std.specs.Prelude.{ℕ, ◌+◌, ◌-◌, ◌^◌, min, length, sum_by, if◌then◌else◌, Option, Some, None}
+use Rattle.std.specs.Prelude.{ℕ, ◌+◌, ◌-◌, ◌^◌, ◌&&◌, min, List, length, sum_by, is_some, if◌then◌else◌, Option, Some}
+use Rattle.std.specs.Prelude.{None, slice_get}
 use Rattle.std.specs.FinMap as map
 use Rattle.tag.specs.declared.tag.Tag.{Tag}
 use Rattle.tag.specs.Tag.{tag_eq}
+use Rattle.layout.specs.Layout.{Layout}
+use Rattle.encoder.specs.Fragment.{fragment_len}
 use Rattle.bank.specs.Answer.{answer_bytes}
 use Rattle.bank.specs.Bank.{Bank}
-use Rattle.bank.specs.Bytes.{row_bytes}
 use Rattle.bank.specs.declared.kind.Kind.{Kind}
 use Rattle.bank.specs.declared.kind.Kind.TheVariants.{Next, Spread, Query, PreWrite, Finalize, Fetch}
 use Rattle.bank.specs.declared.row.Row.{Row}
@@ -13,38 +15,49 @@ use Rattle.phase.specs.declared.phase.Taken.{Taken}
 use Rattle.phase.specs.Phase.{Phase}
 use Rattle.record.specs.Accounts.{member_sum}
 use Rattle.record.specs.Records.{Object}
-use Rattle.register.specs.View.{bank_there, phases_at}
+use Rattle.register.specs.View.{bank_there, phases_at, value_at}
 use Rattle.costs.specs.declared.cost.Cost.{Cost}
 
 -- a number, or the greatest of 64 bits where it is more
 abbrev pub capped : ℕ → ℕ
 capped n = min n (2 ^ 64 - 1)
 
--- the bytes of what is kept, where it is kept for this tag
-abbrev pub bytes_for : Tag → Tag × Row → ℕ
-bytes_for tag kept = if tag_eq kept.0 tag then row_bytes kept.1 else 0
+-- the bytes of a fragment of a value under a layout, where there are both
+abbrev pub fragment_of : Option (List ℕ) → Option Layout → ℕ
+fragment_of None layout = 0
+fragment_of (Some value) None = 0
+fragment_of (Some value) (Some layout) = fragment_len layout.k (length value)
 
--- the bytes that a bank keeps for a tag
-abbrev pub kept_bytes : Tag → Option Bank → ℕ
-kept_bytes tag None = 0
-kept_bytes tag (Some bank) = sum_by (bytes_for tag) (map.entries bank.rows)
+-- the bytes of a fragment of what the call of this number wrote or settled, under the layout of a position
+abbrev pub fragment_at : Object → (call position : ℕ) → ℕ
+fragment_at object call position = fragment_of (value_at object call) (slice_get object.layouts position)
 
--- the bytes that a member of a position keeps for a tag
-abbrev pub kept_at : Object → Tag → (position member : ℕ) → ℕ
-kept_at object tag position member = kept_bytes tag (bank_there object position member)
+-- the bytes of a fragment, where one came for this tag
+abbrev pub bytes_for : (fragment : ℕ) → Tag → Tag × Row → ℕ
+bytes_for fragment tag entry = if tag_eq entry.0 tag && is_some entry.1.arrival then fragment else 0
 
--- what a phase of this kind sends: a pre-write its tag's pieces, by what the members keep, and the others none
-abbrev pub sent_by : Object → Kind → (position members : ℕ) → ℕ
-sent_by object (PreWrite tag) position members = member_sum (kept_at object tag position) 0 members
-sent_by object Next position members = 0
-sent_by object (Spread status) position members = 0
-sent_by object Query position members = 0
-sent_by object (Finalize tag) position members = 0
-sent_by object (Fetch tag) position members = 0
+-- the bytes of a fragment, where one came to a bank for this tag, though it may have dropped it since
+abbrev pub came_bytes : (fragment : ℕ) → Tag → Option Bank → ℕ
+came_bytes fragment tag None = 0
+came_bytes fragment tag (Some bank) = sum_by (bytes_for fragment tag) (map.entries bank.rows)
 
--- what a phase sends
-abbrev pub sent_in : Object → Phase → ℕ
-sent_in object phase = sent_by object phase.kind phase.position phase.members
+-- the bytes of a fragment, where one came to a member of a position for this tag
+abbrev pub came_at : Object → (fragment : ℕ) → Tag → (position member : ℕ) → ℕ
+came_at object fragment tag position member = came_bytes fragment tag (bank_there object position member)
+
+-- what a phase of this kind of a call sends: a pre-write its tag's fragments, by those that came, and the others none
+abbrev pub sent_by : Object → (call : ℕ) → Kind → (position members : ℕ) → ℕ
+sent_by object call (PreWrite tag) position members =
+    member_sum (came_at object (fragment_at object call position) tag position) 0 members
+sent_by object call Next position members = 0
+sent_by object call (Spread status) position members = 0
+sent_by object call Query position members = 0
+sent_by object call (Finalize tag) position members = 0
+sent_by object call (Fetch tag) position members = 0
+
+-- what a phase of the call of this number sends
+abbrev pub sent_in : Object → (call : ℕ) → Phase → ℕ
+sent_in object call phase = sent_by object call phase.kind phase.position phase.members
 
 -- the bytes in a reply
 abbrev pub taken_bytes : Taken → ℕ
@@ -60,7 +73,7 @@ cost_of object call = record {
   phases = length (phases_at object call);
   requests = capped (sum_by (λ phase. phase.members) (phases_at object call));
   replies = capped (sum_by (λ phase. length phase.replies) (phases_at object call));
-  sent = capped (sum_by (sent_in object) (phases_at object call));
+  sent = capped (sum_by (sent_in object call) (phases_at object call));
   returned = capped (sum_by returned_in (phases_at object call));
 }
 

@@ -14,7 +14,8 @@ pub struct Cost {
     pub requests: u64,
     /// The replies that these phases took.
     pub replies: u64,
-    /// The bytes of the fragments that pre-writes send: of the phase's tag, what the members of its position keep.
+    /// The bytes of the fragments that pre-writes send: of the phase's tag, those that came to the members of its
+    /// position, whether they keep them or not.
     pub sent: u64,
     /// The bytes of the fragments in the replies that were taken.
     pub returned: u64,
@@ -53,7 +54,7 @@ pub fn cost_of(register: &Register, call: u64) -> Cost
         phases: phases.len() as u64,
         requests: sums::requests(phases),
         replies: sums::replies(phases),
-        sent: sums::sent(register, phases),
+        sent: sums::sent(register, call, phases),
         returned: sums::returned(phases),
     }
 }

@@ -1,7 +1,7 @@
 //! The sums over the phases of a call.
 ghost use Rattle.std.specs.Prelude.{◌≡◌, sum_by, length};
 ghost use Rattle.record.specs.Accounts.{member_sum};
-ghost use Rattle.costs.specs.Cost.{bytes_for, capped, kept_at, returned_in, sent_in, taken_bytes};
+ghost use Rattle.costs.specs.Cost.{bytes_for, came_at, capped, fragment_at, returned_in, sent_in, taken_bytes};
 ghost use Rattle.std.specs.FinMap as map;
 
 use bank::{Bank, Kind, Row};
@@ -52,59 +52,77 @@ fn returned_in(replies: &[Taken]) -> u64
     total
 }
 
-/// The bytes that the pre-writes among the phases send.
-pub fn sent(register: &Register, phases: &[Phase]) -> u64
-    ensures { result ≡ capped (sum_by (sent_in register.now.object) phases.now) }
+/// The bytes that the pre-writes among the phases of the call of this number send.
+pub fn sent(register: &Register, call: u64, phases: &[Phase]) -> u64
+    ensures { result ≡ capped (sum_by (sent_in register.now.object call) phases.now) }
 {
     let mut total: u64 = 0;
     for phase in phases {
-        total = total.saturating_add(sent_in(register, phase));
+        total = total.saturating_add(sent_in(register, call, phase));
     }
     total
 }
 
-fn sent_in(register: &Register, phase: &Phase) -> u64
-    ensures { result ≡ capped (sent_in register.now.object phase.now) }
+fn sent_in(register: &Register, call: u64, phase: &Phase) -> u64
+    ensures { result ≡ capped (sent_in register.now.object call phase.now) }
 {
+    let position = phase.position();
     match phase.kind() {
-        Kind::PreWrite(tag) => kept_by_all(register, tag, phase.position(), phase.members()),
+        Kind::PreWrite(tag) => {
+            let fragment = fragment_at(register, call, position);
+            came_to_all(register, fragment, tag, position, phase.members())
+        }
         _ => 0,
     }
 }
 
-fn kept_by_all(register: &Register, tag: Tag, position: u32, members: u8) -> u64
-    ensures { result ≡ capped (member_sum (kept_at register.now.object tag position) 0 members) }
+// The bytes of a fragment of the call's value under the layout of a position.
+fn fragment_at(register: &Register, call: u64, position: u32) -> u64
+    ensures { result ≡ fragment_at register.now.object call position }
+{
+    match (register.value_view(call), register.layout_view(position)) {
+        (Some(value), Some(layout)) => (value.len() as u64).div_ceil(u64::from(layout.k())),
+        _ => 0,
+    }
+}
+
+fn came_to_all(register: &Register, fragment: u64, tag: Tag, position: u32, members: u8) -> u64
+    ensures { result ≡ capped (member_sum (came_at register.now.object fragment tag position) 0 members) }
 {
     let mut total: u64 = 0;
     for member in 0..members {
-        total = total.saturating_add(kept_at(register, tag, position, member));
+        total = total.saturating_add(came_at(register, fragment, tag, position, member));
     }
     total
 }
 
-fn kept_at(register: &Register, tag: Tag, position: u32, member: u8) -> u64
-    ensures { result ≡ capped (kept_at register.now.object tag position member) }
+fn came_at(register: &Register, fragment: u64, tag: Tag, position: u32, member: u8) -> u64
+    ensures { result ≡ capped (came_at register.now.object fragment tag position member) }
 {
     match register.bank_view(position, member) {
-        Some(bank) => kept_bytes(bank, tag),
+        Some(bank) => came_bytes(bank, fragment, tag),
         None => 0,
     }
 }
 
-// The bytes that a bank keeps for the tag.
-fn kept_bytes(bank: &Bank, tag: Tag) -> u64
-    ensures { result ≡ capped (sum_by (bytes_for tag) (map.entries bank.now.rows)) }
+// The bytes of a fragment where one came to a bank for the tag, though it may have dropped it since.
+fn came_bytes(bank: &Bank, fragment: u64, tag: Tag) -> u64
+    ensures { result ≡ capped (sum_by (bytes_for fragment tag) (map.entries bank.now.rows)) }
 {
     let mut total: u64 = 0;
     for i in 0..bank.count() {
-        let (kept, row) = bank.kept(i);
-        total = total.saturating_add(bytes_for(tag, kept, row));
+        let (known, row) = bank.kept(i);
+        total = total.saturating_add(bytes_for(fragment, tag, known, row));
     }
     total
 }
 
-fn bytes_for(tag: Tag, kept: Tag, row: &Row) -> u64
-    ensures { result ≡ capped (bytes_for tag (kept, row.now)) }
+fn bytes_for(fragment: u64, tag: Tag, known: Tag, row: &Row) -> u64
+    ensures { result ≡ capped (bytes_for fragment tag (known, row.now)) }
 {
-    if kept == tag { row.bytes() } else { 0 }
+    if known == tag && row.arrival.is_some() {
+        fragment
+    } else {
+        0
+    }
 }

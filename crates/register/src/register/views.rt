@@ -20,6 +20,7 @@ use crate::register::Register;
 use crate::register::phases::{index_of, want_of};
 use bank::{Bank, Kind};
 use bytes::Bytes;
+use layout::Layout;
 use mail::Mail;
 use phase::Phase;
 use record::{Entry, Stage};
@@ -145,6 +146,14 @@ impl Register {
             Some(position) => position.bank(member),
             None => None,
         }
+    }
+
+    /// The layout of a position.
+    pub fn layout_view(&self, position: u32) -> Option<&Layout>
+        ensures { option_copied result ≡ slice_get self.now.object.layouts position }
+    {
+        let place = self.positions.get(position as usize)?;
+        Some(place.layout())
     }
 
     /// The tag of the call of this number, once it has one.

@@ -4,4 +4,4 @@ use Rattle.costs.specs.Cost.{capped}
 use Rattle.costs.proofs.sums.sent.Given as goal
 
 abbrev pub invariant-loop-phase : goal.invariant-loop-phase
-invariant-loop-phase l = l.total ≡ capped (sum_by (sent_in l.register.object) (take l.phase-index l.phases))
+invariant-loop-phase l = l.total ≡ capped (sum_by (sent_in l.register.object l.call) (take l.phase-index l.phases))

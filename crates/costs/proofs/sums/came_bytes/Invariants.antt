@@ -1,7 +1,7 @@
 use Rattle.std.proofs.Common.{◌≡◌, take, sum_by}
 use Rattle.std.specs.FinMap as map
 use Rattle.costs.specs.Cost.{bytes_for, capped}
-use Rattle.costs.proofs.sums.kept_bytes.Given as goal
+use Rattle.costs.proofs.sums.came_bytes.Given as goal
 
 abbrev pub invariant-loop-i : goal.invariant-loop-i
-invariant-loop-i l = l.total ≡ capped (sum_by (bytes_for l.tag) (take l.i (map.entries l.bank.rows)))
+invariant-loop-i l = l.total ≡ capped (sum_by (bytes_for l.fragment l.tag) (take l.i (map.entries l.bank.rows)))

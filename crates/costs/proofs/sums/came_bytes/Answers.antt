@@ -5,17 +5,18 @@ use Rattle.tag.specs.declared.tag.Tag.{Tag}
 use Rattle.bank.specs.declared.row.Row.{Row}
 use Rattle.costs.specs.Cost.{bytes_for, capped}
 use Rattle.costs.proofs.SumLemmas.{capped_more, sum_at}
-use Rattle.costs.proofs.sums.kept_bytes.Goals as goal
+use Rattle.costs.proofs.sums.came_bytes.Goals as goal
 
 pub loop-i-preserved : goal.loop-i-preserved
 loop-i-preserved c =
     let rows = map.entries c.args.bank.now.rows in
-    capped_more c.loop-i.total (sum_by (bytes_for c.args.tag) (take c.loop-i.i rows)) _ _ _ _
+    capped_more c.loop-i.total (sum_by (bytes_for c.args.fragment c.args.tag) (take c.loop-i.i rows)) _ _ _ _
     c.loop-i.invariant c.bytes_for.ensures c.saturating_add-total.ensures
-    (sum_at (bytes_for c.args.tag) rows c.loop-i.i (c.kept.result.0, c.kept.result.1.now) c.kept.ensures)
+    (sum_at (bytes_for c.args.fragment c.args.tag) rows c.loop-i.i (c.kept.result.0, c.kept.result.1.now) c.kept.ensures)
 
 pub returns : goal.returns
 returns c =
     let rows = map.entries c.args.bank.now.rows in
     let all : length rows ≤ c.loop-i.i = omega (arith, map.len-entries c.args.bank.now.rows) in
-    c.loop-i.invariant ∙ ap (λ (kept : List (Tag × Row)). capped (sum_by (bytes_for c.args.tag) kept)) (take_all c.loop-i.i rows all)
+    c.loop-i.invariant
+    ∙ ap (λ (kept : List (Tag × Row)). capped (sum_by (bytes_for c.args.fragment c.args.tag) kept)) (take_all c.loop-i.i rows all)

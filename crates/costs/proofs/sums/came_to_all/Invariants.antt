@@ -1,0 +1,7 @@
+use Rattle.std.proofs.Common.{◌≡◌}
+use Rattle.record.specs.Accounts.{member_sum}
+use Rattle.costs.specs.Cost.{capped, came_at}
+use Rattle.costs.proofs.sums.came_to_all.Given as goal
+
+abbrev pub invariant-loop-member : goal.invariant-loop-member
+invariant-loop-member l = l.total ≡ capped (member_sum (came_at l.register.object l.fragment l.tag l.position) 0 l.member)
