@@ -1,2 +1,3 @@
 pub mod ClientLemmas
+pub mod ListLemmas
 pub mod TextLemmas
