@@ -14,6 +14,8 @@ pub(crate) struct Place {
     pub(crate) members: u8,
     /// The step at which its banks were opened.
     pub(crate) opened: Stamp,
+    /// The step at which they were retired, if they were.
+    pub(crate) retired: Option<Stamp>,
 }
 
 /// Where a call stands.

@@ -18,5 +18,6 @@ mod phases;
 mod picture;
 mod plan;
 mod px;
+mod retired;
 mod server_lanes;
 mod text;

@@ -7,6 +7,7 @@ use crate::messages::Messages;
 use crate::omitted::Omitted;
 use crate::phases::Phases;
 use crate::plan::Plan;
+use crate::retired::{RetiredBands, RetiredSign};
 use crate::server_lanes::ServerLanes;
 use crate::text::Escaped;
 use register::Register;
@@ -36,7 +37,7 @@ impl fmt::Display for Picture<'_> {
         };
         let name = self.name;
         write!(f, "{}", Head { name, plan, order })?;
-        write!(f, "{}{}", Bands(plan), Steps(plan))?;
+        write!(f, "{}{}{}", Bands(plan), RetiredBands(plan), Steps(plan))?;
         write!(f, "{messages}{}", CallLanes(plan))?;
         write!(f, "{}", Phases { plan, register })?;
         write!(f, "{}", ServerLanes { plan, register })?;
@@ -91,6 +92,11 @@ impl fmt::Display for Foot<'_> {
         write!(f, "{}", Order { plan, order, y })?;
         let y = plan.legend_y(order.len());
         write!(f, "{}", Legend(y))?;
+        let sign = RetiredSign {
+            plan,
+            y: y.plus(180),
+        };
+        write!(f, "{sign}")?;
         let (ordered, y) = (order.len(), y.plus(360));
         write!(
             f,

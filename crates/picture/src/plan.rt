@@ -80,6 +80,7 @@ impl Plan {
                 top,
                 members,
                 opened: opened_at(bank),
+                retired: bank.retired(),
             })?;
             bottom = down(top, u64::from(members), SERVER);
         }

@@ -96,7 +96,8 @@ impl fmt::Display for Marks<'_> {
                     plan: self.plan,
                     y: self.y,
                     tag,
-                    row
+                    row,
+                    retired: self.bank.retired()
                 }
             )?;
         }
@@ -138,6 +139,8 @@ struct TagMarks<'a> {
     y: Px,
     tag: Tag,
     row: &'a Row,
+    // The step at which the bank was retired, if it was.
+    retired: Option<Stamp>,
 }
 
 impl fmt::Display for TagMarks<'_> {
@@ -157,8 +160,12 @@ impl fmt::Display for TagMarks<'_> {
                 }
                 None => write!(
                     f,
-                    " fill='none' stroke='#000'><title>tag {tag} came at step {}, dropped since",
-                    arrival.step
+                    " fill='none' stroke='#000'><title>tag {tag} came at step {}, {}",
+                    arrival.step,
+                    Dropped {
+                        came: arrival.step,
+                        retired: self.retired
+                    }
                 )?,
             }
             writeln!(f, "</title></circle>")?;
@@ -173,5 +180,22 @@ impl fmt::Display for TagMarks<'_> {
             )?;
         }
         Ok(())
+    }
+}
+
+// When a piece was dropped that came at a step, as far as is known.
+#[derive(Clone, Copy)]
+struct Dropped {
+    came: Stamp,
+    retired: Option<Stamp>,
+}
+
+impl fmt::Display for Dropped {
+    fn fmt<W: fmt::Write>(&self, f: &mut fmt::Formatter<W>) -> fmt::Result {
+        match self.retired {
+            Some(step) if step < self.came => f.write_str("not kept"),
+            Some(step) => write!(f, "dropped by step {step}"),
+            None => f.write_str("dropped since"),
+        }
     }
 }

@@ -1,0 +1,76 @@
+//! The positions that were retired.
+use crate::lane::Place;
+use crate::plan::{Plan, SERVER};
+use crate::px::Px;
+use std::fmt;
+
+/// The lines of the hatching, one beside the other.
+const HATCH: &str = "<pattern id='retired' width='5' height='5' patternUnits='userSpaceOnUse' \
+patternTransform='rotate(45)'><path d='M2.5 0v5' stroke='#aaa' stroke-width='.8'/></pattern>";
+
+/// How a hatched area looks.
+const HATCHED: &str = "fill='url(#retired)' stroke='#777' stroke-width='.7'";
+
+/// How far a band goes on behind the last step.
+const BEHIND: u64 = 80;
+
+/// A hatched band over the lanes of the servers of each retired position, from the step of its retiring on.
+#[derive(Clone, Copy)]
+pub(crate) struct RetiredBands<'a>(pub(crate) &'a Plan);
+
+impl fmt::Display for RetiredBands<'_> {
+    fn fmt<W: fmt::Write>(&self, f: &mut fmt::Formatter<W>) -> fmt::Result {
+        let plan = self.0;
+        if has_retired(plan) {
+            writeln!(f, "{HATCH}")?;
+        }
+        for place in &plan.positions {
+            let Some(step) = place.retired else {
+                continue;
+            };
+            let (from, to) = (plan.x(step), plan.right().plus(BEHIND));
+            let (top, height) = (Px(place.top), height_of(place));
+            writeln!(
+                f,
+                "<path {HATCHED} d='M{from} {top}H{to}v{height}H{from}z'>\
+                <title>position {} retired at step {step}</title></path>",
+                place.position
+            )?;
+        }
+        Ok(())
+    }
+}
+
+/// What the hatching means, behind the signs in the second line of these, where a position was retired.
+#[derive(Clone, Copy)]
+pub(crate) struct RetiredSign<'a> {
+    pub(crate) plan: &'a Plan,
+    /// The line of the text.
+    pub(crate) y: Px,
+}
+
+impl fmt::Display for RetiredSign<'_> {
+    fn fmt<W: fmt::Write>(&self, f: &mut fmt::Formatter<W>) -> fmt::Result {
+        if !has_retired(self.plan) {
+            return Ok(());
+        }
+        let (y, top) = (self.y, self.y.less(90));
+        writeln!(
+            f,
+            "<path {HATCHED} d='M770 {top}h20v11h-20z'/><text x='795' y='{y}'>a retired position</text>"
+        )
+    }
+}
+
+// Whether a position was retired. The first one is, where any is.
+fn has_retired(plan: &Plan) -> bool {
+    match plan.positions.first() {
+        Some(place) => place.retired.is_some(),
+        None => false,
+    }
+}
+
+// The height of the lanes of a position's servers.
+fn height_of(place: &Place) -> Px {
+    Px(u64::from(place.members).saturating_mul(SERVER))
+}
