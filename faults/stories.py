@@ -19,6 +19,13 @@ STORIES = {
         ("deliver a", "handled 8"), ("move a 1", "call 2 answered"), ("resume a 1", "call 1 answered"),
         ("account", "stored 22 mailed 0 0:5 1:5 2:5 3:5 4:2"), ("read a", f"call 3 value {HELLO}"),
         ("sequence a", "1 3")]),
+    # The late pieces of the retired position are dropped as they come.
+    "a retired position": (FIVE, [
+        (f"call write a {HELLO}", "call 1"), *BEGUN, ("serve a 0", "ok"), ("move a 1", "call 2 answered"),
+        ("account", "stored 3 mailed 9 0:3 1:0 2:0 3:0 4:0"), ("retire a 0", "freed 3"), ("retire a 1", "refused 7 NotNow"),
+        ("serve a 1", "ok"), ("bank a 0 1", "next final; 0.0 fin -; 1.1 pre -"),
+        ("account", "stored 0 mailed 6 0:0 1:0 2:0 3:0 4:0"), ("resume a 1", "call 1 answered"),
+        ("account", "stored 10 mailed 0 0:2 1:2 2:2 3:2 4:2"), ("read a", f"call 3 value {HELLO}"), ("sequence a", "1 3")]),
     "two moves": (FOUR, [
         ("call write a 41", "call 1"), *BEGUN, ("move a 0", "call 2 answered"), ("move a 0", "call 3 answered"),
         ("bank a 2 0", "next none; 0.0 fin 0"), ("serve a 0", "ok"), ("bank a 2 0", "next none; 0.0 fin 0"),
@@ -39,7 +46,7 @@ STORIES = {
 }
 
 # The commands that ask for no memory, once their line is read.
-SPARING = ("account", "show", "mail", "bank", "check", "lose", "take", "post a 2")
+SPARING = ("account", "show", "mail", "bank", "check", "lose", "take", "retire", "post a 2")
 
 # Command lines, with the line that each prints.
 LINES = {
