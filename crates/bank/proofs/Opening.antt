@@ -16,7 +16,7 @@ use Rattle.bank.specs.declared.status.Pointer.{Pointer}
 use Rattle.bank.specs.declared.status.Pointer.TheVariants.{Unset}
 use Rattle.bank.specs.Bank.{Bank, opened_bank}
 use Rattle.bank.specs.Bytes.{entry_bytes, bank_bytes}
-use Rattle.bank.specs.Collect.{emptied_row, emptied_entry, kept_row, collected, IsCollected, retired_bank}
+use Rattle.bank.specs.Collect.{emptied_row, emptied_entry, kept_row, IsCollected, retired_bank}
 use Rattle.bank.specs.Kept.{bank_of, IsKeptBank}
 use Rattle.bank.specs.Knowledge.{since, row_finalized, finalized_at, is_finalized, finals_above, exceeds, is_dropped}
 use Rattle.bank.specs.Serve.{greatest_final}

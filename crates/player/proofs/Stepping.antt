@@ -1,17 +1,16 @@
 -- What a command that is one step comes to, from what the step's own call says.
-use Rattle.std.proofs.Common.{◌≡◌, ◌⊎◌, ℕ, ◌+◌, List, subst, Option, Some, None}
+use Rattle.std.proofs.Common.{◌≡◌, ℕ, ◌+◌, List, subst, Option, Some}
 use Rattle.std.proofs.Common.{Result, Ok, Err, OnOk, OnErr, IfOk, sym, ap, ◌∙◌, inl, inr}
 use Rattle.std.specs.Prelude.{option_map}
 use Rattle.tag.specs.declared.refusal.Refusal.{Refusal}
 use Rattle.tag.specs.Refusal.{IsByCause, IsExactlyByCause}
-use Rattle.tag.specs.declared.refusal.Refusal.TheVariants.{NoMemory}
 use Rattle.cluster.specs.Accounts.{stored_all}
 use Rattle.cluster.specs.Cluster.{Cluster}
 use Rattle.cluster.specs.Steps.{moved, created}
 use Rattle.cluster.specs.Causes.{object_cause, moving_cause, create_cause}
 use Rattle.player.specs.declared.report.Report.{Report}
-use Rattle.player.specs.Report.{report_of, done, freed, refused}
-use Rattle.player.specs.Steps.{IsStep, IsGrowth, IsFreeing, IsRefused}
+use Rattle.player.specs.Report.{report_of, done, freed}
+use Rattle.player.specs.Steps.{IsStep, IsGrowth, IsFreeing}
 
 -- a step that gives something
 pub growth : {T : Type 0} (old new made : Cluster) (cause : Option Refusal) (found : Option T) (tell : T →

@@ -11,7 +11,7 @@ use Rattle.encoder.specs.Fragment.{fragment}
 use Rattle.encoder.specs.Coded.{Coding, IsLawful, encode_cause}
 use Rattle.record.specs.declared.stage.Want.{Want}
 use Rattle.record.specs.declared.stage.Want.TheVariants as want
-use Rattle.record.specs.Records.{Call, Object, layout_at}
+use Rattle.record.specs.Records.{Call, Object}
 use Rattle.record.specs.Legal.{due_of}
 use Rattle.record.specs.Sound.{IsSound}
 use Rattle.record.specs.Sending.{sent_value, value_or_empty}

@@ -2,7 +2,7 @@ ghost use Rattle.std.specs.Prelude.{◌≡◌, ◌<◌, ◌-◌, ◌^◌, min, S
 
 use super::Bank;
 use crate::{Pointer, Row, rows};
-use tag::Tag;
+use tag::{Stamp, Tag};
 
 impl Bank {
     ghost use Rattle.std.specs.FinMap as map;
@@ -13,6 +13,23 @@ impl Bank {
         ensures { result ≡ self.now.pointer }
     {
         self.pointer
+    }
+
+    /// How many finalized tags below the greatest keep their pieces; none where all pieces are kept.
+    pub fn delta(&self) -> Option<u32>
+        ensures { result ≡ self.now.delta }
+    {
+        match self.window {
+            Some(window) => Some(window.delta),
+            None => None,
+        }
+    }
+
+    /// The step at which the bank was retired, if it was.
+    pub fn retired(&self) -> Option<Stamp>
+        ensures { result ≡ self.now.retired }
+    {
+        self.retired
     }
 
     /// How many tags there are.
