@@ -11,8 +11,8 @@ use Rattle.cluster.specs.Causes.{layout_cause, create_cause, server_cause}
 use Rattle.cluster.specs.Steps.{created, with_layout, with_server}
 use Rattle.sections.specs.Course.{IsStateOf}
 use Rattle.sections.specs.Moves.{AdminState, Ends, ordered_by}
-use Rattle.sections.specs.Sections.{Stirs, StirsNot, Disturbs, DisturbsNot, begin_move_cause, move_begun}
-use Rattle.sections.specs.Sections.{retired, retiring_cause}
+use Rattle.sections.specs.Messages.{Stirs, StirsNot, Disturbs, DisturbsNot}
+use Rattle.sections.specs.Orders.{begin_move_cause, move_begun, retired, retiring_cause}
 
 module _ {C : Type 0} (chooses : C → ℕ → ℕ → C → Type 0) (name : List ℕ) (before : C) where
   -- a chosen message is served or taken, or there is none

@@ -30,7 +30,7 @@ use Rattle.sections.specs.Calls.{client_calls}
 use Rattle.driver.specs.Choices.{handling}
 use Rattle.driver.specs.Driver.{wanted, asking, IsWaitingStep, IsNext, IsTurn, IsRefused}
 use Rattle.driver.specs.Rounds.{IsRound}
-use Rattle.sections.specs.Sections.{Goes, Copies, tells}
+use Rattle.sections.specs.Rounds.{Goes, Copies, tells}
 use Rattle.driver.specs.declared.round.Round.{Round}
 use Rattle.driver.specs.declared.round.Round.TheVariants as round
 use Rattle.sections.specs.declared.rounds.Hand.{Hand}

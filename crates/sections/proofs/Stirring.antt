@@ -16,7 +16,7 @@ use Rattle.register.proofs.Lists.{same_some}
 use Rattle.cluster.specs.Causes.{next, object_cause}
 use Rattle.cluster.specs.Cluster.{Cluster, named, if_named}
 use Rattle.driver.specs.Choices.{places, Picks, handling, handled_as, handled_at, step_of}
-use Rattle.sections.specs.Sections.{any_choice, any_choices, IsStirred, IsDisturbed, disturb_cause}
+use Rattle.sections.specs.Messages.{any_choice, any_choices, IsStirred, IsDisturbed, disturb_cause}
 use Rattle.driver.specs.declared.messages.Handled.{Handled}
 use Rattle.driver.proofs.Named.{cause_there, is_there, one_state}
 

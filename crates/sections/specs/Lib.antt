@@ -3,4 +3,6 @@ pub mod Moves
 pub mod Course
 pub mod Seats
 pub mod Closing
-pub mod Sections
+pub mod Rounds
+pub mod Messages
+pub mod Orders

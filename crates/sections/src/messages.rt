@@ -3,7 +3,7 @@
 ghost use Rattle.std.specs.Prelude.{◌≡◌, IfOk, IfErr, OnErr};
 ghost use Rattle.sections.specs.Calls.{client_calls};
 ghost use Rattle.sections.specs.Course.{GoesOn};
-ghost use Rattle.sections.specs.Sections.{Disturbs, DisturbsNot, Stirs, StirsNot};
+ghost use Rattle.sections.specs.Messages.{Disturbs, DisturbsNot, Stirs, StirsNot};
 
 use crate::booked::{Booked, StoreName};
 use cluster::Cluster;

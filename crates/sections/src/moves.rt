@@ -8,8 +8,7 @@ ghost use Rattle.cluster.specs.Steps.{moved};
 ghost use Rattle.sections.specs.Calls.{client_calls};
 ghost use Rattle.sections.specs.Course.{GoesOn, IsStateOf};
 ghost use Rattle.sections.specs.Seats.{call_count};
-ghost use Rattle.sections.specs.Sections.{MoveGoes, MoveGoesNot, MoveLeaves, begin_move_cause, move_begun};
-ghost use Rattle.sections.specs.Sections.{move_cause_of};
+ghost use Rattle.sections.specs.Orders.{MoveGoes, MoveGoesNot, MoveLeaves, begin_move_cause, move_begun, move_cause_of};
 
 use crate::admin::Admin;
 use crate::booked::{Booked, StoreName};

@@ -5,7 +5,7 @@ ghost use Rattle.tag.specs.Refusal.{IsByCause};
 ghost use Rattle.sections.specs.Calls.{client_calls};
 ghost use Rattle.sections.specs.Course.{GoesOn, IsStateOf};
 ghost use Rattle.sections.specs.Moves.{ordered_by};
-ghost use Rattle.sections.specs.Sections.{order_cause, ordered, ordered_id};
+ghost use Rattle.sections.specs.Orders.{order_cause, ordered, ordered_id};
 
 use crate::admin::{Admin, Order};
 use crate::booked::{Booked, StoreName};

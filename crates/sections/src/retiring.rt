@@ -6,7 +6,7 @@ ghost use Rattle.cluster.specs.Accounts.{stored_all};
 ghost use Rattle.sections.specs.Calls.{client_calls};
 ghost use Rattle.sections.specs.Course.{GoesOn, IsStateOf};
 ghost use Rattle.sections.specs.Moves.{ordered_by};
-ghost use Rattle.sections.specs.Sections.{retired, retiring_cause};
+ghost use Rattle.sections.specs.Orders.{retired, retiring_cause};
 
 use crate::admin::Admin;
 use crate::booked::{Booked, StoreName};

@@ -11,8 +11,8 @@ ghost use Rattle.cluster.specs.Cluster.{if_named, named};
 ghost use Rattle.sections.specs.Calls.{client_calls};
 ghost use Rattle.sections.specs.Course.{GoesOn};
 ghost use Rattle.driver.specs.Driver.{wanted};
-ghost use Rattle.sections.specs.Sections.{Copies, Goes, GoesNot, SeatGoes, SeatGoesNot, SeatLeaves, going_cause};
-ghost use Rattle.sections.specs.Sections.{round_cause, tells};
+ghost use Rattle.sections.specs.Rounds.{Copies, Goes, GoesNot, SeatGoes, SeatGoesNot, SeatLeaves, going_cause};
+ghost use Rattle.sections.specs.Rounds.{round_cause, tells};
 ghost use Rattle.sections.specs.declared.rounds.Hand.TheVariants as hands;
 
 use crate::booked::{Booked, StoreName};

@@ -1,5 +1,5 @@
 use Rattle.std.proofs.Common.{inr, ap, subst, sym, ◌∙◌, Some}
-use Rattle.sections.specs.Sections.{Copies, GoesNot}
+use Rattle.sections.specs.Rounds.{Copies, GoesNot}
 use Rattle.sections.proofs.Going.{copies, memory_refused}
 use Rattle.sections.proofs.Stirring.{err_match}
 use Rattle.sections.proofs.rounds.round_with_copy.Goals as goal

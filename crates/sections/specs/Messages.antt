@@ -1,0 +1,79 @@
+-- What is done to the messages under the lock.
+use Rattle.std.specs.Prelude.{◌≡◌, ◌⊎◌, ℕ, ◌%◌, ◌==◌, Bool, true, false}
+use Rattle.std.specs.Prelude.{if◌then◌else◌, List, [], length, Option, Some, None, slice_get}
+use Rattle.tag.specs.declared.refusal.Refusal.{Refusal}
+use Rattle.tag.specs.declared.refusal.Refusal.TheVariants.{NoMemory}
+use Rattle.mail.specs.declared.message.Message.{Message}
+use Rattle.record.specs.Records.{Object}
+use Rattle.record.specs.Steps.{Step}
+use Rattle.register.specs.Causes.{lose_cause, repeat_cause}
+use Rattle.register.specs.State.{State}
+use Rattle.cluster.specs.Cluster.{Cluster, named}
+use Rattle.cluster.specs.Causes.{next, object_cause, can_handle}
+use Rattle.cluster.specs.Steps.{stepped}
+use Rattle.driver.specs.Choices.{places, Picks, handling, handling_cause}
+
+-- whether a message is a reply, or a request to a server that is up
+abbrev pub any_choice : Cluster → Object → Message → Bool
+any_choice cluster object message = can_handle cluster object message message.body
+
+-- where the messages of an object are that can be handled, in mail order
+abbrev pub any_choices : Cluster → Object → List ℕ
+any_choices cluster object = places (any_choice cluster object) 0 object.mail
+
+module _ {C : Type 0} (chooses : C → ℕ → ℕ → C → Type 0) (name : List ℕ) (old : Cluster) (before : C) where
+  -- this place is chosen, and this message is there
+  pub record IsStirred (after : C) (place : ℕ) (message : Message) : Type 0 where
+    pub state : State
+    pub there : named old.objects name ≡ Some state
+    pub picks : Picks chooses (any_choices old state.object) before after place
+    pub waits : slice_get state.object.mail place ≡ Some message
+
+  -- the message that is chosen is served or taken; there is none exactly where none can be handled
+  abbrev pub Stirs : Bool → (new : Cluster) → (after : C) → Type 0
+  Stirs true new after =
+      (place : ℕ) × (message : Message) × IsStirred after place message
+      × (new ≡ stepped old name (handling place message.body))
+  Stirs false new after =
+      (state : State) × (named old.objects name ≡ Some state) × (any_choices old state.object ≡ []) × (new ≡ old)
+      × (after ≡ before)
+
+  abbrev pub StirsNot : (after : C) → Refusal → Type 0
+  StirsNot after r =
+      ((object_cause old name (λ object. None) ≡ Some r) × (after ≡ before))
+      ⊎ ((place : ℕ) × (message : Message) × IsStirred after place message
+      × ((object_cause old name (handling_cause old place) ≡ Some r)
+      ⊎ ((object_cause old name (handling_cause old place) ≡ None) × (r ≡ NoMemory))))
+
+-- an even number loses the message at a place, an odd one repeats it
+abbrev pub disturbing : (place answer : ℕ) → Step
+disturbing place answer = if (answer % 2) == 0 then Step.Lose place else Step.Repeat place
+
+abbrev pub disturb_cause : Cluster → (place answer : ℕ) → Object → Option Refusal
+disturb_cause cluster place answer object =
+    if (answer % 2) == 0 then lose_cause (next cluster) object place else repeat_cause (next cluster) object place
+
+module _ {C : Type 0} (chooses : C → ℕ → ℕ → C → Type 0) (name : List ℕ) (old : Cluster) (before : C) where
+  -- a place and what is done there are chosen
+  pub record IsDisturbed (after : C) (place answer : ℕ) : Type 0 where
+    pub state : State
+    pub there : named old.objects name ≡ Some state
+    pub first : ℕ
+    pub middle : C
+    pub chosen : chooses before (length state.object.mail) first middle
+    pub at : place ≡ first % length state.object.mail
+    pub deed : chooses middle 2 answer after
+
+  abbrev pub Disturbs : Bool → (new : Cluster) → (after : C) → Type 0
+  Disturbs true new after =
+      (place : ℕ) × (answer : ℕ) × IsDisturbed after place answer × (new ≡ stepped old name (disturbing place answer))
+  Disturbs false new after =
+      (state : State) × (named old.objects name ≡ Some state) × (state.object.mail ≡ []) × (new ≡ old)
+      × (after ≡ before)
+
+  abbrev pub DisturbsNot : (after : C) → Refusal → Type 0
+  DisturbsNot after r =
+      ((object_cause old name (λ object. None) ≡ Some r) × (after ≡ before))
+      ⊎ ((place : ℕ) × (answer : ℕ) × IsDisturbed after place answer
+      × ((object_cause old name (disturb_cause old place answer) ≡ Some r)
+      ⊎ ((object_cause old name (disturb_cause old place answer) ≡ None) × (r ≡ NoMemory))))
