@@ -1,22 +1,9 @@
-//! The lanes of calls and of servers.
+//! The lanes of calls.
 ghost use Rattle.std.specs.Prelude.{◌≡◌};
 ghost use Rattle.picture.specs.Lane.{bar_top_of, base_of};
 
 use crate::px::Px;
 use record::Entry;
-use tag::Stamp;
-
-/// Where the servers of a position stand.
-#[derive(Clone, Copy, Debug)]
-pub(crate) struct Place {
-    pub(crate) position: u32,
-    pub(crate) top: u64,
-    pub(crate) members: u8,
-    /// The step at which its banks were opened.
-    pub(crate) opened: Stamp,
-    /// The step at which the move out of it was answered, where it was retired since.
-    pub(crate) retired_after: Option<Stamp>,
-}
 
 /// Where a call stands.
 #[derive(Debug, Drop)]

@@ -85,7 +85,7 @@ impl fmt::Display for MarkSigns {
         writeln!(
             f,
             "<circle cx='690' cy='{middle}' r='3' fill='none' stroke='#000'/>\
-            <text x='697' y='{y}'>a piece came, dropped since</text>"
+            <text x='697' y='{y}'>a dropped piece came</text>"
         )
     }
 }

@@ -8,6 +8,7 @@ pub use picture::Picture;
 pub use plan::Plan;
 
 mod call_lanes;
+mod drops;
 mod frame;
 mod lane;
 mod legend;
@@ -16,8 +17,10 @@ mod messages;
 mod omitted;
 mod phases;
 mod picture;
+mod place;
 mod plan;
 mod px;
 mod retired;
 mod server_lanes;
+mod tag_marks;
 mod text;

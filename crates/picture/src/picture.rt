@@ -9,6 +9,7 @@ use crate::phases::Phases;
 use crate::plan::Plan;
 use crate::retired::{RetiredBands, RetiredSign};
 use crate::server_lanes::ServerLanes;
+use crate::tag_marks::DroppedSign;
 use crate::text::Escaped;
 use register::Register;
 use std::fmt;
@@ -91,7 +92,7 @@ impl fmt::Display for Foot<'_> {
         let y = plan.order_y();
         write!(f, "{}", Order { plan, order, y })?;
         let y = plan.legend_y(order.len());
-        write!(f, "{}", Legend(y))?;
+        write!(f, "{}{}", Legend(y), DroppedSign { plan, y })?;
         let sign = RetiredSign {
             plan,
             y: y.plus(180),

@@ -2,15 +2,14 @@
 ghost use Rattle.std.specs.Prelude.{◌≡◌, ◌<◌, IfOk, map};
 ghost use Rattle.picture.specs.Plan.{end_of, right_of, x_of};
 
-use crate::lane::{Lane, Place};
+use crate::lane::Lane;
+use crate::place::Place;
 use crate::px::Px;
-use crate::retired::{answers_of_moves, retired_after};
-use bank::{Bank, Label};
 use phase::Phase;
 use record::Entry;
 use register::Register;
 use std::alloc::{AllocError, Global};
-use tag::{MOST_MEMBERS, MOST_POSITIONS, Stamp};
+use tag::{MOST_POSITIONS, Stamp};
 
 /// The left edge of time, behind the names of the lanes.
 pub(crate) const LEFT: u64 = 1500;
@@ -68,23 +67,15 @@ impl Plan {
         ensures { IfOk result (λ plan. map (λ lane. lane.entry) plan.lanes.items ≡ entries.now) }
     {
         let lanes = lanes_of(alloc, entries)?;
-        let answers = answers_of_moves(alloc, entries)?;
         let mut positions = Vec::new(alloc);
         let mut bottom = down(CALLS_TOP, lanes.len() as u64, CALL);
         for position in 0..MOST_POSITIONS as u32 {
-            let Some(bank) = register.bank_view(position, 0) else {
+            let top = bottom.saturating_add(HEAD);
+            let Some(place) = Place::of(alloc, register, position, top)? else {
                 break;
             };
-            let members = members_of(register, position);
-            let top = bottom.saturating_add(HEAD);
-            positions.push(Place {
-                position,
-                top,
-                members,
-                opened: opened_at(bank),
-                retired_after: retired_after(register, &answers, position),
-            })?;
-            bottom = down(top, u64::from(members), SERVER);
+            bottom = down(top, u64::from(place.members), SERVER);
+            positions.push(place)?;
         }
         let first = match positions.first() {
             Some(place) => place.opened,
@@ -226,23 +217,4 @@ fn copy_of(entry: &Entry) -> Result<Entry, AllocError>
 // The upper edge behind so many lanes.
 fn down(top: u64, count: u64, height: u64) -> u64 {
     top.saturating_add(count.saturating_mul(height))
-}
-
-fn members_of(register: &Register, position: u32) -> u8 {
-    for member in 0..MOST_MEMBERS as u8 {
-        if register.server(position, member).is_none() {
-            return member;
-        }
-    }
-    MOST_MEMBERS as u8
-}
-
-// The step of the opening tag, which is the least one.
-fn opened_at(bank: &Bank) -> Stamp {
-    if bank.count() == 0 {
-        return 0;
-    }
-    match bank.kept(0).1.label {
-        Label::PreWritten { since } | Label::Finalized { since } => since,
-    }
 }

@@ -1,11 +1,13 @@
 //! The lanes of the servers.
-use crate::lane::Place;
+use crate::drops::Drops;
+use crate::place::Place;
 use crate::plan::Plan;
 use crate::px::Px;
-use bank::{Bank, Label, Pointer, Row};
+use crate::tag_marks::TagMarks;
+use bank::{Bank, Pointer};
 use register::Register;
 use std::fmt;
-use tag::{Stamp, Tag};
+use tag::Stamp;
 
 /// How many tags are shown of one server.
 pub(crate) const MOST_TAGS: usize = 400;
@@ -29,7 +31,7 @@ impl fmt::Display for ServerLanes<'_> {
                 let lane = ServerLane {
                     plan: self.plan,
                     register: self.register,
-                    place: *place,
+                    place,
                     member,
                 };
                 write!(f, "{lane}")?;
@@ -44,7 +46,7 @@ impl fmt::Display for ServerLanes<'_> {
 struct ServerLane<'a> {
     plan: &'a Plan,
     register: &'a Register,
-    place: Place,
+    place: &'a Place,
     member: u8,
 }
 
@@ -69,6 +71,7 @@ impl fmt::Display for ServerLane<'_> {
                 Marks {
                     plan: self.plan,
                     bank,
+                    drops: self.place.drops.get(usize::from(self.member)),
                     y
                 }
             )?;
@@ -82,6 +85,7 @@ impl fmt::Display for ServerLane<'_> {
 struct Marks<'a> {
     plan: &'a Plan,
     bank: &'a Bank,
+    drops: Option<&'a Drops>,
     y: Px,
 }
 
@@ -96,7 +100,8 @@ impl fmt::Display for Marks<'_> {
                     plan: self.plan,
                     y: self.y,
                     tag,
-                    row
+                    row,
+                    dropped: self.dropped(i)
                 }
             )?;
         }
@@ -114,6 +119,11 @@ impl fmt::Display for Marks<'_> {
 }
 
 impl Marks<'_> {
+    // The step at which the piece of the tag with `i` others below it was dropped.
+    fn dropped(&self, i: usize) -> Option<Stamp> {
+        self.drops?.step(i)
+    }
+
     // The pointer says this from a step on.
     fn pointer<W: fmt::Write>(
         &self,
@@ -128,50 +138,5 @@ impl Marks<'_> {
             "<path class='{word}' d='M{x} {y}l-4 -8h8z'>\
             <title>the next position is {word} from step {since} on</title></path>"
         )
-    }
-}
-
-// When a tag came to a bank, whether its piece is there still, and when it was finalized.
-#[derive(Clone, Copy)]
-struct TagMarks<'a> {
-    plan: &'a Plan,
-    y: Px,
-    tag: Tag,
-    row: &'a Row,
-}
-
-impl fmt::Display for TagMarks<'_> {
-    fn fmt<W: fmt::Write>(&self, f: &mut fmt::Formatter<W>) -> fmt::Result {
-        let (y, tag) = (self.y, self.tag);
-        if let Some(arrival) = &self.row.arrival {
-            let x = self.plan.x(arrival.step);
-            write!(f, "<circle cx='{x}' cy='{y}' r='3'")?;
-            match &arrival.piece {
-                Some(piece) => {
-                    let bytes = piece.bytes.len();
-                    write!(
-                        f,
-                        "><title>tag {tag} came at step {}, {bytes} bytes",
-                        arrival.step
-                    )?;
-                }
-                None => write!(
-                    f,
-                    " fill='none' stroke='#000'><title>tag {tag} came at step {}, dropped since",
-                    arrival.step
-                )?,
-            }
-            writeln!(f, "</title></circle>")?;
-        }
-        if let Label::Finalized { since } = self.row.label {
-            let x = self.plan.x(since);
-            writeln!(
-                f,
-                "<path class='fin' d='M{x} {}l4 4l-4 4l-4 -4z'>\
-                <title>tag {tag} was finalized at step {since}</title></path>",
-                y.less(40)
-            )?;
-        }
-        Ok(())
     }
 }

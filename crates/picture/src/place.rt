@@ -1,0 +1,69 @@
+//! Where the servers of a position stand.
+use crate::drops::Drops;
+use bank::{Bank, Label};
+use register::Register;
+use std::alloc::{AllocError, Global};
+use tag::{MOST_MEMBERS, Stamp};
+
+/// The lanes of the servers of a position.
+#[derive(Debug, Drop)]
+pub(crate) struct Place {
+    pub(crate) position: u32,
+    /// The upper edge of the first lane.
+    pub(crate) top: u64,
+    pub(crate) members: u8,
+    /// The step at which the banks were opened.
+    pub(crate) opened: Stamp,
+    /// The step at which they were retired, if they were.
+    pub(crate) retired: Option<Stamp>,
+    /// When the pieces of each were dropped.
+    pub(crate) drops: Vec<Drops>,
+}
+
+impl Place {
+    /// The place of a position below the line `top`, if the position is there.
+    pub(crate) fn of(
+        alloc: Global,
+        register: &Register,
+        position: u32,
+        top: u64,
+    ) -> Result<Option<Place>, AllocError> {
+        let Some(first) = register.bank_view(position, 0) else {
+            return Ok(None);
+        };
+        let members = members_of(register, position);
+        let mut drops = Vec::new(alloc);
+        for member in 0..members {
+            if let Some(bank) = register.bank_view(position, member) {
+                drops.push(Drops::of(alloc, bank)?)?;
+            }
+        }
+        Ok(Some(Place {
+            position,
+            top,
+            members,
+            opened: opened_at(first),
+            retired: first.retired(),
+            drops,
+        }))
+    }
+}
+
+fn members_of(register: &Register, position: u32) -> u8 {
+    for member in 0..MOST_MEMBERS as u8 {
+        if register.server(position, member).is_none() {
+            return member;
+        }
+    }
+    MOST_MEMBERS as u8
+}
+
+// The step of the opening tag, which is the least one.
+fn opened_at(bank: &Bank) -> Stamp {
+    if bank.count() == 0 {
+        return 0;
+    }
+    match bank.kept(0).1.label {
+        Label::PreWritten { since } | Label::Finalized { since } => since,
+    }
+}
