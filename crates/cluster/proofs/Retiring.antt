@@ -17,7 +17,8 @@ use Rattle.record.specs.Steps.{Step, stepped}
 use Rattle.record.proofs.Accounting.StoredBySteps.{stored-changed}
 use Rattle.record.proofs.Sound.Due.{base_there}
 use Rattle.tag.specs.declared.refusal.Refusal.TheVariants.{NotNow}
-use Rattle.register.specs.Causes.{if_step, is_retirable, retire_cause}
+use Rattle.register.specs.Causes.{if_step}
+use Rattle.register.specs.Retiring.{is_retirable, retire_cause}
 use Rattle.register.specs.Position.{banks_bytes, all_bytes}
 use Rattle.register.specs.State.{State, made}
 use Rattle.register.proofs.Lists.{length_set}

@@ -55,6 +55,7 @@ abbrev pub step_of : (place : ℕ) → Handled → Step
 step_of place handled.Served = Step.Serve place
 step_of place (handled.Taken took) = Step.Take place
 
+-- what is done with a message at a place: a request is served, a reply is taken
 abbrev pub handled_as : Object → (place : ℕ) → Body → Handled
 handled_as object place (body.Request asked) = handled.Served
 handled_as object place (body.Reply kind made) = handled.Taken (took_at object place)
@@ -64,6 +65,7 @@ abbrev pub handled_at : (place : ℕ) → Object → Option Handled
 handled_at place object =
     option_map (λ (message : Message). handled_as object place message.body) (slice_get object.mail place)
 
+-- why a message is not handled: served where it is a request, taken where it is a reply
 abbrev pub handled_cause : Cluster → Object → Message → Body → Option Refusal
 handled_cause cluster object message (body.Request asked) = served_cause cluster object message (body.Request asked)
 handled_cause cluster object message (body.Reply kind made) = taken_cause (next cluster) (body.Reply kind made)
@@ -73,6 +75,7 @@ abbrev pub handling_cause : Cluster → (place : ℕ) → Object → Option Refu
 handling_cause cluster place object =
     if_message (slice_get object.mail place) (λ message. handled_cause cluster object message message.body)
 
+-- whether a message is a request
 abbrev pub is_request : Body → Bool
 is_request (body.Request asked) = true
 is_request (body.Reply kind made) = false

@@ -34,6 +34,7 @@ IsOpen cluster name call = (w : Want) × (wanted cluster name call ≡ Some w) �
 abbrev pub asking : (number : ℕ) → Call → Step
 asking number call = if is_plain (current_phase call.phases) then Step.Post (pred number) else Step.Supply (pred number)
 
+-- the step by which the call of this number asks again
 abbrev pub IsAsking : Object → (number : ℕ) → Step → Type 0
 IsAsking object number step = (call : Call) × (call_at object number ≡ Some call) × (step ≡ asking number call)
 
@@ -49,6 +50,7 @@ due_cause cluster number (Step.Serve place) object = handling_cause cluster plac
 due_cause cluster number (Step.Take place) object = handling_cause cluster place object
 due_cause cluster number _ object = None
 
+-- why the step of a call of this object that comes next is refused
 abbrev pub turn_cause : Cluster → (name : List ℕ) → (call : ℕ) → Step → Option Refusal
 turn_cause cluster name call step = object_cause cluster name (due_cause cluster call step)
 

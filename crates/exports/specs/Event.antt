@@ -23,6 +23,7 @@ value_of_begin operation.Read value = None
 value_of_begin operation.Write value = value
 value_of_begin operation.Move value = value
 
+-- an answered call completes, and of an open one nothing more is known
 abbrev pub stage_of_answer : Option ℕ → Stage
 stage_of_answer None = stage.Info
 stage_of_answer (Some step) = stage.Complete

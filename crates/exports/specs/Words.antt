@@ -16,11 +16,13 @@ abbrev pub quoted_or : Option (List ℕ) → (none : List ℕ) → List ℕ
 quoted_or None none = none
 quoted_or (Some value) none = codes "\"" ++ hexadecimal_text value ++ codes "\""
 
+-- the word of a stage
 abbrev pub word_of_stage : Stage → List ℕ
 word_of_stage stage.Invoke = codes "invoke"
 word_of_stage stage.Complete = codes "ok"
 word_of_stage stage.Info = codes "info"
 
+-- the word of a kind of call
 abbrev pub word_of_operation : Operation → List ℕ
 word_of_operation operation.Read = codes "read"
 word_of_operation operation.Write = codes "write"

@@ -19,6 +19,7 @@ MayAllStand entries order = AllByRecursion (λ call. MayStand (entry_at entries 
 abbrev pub named : List Entry → (order : List ℕ) → List Entry
 named entries order = map (λ call. entry_at entries call) order
 
+-- an answered read or write has to stand in each sequence
 abbrev pub must_stand_as : Operation → (is_answered : Bool) → Bool
 must_stand_as operation.Read is_answered = is_answered
 must_stand_as operation.Write is_answered = is_answered

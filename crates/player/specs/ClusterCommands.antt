@@ -5,7 +5,7 @@ use Rattle.tag.specs.declared.limits.TheConstants.{MOST_MEMBERS}
 use Rattle.tag.specs.declared.refusal.Refusal.TheVariants.{BadLayout}
 use Rattle.layout.specs.Layout.{Layout, IsLawful}
 use Rattle.record.specs.Steps.{Step}
-use Rattle.register.specs.Causes.{retire_cause}
+use Rattle.register.specs.Retiring.{retire_cause}
 use Rattle.cluster.specs.Cluster.{Cluster}
 use Rattle.cluster.specs.Steps.{stepped, with_layout, with_server, created}
 use Rattle.cluster.specs.Causes.{next, object_cause, layout_cause, create_cause, server_cause}

@@ -44,6 +44,7 @@ IsStopped cluster name refusal =
     ⊎ ((place : ℕ) × IsFirst cluster name place
     × IsRefusalBy (object_cause cluster name (handling_cause cluster place)) refusal)
 
+-- how a delivery ends: there is nothing more to handle, or a message is refused
 abbrev pub DeliversTo : Cluster → (name : List ℕ) → Cluster → Outcome → Type 0
 DeliversTo old name new (outcome.Handled count) =
     Delivers name old count new × (object_cause new name (λ object. None) ≡ None) × HasNoneToHandle new name

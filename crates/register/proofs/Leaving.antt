@@ -8,7 +8,7 @@ use Rattle.record.specs.declared.call.CallKind.{CallKind}
 use Rattle.record.specs.declared.call.CallKind.TheVariants.{Read, Write, Move}
 use Rattle.record.specs.Legal.{is_move, moves_in}
 use Rattle.record.specs.Records.{Call}
-use Rattle.register.specs.Causes.{is_moved_out}
+use Rattle.register.specs.Retiring.{is_moved_out}
 use Rattle.register.specs.Kept.{has_open_move}
 use Rattle.register.proofs.Rooms.{is_lt, lt_of, not_lt}
 

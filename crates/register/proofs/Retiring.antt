@@ -21,7 +21,8 @@ use Rattle.record.specs.Sound.{IsSound}
 use Rattle.record.specs.Steps.{Step, retired_object}
 use Rattle.record.proofs.Accounting.Retired.{retired_bytes}
 use Rattle.record.proofs.Sound.Retiring.{raised}
-use Rattle.register.specs.Causes.{unless, if_step, is_moved_out, is_retirable, retire_cause}
+use Rattle.register.specs.Causes.{unless, if_step}
+use Rattle.register.specs.Retiring.{is_moved_out, is_retirable, retire_cause}
 use Rattle.register.specs.Kept.{IsKept, has_open_move}
 use Rattle.register.specs.Position.{Position, layouts_of, banks_of, banks_bytes, all_bytes}
 use Rattle.register.specs.State.{Contents, State, made, object_of, state_of}

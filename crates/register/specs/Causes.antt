@@ -1,6 +1,6 @@
 -- Why each step is refused: of all that hold, the first by the order of refusals. `NoMemory` comes after these.
-use Rattle.std.specs.Prelude.{ℕ, zero, suc, ◌+◌, Bool, true, false, not, ◌&&◌, ◌==◌, nat_le, nat_lt, is_some}
-use Rattle.std.specs.Prelude.{if◌then◌else◌, List, [], ◌∷◌, length, Option, Some, None, slice_get, pred}
+use Rattle.std.specs.Prelude.{ℕ, zero, suc, ◌+◌, Bool, true, false, not, nat_le, nat_lt, is_some}
+use Rattle.std.specs.Prelude.{if◌then◌else◌, List, length, Option, Some, None, slice_get, pred}
 use Rattle.tag.specs.declared.limits.TheConstants.{LONGEST_VALUE, MOST_BYTES, MOST_CALLS, MOST_PHASES, MOST_POSITIONS}
 use Rattle.tag.specs.declared.limits.TheConstants.{MOST_STEPS}
 use Rattle.tag.specs.declared.refusal.Refusal.{Refusal}
@@ -18,8 +18,7 @@ use Rattle.mail.specs.Mail.{mail_cause, repeated}
 use Rattle.phase.specs.Phase.{Phase}
 use Rattle.record.specs.declared.stage.Want.{Want}
 use Rattle.record.specs.declared.stage.Want.TheVariants as want
-use Rattle.record.specs.Records.{Call, Object, layout_at, base_of}
-use Rattle.record.specs.Legal.{is_move}
+use Rattle.record.specs.Records.{Call, Object, layout_at}
 use Rattle.record.specs.Wants.{current_phase, want_of}
 use Rattle.record.specs.Steps.{Step, stepped}
 use Rattle.record.specs.Sending.{sent_value, value_or_empty}
@@ -40,10 +39,12 @@ abbrev pub call_at : Object → (number : ℕ) → Option Call
 call_at object zero = None
 call_at object (suc index) = slice_get object.calls index
 
+-- the call is there, and then what comes after it
 abbrev pub if_call : Option Call → (Call → Option Refusal) → Option Refusal
 if_call None cause = Some NoCall
 if_call (Some call) cause = cause call
 
+-- the message is there, and then what comes after it
 abbrev pub if_message : Option Message → (Message → Option Refusal) → Option Refusal
 if_message None cause = Some NoMessage
 if_message (Some message) cause = cause message
@@ -56,20 +57,25 @@ served_cause now object (body.Request asked) =
     if_step now (unless (nat_le (all_bytes object.banks + request_bytes asked) MOST_BYTES) Full None)
 served_cause now object (body.Reply kind made) = Some NotNow
 
+-- why the message at a place is not served
 abbrev pub serve_cause : (now : ℕ) → Object → (place : ℕ) → Option Refusal
 serve_cause now object place = if_message (slice_get object.mail place)
     (λ message. served_cause now object message.body)
 
+-- a reply is taken, and a request is not
 abbrev pub taken_cause : (now : ℕ) → Body → Option Refusal
 taken_cause now (body.Request asked) = Some NotNow
 taken_cause now (body.Reply kind made) = if_step now None
 
+-- why the message at a place is not taken
 abbrev pub take_cause : (now : ℕ) → Object → (place : ℕ) → Option Refusal
 take_cause now object place = if_message (slice_get object.mail place) (λ message. taken_cause now message.body)
 
+-- why the message at a place is not lost
 abbrev pub lose_cause : (now : ℕ) → Object → (place : ℕ) → Option Refusal
 lose_cause now object place = if_message (slice_get object.mail place) (λ message. if_step now None)
 
+-- why the message at a place is not repeated
 abbrev pub repeat_cause : (now : ℕ) → Object → (place : ℕ) → Option Refusal
 repeat_cause now object place = if_message (slice_get object.mail place)
     (λ message. if_step now (mail_cause (repeated object.mail place)))
@@ -82,13 +88,16 @@ new_call_cause step now object =
     if_step now (unless (nat_lt (length object.calls) MOST_CALLS) Full
     (mail_cause (stepped fragment step now object).mail))
 
+-- why a read does not begin
 abbrev pub read_cause : (now : ℕ) → Object → Option Refusal
 read_cause now object = new_call_cause Step.CallRead now object
 
+-- why a write of this value does not begin
 abbrev pub write_cause : List ℕ → (now : ℕ) → Object → Option Refusal
 write_cause value now object = unless (nat_le (length value) LONGEST_VALUE) TooLong
     (new_call_cause (Step.CallWrite value) now object)
 
+-- why a move to this layout does not begin
 abbrev pub move_cause : Layout → (now : ℕ) → Object → Option Refusal
 move_cause layout now object =
     unless (not (has_open_move object.calls)) MovePending
@@ -96,10 +105,12 @@ move_cause layout now object =
 
 -- Calls that go on
 
+-- whether a call wants to begin its next phase
 abbrev pub is_advance : Want → Bool
 is_advance want.Advance = true
 is_advance _ = false
 
+-- whether a call wants to begin anew
 abbrev pub is_again : Want → Bool
 is_again want.Again = true
 is_again _ = false
@@ -111,10 +122,12 @@ if_settle (want.Settle k len) later = later
 if_settle want.Again later = Some Collected
 if_settle _ later = Some NotNow
 
+-- whether a call wants its answer
 abbrev pub is_answer : Want → Bool
 is_answer want.Answer = true
 is_answer _ = false
 
+-- whether a call wants replies
 abbrev pub is_replies : Want → Bool
 is_replies want.Replies = true
 is_replies _ = false
@@ -139,14 +152,17 @@ abbrev pub due_step : (anew : Bool) → (index : ℕ) → Step
 due_step false index = Step.Advance index
 due_step true index = Step.Again index
 
+-- why a call does not begin the phase that is due, as it is or anew
 abbrev pub due_cause : (anew : Bool) → (now : ℕ) → Object → (number : ℕ) → Option Refusal
 due_cause anew now object number =
     if_call (call_at object number) (λ call. unless (wants_due anew (want_of object (pred number) call)) NotNow
     (new_phase_cause (due_step anew (pred number)) now object call))
 
+-- why a call does not begin its next phase
 abbrev pub advance_cause : (now : ℕ) → Object → (number : ℕ) → Option Refusal
 advance_cause now object number = due_cause false now object number
 
+-- why a call does not begin anew
 abbrev pub again_cause : (now : ℕ) → Object → (number : ℕ) → Option Refusal
 again_cause now object number = due_cause true now object number
 
@@ -159,6 +175,7 @@ is_plain (Some phase) = not (is_pre_write phase.kind)
 abbrev pub may_post : Want → Option Phase → Bool
 may_post wanted phase = if is_replies wanted then is_plain phase else false
 
+-- why a call does not ask again
 abbrev pub post_cause : (now : ℕ) → Object → (number : ℕ) → Option Refusal
 post_cause now object number =
     if_call (call_at object number) (λ call. unless
@@ -170,6 +187,7 @@ abbrev pub is_replied : Option Phase → Bool
 is_replied None = false
 is_replied (Some phase) = is_some phase.end
 
+-- pieces have room as they are sent: in a new phase, or once more in the current one
 abbrev pub supply_room_cause : (now : ℕ) → Object → (index : ℕ) → Call → Option Refusal
 supply_room_cause now object index call =
     if is_replied (current_phase call.phases) then new_phase_cause (Step.Supply index) now object call
@@ -183,6 +201,7 @@ supplied_cause now object index call coded (Some position) =
     WrongCode
     (supply_room_cause now object index call)
 
+-- why a call is not supplied with this coded value
 abbrev pub supply_cause : (now : ℕ) → Object → (number : ℕ) → Coding → Option Refusal
 supply_cause now object number coded =
     if_call (call_at object number) (λ call. supplied_cause now object (pred number) call coded
@@ -209,29 +228,14 @@ abbrev pub is_decoded_in : Object → Option Phase → Decoding → Bool
 is_decoded_in object None decoded = false
 is_decoded_in object (Some phase) decoded = is_decoded_from (layout_at object phase.position).k phase.replies decoded
 
+-- why a call does not settle this decoded value
 abbrev pub settle_cause : (now : ℕ) → Object → (number : ℕ) → Decoding → Option Refusal
 settle_cause now object number decoded =
     if_call (call_at object number) (λ call. if_settle (want_of object (pred number) call)
     (unless (is_decoded_in object (current_phase call.phases) decoded) WrongCode (if_step now None)))
 
+-- why a call is not answered
 abbrev pub answer_cause : (now : ℕ) → Object → (number : ℕ) → Option Refusal
 answer_cause now object number =
     if_call (call_at object number) (λ call. unless (is_answer (want_of object (pred number) call)) NotNow
     (if_step now None))
-
--- Retiring
-
--- whether the move out of a position was answered; the first move among these calls leads out of the position `from`
-abbrev pub is_moved_out : List Call → (from position : ℕ) → Bool
-is_moved_out [] from position = false
-is_moved_out (call ∷ calls) from position =
-    if is_move call.kind
-    then (if from == position then is_some call.answered else is_moved_out calls (suc from) position)
-    else is_moved_out calls from position
-
--- whether a position is the base, and the move out of it was answered
-abbrev pub is_retirable : Object → (position : ℕ) → Bool
-is_retirable object position = position == base_of object && is_moved_out object.calls 0 position
-
-abbrev pub retire_cause : (now : ℕ) → Object → (position : ℕ) → Option Refusal
-retire_cause now object position = unless (is_retirable object position) NotNow (if_step now None)

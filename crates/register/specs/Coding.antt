@@ -60,6 +60,7 @@ piece_from (Some coded) member = piece_of coded.value coded.k member
 abbrev pub same_piece : Piece → Piece → Bool
 same_piece a b = a.point == b.point && (a.len == b.len && bytes_eq a.bytes b.bytes)
 
+-- whether there is a piece, and it is this one
 abbrev pub has_piece : Piece → Option Piece → Bool
 has_piece piece None = false
 has_piece piece (Some other) = same_piece piece other
@@ -77,6 +78,7 @@ abbrev pub piece_by : List Taken → (member : ℕ) → Option Piece
 piece_by [] member = None
 piece_by (t ∷ replies) member = if t.member == member then answer_piece t.reply.answer else piece_by replies member
 
+-- the piece that is there, or none, as a list
 abbrev pub listed : Option Piece → List Piece
 listed None = []
 listed (Some piece) = piece ∷ []
@@ -90,6 +92,7 @@ pieces_below replies (suc member) = pieces_below replies member ++ listed (piece
 abbrev pub least_pieces : Layout → List Taken → List Piece
 least_pieces layout replies = take layout.k (pieces_below replies (length layout.members))
 
+-- the pieces from which the value of a phase is decoded, if there is a phase
 abbrev pub least_of : Object → Option Phase → List Piece
 least_of object None = []
 least_of object (Some phase) = least_pieces (layout_at object phase.position) phase.replies

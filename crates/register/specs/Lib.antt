@@ -4,5 +4,6 @@ pub mod State
 pub mod Kept
 pub mod Coding
 pub mod Causes
+pub mod Retiring
 pub mod View
 pub mod Act

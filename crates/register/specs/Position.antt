@@ -20,6 +20,7 @@ position_code layout bank =
 abbrev pub layouts_of : List Position → List Layout
 layouts_of positions = map (λ p. p.layout) positions
 
+-- the banks of positions
 abbrev pub banks_of : List Position → List (List Bank)
 banks_of positions = map (λ p. p.banks) positions
 

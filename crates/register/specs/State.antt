@@ -59,5 +59,6 @@ object_of delta positions mail calls = record {
   calls = calls_of calls;
 }
 
+-- a record with the number of its last step
 abbrev pub state_of : Contents → State
 state_of c = record { object = object_of c.delta c.positions c.mail c.calls; last = c.last }

@@ -39,6 +39,7 @@ to_code object call position = (
   length (layout_at object position).members,
 )
 
+-- the value whose pieces a call is to send, with k and n, if there is such a call
 abbrev pub coding_of : Object → (number : ℕ) → Option Call → Option (List ℕ × ℕ × ℕ)
 coding_of object number None = None
 coding_of object number (Some call) = option_map (to_code object call) (pieces_due object (pred number) call)
@@ -47,6 +48,7 @@ coding_of object number (Some call) = option_map (to_code object call) (pieces_d
 abbrev pub coding_at : Object → (number : ℕ) → Option (List ℕ × ℕ × ℕ)
 coding_at object number = coding_of object number (call_at object number)
 
+-- the pieces that give the value that a call is to settle, if there is such a call
 abbrev pub pieces_of : Object → Option Call → List Piece
 pieces_of object None = []
 pieces_of object (Some call) = least_of object (current_phase call.phases)
@@ -66,9 +68,11 @@ receipt_of place number now call = record {
   value = entry_value call.kind (Some now) call.settled;
 }
 
+-- the receipt of the call of this number that is answered at a step
 abbrev pub receipt_at : Object → (place number now : ℕ) → Option Receipt
 receipt_at object place number now = option_map (receipt_of place number now) (call_at object number)
 
+-- what is shown of a call in its current phase
 abbrev pub phase_view : Object → (number : ℕ) → Call → Phase → CallView
 phase_view object number call phase = record {
   kind = operation_of call.kind;
@@ -81,6 +85,7 @@ phase_view object number call phase = record {
   want = want_of object (pred number) call;
 }
 
+-- what is shown of a call, if there is such a call
 abbrev pub viewed : Object → (number : ℕ) → Option Call → Option CallView
 viewed object number None = None
 viewed object number (Some call) = option_map (phase_view object number call) (current_phase call.phases)
@@ -89,6 +94,7 @@ viewed object number (Some call) = option_map (phase_view object number call) (c
 abbrev pub view_at : Object → (number : ℕ) → Option CallView
 view_at object number = viewed object number (call_at object number)
 
+-- the value that a call writes, or has settled so far, if there is such a call
 abbrev pub value_of : Option Call → Option (List ℕ)
 value_of None = None
 value_of (Some call) = sent_value call.kind call.settled
@@ -97,6 +103,7 @@ value_of (Some call) = sent_value call.kind call.settled
 abbrev pub value_at : Object → (number : ℕ) → Option (List ℕ)
 value_at object number = value_of (call_at object number)
 
+-- the phases of a call, if there is such a call
 abbrev pub phases_of : Option Call → List Phase
 phases_of None = []
 phases_of (Some call) = call.phases
@@ -105,9 +112,11 @@ phases_of (Some call) = call.phases
 abbrev pub phases_at : Object → (number : ℕ) → List Phase
 phases_at object number = phases_of (call_at object number)
 
+-- the bank of a member of a position
 abbrev pub bank_there : Object → (position member : ℕ) → Option Bank
 bank_there object position member = slice_get (get_or object.banks position []) member
 
+-- the tag of a call, if there is such a call
 abbrev pub tag_in : Object → (number : ℕ) → Option Call → Option Tag
 tag_in object number None = None
 tag_in object number (Some call) = tag_of object (pred number) call

@@ -42,11 +42,13 @@ pub record Shown : Type 0 where
   pub answered : Option ℕ
   pub told : Option (List ℕ)
 
+-- the value that a call writes
 abbrev pub written_in : Operation → Option (List ℕ) → Option (List ℕ)
 written_in operation.Read value = None
 written_in operation.Write value = value
 written_in operation.Move value = None
 
+-- the value that an answered call tells
 abbrev pub told_in : Option ℕ → Option (List ℕ) → Option (List ℕ)
 told_in None value = None
 told_in (Some step) value = value

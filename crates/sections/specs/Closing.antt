@@ -44,6 +44,7 @@ pub record Matches (e : Entry) (r : CallRecord) : Type 0 where
 abbrev pub Stands : Cluster → CallRecord → Type 0
 Stands cluster r = MatchOption (entry_at cluster r.object r.call) ⊥ (λ e. Matches e r)
 
+-- these records stand in the history
 abbrev pub AllStand : Cluster → List CallRecord → Type 0
 AllStand cluster records = AllByRecursion (Stands cluster) records
 
@@ -52,9 +53,11 @@ abbrev pub all_records : List SeatState → List CallRecord
 all_records [] = []
 all_records (s ∷ seats) = records_of s ++ all_records seats
 
+-- the object and the number of the call that a record is of
 abbrev pub key_of : CallRecord → ℕ × ℕ
 key_of r = (r.object, r.call)
 
+-- these are the same call of the same object
 abbrev pub same_key : ℕ × ℕ → ℕ × ℕ → Bool
 same_key a b = (a.0 == b.0) && (a.1 == b.1)
 
@@ -74,10 +77,12 @@ pub record Fit (count : ℕ) (cluster : Cluster) (seats : List SeatState) : Type
   pub stand : AllStand cluster (all_records seats)
   pub distinct : are_distinct (map key_of (all_records seats)) ≡ true
 
+-- the step of an answer, where there is a receipt
 abbrev pub answer_of : Option Receipt → Option ℕ
 answer_of None = None
 answer_of (Some t) = Some t.answered
 
+-- the value that is told, where there is a receipt
 abbrev pub value_of : Option Receipt → Option (List ℕ)
 value_of None = None
 value_of (Some t) = t.value

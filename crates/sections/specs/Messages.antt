@@ -38,6 +38,7 @@ module _ {C : Type 0} (chooses : C → ℕ → ℕ → C → Type 0) (name : Lis
       (state : State) × (named old.objects name ≡ Some state) × (any_choices old state.object ≡ []) × (new ≡ old)
       × (after ≡ before)
 
+  -- why none is served or taken: there is no such object, or the chosen message is refused
   abbrev pub StirsNot : (after : C) → Refusal → Type 0
   StirsNot after r =
       ((object_cause old name (λ object. None) ≡ Some r) × (after ≡ before))
@@ -49,6 +50,7 @@ module _ {C : Type 0} (chooses : C → ℕ → ℕ → C → Type 0) (name : Lis
 abbrev pub disturbing : (place answer : ℕ) → Step
 disturbing place answer = if (answer % 2) == 0 then Step.Lose place else Step.Repeat place
 
+-- why the message at a place is neither lost nor repeated
 abbrev pub disturb_cause : Cluster → (place answer : ℕ) → Object → Option Refusal
 disturb_cause cluster place answer object =
     if (answer % 2) == 0 then lose_cause (next cluster) object place else repeat_cause (next cluster) object place
@@ -64,6 +66,7 @@ module _ {C : Type 0} (chooses : C → ℕ → ℕ → C → Type 0) (name : Lis
     pub at : place ≡ first % length state.object.mail
     pub deed : chooses middle 2 answer after
 
+  -- the message that is chosen is lost or repeated, as is chosen; there is none exactly where none waits
   abbrev pub Disturbs : Bool → (new : Cluster) → (after : C) → Type 0
   Disturbs true new after =
       (place : ℕ) × (answer : ℕ) × IsDisturbed after place answer × (new ≡ stepped old name (disturbing place answer))
@@ -71,6 +74,7 @@ module _ {C : Type 0} (chooses : C → ℕ → ℕ → C → Type 0) (name : Lis
       (state : State) × (named old.objects name ≡ Some state) × (state.object.mail ≡ []) × (new ≡ old)
       × (after ≡ before)
 
+  -- why none is lost or repeated: there is no such object, or what is chosen is refused
   abbrev pub DisturbsNot : (after : C) → Refusal → Type 0
   DisturbsNot after r =
       ((object_cause old name (λ object. None) ≡ Some r) × (after ≡ before))

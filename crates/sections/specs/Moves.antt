@@ -31,6 +31,7 @@ admin_code cluster =
     (λ a. (a.moving, (a.orders, (a.asked, a.left))))
     (λ p. record { moving = p.0; orders = p.1.0; asked = p.1.1.0; left = p.1.1.1 }) (λ _. refl)
 
+-- the move of this object and number, if there is one
 abbrev pub moving_of : List ℕ → Option ℕ → Option Moving
 moving_of name None = None
 moving_of name (Some call) = Some (record { name = name; call = call })
@@ -67,5 +68,6 @@ EndsMove None a receipt new = ⊥
 EndsMove (Some m) a receipt new =
     (receipt.call ≡ m.call) × (receipt.called < receipt.answered) × (new ≡ record a { moving = None })
 
+-- the move without an answer is over with this receipt
 abbrev pub Ends : AdminState → Receipt → AdminState → Type 0
 Ends a receipt new = EndsMove a.moving a receipt new

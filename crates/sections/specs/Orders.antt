@@ -3,7 +3,8 @@ use Rattle.std.specs.Prelude.{◌≡◌, ℕ, suc, not, Bool, is_some, List, len
 use Rattle.tag.specs.declared.refusal.Refusal.{Refusal}
 use Rattle.tag.specs.declared.refusal.Refusal.TheVariants.{NoCall, MovePending}
 use Rattle.record.specs.Steps.{Step}
-use Rattle.register.specs.Causes.{unless, retire_cause}
+use Rattle.register.specs.Causes.{unless}
+use Rattle.register.specs.Retiring.{retire_cause}
 use Rattle.cluster.specs.Cluster.{Cluster, named}
 use Rattle.cluster.specs.Causes.{next, object_cause, layout_cause, create_cause, server_cause, moving_cause}
 use Rattle.cluster.specs.Steps.{stepped, with_layout, with_server, created, moved}
@@ -27,6 +28,7 @@ abbrev pub ordered_id : Cluster → Order → Option ℕ
 ordered_id cluster (order.AddLayout layout) = Some (length cluster.layouts)
 ordered_id cluster _ = None
 
+-- why an order is not carried out
 abbrev pub order_cause : Cluster → Order → Option Refusal
 order_cause cluster (order.AddLayout layout) = layout_cause cluster layout
 order_cause cluster (order.Create name layout delta) = create_cause cluster name.now layout
@@ -53,16 +55,19 @@ move_begun cluster a name id =
       moving = Some (record { name = name; call = suc (call_count (named cluster.objects name)) });
     }
 
+-- why no round of the move without an answer is made
 abbrev pub move_cause_of : Cluster → Option Moving → (turns : ℕ) → Option Refusal
 move_cause_of cluster None turns = Some NoCall
 move_cause_of cluster (Some m) turns = going_cause cluster m.name m.call turns
 
 module _ {C : Type 0} (chooses : C → ℕ → ℕ → C → Type 0) where
+  -- the rounds of the move without an answer
   abbrev pub MoveGoes : Option Moving → Hand → (again : Bool) → (old : Cluster) → (before : C) → (new : Cluster)
       → (after : C) → Round → Type 0
   MoveGoes None h again old before new after r = ⊥
   MoveGoes (Some m) h again old before new after r = Goes chooses m.name m.call h again old before new after r
 
+  -- why such a round is refused that may be made
   abbrev pub MoveGoesNot : Option Moving → Hand → (again : Bool) → (old : Cluster) → (before after : C) → Refusal
       → Type 0
   MoveGoesNot None h again old before after r = ⊥

@@ -29,6 +29,7 @@ open_cause turns (Some w) = unless (nat_lt 0 turns) GaveUp None
 abbrev pub going_cause : Cluster → (name : List ℕ) → (call turns : ℕ) → Option Refusal
 going_cause cluster name call turns = object_cause cluster name (λ object. open_cause turns (want_at object call))
 
+-- why no round of the call without an answer is made
 abbrev pub pending_cause : Cluster → Option Pending → (turns : ℕ) → Option Refusal
 pending_cause cluster None turns = Some NoCall
 pending_cause cluster (Some p) turns = going_cause cluster p.name p.kept.call turns
@@ -87,6 +88,7 @@ module _ {C : Type 0} (chooses : C → ℕ → ℕ → C → Type 0) where
   SeatGoes None h again old before new after r = ⊥
   SeatGoes (Some p) h again old before new after r = Goes p.name p.kept.call h again old before new after r
 
+  -- why such a round is refused that may be made
   abbrev pub SeatGoesNot : Option Pending → Hand → (again : Bool) → (old : Cluster) → (before after : C) → Refusal
       → Type 0
   SeatGoesNot None h again old before after r = ⊥

@@ -32,10 +32,12 @@ pub record SeatState : Type 0 where
   pub records : List CallRecord
   pub pending : Option Pending
 
+-- the call of this object with this record, if there is one
 abbrev pub pending_of : List ℕ → Option CallRecord → Option Pending
 pending_of name None = None
 pending_of name (Some r) = Some (record { name = name; kept = r })
 
+-- the record of the call without an answer, as a list
 abbrev pub listed : Option Pending → List CallRecord
 listed None = []
 listed (Some p) = p.kept ∷ []
@@ -52,6 +54,7 @@ IsUnanswered pending = MatchOption pending (Unit {0}) (λ p. p.kept.receipt ≡ 
 abbrev pub least_after : ℕ → Option Receipt → ℕ
 least_after floor receipt = option_map_or (λ t. t.answered) receipt floor
 
+-- a receipt, if there is one, is of an answer later than the call
 abbrev pub IsAnsweredLater : Option Receipt → Type 0
 IsAnsweredLater receipt = MatchOption receipt (Unit {0}) (λ t. t.called < t.answered)
 
@@ -72,10 +75,12 @@ IsInOrder low (r ∷ rs) high =
 
 -- Steps of a seat
 
+-- what a call is that begins so
 abbrev pub operation_of : Begin → Operation
 operation_of begin.Read = operation.Read
 operation_of (begin.Write value) = operation.Write
 
+-- the value that such a call writes
 abbrev pub written_of : Begin → Option (List ℕ)
 written_of begin.Read = None
 written_of (begin.Write value) = Some value
@@ -90,6 +95,7 @@ abbrev pub call_step : Begin → Step
 call_step begin.Read = Step.CallRead
 call_step (begin.Write value) = Step.CallWrite value
 
+-- how many calls an object has, none where there is no object
 abbrev pub call_count : Option State → ℕ
 call_count None = 0
 call_count (Some state) = length state.object.calls
@@ -135,12 +141,15 @@ Settles (Some p) s receipt t =
 abbrev pub asked_once : SeatState → SeatState
 asked_once s = record s { asked = one_more s.asked }
 
+-- the seat once its pending call is left without an answer
 abbrev pub abandoned : SeatState → SeatState
 abandoned s = record s { records = records_of s; pending = None }
 
+-- the seat once it has learnt of an answer
 abbrev pub learnt : SeatState → Receipt → SeatState
 learnt s t = record s { floor = max s.floor t.answered }
 
+-- the seat of this number in a new store
 abbrev pub new_seat : ℕ → SeatState
 new_seat number = record { number = number; floor = 0; asked = 0; records = []; pending = None }
 
@@ -155,6 +164,7 @@ new_seats (suc n) = new_seats n ++ new_seat n ∷ []
 abbrev pub unless_stranger : Cluster → SeatState → Option Refusal → Option Refusal
 unless_stranger cluster s later = unless (nat_le s.floor cluster.counter) Stranger later
 
+-- why an object does not begin a call
 abbrev pub calling_cause : Begin → (now : ℕ) → Object → Option Refusal
 calling_cause begin.Read now object = read_cause now object
 calling_cause (begin.Write value) now object = write_cause value now object

@@ -12,6 +12,7 @@ use Rattle.cluster.specs.Cluster.{Cluster, named}
 use Rattle.soak.specs.Audit.{AreAccounted}
 use Rattle.soak.specs.declared.summary.Summary.{Summary}
 
+-- the entries of an object, none where there is no object
 abbrev pub entries_in : Option State → List Entry
 entries_in None = []
 entries_in (Some state) = entries state.object
@@ -20,6 +21,7 @@ entries_in (Some state) = entries state.object
 abbrev pub entries_of : Cluster → (name : List ℕ) → List Entry
 entries_of cluster name = entries_in (named cluster.objects name)
 
+-- whether a call is a move
 abbrev pub is_move : Operation → Bool
 is_move operation.Read = false
 is_move operation.Write = false

@@ -5,7 +5,7 @@ ghost use Rattle.tag.specs.Refusal.{IsExactlyByCause};
 ghost use Rattle.tag.specs.declared.limits.TheConstants.{MOST_BYTES};
 ghost use Rattle.record.specs.Accounts.{base_bytes_of};
 ghost use Rattle.record.specs.Steps.{Step};
-ghost use Rattle.register.specs.Causes.{retire_cause};
+ghost use Rattle.register.specs.Retiring.{retire_cause};
 ghost use Rattle.cluster.specs.Accounts.{stored_all};
 ghost use Rattle.cluster.specs.Causes.{next, object_cause};
 ghost use Rattle.cluster.specs.Steps.{stepped};

@@ -6,7 +6,7 @@ ghost use Rattle.tag.specs.declared.limits.TheConstants.{MOST_BYTES};
 ghost use Rattle.record.specs.Accounts.{base_bytes, base_bytes_of};
 ghost use Rattle.record.specs.Steps.{Step};
 ghost use Rattle.register.specs.State.{made};
-ghost use Rattle.register.specs.Causes.{retire_cause};
+ghost use Rattle.register.specs.Retiring.{retire_cause};
 
 use crate::register::Register;
 use tag::{MOST_STEPS, Refusal, Stamp};

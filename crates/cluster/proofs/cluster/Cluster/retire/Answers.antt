@@ -1,7 +1,7 @@
 use Rattle.std.proofs.Common.{◌+◌, ◌≤◌, refl, sym, ◌∙◌, arith}
 use Rattle.tag.specs.declared.limits.TheConstants.{MOST_STEPS}
 use Rattle.record.specs.Steps.{Step}
-use Rattle.register.specs.Causes.{retire_cause}
+use Rattle.register.specs.Retiring.{retire_cause}
 use Rattle.cluster.proofs.Places.{at_place}
 use Rattle.cluster.proofs.Retiring.{past_retired, part_loaded, load_within, part_freed, retire_counted, freed_exactly}
 use Rattle.cluster.proofs.Stepping.{stepped_at, unchanged_at, last_before, cause_at, no_object}
