@@ -1,13 +1,15 @@
 -- What holds of every cluster, whatever steps made it.
-use Rattle.std.specs.Prelude.{◌≡◌, ◌⊎◌, ℕ, List, Some, length, map, slice_get}
+use Rattle.std.specs.Prelude.{◌≡◌, ◌<◌, ◌≤◌, ◌+◌, ◌⊎◌, ℕ, List, Some, length, map, slice_get}
 use Rattle.std.specs.List.{AllByRecursion, range_with_len}
 use Rattle.tag.specs.declared.tag.Tag.{Tag}
 use Rattle.encoder.specs.Fragment.{fragment}
+use Rattle.bank.specs.Collect.{final_pieces}
 use Rattle.phase.specs.Phase.{Phase}
 use Rattle.record.specs.Atomic.{IsAtomic}
 use Rattle.record.specs.Fragments.{AreCoded, HasDropped, HasEnough, IsFetch}
+use Rattle.record.specs.Lacking.{IsLackingFetch, IsOverlapped}
 use Rattle.record.specs.Journals.{entries, IsJournaled, ReadsJournaled}
-use Rattle.record.specs.Records.{Call, Object}
+use Rattle.record.specs.Records.{Call, IsRetiredBy, Object, bank_at, layout_at}
 use Rattle.record.specs.Sound.{IsSound}
 use Rattle.register.specs.Kept.{IsWithinLimits}
 use Rattle.cluster.specs.Accounts as of
@@ -44,9 +46,32 @@ FetchesHaveEnough object =
 abbrev pub HasOneValue : Object → Type 0
 HasOneValue object = (tag : Tag) (v w : List ℕ) → IsJournaled object tag v → IsJournaled object tag w → v ≡ w
 
--- so it is of each object
+-- each bank of an object with delta holds at most delta + 1 pieces of finalized tags
+abbrev pub KeepsFew : Object → Type 0
+KeepsFew object =
+    (position member delta : ℕ) → position < length object.layouts →
+    member < length (layout_at object position).members → object.delta ≡ Some delta →
+    final_pieces (bank_at object position member) ≤ delta + 1
+
+-- a read's complete fetch lacks pieces only where its position was retired by its end, or at least delta + 1 writes
+-- with greater tags were called before that end and not answered before the read last began
+abbrev pub LacksWhereOvertaken : Object → Type 0
+LacksWhereOvertaken object =
+    (index place end : ℕ) (call : Call) (phase : Phase) (tag : Tag) →
+    IsLackingFetch object index place call phase tag end →
+    IsRetiredBy object phase.position end ⊎ IsOverlapped object call place tag end
+
+-- each complete fetch of each object has enough pieces, or met a member that had dropped its own
 abbrev pub HaveEnough : Cluster → Type 0
 HaveEnough cluster = AllByRecursion (λ o. FetchesHaveEnough o.state.object) cluster.objects
+
+-- the banks of each object with delta hold few pieces of finalized tags
+abbrev pub KeepFew : Cluster → Type 0
+KeepFew cluster = AllByRecursion (λ o. KeepsFew o.state.object) cluster.objects
+
+-- a read of any object lacks pieces only where its position was retired, or newer writes overtook it
+abbrev pub LackWhereOvertaken : Cluster → Type 0
+LackWhereOvertaken cluster = AllByRecursion (λ o. LacksWhereOvertaken o.state.object) cluster.objects
 
 -- each answered read of each object returns the journal's value of its tag
 abbrev pub AreJournaled : Cluster → Type 0

@@ -36,7 +36,9 @@ fn reads_one_of_two_objects(rt: HostRuntime) -> Result<(), Fail> {
     assert!(rt; cluster.calls() == 3 && cluster.entries("b")?.len() == 2);
     assert!(rt; cluster.counter() == answered.answered);
     cluster.soundness();
-    cluster.atomic();
+    let told = cluster.atomic();
+    assert_eq!(rt; told.servers.as_slice(), [3, 3, 3].as_slice());
+    assert!(rt; told.stored == 9 && told.mailed == 0);
     Ok(())
 }
 

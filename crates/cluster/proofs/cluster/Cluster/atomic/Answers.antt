@@ -6,6 +6,7 @@ use Rattle.record.specs.Atomic.{IsAtomic}
 use Rattle.record.specs.Fragments.{AreCoded}
 use Rattle.record.specs.Journals.{entries, ReadsJournaled}
 use Rattle.cluster.specs.Atomic.{AreAtomic, AreFragments, AreJournaled, FetchesHaveEnough, HasOneValue, HaveEnough, HaveOneValue}
+use Rattle.cluster.specs.Atomic.{KeepFew, KeepsFew, LackWhereOvertaken, LacksWhereOvertaken}
 use Rattle.cluster.proofs.Laws.{IsObjectAtomic, all_done, all_weaker}
 use Rattle.cluster.proofs.Places.{objects_of}
 use Rattle.cluster.proofs.cluster.Cluster.atomic.Goals as goal
@@ -36,6 +37,22 @@ returns-clause-enough c =
     (all_weaker IsObjectAtomic (λ s. FetchesHaveEnough s.object)
     (λ s held index place end call phase at within fetch e.
     c.complete_fetches_have_enough.ensures fragment s.object s.last index place end call phase held.sound at within fetch e)
+    (objects_of c.self.inside.objects.entries) (each c))
+
+pub returns-clause-few : goal.returns-clause-few
+returns-clause-few c =
+    subst KeepFew c.self.view_is
+    (all_weaker IsObjectAtomic (λ s. KeepsFew s.object)
+    (λ s held position member delta there is_member kept.
+    c.few_pieces_are_kept.ensures fragment s.object s.last position member delta held.sound there is_member kept)
+    (objects_of c.self.inside.objects.entries) (each c))
+
+pub returns-clause-overtaken : goal.returns-clause-overtaken
+returns-clause-overtaken c =
+    subst LackWhereOvertaken c.self.view_is
+    (all_weaker IsObjectAtomic (λ s. LacksWhereOvertaken s.object)
+    (λ s held index place end call phase tag lacking.
+    c.lacking_fetches_are_overlapped.ensures fragment s.object s.last index place end call phase tag held.sound lacking)
     (objects_of c.self.inside.objects.entries) (each c))
 
 pub returns-clause-reads : goal.returns-clause-reads
