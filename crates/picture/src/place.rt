@@ -3,7 +3,7 @@ use crate::drops::Drops;
 use bank::{Bank, Label};
 use register::Register;
 use std::alloc::{AllocError, Global};
-use tag::{MOST_MEMBERS, Stamp};
+use tag::Stamp;
 
 /// The lanes of the servers of a position.
 #[derive(Debug, Drop)]
@@ -31,7 +31,10 @@ impl Place {
         let Some(first) = register.bank_view(position, 0) else {
             return Ok(None);
         };
-        let members = members_of(register, position);
+        let members = match register.layout_view(position) {
+            Some(layout) => layout.n(),
+            None => 0,
+        };
         let mut drops = Vec::new(alloc);
         for member in 0..members {
             if let Some(bank) = register.bank_view(position, member) {
@@ -47,15 +50,6 @@ impl Place {
             drops,
         }))
     }
-}
-
-fn members_of(register: &Register, position: u32) -> u8 {
-    for member in 0..MOST_MEMBERS as u8 {
-        if register.server(position, member).is_none() {
-            return member;
-        }
-    }
-    MOST_MEMBERS as u8
 }
 
 // The step of the opening tag, which is the least one.
