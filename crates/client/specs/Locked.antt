@@ -1,8 +1,8 @@
 -- What a call through the lock does in some state of the cluster: others change the cluster before and after it.
-use Rattle.std.specs.Prelude.{◌≡◌, ◌⊎◌, ℕ, ◌+◌, Bool, List, length, Option, Some, None, Result, MatchResult}
+use Rattle.std.specs.Prelude.{◌≡◌, ℕ, ◌+◌, Bool, List, length, Option, Some, None, Result, MatchResult}
 use Rattle.tag.specs.Refusal.{IsByCause, IsExactlyByCause}
+use Rattle.tag.specs.Cause.{IsRefusalBy}
 use Rattle.tag.specs.declared.refusal.Refusal.{Refusal}
-use Rattle.tag.specs.declared.refusal.Refusal.TheVariants.{NoMemory}
 use Rattle.layout.specs.Layout.{Layout}
 use Rattle.register.specs.declared.receipt.Receipt.{Receipt}
 use Rattle.cluster.specs.Accounts.{stored_all}
@@ -14,22 +14,24 @@ use Rattle.sections.specs.Moves.{AdminState, Ends, ordered_by}
 use Rattle.sections.specs.Messages.{Stirs, StirsNot, Disturbs, DisturbsNot}
 use Rattle.sections.specs.Orders.{begin_move_cause, move_begun, retired, retiring_cause}
 
-module _ {C : Type 0} (chooses : C → ℕ → ℕ → C → Type 0) (name : List ℕ) (before : C) where
+module _ {C : Type 0} (first : Cluster) (chooses : C → ℕ → ℕ → C → Type 0) (name : List ℕ) (before : C) where
   -- a chosen message is served or taken, or there is none
   abbrev pub StirsThen : Bool → (after : C) → Type 0
-  StirsThen b after = (old : Cluster) × ((new : Cluster) × Stirs chooses name old before b new after)
+  StirsThen b after =
+      (old : Cluster) × (IsStateOf first old × ((new : Cluster) × Stirs chooses name old before b new after))
 
   -- why none is
   abbrev pub StirsNotThen : (after : C) → Refusal → Type 0
-  StirsNotThen after r = (old : Cluster) × StirsNot chooses name old before after r
+  StirsNotThen after r = (old : Cluster) × (IsStateOf first old × StirsNot chooses name old before after r)
 
   -- a chosen message is lost or repeated, or there is none
   abbrev pub DisturbsThen : Bool → (after : C) → Type 0
-  DisturbsThen b after = (old : Cluster) × ((new : Cluster) × Disturbs chooses name old before b new after)
+  DisturbsThen b after =
+      (old : Cluster) × (IsStateOf first old × ((new : Cluster) × Disturbs chooses name old before b new after))
 
   -- why none is
   abbrev pub DisturbsNotThen : (after : C) → Refusal → Type 0
-  DisturbsNotThen after r = (old : Cluster) × DisturbsNot chooses name old before after r
+  DisturbsNotThen after r = (old : Cluster) × (IsStateOf first old × DisturbsNot chooses name old before after r)
 
 -- an order is carried out in some state of the cluster, and left this one of it, which the administrator keeps; or it
 -- is refused for its cause there, or for want of memory, and the administrator is as before
@@ -94,6 +96,4 @@ BeginsMove first old name layout new =
 abbrev pub MovesNot : (first : Cluster) → AdminState → (name : List ℕ) → (layout : ℕ) → Refusal → Type 0
 MovesNot first old name layout r =
     (cluster : Cluster)
-    × (IsStateOf first cluster
-    × ((begin_move_cause cluster old.moving name layout ≡ Some r)
-    ⊎ ((begin_move_cause cluster old.moving name layout ≡ None) × (r ≡ NoMemory))))
+    × (IsStateOf first cluster × IsRefusalBy (begin_move_cause cluster old.moving name layout) r)

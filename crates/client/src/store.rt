@@ -81,8 +81,8 @@ impl<L: StoreName> Store<L> {
         name: &str,
         chooser: &mut C,
     ) -> Result<bool, Refusal>
-        ensures ok { IfOk result (λ b. StirsThen C.chooses name.now chooser.old b chooser.new) }
-        ensures err { IfErr result (λ e. StirsNotThen C.chooses name.now chooser.old chooser.new e) }
+        ensures ok { IfOk result (λ b. StirsThen L.first C.chooses name.now chooser.old b chooser.new) }
+        ensures err { IfErr result (λ e. StirsNotThen L.first C.chooses name.now chooser.old chooser.new e) }
     {
         stir_in(&mut *self.booked.lock(rt), name, chooser)
     }
@@ -98,8 +98,8 @@ impl<L: StoreName> Store<L> {
         name: &str,
         chooser: &mut C,
     ) -> Result<bool, Refusal>
-        ensures ok { IfOk result (λ b. DisturbsThen C.chooses name.now chooser.old b chooser.new) }
-        ensures err { IfErr result (λ e. DisturbsNotThen C.chooses name.now chooser.old chooser.new e) }
+        ensures ok { IfOk result (λ b. DisturbsThen L.first C.chooses name.now chooser.old b chooser.new) }
+        ensures err { IfErr result (λ e. DisturbsNotThen L.first C.chooses name.now chooser.old chooser.new e) }
     {
         disturb_in(&mut *self.booked.lock(rt), name, chooser)
     }

@@ -1,8 +1,8 @@
 -- What is done to the messages under the lock.
 use Rattle.std.specs.Prelude.{◌≡◌, ◌⊎◌, ℕ, ◌%◌, ◌==◌, Bool, true, false}
 use Rattle.std.specs.Prelude.{if◌then◌else◌, List, [], length, Option, Some, None, slice_get}
+use Rattle.tag.specs.Cause.{IsRefusalBy}
 use Rattle.tag.specs.declared.refusal.Refusal.{Refusal}
-use Rattle.tag.specs.declared.refusal.Refusal.TheVariants.{NoMemory}
 use Rattle.mail.specs.declared.message.Message.{Message}
 use Rattle.record.specs.Records.{Object}
 use Rattle.record.specs.Steps.{Step}
@@ -43,8 +43,7 @@ module _ {C : Type 0} (chooses : C → ℕ → ℕ → C → Type 0) (name : Lis
   StirsNot after r =
       ((object_cause old name (λ object. None) ≡ Some r) × (after ≡ before))
       ⊎ ((place : ℕ) × (message : Message) × IsStirred after place message
-      × ((object_cause old name (handling_cause old place) ≡ Some r)
-      ⊎ ((object_cause old name (handling_cause old place) ≡ None) × (r ≡ NoMemory))))
+      × IsRefusalBy (object_cause old name (handling_cause old place)) r)
 
 -- an even number loses the message at a place, an odd one repeats it
 abbrev pub disturbing : (place answer : ℕ) → Step
@@ -79,5 +78,4 @@ module _ {C : Type 0} (chooses : C → ℕ → ℕ → C → Type 0) (name : Lis
   DisturbsNot after r =
       ((object_cause old name (λ object. None) ≡ Some r) × (after ≡ before))
       ⊎ ((place : ℕ) × (answer : ℕ) × IsDisturbed after place answer
-      × ((object_cause old name (disturb_cause old place answer) ≡ Some r)
-      ⊎ ((object_cause old name (disturb_cause old place answer) ≡ None) × (r ≡ NoMemory))))
+      × IsRefusalBy (object_cause old name (disturb_cause old place answer)) r)

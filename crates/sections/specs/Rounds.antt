@@ -1,7 +1,8 @@
 -- What a round of a call does under the lock.
-use Rattle.std.specs.Prelude.{◌≡◌, ◌≢◌, ◌⊎◌, ℕ, pred, ◌<◌, nat_lt, not, Bool, false, is_some, List, Option, Some, None}
+use Rattle.std.specs.Prelude.{◌≡◌, ◌≢◌, ℕ, pred, ◌<◌, nat_lt, not, Bool, false, is_some, List, Option, Some, None}
+use Rattle.tag.specs.Cause.{IsRefusalBy}
 use Rattle.tag.specs.declared.refusal.Refusal.{Refusal}
-use Rattle.tag.specs.declared.refusal.Refusal.TheVariants.{NoMemory, NoCall, NotNow, GaveUp}
+use Rattle.tag.specs.declared.refusal.Refusal.TheVariants.{NoCall, NotNow, GaveUp}
 use Rattle.record.specs.Steps.{Step}
 use Rattle.record.specs.declared.stage.Want.{Want}
 use Rattle.record.specs.declared.stage.Want.TheVariants as want
@@ -46,10 +47,6 @@ hand_cause cluster name call (hand.Coded coded) =
 hand_cause cluster name call (hand.Decoded decoded) =
     object_cause cluster name (λ object. settle_cause (next cluster) object call decoded)
 
--- refused for its cause, or, where there is none, for want of memory
-abbrev pub IsRefusedBy : Option Refusal → Refusal → Type 0
-IsRefusedBy cause r = (cause ≡ Some r) ⊎ ((cause ≡ None) × (r ≡ NoMemory))
-
 -- a step was made, and nothing was chosen
 abbrev pub HandsIn : {C : Type 0} → (name : List ℕ) → Step
     → (old : Cluster) → (before : C) → (new : Cluster) → (after : C) → Round → Type 0
@@ -78,9 +75,9 @@ module _ {C : Type 0} (chooses : C → ℕ → ℕ → C → Type 0) where
       → Refusal → Type 0
   GoesNot name call hand.Empty again old before after r = IsRefused chooses name call old again before after r
   GoesNot name call (hand.Coded coded) again old before after r =
-      (after ≡ before) × (r ≢ NotNow) × IsRefusedBy (hand_cause old name call (hand.Coded coded)) r
+      (after ≡ before) × (r ≢ NotNow) × IsRefusalBy (hand_cause old name call (hand.Coded coded)) r
   GoesNot name call (hand.Decoded decoded) again old before after r =
-      (after ≡ before) × IsRefusedBy (hand_cause old name call (hand.Decoded decoded)) r
+      (after ≡ before) × IsRefusalBy (hand_cause old name call (hand.Decoded decoded)) r
 
   -- the rounds of a seat's call
   abbrev pub SeatGoes : Option Pending → Hand → (again : Bool) → (old : Cluster) → (before : C) → (new : Cluster)

@@ -1,9 +1,10 @@
 -- What a seat keeps of its calls.
-use Rattle.std.specs.Prelude.{◌≡◌, ◌⊎◌, ℕ, zero, suc, ◌<◌, ◌≤◌, nat_le, not, is_some, List, [], ◌∷◌, ◌++◌, length}
+use Rattle.std.specs.Prelude.{◌≡◌, ℕ, zero, suc, ◌<◌, ◌≤◌, nat_le, not, is_some, List, [], ◌∷◌, ◌++◌, length}
 use Rattle.std.specs.Prelude.{Option, Some, None, MatchOption, max}
 use Rattle.std.specs.Option.{option_map_or}
+use Rattle.tag.specs.Cause.{IsRefusalBy}
 use Rattle.tag.specs.declared.refusal.Refusal.{Refusal}
-use Rattle.tag.specs.declared.refusal.Refusal.TheVariants.{NoMemory, NotNow, Stranger}
+use Rattle.tag.specs.declared.refusal.Refusal.TheVariants.{NotNow, Stranger}
 use Rattle.record.specs.declared.call.Operation.{Operation}
 use Rattle.record.specs.declared.call.Operation.TheVariants as operation
 use Rattle.record.specs.Records.{Object}
@@ -13,6 +14,7 @@ use Rattle.register.specs.State.{State}
 use Rattle.register.specs.declared.receipt.Receipt.{Receipt}
 use Rattle.cluster.specs.Cluster.{Cluster, named, place_of}
 use Rattle.cluster.specs.Causes.{next, object_cause}
+use Rattle.sections.specs.Course.{IsStateOf}
 use Rattle.sections.specs.Moves.{one_more}
 use Rattle.sections.specs.declared.call_record.CallRecord.{CallRecord}
 use Rattle.sections.specs.declared.call_record.Begin.{Begin}
@@ -177,18 +179,19 @@ begin_cause cluster s name what =
     (λ object. unless (not (is_some s.pending)) NotNow (calling_cause what (next cluster) object)))
 
 -- one record more, of a call that begins in some state of the cluster and stays pending
-abbrev pub AddsPending : SeatState → (name : List ℕ) → Begin → SeatState → Type 0
-AddsPending s name what new =
-    (cluster : Cluster) × (begin_cause cluster s name what ≡ None)
-    × (new ≡ with_pending s name (begun cluster name s.floor what))
+abbrev pub AddsPending : (first : Cluster) → SeatState → (name : List ℕ) → Begin → SeatState → Type 0
+AddsPending first s name what new =
+    (cluster : Cluster)
+    × (IsStateOf first cluster × (begin_cause cluster s name what ≡ None)
+    × (new ≡ with_pending s name (begun cluster name s.floor what)))
 
 -- one record more, of a call that begins so and gets this receipt
-abbrev pub AddsAnswered : SeatState → (name : List ℕ) → Begin → Receipt → SeatState → Type 0
-AddsAnswered s name what receipt new =
-    (begun_seat : SeatState) × AddsPending s name what begun_seat × Settles begun_seat.pending begun_seat receipt new
+abbrev pub AddsAnswered : (first : Cluster) → SeatState → (name : List ℕ) → Begin → Receipt → SeatState → Type 0
+AddsAnswered first s name what receipt new =
+    (begun_seat : SeatState)
+    × AddsPending first s name what begun_seat × Settles begun_seat.pending begun_seat receipt new
 
 -- there is a state of the cluster in which the call does not begin for this cause
-abbrev pub BeginsNot : SeatState → (name : List ℕ) → Begin → Refusal → Type 0
-BeginsNot s name what r =
-    (cluster : Cluster)
-    × ((begin_cause cluster s name what ≡ Some r) ⊎ ((begin_cause cluster s name what ≡ None) × (r ≡ NoMemory)))
+abbrev pub BeginsNot : (first : Cluster) → SeatState → (name : List ℕ) → Begin → Refusal → Type 0
+BeginsNot first s name what r =
+    (cluster : Cluster) × (IsStateOf first cluster × IsRefusalBy (begin_cause cluster s name what) r)

@@ -6,7 +6,7 @@ ghost use Rattle.cluster.specs.Causes.{next, object_cause};
 ghost use Rattle.cluster.specs.Cluster.{named};
 ghost use Rattle.cluster.specs.Steps.{stepped};
 ghost use Rattle.sections.specs.Calls.{client_calls};
-ghost use Rattle.sections.specs.Course.{GoesOn};
+ghost use Rattle.sections.specs.Course.{GoesOn, IsStateOf};
 ghost use Rattle.sections.specs.Seats.{begin_cause, begun, call_count, call_step, calling_cause, with_pending};
 
 use crate::booked::{Booked, StoreName};
@@ -27,6 +27,7 @@ pub fn begin_in<L: StoreName>(
     name: &str,
     what: Begin,
 ) -> Result<(), Refusal>
+    ensures state { IsStateOf L.first booked.old }
     ensures step { OnOk result (booked.new ≡ stepped booked.old name.now (call_step what)) }
     ensures seat { OnOk result
         (seat.new ≡ with_pending seat.old name.now (begun booked.old name.now seat.old.floor what)) }
@@ -34,6 +35,7 @@ pub fn begin_in<L: StoreName>(
     ensures unchanged { OnErr result (booked.new ≡ booked.old) }
     ensures kept { OnErr result (seat.new ≡ seat.old) }
 {
+    booked.cluster.keeping();
     if seat.floor > booked.cluster.counter() {
         return Err(Refusal::Stranger);
     }

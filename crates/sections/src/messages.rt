@@ -2,7 +2,7 @@
 
 ghost use Rattle.std.specs.Prelude.{◌≡◌, IfOk, IfErr, OnErr};
 ghost use Rattle.sections.specs.Calls.{client_calls};
-ghost use Rattle.sections.specs.Course.{GoesOn};
+ghost use Rattle.sections.specs.Course.{GoesOn, IsStateOf};
 ghost use Rattle.sections.specs.Messages.{Disturbs, DisturbsNot, Stirs, StirsNot};
 
 use crate::booked::{Booked, StoreName};
@@ -16,10 +16,12 @@ pub fn stir_in<L: StoreName, C: Chooser>(
     name: &str,
     chooser: &mut C,
 ) -> Result<bool, Refusal>
+    ensures state { IsStateOf L.first booked.old }
     ensures step { IfOk result (λ b. Stirs C.chooses name.now booked.old chooser.old b booked.new chooser.new) }
     ensures refused { IfErr result (λ e. StirsNot C.chooses name.now booked.old chooser.old chooser.new e) }
     ensures unchanged { OnErr result (booked.new ≡ booked.old) }
 {
+    booked.cluster.keeping();
     stir(&mut booked.cluster, name, chooser)
 }
 
@@ -45,10 +47,12 @@ pub fn disturb_in<L: StoreName, C: Chooser>(
     name: &str,
     chooser: &mut C,
 ) -> Result<bool, Refusal>
+    ensures state { IsStateOf L.first booked.old }
     ensures step { IfOk result (λ b. Disturbs C.chooses name.now booked.old chooser.old b booked.new chooser.new) }
     ensures refused { IfErr result (λ e. DisturbsNot C.chooses name.now booked.old chooser.old chooser.new e) }
     ensures unchanged { OnErr result (booked.new ≡ booked.old) }
 {
+    booked.cluster.keeping();
     disturb(&mut booked.cluster, name, chooser)
 }
 

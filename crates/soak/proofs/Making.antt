@@ -59,7 +59,7 @@ settles-counts n number s t r p name was settles =
 MakesAll-counts : (n number : ℕ) (t : SeatState) → MakesAll n (new_seat number) t → Counts n t
 MakesAll-counts zero number t is =
     record { receipts = ap (λ (u : SeatState). receipts_of u.records) is; settled = ap (λ (u : SeatState). u.pending) is }
-MakesAll-counts (suc n) number t (s, first, (receipt, (b, (cluster, none, is), settles))) =
+MakesAll-counts (suc n) number t (s, first, (opened, (receipt, (b, (cluster, (state, none, is)), settles)))) =
     let call = begun cluster (object_of n) s.floor (begin_of s.number n) in
     let more = settles-counts n number s t receipt call (object_of n) (MakesAll-counts n number s first)
     (subst (λ (u : SeatState). Settles u.pending u receipt t) is settles) in

@@ -1,6 +1,7 @@
 -- What the calls that a client makes leave in its seat.
 use Rattle.std.specs.Prelude.{◌≡◌, ℕ, zero, suc, ◌%◌, ◌==◌, if◌then◌else◌}
 use Rattle.register.specs.declared.receipt.Receipt.{Receipt}
+use Rattle.cluster.specs.Cluster.{Cluster}
 use Rattle.sections.specs.Seats.{SeatState, AddsAnswered, new_seat}
 use Rattle.sections.specs.declared.call_record.Begin.{Begin}
 use Rattle.sections.specs.declared.call_record.Begin.TheVariants as begin
@@ -10,9 +11,11 @@ use Rattle.soak.specs.Call.{object_of, value_of}
 abbrev pub begin_of : (client call : ℕ) → Begin
 begin_of client call = if (call % 2) == 0 then begin.Write (value_of client call) else begin.Read
 
--- the seat has one record more, of the call of this number, with a receipt
+-- the seat of some store has one record more, of the call of this number, with a receipt
 abbrev pub Makes : (call : ℕ) → SeatState → SeatState → Type 0
-Makes call s t = (receipt : Receipt) × AddsAnswered s (object_of call) (begin_of s.number call) receipt t
+Makes call s t =
+    (first : Cluster)
+    × ((receipt : Receipt) × AddsAnswered first s (object_of call) (begin_of s.number call) receipt t)
 
 -- so many calls are made, one after another, from the call 0 on
 abbrev pub MakesAll : (count : ℕ) → SeatState → SeatState → Type 0

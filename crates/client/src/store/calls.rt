@@ -30,9 +30,11 @@ impl<L: StoreName> Store<L> {
         chooser: &mut C,
         turns: u64,
     ) -> Result<Receipt, Refusal>
-        ensures ok { IfOk result (λ receipt. AddsAnswered seat.old name.now (begins.Write value) receipt seat.new) }
-        ensures err { IfErr result (λ r. ((seat.new ≡ seat.old) × BeginsNot seat.old name.now (begins.Write value) r)
-            ⊎ AddsPending seat.old name.now (begins.Write value) seat.new) }
+        ensures ok { IfOk result
+            (λ receipt. AddsAnswered L.first seat.old name.now (begins.Write value) receipt seat.new) }
+        ensures err { IfErr result
+            (λ r. ((seat.new ≡ seat.old) × BeginsNot L.first seat.old name.now (begins.Write value) r)
+            ⊎ AddsPending L.first seat.old name.now (begins.Write value) seat.new) }
     {
         self.call(rt, &NoGate, seat, name, Begin::Write(value), chooser, turns)
     }
@@ -46,9 +48,9 @@ impl<L: StoreName> Store<L> {
         chooser: &mut C,
         turns: u64,
     ) -> Result<Receipt, Refusal>
-        ensures ok { IfOk result (λ receipt. AddsAnswered seat.old name.now begins.Read receipt seat.new) }
-        ensures err { IfErr result (λ r. ((seat.new ≡ seat.old) × BeginsNot seat.old name.now begins.Read r)
-            ⊎ AddsPending seat.old name.now begins.Read seat.new) }
+        ensures ok { IfOk result (λ receipt. AddsAnswered L.first seat.old name.now begins.Read receipt seat.new) }
+        ensures err { IfErr result (λ r. ((seat.new ≡ seat.old) × BeginsNot L.first seat.old name.now begins.Read r)
+            ⊎ AddsPending L.first seat.old name.now begins.Read seat.new) }
     {
         self.call(rt, &NoGate, seat, name, Begin::Read, chooser, turns)
     }
@@ -88,9 +90,9 @@ impl<L: StoreName> Store<L> {
         chooser: &mut C,
         turns: u64,
     ) -> Result<Receipt, Refusal>
-        ensures ok { IfOk result (λ receipt. AddsAnswered seat.old name.now what receipt seat.new) }
-        ensures err { IfErr result (λ r. ((seat.new ≡ seat.old) × BeginsNot seat.old name.now what r)
-            ⊎ AddsPending seat.old name.now what seat.new) }
+        ensures ok { IfOk result (λ receipt. AddsAnswered L.first seat.old name.now what receipt seat.new) }
+        ensures err { IfErr result (λ r. ((seat.new ≡ seat.old) × BeginsNot L.first seat.old name.now what r)
+            ⊎ AddsPending L.first seat.old name.now what seat.new) }
     {
         let _ = seat.make_room(name);
         begin_in(&mut *self.booked.lock(rt), seat, name, what)?;
