@@ -1,5 +1,6 @@
 -- The commands that supply a call with coded bytes, or settle a decoded value.
 use Rattle.std.specs.Prelude.{◌≡◌, ◌⊎◌, ℕ, pred, List, length, Option, Some, None}
+use Rattle.tag.specs.Cause.{IsRefusalBy}
 use Rattle.tag.specs.declared.refusal.Refusal.{Refusal}
 use Rattle.tag.specs.declared.refusal.Refusal.TheVariants.{NoCall, NotNow}
 use Rattle.encoder.specs.Coded.{Coding, encode_cause}
@@ -16,7 +17,7 @@ use Rattle.driver.specs.Coding.{settling_cause}
 use Rattle.driver.specs.Rounds.{SettlesOwn}
 use Rattle.player.specs.declared.report.Report.{Report}
 use Rattle.player.specs.Report.{done}
-use Rattle.player.specs.Steps.{IsRefusalBy, IsRefused, IsGrowth}
+use Rattle.player.specs.Steps.{IsRefused, IsGrowth}
 
 -- this cause, or else that one
 abbrev pub first_of : Option Refusal → Option Refusal → Option Refusal

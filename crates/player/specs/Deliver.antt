@@ -1,5 +1,6 @@
 -- What `deliver` does to the messages of an object.
 use Rattle.std.specs.Prelude.{◌≡◌, ◌⊎◌, ℕ, zero, suc, ◌<◌, Bool, true, false, List, Option, Some, None}
+use Rattle.tag.specs.Cause.{IsRefusalBy}
 use Rattle.tag.specs.declared.refusal.Refusal.{Refusal}
 use Rattle.printing.specs.declared.outcome.Outcome.{Outcome}
 use Rattle.printing.specs.declared.outcome.Outcome.TheVariants as outcome
@@ -11,7 +12,6 @@ use Rattle.driver.specs.declared.messages.Handled.{Handled}
 use Rattle.driver.specs.Choices.{step_of, handled_at, handling_cause}
 use Rattle.player.specs.declared.report.Report.{Report}
 use Rattle.player.specs.declared.report.Report.TheVariants as of
-use Rattle.player.specs.Steps.{IsRefusalBy}
 
 -- whether the message at a place is a reply, or a request to a server that is up
 abbrev pub can_handle_at : Cluster → (name : List ℕ) → (place : ℕ) → Option Bool

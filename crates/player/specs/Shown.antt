@@ -2,6 +2,7 @@
 use Rattle.std.specs.Prelude.{◌≡◌, ◌⊎◌, ◌↔◌, ℕ, Bool, false, ◌++◌, List, [], ◌∷◌, map}
 use Rattle.std.specs.Prelude.{length, Option, Some, None, option_map, is_some, IsTrue}
 use Rattle.std.specs.List.{list_all, range_with_len}
+use Rattle.tag.specs.Cause.{IsRefusalBy}
 use Rattle.tag.specs.declared.refusal.Refusal.{Refusal}
 use Rattle.record.specs.Atomic.{IsSequence}
 use Rattle.record.specs.Journals.{entries}
@@ -22,7 +23,6 @@ use Rattle.printing.specs.SequenceLine.{sequence_text}
 use Rattle.cluster.specs.Cluster.{Cluster, named, if_named}
 use Rattle.cluster.specs.Causes.{object_cause}
 use Rattle.cluster.specs.Accounts as accounts
-use Rattle.player.specs.Steps.{IsRefusalBy}
 
 -- a line with its end
 abbrev pub line_of : List ℕ → List ℕ

@@ -1,15 +1,11 @@
 -- What a command that is one step does to a cluster, and what it reports.
 use Rattle.std.specs.Prelude.{◌≡◌, ◌⊎◌, ℕ, ◌+◌, Option, Some, None}
+use Rattle.tag.specs.Cause.{IsRefusalBy}
 use Rattle.tag.specs.declared.refusal.Refusal.{Refusal}
-use Rattle.tag.specs.declared.refusal.Refusal.TheVariants.{NoMemory}
 use Rattle.cluster.specs.Accounts.{stored_all}
 use Rattle.cluster.specs.Cluster.{Cluster}
 use Rattle.player.specs.declared.report.Report.{Report}
 use Rattle.player.specs.Report.{freed, refused}
-
--- a step is refused for its cause; where it has none, memory alone may be wanting
-abbrev pub IsRefusalBy : (cause : Option Refusal) → Refusal → Type 0
-IsRefusalBy cause refusal = (cause ≡ Some refusal) ⊎ ((cause ≡ None) × (refusal ≡ NoMemory))
 
 -- the command is refused, and the cluster is as it was
 abbrev pub IsRefused : (old : Cluster) → Refusal → (new : Cluster) → Report → Type 0

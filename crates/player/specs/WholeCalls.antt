@@ -1,5 +1,6 @@
 -- Whole calls: the call step, and then the driver, who always handles the first message of the call.
 use Rattle.std.specs.Prelude.{◌≡◌, ◌⊎◌, ℕ, suc, Bool, true, false, List, length, Option, Some, None}
+use Rattle.tag.specs.Cause.{IsRefusalBy}
 use Rattle.tag.specs.declared.refusal.Refusal.{Refusal}
 use Rattle.record.specs.Steps.{Step}
 use Rattle.register.specs.Causes.{number_cause, read_cause, write_cause}
@@ -13,7 +14,7 @@ use Rattle.cluster.specs.Causes.{next, object_cause, moving_cause}
 use Rattle.player.specs.declared.report.Report.{Report}
 use Rattle.player.specs.declared.report.Report.TheVariants as of
 use Rattle.player.specs.ClusterCommands.{layout_number}
-use Rattle.player.specs.Steps.{IsRefusalBy, IsRefused}
+use Rattle.player.specs.Steps.{IsRefused}
 
 -- the first of what can be handled is chosen
 abbrev pub chooses_first : First → (below answer : ℕ) → First → Type 0
