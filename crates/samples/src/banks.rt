@@ -99,15 +99,18 @@ fn keeps_tags_in_rising_order(rt: HostRuntime) -> Result<(), Fail> {
     Ok(())
 }
 
-// What a bank keeps for a tag: whether a piece came, whether it is there, and how many bytes all pieces have.
+// What a bank keeps for a tag that it knows: whether a piece came, and whether it is there.
 fn assert_piece(rt: &impl Abort, bank: &Bank, tag: Tag, came: bool, there: bool) {
+    let mut known = false;
     for i in 0..bank.count() {
         let (kept, row) = bank.kept(i);
         if kept == tag {
+            known = true;
             assert_eq!(rt; row.arrival.is_some(), came);
             assert_eq!(rt; row.piece().is_some(), there);
         }
     }
+    assert!(rt; known, "{tag}");
 }
 
 // With delta 0 only the newest final tag keeps its piece. Each piece has 3 bytes, that of the opening tag none.

@@ -3,13 +3,13 @@
 ghost use Rattle.std.specs.Prelude.{◌≡◌, ◌+◌};
 
 use crate::acts::{Answer, close, four_servers, open_store, put_both, take_seat};
+use crate::crew::has_a_sequence;
 use crate::insisting::{insist, read, write};
 use crate::tally::Tally;
 use crate::varied::Varied;
 use bytes::Bytes;
 use client::{Seat, Store, StoreName};
 use cluster::Cluster;
-use history::{check, sequence};
 use std::alloc::Global;
 use std::marker::Brand;
 use std::process::Abort;
@@ -133,15 +133,6 @@ fn all_work<L: StoreName + Send + Sync, R: Threads + Wait + Sync + Abort>(
     (first, second, called.and(disturbed))
 }
 
-// The sequence that the tags give has all calls, and is one of the history.
-fn has_a_sequence<R: Abort>(rt: &R, alloc: Global, cluster: &Cluster) -> Result<(), Refusal> {
-    let order = sequence(alloc, cluster.register("a")?)?;
-    assert_eq!(rt; order.len(), 200);
-    let entries = cluster.entries("a")?;
-    assert!(rt; check(&entries, &order));
-    Ok(())
-}
-
 fn works<L: StoreName + Send + Sync, R: Threads + Wait + Sync + Abort>(
     rt: &R,
     alloc: Global,
@@ -169,7 +160,7 @@ fn endures<L: StoreName + Send + Sync, R: Threads + Wait + Abort + Sync>(
     let (store, mut seats) = open_store::<L>(alloc, blank, cluster, 2, 2)?;
     works(rt, alloc, &store, &mut seats)?;
     let cluster = close(rt, store, seats, 200, 200)?;
-    has_a_sequence(rt, alloc, &cluster)
+    has_a_sequence(rt, alloc, &cluster, 200)
 }
 
 #[test]

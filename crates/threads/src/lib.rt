@@ -25,7 +25,6 @@ mod kept;
 #[cfg(test)]
 mod limits;
 #[cfg(test)]
-mod memory;
 #[cfg(test)]
 mod pool;
 #[cfg(test)]
