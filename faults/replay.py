@@ -30,7 +30,8 @@ class Story:
     def __init__(self, machine, cas, opening, steps):
         self.machine, self.cas, self.opening, self.steps = machine, cas, opening, steps
         # The places that every layout of the story has.
-        self.members = min(len(line.split()) - 2 for line in opening if line.startswith("layout"))
+        lines = opening + [step for step, _ in steps]
+        self.members = min(len(line.split()) - 2 for line in lines if line.startswith("layout"))
         self.calls = sum(1 for step, _ in steps if re.match(r"call|read|write|move", step))
 
     def commands(self, upto):

@@ -26,6 +26,15 @@ STORIES = {
         ("serve a 1", "ok"), ("bank a 0 1", "next final; 0.0 fin -; 1.1 pre -"),
         ("account", "stored 0 mailed 6 0:0 1:0 2:0 3:0 4:0"), ("resume a 1", "call 1 answered"),
         ("account", "stored 10 mailed 0 0:2 1:2 2:2 3:2 4:2"), ("read a", f"call 3 value {HELLO}"), ("sequence a", "1 3")]),
+    # A read that two newer writes overtake is refused, and the next resume begins it anew.
+    "an object that collects": ([*FOUR[:2], "object a 0 0"], [
+        (f"write a {HELLO}", "call 1 answered"), ("call read a", "call 2"), ("deliver a", "handled 10"),
+        ("advance a 2", "ok"), ("deliver a", "handled 8"), ("advance a 2", "ok"), ("write a 41", "call 3 answered"),
+        ("write a 42", "call 4 answered"), ("resume a 2", "call 2 refused 16 Collected"),
+        ("account", "stored 4 mailed 0 0:1 1:1 2:1 3:1"), ("resume a 2", "call 2 value 42"), ("sequence a", "1 3 4 2")]),
+    "a beginning": (["servers 5"], [
+        ("layout 2 0 1 2 3", "layout 0"), ("layout 3 0 1 2 3 4", "layout 1"), ("object b 1", "ok"), ("object a 0 2", "ok"),
+        ("write a 41", "call 1 answered"), ("account", "stored 4 mailed 0 0:1 1:1 2:1 3:1 4:0")]),
     "two moves": (FOUR, [
         ("call write a 41", "call 1"), *BEGUN, ("move a 0", "call 2 answered"), ("move a 0", "call 3 answered"),
         ("bank a 2 0", "next none; 0.0 fin 0"), ("serve a 0", "ok"), ("bank a 2 0", "next none; 0.0 fin 0"),
