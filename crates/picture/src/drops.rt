@@ -13,13 +13,11 @@ impl Drops {
     pub(crate) fn of(alloc: Global, bank: &Bank) -> Result<Drops, AllocError> {
         let mut steps = Vec::new(alloc);
         let mut above = FinalsAbove::new(alloc, bank.delta());
-        let mut rest = bank.count();
         if bank.delta().is_none() && bank.retired().is_none() {
             return Ok(Drops(steps));
         }
-        while rest > 0 {
-            rest -= 1;
-            let row = bank.kept(rest).1;
+        for i in (0..bank.count()).rev() {
+            let row = bank.kept(i).1;
             let finalized = finalized_at(row);
             let step = earlier(bank.retired(), later(finalized, above.full()));
             steps.push(kept_until(row, step))?;
