@@ -12,10 +12,10 @@ impl Drops {
     /// No piece is kept once a bank is retired, and none of a finalized tag once `delta` + 1 greater ones are final.
     pub(crate) fn of(alloc: Global, bank: &Bank) -> Result<Drops, AllocError> {
         let mut steps = Vec::new(alloc);
-        let mut above = FinalsAbove::new(alloc, bank.delta());
         if bank.delta().is_none() && bank.retired().is_none() {
             return Ok(Drops(steps));
         }
+        let mut above = FinalsAbove::new(alloc, bank.delta());
         for i in (0..bank.count()).rev() {
             let row = bank.kept(i).1;
             let finalized = finalized_at(row);

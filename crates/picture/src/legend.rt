@@ -1,5 +1,8 @@
 //! What the signs of a picture mean, and how they look.
+use crate::plan::Plan;
 use crate::px::Px;
+use crate::retired::{HATCHED, has_retired};
+use crate::tag_marks::SQUARE;
 use std::fmt;
 
 /// The styles of all things. Each kind of phase has a shade of its own, and each text can be selected.
@@ -14,21 +17,52 @@ rect{stroke:#000;stroke-width:.7}.next{fill:#fff}.spread{fill:#f6e6c4}.query{fil
 path.fin{stroke:#000;stroke-width:.7}.pending{fill:#fff;stroke:#000}.final{fill:#000;stroke:#000}\
 </style>";
 
-/// What the signs mean, in two lines.
+/// What the signs mean, in two lines; the square and the hatching only where there are some.
 #[derive(Clone, Copy)]
-pub(crate) struct Legend(pub(crate) Px);
+pub(crate) struct Legend<'a> {
+    pub(crate) plan: &'a Plan,
+    /// The first line.
+    pub(crate) y: Px,
+}
 
-impl fmt::Display for Legend {
+impl fmt::Display for Legend<'_> {
     fn fmt<W: fmt::Write>(&self, f: &mut fmt::Formatter<W>) -> fmt::Result {
-        let y = self.0;
+        let (first, second) = (self.y, self.y.plus(180));
         write!(
             f,
             "{}{}{}",
-            KindSigns(y),
-            MarkSigns(y),
-            LineSigns(y.plus(180))
-        )
+            KindSigns(first),
+            MarkSigns(first),
+            LineSigns(second)
+        )?;
+        if has_dropped(self.plan) {
+            writeln!(
+                f,
+                "<path d='M842 {}{SQUARE}/><text x='848' y='{first}'>dropped</text>",
+                first.less(40)
+            )?;
+        }
+        if has_retired(self.plan) {
+            writeln!(
+                f,
+                "<path {HATCHED} d='M770 {}h20v11h-20z'/><text x='795' y='{second}'>a retired position</text>",
+                second.less(90)
+            )?;
+        }
+        Ok(())
     }
+}
+
+// Whether a piece was dropped at one of the servers.
+fn has_dropped(plan: &Plan) -> bool {
+    for place in &plan.positions {
+        for drops in &place.drops {
+            if drops.any() {
+                return true;
+            }
+        }
+    }
+    false
 }
 
 // The kinds of phases, with the letter that stands where a word has no room.

@@ -7,9 +7,8 @@ use crate::messages::Messages;
 use crate::omitted::Omitted;
 use crate::phases::Phases;
 use crate::plan::Plan;
-use crate::retired::{RetiredBands, RetiredSign};
+use crate::retired::RetiredBands;
 use crate::server_lanes::ServerLanes;
-use crate::tag_marks::DroppedSign;
 use crate::text::Escaped;
 use register::Register;
 use std::fmt;
@@ -92,12 +91,7 @@ impl fmt::Display for Foot<'_> {
         let y = plan.order_y();
         write!(f, "{}", Order { plan, order, y })?;
         let y = plan.legend_y(order.len());
-        write!(f, "{}{}", Legend(y), DroppedSign { plan, y })?;
-        let sign = RetiredSign {
-            plan,
-            y: y.plus(180),
-        };
-        write!(f, "{sign}")?;
+        write!(f, "{}", Legend { plan, y })?;
         let (ordered, y) = (order.len(), y.plus(360));
         write!(
             f,

@@ -9,7 +9,7 @@ const HATCH: &str = "<pattern id='retired' width='5' height='5' patternUnits='us
 patternTransform='rotate(45)'><path d='M2.5 0v5' stroke='#aaa' stroke-width='.8'/></pattern>";
 
 /// How a hatched area looks.
-const HATCHED: &str = "fill='url(#retired)' stroke='#777' stroke-width='.7'";
+pub(crate) const HATCHED: &str = "fill='url(#retired)' stroke='#777' stroke-width='.7'";
 
 /// How far a band goes on behind the last step.
 const BEHIND: u64 = 80;
@@ -41,29 +41,8 @@ impl fmt::Display for RetiredBands<'_> {
     }
 }
 
-/// What the hatching means, behind the signs in the second line of these, where a position was retired.
-#[derive(Clone, Copy)]
-pub(crate) struct RetiredSign<'a> {
-    pub(crate) plan: &'a Plan,
-    /// The line of the text.
-    pub(crate) y: Px,
-}
-
-impl fmt::Display for RetiredSign<'_> {
-    fn fmt<W: fmt::Write>(&self, f: &mut fmt::Formatter<W>) -> fmt::Result {
-        if !has_retired(self.plan) {
-            return Ok(());
-        }
-        let (y, top) = (self.y, self.y.less(90));
-        writeln!(
-            f,
-            "<path {HATCHED} d='M770 {top}h20v11h-20z'/><text x='795' y='{y}'>a retired position</text>"
-        )
-    }
-}
-
-// Whether a position was retired. The first one is, where any is.
-fn has_retired(plan: &Plan) -> bool {
+/// Whether a position was retired. The first one is, where any is.
+pub(crate) fn has_retired(plan: &Plan) -> bool {
     match plan.positions.first() {
         Some(place) => place.retired.is_some(),
         None => false,

@@ -6,7 +6,7 @@ use std::fmt;
 use tag::{Stamp, Tag};
 
 /// How the mark looks of a piece that is dropped, behind its middle.
-const SQUARE: &str = "m-2 -2h4v4h-4z' fill='#fff' stroke='#000' stroke-width='.7'";
+pub(crate) const SQUARE: &str = "m-2 -2h4v4h-4z' fill='#fff' stroke='#000' stroke-width='.7'";
 
 /// When a tag came to a bank, whether its piece is there still, when it was dropped, and when the tag was finalized.
 #[derive(Clone, Copy)]
@@ -68,37 +68,4 @@ impl TagMarks<'_> {
         }
         Ok(())
     }
-}
-
-/// What the square means, behind the signs in the first line of these, where a piece was dropped.
-#[derive(Clone, Copy)]
-pub(crate) struct DroppedSign<'a> {
-    pub(crate) plan: &'a Plan,
-    /// The line of the text.
-    pub(crate) y: Px,
-}
-
-impl fmt::Display for DroppedSign<'_> {
-    fn fmt<W: fmt::Write>(&self, f: &mut fmt::Formatter<W>) -> fmt::Result {
-        if !has_dropped(self.plan) {
-            return Ok(());
-        }
-        let (y, middle) = (self.y, self.y.less(40));
-        writeln!(
-            f,
-            "<path d='M842 {middle}{SQUARE}/><text x='848' y='{y}'>dropped</text>"
-        )
-    }
-}
-
-// Whether a piece was dropped at one of the servers that are drawn.
-fn has_dropped(plan: &Plan) -> bool {
-    for place in &plan.positions {
-        for drops in &place.drops {
-            if drops.any() {
-                return true;
-            }
-        }
-    }
-    false
 }
