@@ -1,0 +1,143 @@
+"""The functions of a crate: where their bodies lie in the source files, and how a check names them."""
+import re
+import subprocess
+from dataclasses import dataclass
+
+from kit import rtlib
+
+
+@dataclass(frozen=True)
+class Function:
+    """A function with a body. `begin` and `end` are the places of the body's braces, in bytes of the file."""
+
+    path: str
+    begin: int
+    end: int
+    module: tuple  # the modules down to the item, without the crate
+    owner: str  # of a method the type, and behind it the trait with the names of its arguments, where it has one
+    name: str
+
+    def ending(self):
+        """The end of the function's name, as a check prints it, behind the modules."""
+        return f"{self.owner}::{self.name}" if self.owner else "::".join([*self.module, self.name])
+
+    def is_named(self, crate, printed):
+        """Whether a check that prints this name speaks of the function, or of a closure in it."""
+        modules = r"(\w+::)*" if self.owner else "".join(f"{it}::" for it in self.module)
+        owner = f"{self.owner}::" if self.owner else ""
+        own = f"{crate}::{modules}{owner}{self.name}"
+        closure = rf"{crate}::{modules}fn::({owner})?{self.name}::\S+"
+        return re.fullmatch(own, printed) is not None or re.fullmatch(closure, printed) is not None
+
+
+@dataclass(frozen=True)
+class Token:
+    start: int
+    end: int
+    text: str
+
+
+def code_tokens(folder, paths):
+    """For each file its tokens of code, without those of clauses and comments, as the kit's own reader parts them."""
+    words = [rtlib.RATTLE, "fmt", "--tokens", *[f"{folder}/{path}" for path in paths]]
+    printed = subprocess.run(words, capture_output=True, check=True).stdout
+    found = {}
+    for path, rows in zip(paths, re.split(rb"(?m)^file \d+\n", printed)[1:]):
+        with open(f"{folder}/{path}", "rb") as file:
+            data = file.read()
+        spans = re.findall(rb"(?m)^\d+ (\d+) (\d+) (?:Code|Literal) ", rows)
+        found[path] = [Token(int(a), int(b), data[int(a) : int(b)].decode(errors="replace")) for a, b in spans]
+    return found
+
+
+def module_of(path):
+    parts = path.removeprefix("src/").removesuffix(".rt").split("/")
+    return tuple(parts[:-1] if parts[-1] in ("lib", "main", "mod") else parts)
+
+
+def closing(tokens, at):
+    """The place in the list of the brace that closes the one at `at`."""
+    depth = 0
+    for place in range(at, len(tokens)):
+        depth += {"{": 1, "}": -1}.get(tokens[place].text, 0)
+        if depth == 0:
+            return place
+    return len(tokens) - 1
+
+
+def opening(tokens, at):
+    """The place of the next brace or semicolon that stands in no bracket: where an item's body opens, or it ends."""
+    depth = 0
+    for place in range(at, len(tokens)):
+        text = tokens[place].text
+        depth += (text in ("(", "[")) - (text in (")", "]"))
+        if depth == 0 and text in ("{", ";"):
+            return place
+    return len(tokens) - 1
+
+
+def without_brackets(words, opens="<", closes=">"):
+    """The words that stand in no pair of angle brackets."""
+    kept, depth = [], 0
+    for word in words:
+        depth += word == opens
+        if depth == 0:
+            kept.append(word)
+        depth -= word == closes and depth > 0
+    return kept
+
+
+def owner_of(words):
+    """The owner that an impl's head names: `impl<T> From<Failed<T>> for Fault` gives FaultFromFailed."""
+    parameters = []
+    if words[:1] == ["<"]:
+        depth, at = 0, 0
+        for at, word in enumerate(words):
+            depth += (word == "<") - (word == ">")
+            if depth == 0:
+                break
+        parameters, words = words[1:at], words[at + 1 :]
+    if "where" in words:
+        words = words[: words.index("where")]
+    if "for" not in words:
+        return [it for it in without_brackets(words) if re.fullmatch(r"\w+", it)][-1]
+    cut = words.index("for")
+    owner = [it for it in without_brackets(words[cut + 1 :]) if re.fullmatch(r"\w+", it)][-1]
+    names = without_brackets(words[:cut])
+    trait = [it for it in names if re.fullmatch(r"\w+", it)][-1]
+    arguments = [it for it in words[:cut][len(names) :] if re.fullmatch(r"[A-Za-z]\w+", it) and it not in parameters]
+    return owner + trait + "".join(arguments)
+
+
+def functions_in(path, tokens):
+    """The functions of a file. One that lies in another's body counts as a part of that one."""
+    found, scopes, at = [], [(len(tokens), module_of(path), "")], 0
+    while at < len(tokens):
+        while at >= scopes[-1][0]:
+            scopes.pop()
+        text, behind = tokens[at].text, tokens[at + 1].text if at + 1 < len(tokens) else ""
+        _, module, owner = scopes[-1]
+        if text == "fn" and re.fullmatch(r"\w+", behind):
+            body = opening(tokens, at)
+            if tokens[body].text == "{":
+                end = closing(tokens, body)
+                found.append(Function(path, tokens[body].start, tokens[end].end, module, owner, behind))
+                at = end
+            else:
+                at = body
+        elif text in ("impl", "trait", "mod"):
+            body = opening(tokens, at)
+            if tokens[body].text == "{":
+                words = [it.text for it in tokens[at + 1 : body]]
+                inner = owner_of(words) if text == "impl" else behind if text == "trait" else owner
+                scopes.append((closing(tokens, body), module + (behind,) if text == "mod" else module, inner))
+            at = body
+        at += 1
+    return found
+
+
+def functions_of(crate):
+    """The functions of a crate's source files, by the path of the file."""
+    paths = [path for path in (file[len(crate.folder) + 1 :] for file in rtlib.files_of(crate.folder))]
+    paths = [path for path in paths if path.startswith("src/") and path.endswith(".rt")]
+    return {path: functions_in(path, tokens) for path, tokens in code_tokens(crate.folder, paths).items()}

@@ -1,0 +1,71 @@
+"""The kit's own programs, read as modules: which crates there are, and the words of a check of one.
+
+Written for the wording of `rattle-kit-13b`: a function's line in what a check prints ends in `proved`, in `not proved`
+where its own proof fails, and in `no proof: it calls ..` where only that of a function below it does.
+"""
+import importlib.machinery
+import importlib.util
+import os
+import pathlib
+import shutil
+import sys
+
+sys.dont_write_bytecode = True
+
+
+def load_rt():
+    """The program `rt` as a module, which has the kit's library `rtlib` as a member."""
+    path = shutil.which("rt")
+    if not path:
+        sys.exit("wrong-bodies: there is no command rt on the PATH. It is the Rattle kit's, in the kit's folder bin")
+    loader = importlib.machinery.SourceFileLoader("rt_of_the_kit", os.path.realpath(path))
+    spec = importlib.util.spec_from_loader(loader.name, loader)
+    module = importlib.util.module_from_spec(spec)
+    sys.modules[loader.name] = module
+    loader.exec_module(module)
+    return module
+
+
+rt = load_rt()
+rtlib = rt.rtlib
+KIT_LINE = (pathlib.Path(rtlib.KIT) / "KIT-ID").read_text().strip()
+
+
+def remember_sums():
+    """Has a crate's sum over its sources, and over those of all crates below it, computed once in this run."""
+    known = {}
+    compute = rtlib.Crate.stamp
+
+    def stamp(crate):
+        if crate.folder not in known:
+            known[crate.folder] = compute(crate)
+        return known[crate.folder]
+
+    rtlib.Crate.stamp = stamp
+
+
+def crates_of(root):
+    """The crates that crates.txt lists, by name, lowest first."""
+    os.environ.pop(rtlib.ALLOW_C, None)
+    rtlib.guarded()
+    remember_sums()
+    return {crate.name: crate for crate in rtlib.crates_below(str(root))}
+
+
+def build_below(crate):
+    """Builds the libraries below the crate that do not stand built from these sources. Returns whether all stand."""
+    return not any(below.build_rlib(["--jobs", "1"], anew=False) for below in crate.below())
+
+
+def processors():
+    return rt.processors()
+
+
+def free_memory():
+    """The free memory in bytes."""
+    return rt.free()
+
+
+def likely_memory(crate):
+    """The memory that a check of the crate is likely to take, in bytes."""
+    return rt.need(crate)

@@ -1,0 +1,105 @@
+"""What a check says of each function, and what follows for the edits that stood in the checked text."""
+import enum
+import re
+
+from kit import rt
+
+
+class Verdict(enum.Enum):
+    REFUSED = "refused"
+    PASSES = "NOT REFUSED"
+    UNJUDGED = "NOT JUDGED"
+
+
+class Line(enum.Enum):
+    PROVED = 1
+    FAILS = 2  # the function's own proof fails
+    CALLS = 3  # only the proof of a function that it calls fails
+    UNCLEAR = 4
+
+
+# An error in a proof file that only says that a name is gone which the proof cites.
+NAMES = re.compile(r"has no field|is not in scope|has no `|was not admitted|can be named from here|was not checked")
+
+
+def line_kind(said):
+    if said.startswith("proved"):
+        return Line.PROVED
+    if said.startswith("not proved") or "`search` did not prove" in said:
+        return Line.FAILS
+    return Line.CALLS if said.startswith("no proof: it calls ") else Line.UNCLEAR
+
+
+class Report:
+    """What a check printed, taken apart."""
+
+    def __init__(self, crate, status, text):
+        self.crate, self.status, self.text = crate, status, text
+        self.lines = text.rstrip("\n").split("\n")
+        self.of_functions = {}
+        for row in self.lines:
+            found = re.match(r"fn (\S+): (.*)", row)
+            if found:
+                self.of_functions[found[1]] = line_kind(found[2])
+
+    def reached_the_prover(self):
+        return bool(re.match(r"(logic|only)=", self.lines[-1])) and not rt.rtlib.STALE.search(self.text)
+
+    def unread(self, texts):
+        """The files of the edited texts that hold a line which the prover could not read."""
+        bad = [row for row in self.lines if rt.unread(row, texts)]
+        return {re.match(r"(?:\./)?(\S+?):", row)[1] for row in bad}
+
+    def refused_by_the_front_end(self, edits, line_of):
+        """The edits in whose functions the front end, which comes before the prover, found an error."""
+        found = re.findall(r"(?m)^(?:\./)?(src/\S+?):(\d+):\d+: error", self.text)
+        places = {(path, int(line)) for path, line in found}
+
+        def holds(function):
+            first, last = line_of(function.path, function.begin), line_of(function.path, function.end)
+            return any(path == function.path and first <= line <= last for path, line in places)
+
+        return [edit for edit in edits if any(holds(it) for it in edit.functions)]
+
+    def names_of(self, function):
+        return [it for it in self.of_functions if function.is_named(self.crate.name, it)]
+
+    def kinds_of(self, edit):
+        return {self.of_functions[name] for it in edit.functions for name in self.names_of(it)}
+
+    def fails_alone(self, edits):
+        """The functions without an edit whose own proof fails."""
+        edited = {name for edit in edits for it in edit.functions for name in self.names_of(it)}
+        return [it for it, kind in self.of_functions.items() if kind is Line.FAILS and it not in edited]
+
+    def reasons(self, edit, line_of):
+        """The lines that say why the edit's functions fail, those that name more than what went away first."""
+        told = []
+        for function in edit.functions:
+            first, last = line_of(function.path, function.begin), line_of(function.path, function.end)
+            folders = ["proofs/" + name.partition("::")[2].replace("::", "/") + "/" for name in self.names_of(function)]
+            for row in self.lines:
+                at = re.match(r"(?:note: )?(?:\./)?(\S+?):(\d+):\d+: ?(.*)", row)
+                if not at:
+                    continue
+                is_proof = at[1].startswith(tuple(folders)) if folders else False
+                is_code = at[1] == function.path and first <= int(at[2]) <= last
+                if (is_proof and "error" in row) or is_code:
+                    told.append((is_proof and bool(NAMES.search(row)), row))
+        return [row for _, row in sorted(told, key=lambda it: it[0])], bool(told) and all(weak for weak, _ in told)
+
+    def verdict(self, edit):
+        """What the check says of an edit that lies in functions, or None where it has to be tried alone."""
+        kinds = self.kinds_of(edit)
+        if Line.FAILS in kinds:
+            return Verdict.REFUSED
+        return Verdict.PASSES if kinds == {Line.PROVED} else None
+
+    def verdict_of_all(self, texts):
+        """What a check of the whole crate says of the one edit that its text has."""
+        if not self.reached_the_prover() or self.unread(texts):
+            return Verdict.UNJUDGED
+        if self.status == 0:
+            return Verdict.PASSES
+        fails = Line.FAILS in self.of_functions.values()
+        return Verdict.REFUSED if fails and self.lines[-1].startswith("logic=not-proved") else Verdict.UNJUDGED
