@@ -13,17 +13,19 @@ use layout::Layout;
 use phase::Took;
 use tag::{Refusal, Stamp};
 
-/// What a caller may ask of an object: a call is named by its number from 1, a message by its place in the mail.
+/// A step that a caller asks of an object. It names a call by its number, from 1, and a message by its place in the
+/// mail, from 0.
 #[derive(Debug, Drop)]
 pub enum Act {
     CallRead,
     CallWrite(Bytes),
     CallMove(Layout),
     Advance(u64),
-    /// The call of this number begins anew.
+    /// Restarts the call of this number.
     Again(u64),
     /// The coded value of the call of this number.
     Supply(u64, Coded),
+    /// Resends the requests of the current phase of the call of this number.
     Post(u64),
     /// The value that was decoded for the call of this number.
     Settle(u64, Decoded),
@@ -34,10 +36,10 @@ pub enum Act {
     Repeat(usize),
 }
 
-/// What an act answers.
+/// The result of an act.
 #[derive(Debug, Drop)]
 pub enum Answered {
-    /// The number of the call that begins.
+    /// The number of the call that began.
     Call(u64),
     Receipt(Receipt),
     Took(Took),
@@ -45,7 +47,7 @@ pub enum Answered {
 }
 
 impl Register {
-    /// The step that an act asks for. `object` is the object's place for a receipt.
+    /// Makes the step that an act asks for, at step `now`. A receipt gets `object` as the object's place.
     ///
     /// It is refused as the method of the act's name is.
     pub fn act(&mut self, act: Act, object: u32, now: Stamp) -> Result<Answered, Refusal>

@@ -1,5 +1,8 @@
-//! One object: its positions with their banks, its mail and its calls, and the steps that change them.
-//! The type of a register keeps its record sound, so that what `record` proves of sound records holds of each register.
+//! One object in running code: its positions with their banks, its mail, its calls, and the steps that change them. A
+//! bank is one server's state for one position.
+//!
+//! The invariant of `Register` says that its record is sound. So all that `record` proves of sound records holds of
+//! every `Register`.
 #![tactic(auto)]
 
 pub use act::{Act, Answered};

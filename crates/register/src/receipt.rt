@@ -4,19 +4,19 @@ use bytes::Bytes;
 use record::{Operation, Want};
 use tag::{Stamp, Tag};
 
-/// What an answered call leaves in the hands of its client.
+/// What the client of an answered call gets.
 #[derive(Clone, Debug, PartialEq, Eq, Drop)]
 pub struct Receipt {
-    /// The object's place in the order of creation.
+    /// The object's place in the order of creation, from 0.
     pub object: u32,
     pub operation: Operation,
     /// The call's number in its object, from 1.
     pub call: u64,
-    /// The step of the call.
+    /// The number of the step that began the call.
     pub called: Stamp,
-    /// The step of the answer.
+    /// The number of the step that answered it.
     pub answered: Stamp,
-    /// The value written or read; none of a move.
+    /// The value that was written or read; none for a move.
     pub value: Option<Bytes>,
 }
 
@@ -24,16 +24,17 @@ pub struct Receipt {
 #[derive(Clone, Copy, Debug, PartialEq, Eq)]
 pub struct CallView {
     pub kind: Operation,
-    /// The number of its current phase, from 1.
+    /// The number of its current phase in the call, from 1.
     pub number: u32,
     /// What that phase asks.
     pub phase: Kind,
-    /// The position that it asks.
+    /// The position whose members that phase asks, from 0.
     pub position: u32,
-    /// How many replies it took, and how many make its quorum.
+    /// How many replies the phase took.
     pub replies: u8,
+    /// How many replies make its quorum.
     pub quorum: u8,
-    /// The call's tag, once its queries are complete, or the one that its current phase fetches.
+    /// The tag that the current phase fetches, or else the call's tag, once its queries are complete.
     pub tag: Option<Tag>,
     pub want: Want,
 }

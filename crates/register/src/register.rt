@@ -17,11 +17,13 @@ mod retiring;
 mod room;
 mod views;
 
-/// One object, with the number of the step that made it what it is.
+/// One object, with the number of its last step.
 ///
-/// Each call that changes it takes the number `now` of the step that it makes, which is after all steps before. A call
-/// that is refused changes nothing, and is refused for the first cause that holds by the order of refusals, or else
-/// for want of memory.
+/// Each method that changes the object is one step. It takes the number `now` of that step, which must be greater than
+/// the number of the last step; numbers need not be consecutive. A method that is refused changes nothing. Where
+/// several refusals apply, it returns the first of them in the order NoCall, NoMessage, NotNow, MovePending, TooLong,
+/// Collected, WrongCode, Full, NoMemory. `NoMemory` means that an allocation was refused; a method whose comment says
+/// that it allocates no memory never returns it.
 #[derive(Debug, Drop)]
 pub struct Register {
     // How many finalized versions the banks keep beside the newest; all where there is none.
@@ -76,9 +78,10 @@ impl Model for Register {
 impl Register {
     ghost use Rattle.record.specs.Steps.{opened_object};
 
-    /// An object with one position and no calls. The banks of all its positions keep `delta` finalized versions beside
-    /// the newest, or all where there is none; those of the first are opened at step `now`. `NoMemory` is the only
-    /// refusal.
+    /// An object with one position, of this layout, and no calls. Step `now` opens the n banks of the position.
+    ///
+    /// `delta` is how many finalized versions the banks of all positions keep beside the newest; without it they keep
+    /// all pieces. `NoMemory` is the only refusal.
     pub fn new(
         alloc: Global,
         layout: Layout,
@@ -103,7 +106,7 @@ impl Register {
         })
     }
 
-    /// The number of the step that made the object what it is.
+    /// The number of the object's last step.
     pub fn last(&self) -> Stamp
         ensures { result ≡ self.now.last }
     {

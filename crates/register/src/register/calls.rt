@@ -27,9 +27,11 @@ use tag::{LONGEST_VALUE, MOST_STEPS, Refusal, Stamp};
 use transfer::first_stage;
 
 impl Register {
-    /// A read begins, with its first phase, at the base. It answers the call's number.
+    /// Begins a read: its first phase sends a request Next to each of the n members of the base. Returns the call's
+    /// number, counted from 1.
     ///
-    /// `Full` where a limit of the steps, of the calls or of the messages is met.
+    /// `Full` where `now` is above `MOST_STEPS`, the object has `MOST_CALLS` calls, or the n requests would make more
+    /// than `MOST_MESSAGES` waiting messages.
     pub fn call_read(&mut self, now: Stamp) -> Result<u64, Refusal>
         requires after { self.old.last < now }
         ensures step { OnOk result (self.new ≡ made Step.CallRead now self.old) }
@@ -40,9 +42,10 @@ impl Register {
         self.begin_reading(CallKind::Read, now)
     }
 
-    /// A write of a value begins, with its first phase, at the base. It answers the call's number.
+    /// Begins a write of a value: its first phase sends a request Next to each of the n members of the base. Returns
+    /// the call's number, counted from 1.
     ///
-    /// `TooLong` where the value is longer than `LONGEST_VALUE`, and `Full` as for a read.
+    /// `TooLong` where the value is longer than `LONGEST_VALUE` bytes, and `Full` as for `call_read`.
     pub fn call_write(&mut self, value: Bytes, now: Stamp) -> Result<u64, Refusal>
         requires after { self.old.last < now }
         ensures step { OnOk result (self.new ≡ made (Step.CallWrite value) now self.old) }
@@ -85,11 +88,13 @@ impl Register {
         Ok(number)
     }
 
-    /// A move to a layout begins, with its first phase: the next position is there from now on, with its banks. It
-    /// answers the call's number.
+    /// Begins a move to a layout. The next position exists from this step on, with a bank for each member of the
+    /// layout. The first phase spreads Pending: it sends a request to each member of the position that was the last one
+    /// so far. Returns the call's number, counted from 1.
     ///
-    /// `MovePending` where a move is not answered, and `Full` where a limit of the steps, of the positions, of the
-    /// calls or of the messages is met.
+    /// `MovePending` where an earlier move is not answered. `Full` where `now` is above `MOST_STEPS`, the object has
+    /// `MOST_POSITIONS` positions or `MOST_CALLS` calls, or the requests would make more than `MOST_MESSAGES` waiting
+    /// messages.
     pub fn call_move(&mut self, layout: Layout, now: Stamp) -> Result<u64, Refusal>
         requires after { self.old.last < now }
         ensures step { OnOk result (self.new ≡ made (Step.CallMove layout) now self.old) }
@@ -127,10 +132,11 @@ impl Register {
         Ok(number)
     }
 
-    /// The call of this number is answered. `object` is the object's place for the receipt.
+    /// Answers the call of this number. The receipt gets `object` as the object's place, and `now` as the step of the
+    /// answer.
     ///
-    /// `NoCall` where there is no such call, `NotNow` unless it wants to be answered, and `Full` where the limit of
-    /// steps is met.
+    /// `NoCall` where there is no call of this number, `NotNow` unless the call wants to be answered, and `Full` where
+    /// `now` is above `MOST_STEPS`.
     pub fn answer(&mut self, call: u64, object: u32, now: Stamp) -> Result<Receipt, Refusal>
         requires after { self.old.last < now }
         ensures step { OnOk result (self.new ≡ made (Step.AnswerCall (pred call)) now self.old) }

@@ -1,4 +1,4 @@
-//! The values that calls code, and those that they settle.
+//! The values that calls encode, and those that they settle.
 
 ghost use Rattle.std.specs.Prelude.{◌≡◌, ◌⊎◌, ◌≤◌, ◌<◌, pred, [], length, option_copied, OnOk, OnErr, IfOk, Some, None};
 ghost use Rattle.tag.specs.Refusal.{IsByCause, IsExactlyByCause};
@@ -29,11 +29,11 @@ use tag::{MOST_STEPS, Refusal, Stamp};
 use transfer::due;
 
 impl Register {
-    /// A copy, which shares its bytes, of the value whose pieces the call of this number is to send, with the k and the
-    /// n of the layout that they are for.
+    /// The value whose pieces the call of this number is to send, with the k and the n of the layout that gets them.
+    /// The value is a copy that shares its bytes.
     ///
-    /// `NoCall` where there is no such call, and `NotNow` unless its due phase sends pieces, or its current one sends
-    /// them and lacks a quorum.
+    /// `NoCall` where there is no call of this number. `NotNow` unless the phase that is due sends pieces, or the
+    /// current phase sends them and has no quorum of replies yet.
     pub fn value_to_code(&self, call: u64) -> Result<(Bytes, u8, u8), Refusal>
         ensures value { IfOk result (λ r. coding_at self.now.object call ≡ Some r) }
         ensures cause { IsByCause (value_cause self.now.object call) result }
@@ -50,10 +50,12 @@ impl Register {
         Ok((value.clone()?, layout.k(), layout.n()))
     }
 
-    /// Whether a call may be supplied at step `now` with its own value, before that is coded. It takes no memory.
+    /// Whether the call of this number may be supplied at step `now` with its own value, so that the value need not be
+    /// encoded in vain. It changes nothing and allocates no memory.
     ///
-    /// `NoCall` and `NotNow` as for `value_to_code`, and `Full` where a limit of the steps, of the call's phases or of
-    /// the messages is met: for any coded value that is not the wrong one, `supply` is refused for the same.
+    /// `NoCall` and `NotNow` as for `value_to_code`. `Full` where `now` is above `MOST_STEPS`, the call has
+    /// `MOST_PHASES` phases and would begin one more, or the requests would make more than `MOST_MESSAGES` waiting
+    /// messages. For every coded value that is not refused as `WrongCode`, `supply` has the same cause.
     pub fn may_supply(&self, call: u64, now: Stamp) -> Result<(), Refusal>
         requires after { self.now.last < now }
         ensures cause { IsExactlyByCause (supplying_cause now self.now.object call) result }
@@ -79,11 +81,12 @@ impl Register {
         }
     }
 
-    /// The coded value of the call of this number: its pieces begin the phase that is due, or, where that phase has
-    /// begun, they go again to each member without a recorded reply and without a waiting message of the phase.
+    /// Hands in the encoded value of the call of this number. Its n pieces begin the phase that is due. Where that
+    /// phase has begun already, they are sent again to each member that has no recorded reply and no waiting message of
+    /// the phase.
     ///
-    /// `NoCall` and `NotNow` as for `value_to_code`, `WrongCode` unless the value is that one, coded for that k and n,
-    /// and `Full` where a limit of the steps, of the call's phases or of the messages is met.
+    /// `NoCall` and `NotNow` as for `value_to_code`, `WrongCode` unless `coded` has the value, the k and the n that
+    /// `value_to_code` gives, and `Full` as for `may_supply`.
     pub fn supply(&mut self, call: u64, coded: Coded, now: Stamp) -> Result<(), Refusal>
         requires after { self.old.last < now }
         ensures step { OnOk result (self.new ≡ made (Step.Supply (pred call)) now self.old) }
@@ -127,10 +130,11 @@ impl Register {
         }
     }
 
-    /// Of the pieces that the call's current phase took, the k of least points.
+    /// The pieces that the call of this number is to decode: the k of least points among those that its current phase
+    /// took, by rising point.
     ///
-    /// `NoCall` where there is no such call, `NotNow` unless it wants to settle a value, and `Collected` where its
-    /// fetch lacks pieces.
+    /// `NoCall` where there is no call of this number, `NotNow` unless the call wants to settle a value, and
+    /// `Collected` where its fetch lacks pieces, so that it wants to be restarted.
     pub fn pieces(&self, call: u64) -> Result<Vec<Piece>, Refusal>
         ensures pieces { IfOk result (λ ps. ps.items ≡ pieces_at self.now.object call) }
         ensures cause { IsByCause (pieces_cause self.now.object call) result }
@@ -156,11 +160,11 @@ impl Register {
         Ok(pieces)
     }
 
-    /// The call of this number settles the value that was decoded from pieces of its current phase.
+    /// The call of this number settles the value that was decoded. It allocates no memory.
     ///
-    /// `NoCall` where there is no such call, `NotNow` unless it wants to settle a value, `Collected` where its fetch
-    /// lacks pieces, `WrongCode` unless the value was decoded from k pieces that were all recorded in that phase, and
-    /// `Full` where the limit of steps is met. It takes no memory.
+    /// `NoCall` where there is no call of this number, `NotNow` unless the call wants to settle a value, `Collected`
+    /// where its fetch lacks pieces, `WrongCode` unless the value was decoded from k pieces that its current phase
+    /// took, and `Full` where `now` is above `MOST_STEPS`.
     pub fn settle(&mut self, call: u64, decoded: Decoded, now: Stamp) -> Result<(), Refusal>
         requires after { self.old.last < now }
         ensures step { OnOk result (self.new ≡ made (Step.Settle (pred call) decoded.value) now self.old) }

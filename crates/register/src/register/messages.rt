@@ -1,4 +1,4 @@
-//! Steps of messages.
+//! Steps that handle messages. A place is the index of a message in the object's mail, from 0.
 
 ghost use Rattle.std.specs.Prelude.{◌≡◌, ◌<◌, OnOk, OnErr, IfOk};
 ghost use Rattle.tag.specs.Refusal.{IsByCause, IsExactlyByCause};
@@ -13,10 +13,11 @@ use phase::Took;
 use tag::{MOST_BYTES, MOST_STEPS, Refusal, Stamp};
 
 impl Register {
-    /// The member to whom the request at a place goes serves it, and its reply stands in the request's place.
+    /// The member that the request at a place is for serves it. Its reply takes the place of the request.
     ///
-    /// `NoMessage` where there is none, `NotNow` where it is a reply, and `Full` where the limit of steps is met or the
-    /// request's piece has no room beside all that the object stores.
+    /// `NoMessage` where there is no message at this place, `NotNow` where it is a reply, and `Full` where `now` is
+    /// above `MOST_STEPS`, or the bytes of the request's piece and all that the object stores are together more than
+    /// `MOST_BYTES`.
     pub fn serve(&mut self, place: usize, now: Stamp) -> Result<(), Refusal>
         requires after { self.old.last < now }
         ensures step { OnOk result (self.new ≡ made (Step.Serve place) now self.old) }
@@ -49,10 +50,11 @@ impl Register {
         Ok(())
     }
 
-    /// The call that the reply at a place names takes it.
+    /// The call that the reply at a place names takes it, and returns what it did with it. The message leaves the mail,
+    /// and later ones move down by one place. It allocates no memory.
     ///
-    /// `NoMessage` where there is none, `NotNow` where it is a request, and `Full` where the limit of steps is met. It
-    /// takes no memory.
+    /// `NoMessage` where there is no message at this place, `NotNow` where it is a request, and `Full` where `now` is
+    /// above `MOST_STEPS`.
     pub fn take(&mut self, place: usize, now: Stamp) -> Result<Took, Refusal>
         requires after { self.old.last < now }
         ensures step { OnOk result (self.new ≡ made (Step.Take place) now self.old) }
@@ -76,9 +78,9 @@ impl Register {
         Ok(took)
     }
 
-    /// The message at a place is lost.
+    /// The message at a place is lost. Later ones move down by one place. It allocates no memory.
     ///
-    /// `NoMessage` where there is none, and `Full` where the limit of steps is met. It takes no memory.
+    /// `NoMessage` where there is no message at this place, and `Full` where `now` is above `MOST_STEPS`.
     pub fn lose(&mut self, place: usize, now: Stamp) -> Result<(), Refusal>
         requires after { self.old.last < now }
         ensures step { OnOk result (self.new ≡ made (Step.Lose place) now self.old) }
@@ -96,9 +98,10 @@ impl Register {
         Ok(())
     }
 
-    /// A copy of the message at a place is posted behind those that wait.
+    /// A copy of the message at a place is put at the end of the mail.
     ///
-    /// `NoMessage` where there is none, and `Full` where the limit of steps is met or one more has no room.
+    /// `NoMessage` where there is no message at this place, and `Full` where `now` is above `MOST_STEPS` or
+    /// `MOST_MESSAGES` messages wait.
     pub fn repeat(&mut self, place: usize, now: Stamp) -> Result<(), Refusal>
         requires after { self.old.last < now }
         ensures step { OnOk result (self.new ≡ made (Step.Repeat place) now self.old) }

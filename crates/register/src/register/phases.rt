@@ -24,7 +24,9 @@ use tag::{MOST_STEPS, Refusal, Stamp};
 use transfer::{begun_at, due};
 
 impl Register {
-    /// What the call of this number wants. `NoCall` where there is no such call.
+    /// What the call of this number wants next: `Done` where it is answered. It allocates no memory.
+    ///
+    /// `NoCall` where there is no call of this number.
     pub fn want(&self, call: u64) -> Result<Want, Refusal>
         ensures want { IfOk result (λ w. want_at self.now.object call ≡ Some w) }
         ensures cause { IsExactlyByCause (number_cause self.now.object call) result }
@@ -35,10 +37,12 @@ impl Register {
         }
     }
 
-    /// The call of this number begins the phase that is due, where that sends no pieces.
+    /// The call of this number begins the phase that is due, where that phase sends no pieces: a request goes to each
+    /// of the n members of its position.
     ///
-    /// `NoCall` where there is no such call, `NotNow` unless it wants to advance, and `Full` where a limit of the
-    /// steps, of its phases or of the messages is met.
+    /// `NoCall` where there is no call of this number, `NotNow` unless the call wants to advance, and `Full` where
+    /// `now` is above `MOST_STEPS`, the call has `MOST_PHASES` phases, or the requests would make more than
+    /// `MOST_MESSAGES` waiting messages.
     pub fn advance(&mut self, call: u64, now: Stamp) -> Result<(), Refusal>
         requires after { self.old.last < now }
         ensures step { OnOk result (self.new ≡ made (Step.Advance (pred call)) now self.old) }
@@ -48,10 +52,11 @@ impl Register {
         self.begin_due(call, false, now)
     }
 
-    /// The call of this number, whose fetch lacks pieces, begins anew: a read its first reading, at the base of now, a
-    /// move its query. Its phases are numbered on.
+    /// Restarts the call of this number, whose fetch lacks pieces: a read with a first reading, which begins at the
+    /// base of this step, and a move with its query. The numbers of its phases go on.
     ///
-    /// `NoCall` where there is no such call, `NotNow` unless it wants to begin anew, and `Full` as for `advance`.
+    /// `NoCall` where there is no call of this number, `NotNow` unless the call wants to be restarted, and `Full` as
+    /// for `advance`.
     pub fn again(&mut self, call: u64, now: Stamp) -> Result<(), Refusal>
         requires after { self.old.last < now }
         ensures step { OnOk result (self.new ≡ made (Step.Again (pred call)) now self.old) }
@@ -95,11 +100,12 @@ impl Register {
         }
     }
 
-    /// The current phase of the call of this number asks again: a request goes to each member without a recorded reply
-    /// and without a waiting message of the phase.
+    /// Resends the requests of the current phase of the call of this number: one to each member that has no recorded
+    /// reply and no waiting message of the phase. It is a step even where there is no such member.
     ///
-    /// `NoCall` where there is no such call, `NotNow` unless its current phase lacks a quorum and sends no pieces, and
-    /// `Full` where the limit of steps is met or the messages have no room.
+    /// `NoCall` where there is no call of this number, `NotNow` unless its current phase lacks a quorum and sends no
+    /// pieces (see `supply`), and `Full` where `now` is above `MOST_STEPS` or the requests would make more than
+    /// `MOST_MESSAGES` waiting messages.
     pub fn post(&mut self, call: u64, now: Stamp) -> Result<(), Refusal>
         requires after { self.old.last < now }
         ensures step { OnOk result (self.new ≡ made (Step.Post (pred call)) now self.old) }

@@ -12,7 +12,7 @@ use crate::register::Register;
 use tag::{MOST_STEPS, Refusal, Stamp};
 
 impl Register {
-    /// How many bytes of pieces the base's banks store whose member is this server.
+    /// How many bytes of pieces this server stores at the base: 0 where it is no member there. It allocates no memory.
     pub fn stored_at_base(&self, server: u8) -> u64
         ensures value { result ≡ base_bytes_of self.now.object server }
         ensures within { result ≤ MOST_BYTES }
@@ -20,9 +20,10 @@ impl Register {
         self.positions[self.base as usize].stored(server)
     }
 
-    /// Whether a position may be retired at step `now`. It takes no memory.
+    /// Whether a position may be retired at step `now`. It changes nothing and allocates no memory.
     ///
-    /// `NotNow` unless it is the base, and the move out of it was answered, and `Full` where the limit of steps is met.
+    /// `NotNow` unless the position is the base and the move out of it was answered, and `Full` where `now` is above
+    /// `MOST_STEPS`.
     pub fn may_retire(&self, position: u64, now: Stamp) -> Result<(), Refusal>
         requires after { self.now.last < now }
         ensures cause { IsExactlyByCause (retire_cause now self.now.object position) result }
@@ -40,10 +41,10 @@ impl Register {
         Ok(())
     }
 
-    /// The base is retired: its banks drop all pieces, and those that come from now on, and the next position is the
-    /// base. It answers how many bytes that frees.
+    /// Retires a position, which must be the base. Its banks drop all pieces, and drop those that come later; the next
+    /// position becomes the base. Returns how many bytes this frees. It allocates no memory.
     ///
-    /// It is refused as `may_retire` is, and takes no memory.
+    /// It is refused as `may_retire` is.
     pub fn retire(&mut self, position: u64, now: Stamp) -> Result<u64, Refusal>
         requires after { self.old.last < now }
         ensures step { OnOk result (self.new ≡ made Step.Retire now self.old) }

@@ -10,9 +10,10 @@ use crate::requests::has_room;
 use tag::{MOST_CALLS, MOST_POSITIONS, MOST_STEPS, Refusal, Stamp};
 
 impl Register {
-    /// Whether a read may begin at step `now`, or a write of a value that is not too long. It takes no memory.
+    /// Whether a read may begin at step `now`, or a write of at most `LONGEST_VALUE` bytes. It changes nothing and
+    /// allocates no memory.
     ///
-    /// `Full` where a limit of the steps, of the calls or of the messages is met.
+    /// `Full` as for `call_read`.
     pub fn may_call(&self, now: Stamp) -> Result<(), Refusal>
         requires after { self.now.last < now }
         ensures cause { IsExactlyByCause (read_cause now self.now.object) result }
@@ -30,10 +31,9 @@ impl Register {
         Ok(())
     }
 
-    /// Whether a move may begin at step `now`, to whatever layout. It takes no memory.
+    /// Whether a move may begin at step `now`, whatever its layout. It changes nothing and allocates no memory.
     ///
-    /// `MovePending` where a move is not answered, and `Full` where a limit of the steps, of the positions, of the
-    /// calls or of the messages is met.
+    /// `MovePending` and `Full` as for `call_move`.
     pub fn may_move(&self, now: Stamp) -> Result<(), Refusal>
         requires after { self.now.last < now }
         ensures cause { (layout : Arrangement) → IsExactlyByCause (move_cause layout now self.now.object) result }

@@ -1,4 +1,4 @@
-//! What is read of an object without a step.
+//! What is read of an object without a step. Positions, members and servers count from 0, and calls from 1.
 
 ghost use Rattle.std.specs.Prelude.{◌≡◌, ◌≤◌, option_copied, option_map, slice_get, IfOk, IfErr, Some};
 ghost use Rattle.tag.specs.declared.limits.TheConstants.{MOST_BYTES};
@@ -28,7 +28,7 @@ use tag::{Refusal, Tag};
 use transfer::stage_tag;
 
 impl Register {
-    /// What every step keeps: the record is sound, and within the written limits. It does nothing, and takes no memory.
+    /// A law: the record is sound and within the written limits. It changes nothing and allocates no memory.
     pub fn soundness(&self)
         ensures sound { IsSound fragment self.now.object self.now.last }
         ensures limits { IsWithinLimits self.now.object }
@@ -37,14 +37,14 @@ impl Register {
         let _ = &self.positions;
     }
 
-    /// Whether a move is not answered.
+    /// Whether the object has a move that is not answered.
     pub fn is_moving(&self) -> bool
         ensures { result ≡ has_open_move self.now.object.calls }
     {
         self.is_moving
     }
 
-    /// One entry for each call. `NoMemory` is the only refusal.
+    /// One entry for each call, in the order of their numbers. `NoMemory` is the only refusal.
     pub fn entries(&self) -> Result<Vec<Entry>, Refusal>
         ensures entries { IfOk result (λ es. es.items ≡ entries self.now.object) }
         ensures refused { IfErr result (λ e. e ≡ NoMemory) }
@@ -56,7 +56,9 @@ impl Register {
         Ok(entries)
     }
 
-    /// The entry of the call of this number. `NoCall` where there is no such call.
+    /// The entry of the call of this number.
+    ///
+    /// `NoCall` where there is no call of this number.
     pub fn entry(&self, call: u64) -> Result<Entry, Refusal>
         ensures entry { IfOk result (λ e. option_map (entry_of call) (call_at self.now.object call) ≡ Some e) }
         ensures cause { IsByCause (number_cause self.now.object call) result }
@@ -68,7 +70,7 @@ impl Register {
         self.calls[index].entry(call)
     }
 
-    /// How many bytes of pieces the banks store whose member is this server.
+    /// How many bytes of pieces this server stores, over all positions of which it is a member.
     pub fn stored(&self, server: u8) -> u64
         ensures value { result ≡ stored self.now.object server }
         ensures within { result ≤ MOST_BYTES }
@@ -96,7 +98,9 @@ impl Register {
         self.mail.bytes()
     }
 
-    /// How far the call of this number has come. `NoCall` where there is no such call.
+    /// How far the call of this number has come. It allocates no memory.
+    ///
+    /// `NoCall` where there is no call of this number.
     pub fn call_view(&self, call: u64) -> Result<CallView, Refusal>
         ensures view { IfOk result (λ v. view_at self.now.object call ≡ Some v) }
         ensures cause { IsExactlyByCause (number_cause self.now.object call) result }
@@ -121,7 +125,7 @@ impl Register {
         })
     }
 
-    /// The phases of the call of this number, the first one first. There is none where there is no such call.
+    /// The phases of the call of this number, the first one first. There are none where there is no such call.
     pub fn phases_view(&self, call: u64) -> &[Phase]
         ensures { result.now ≡ phases_at self.now.object call }
     {
@@ -131,14 +135,14 @@ impl Register {
         }
     }
 
-    /// The messages that wait.
+    /// The waiting messages, by place.
     pub fn mail_view(&self) -> &Mail
         ensures { result.now ≡ self.now.object.mail }
     {
         &self.mail
     }
 
-    /// The bank of a member of a position.
+    /// The bank of a member of a position. None where there is no such position or member.
     pub fn bank_view(&self, position: u32, member: u8) -> Option<&Bank>
         ensures { option_copied result ≡ bank_there self.now.object position member }
     {
@@ -148,14 +152,14 @@ impl Register {
         }
     }
 
-    /// The base: the first position that is not retired. A reading that begins now begins there.
+    /// The base: the first position that is not retired. A first reading that begins now begins there.
     pub fn base(&self) -> u32
         ensures { result ≡ base_of self.now.object }
     {
         self.base
     }
 
-    /// The layout of a position.
+    /// The layout of a position. None where there is no such position.
     pub fn layout_view(&self, position: u32) -> Option<&Layout>
         ensures { option_copied result ≡ slice_get self.now.object.layouts position }
     {
@@ -163,7 +167,7 @@ impl Register {
         Some(place.layout())
     }
 
-    /// The tag of the call of this number, once it has one.
+    /// The tag of the call of this number. None where there is no such call, or its queries are not complete.
     pub fn tag_view(&self, call: u64) -> Option<Tag>
         ensures { result ≡ tag_at self.now.object call }
     {
@@ -173,7 +177,7 @@ impl Register {
         }
     }
 
-    /// The server that is a member of a position.
+    /// The server that is this member of a position. None where there is no such position or member.
     pub fn server(&self, position: u32, member: u8) -> Option<u8>
         ensures { result ≡ slice_get (layout_at self.now.object position).members member }
     {
@@ -186,7 +190,8 @@ impl Register {
         }
     }
 
-    /// The value that the call of this number writes, or has settled so far.
+    /// The value that the call of this number writes, or has settled. None where there is no such call, or a read or a
+    /// move has settled none yet.
     pub fn value_view(&self, call: u64) -> Option<&Bytes>
         ensures { option_copied result ≡ value_at self.now.object call }
     {
