@@ -24,13 +24,19 @@ mod retiring;
 mod room;
 mod setup;
 
-/// The number of a layout of a cluster, from 0 in the order in which they were added.
+/// The number of a layout of a cluster, from 0 in the order in which the layouts were added.
 pub type LayoutId = u32;
 
 /// All objects by name, in order of creation, with the layouts and the servers.
 ///
-/// Each call that is a step raises the counter by one. A call that is refused changes nothing, and is refused for the
-/// first cause that holds by the order of refusals, or else for want of memory.
+/// Each method that changes the cluster is one step, and raises the counter by one. A method that is refused changes
+/// nothing, not even the counter. Where several refusals apply, it returns the first of them in the order NoObject,
+/// ObjectExists, NoCall, NoMessage, Down, NotNow, MovePending, BadLayout, TooLong, Collected, WrongCode, Full,
+/// NoMemory. `NoMemory` means that an allocation was refused; a method whose comment says that it allocates no memory
+/// never returns it.
+///
+/// Calls are named by their number in their object, from 1. Messages are named by their place in the object's mail,
+/// from 0.
 #[derive(Debug, Drop)]
 pub struct Cluster {
     servers: Servers,
@@ -74,7 +80,7 @@ impl Model for Cluster {
 }
 
 impl Cluster {
-    /// A cluster of so many servers, all up, with no layouts and no objects. It takes no memory.
+    /// A cluster of `servers` servers, numbered from 0, all up, with no layouts and no objects. It allocates no memory.
     pub fn new(alloc: Global, servers: u8) -> Cluster
         ensures { result ≡ record { servers = all_up servers; layouts = []; objects = []; counter = 0 } }
     {
@@ -90,7 +96,7 @@ impl Cluster {
         }
     }
 
-    /// The number of steps that were made.
+    /// How many steps were made: at most `MOST_STEPS`.
     pub fn counter(&self) -> Stamp
         ensures counter { result ≡ self.now.counter }
         ensures within { result ≤ MOST_STEPS }

@@ -15,19 +15,19 @@ use record::Entry;
 use register::Register;
 use tag::{MOST_SERVERS, Refusal};
 
-/// What a cluster answers of the bytes of its pieces.
+/// The accounts of a cluster, in bytes of pieces.
 #[derive(Debug, PartialEq, Eq, Drop)]
 pub struct Accounts {
-    /// What `stored` answers of each server, from server 0 on.
+    /// What each server stores, as `stored` returns it, from server 0 on.
     pub servers: ArrayVec<u64, MOST_SERVERS>,
-    /// What `stored_all` answers.
+    /// What all servers store, as `stored_all` returns it.
     pub stored: u64,
-    /// What `mailed` answers.
+    /// What waits in messages, as `mailed` returns it.
     pub mailed: u64,
 }
 
 impl Cluster {
-    /// How many bytes of pieces a server stores, of all objects.
+    /// How many bytes of pieces a server stores, over all objects.
     pub fn stored(&self, server: u8) -> u64
         requires { server < length self.now.servers }
         ensures { result ≡ stored self.now server }
@@ -43,7 +43,7 @@ impl Cluster {
         self.stored
     }
 
-    /// How many bytes of pieces wait in messages, of all objects.
+    /// How many bytes of pieces wait in the messages of all objects.
     pub fn mailed(&self) -> u64
         ensures value { result ≡ mailed self.now }
         ensures within { result ≤ MOST_BYTES }
@@ -67,14 +67,16 @@ impl Cluster {
         }
     }
 
-    /// How many calls all objects have.
+    /// How many calls all objects have, moves among them.
     pub fn calls(&self) -> u64
         ensures { result ≡ calls self.now.objects }
     {
         self.called
     }
 
-    /// One entry for each call of an object. `NoObject` where there is none, else `NoMemory` is the only refusal.
+    /// One entry for each call of an object, in the order of their numbers.
+    ///
+    /// `NoObject` where no object has this name; else `NoMemory` is the only refusal.
     pub fn entries(&self, name: &str) -> Result<Vec<Entry>, Refusal>
         ensures entries { IfOk result
             (λ es. if_named self.now name.now (λ object. Some (entries object)) ≡ Some es.items) }
@@ -86,7 +88,9 @@ impl Cluster {
         }
     }
 
-    /// An object, to be read. `NoObject` where there is none.
+    /// The object of this name, for reading. It allocates no memory.
+    ///
+    /// `NoObject` where no object has this name.
     pub fn register(&self, name: &str) -> Result<&Register, Refusal>
         ensures object { IfOk result (λ r. named self.now.objects name.now ≡ Some r.now) }
         ensures cause { IsExactlyByCause (object_cause self.now name.now (λ object. None)) result }

@@ -15,9 +15,11 @@ use register::{Act, Answered, Receipt};
 use tag::Refusal;
 
 impl Cluster {
-    /// A read of an object begins, with its first phase. It answers the call's number.
+    /// Begins a read of an object: its first phase sends a request Next to each of the n members of the object's base.
+    /// Returns the call's number.
     ///
-    /// `NoObject` where there is none, and `Full` where a limit of the steps, of the calls or of the messages is met.
+    /// `NoObject` where no object has this name. `Full` where the counter is at `MOST_STEPS`, the object has
+    /// `MOST_CALLS` calls, or the n requests would make more than `MOST_MESSAGES` waiting messages of the object.
     pub fn call_read(&mut self, name: &str) -> Result<u64, Refusal>
         ensures step { OnOk result (self.new ≡ stepped self.old name.entry.now (Step.CallRead)) }
         ensures number { IfOk result
@@ -33,10 +35,11 @@ impl Cluster {
         }
     }
 
-    /// A write of a value to an object begins, with its first phase. It answers the call's number.
+    /// Begins a write of a value to an object: its first phase sends a request Next to each of the n members of the
+    /// object's base. Returns the call's number.
     ///
-    /// `NoObject` where there is none, `TooLong` where the value is longer than `LONGEST_VALUE`, and `Full` as for a
-    /// read.
+    /// `NoObject` where no object has this name, `TooLong` where the value is longer than `LONGEST_VALUE` bytes, and
+    /// `Full` as for `call_read`.
     pub fn call_write(&mut self, name: &str, value: Bytes) -> Result<u64, Refusal>
         ensures step { OnOk result (self.new ≡ stepped self.old name.entry.now (Step.CallWrite value)) }
         ensures number { IfOk result
@@ -52,11 +55,14 @@ impl Cluster {
         }
     }
 
-    /// A move of an object to a layout begins, with its first phase: the next position is there from now on, with its
-    /// banks. It answers the call's number.
+    /// Begins a move of an object to a layout. The object's next position exists from this step on, with a bank for
+    /// each member of the layout. The first phase spreads Pending: it sends a request to each member of the position
+    /// that was the last one so far. Returns the call's number.
     ///
-    /// `NoObject` where there is none, `MovePending` where a move is not answered, `BadLayout` where there is no such
-    /// layout, and `Full` where a limit of the steps, of the positions, of the calls or of the messages is met.
+    /// `NoObject` where no object has this name, `MovePending` where an earlier move of the object is not answered, and
+    /// `BadLayout` where there is no layout of this number. `Full` where the counter is at `MOST_STEPS`, the object has
+    /// `MOST_POSITIONS` positions or `MOST_CALLS` calls, or the requests would make more than `MOST_MESSAGES` waiting
+    /// messages of the object.
     pub fn call_move(&mut self, name: &str, id: LayoutId) -> Result<u64, Refusal>
         ensures step { OnOk result (self.new ≡ moved self.old name.entry.now id) }
         ensures number { IfOk result
@@ -81,10 +87,10 @@ impl Cluster {
         }
     }
 
-    /// The call of this number is answered. The receipt names the object by its place in order of creation.
+    /// Answers the call of this number. The receipt names the object by its place in the order of creation.
     ///
-    /// `NoObject` or `NoCall` where there is none, `NotNow` unless it wants to be answered, and `Full` where the limit
-    /// of steps is met.
+    /// `NoObject` where no object has this name, `NoCall` where it has no call of this number, `NotNow` unless the call
+    /// wants to be answered, and `Full` where the counter is at `MOST_STEPS`.
     pub fn answer(&mut self, name: &str, call: u64) -> Result<Receipt, Refusal>
         ensures step { OnOk result (self.new ≡ stepped self.old name.entry.now (Step.AnswerCall (pred call))) }
         ensures receipt { IfOk result (λ r. if_named self.old name.entry.now (λ object.

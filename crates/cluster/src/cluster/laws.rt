@@ -13,14 +13,20 @@ use record::{
 };
 
 impl Cluster {
-    /// Each object is atomic: its answered reads and writes, with some unanswered writes, follow one register in an
-    /// order that keeps answer before call. Each piece in a bank or a message is its member's fragment of the value
-    /// that the object's journal has for its tag, which is one; a complete fetch has enough of them, or met a bank that
-    /// had dropped its own, and an answered read returns that value. A bank of an object with `delta` keeps at most
-    /// `delta` + 1 pieces of finalized tags, and a read lacks pieces only where its position was retired or that many
-    /// newer writes overtook it. What the accounts answer, which it tells, are the exact sums.
+    /// One law of what holds of every cluster. It changes nothing and allocates no memory. The clauses say:
     ///
-    /// It changes nothing, and takes no memory.
+    /// - `atomic`: each object's answered reads and writes, with some unanswered writes, follow one register in an
+    ///   order that keeps answer before call.
+    /// - `fragments`: each piece in a bank or a message is its member's fragment of the value that the object's journal
+    ///   has for its tag.
+    /// - `enough`: a complete fetch has pieces of at least k members, or one of its replies was made by a bank that had
+    ///   dropped its own.
+    /// - `few`: a bank of an object with `delta` keeps at most `delta` + 1 pieces of finalized tags.
+    /// - `overtaken`: a read's fetch lacks pieces only where its position was retired, or at least `delta` + 1 newer
+    ///   writes overtook it.
+    /// - `reads`, `journal`: an answered read returns the journal's value of its tag, and the journal has one value for
+    ///   a tag.
+    /// - `accounts`: the accounts that are returned are the exact sums of the pieces' bytes.
     pub fn atomic(&self) -> Accounts
         ensures atomic { AreAtomic self.now }
         ensures fragments { AreFragments self.now }
@@ -45,8 +51,8 @@ impl Cluster {
         told
     }
 
-    /// What every step keeps: the record of each object is sound and within the limits, and no step of it is later than
-    /// the counter. It does nothing, and takes no memory.
+    /// A law: the record of each object is sound and within the limits, and none of its steps is later than the
+    /// counter. It changes nothing and allocates no memory.
     pub fn soundness(&self)
         ensures sound { AreSound self.now }
         ensures limits { AreWithinLimits self.now }

@@ -1,4 +1,4 @@
-//! What happens to messages.
+//! Steps that handle messages.
 
 ghost use Rattle.std.specs.Prelude.{◌≡◌, ◌≤◌, Some, IfOk, OnOk, OnErr};
 ghost use Rattle.tag.specs.Refusal.{IsByCause, IsExactlyByCause};
@@ -20,10 +20,11 @@ use register::{Act, Answered, Register};
 use tag::{MOST_BYTES, MOST_STEPS, Refusal, Stamp};
 
 impl Cluster {
-    /// The server of the request at a place serves it, and its reply stands in the request's place.
+    /// The server that the request at a place is for serves it. Its reply takes the place of the request.
     ///
-    /// `NoObject` or `NoMessage` where there is none, `Down` where the server is down, `NotNow` where the message is a
-    /// reply, and `Full` where the limit of steps is met or the request's piece has no room beside all that is stored.
+    /// `NoObject` where no object has this name, `NoMessage` where there is no message at this place, `Down` where the
+    /// server is down, and `NotNow` where the message is a reply. `Full` where the counter is at `MOST_STEPS`, or the
+    /// bytes of the request's piece and all that the cluster stores are together more than `MOST_BYTES`.
     pub fn serve(&mut self, name: &str, place: usize) -> Result<(), Refusal>
         ensures step { OnOk result (self.new ≡ stepped self.old name.entry.now (Step.Serve place)) }
         ensures cause { IsByCause (object_cause self.old name.entry.now (serving_cause self.old place)) result }
@@ -59,10 +60,11 @@ impl Cluster {
         }
     }
 
-    /// The call that the reply at a place names takes it.
+    /// The call that the reply at a place names takes it, and returns what it did with it. The message leaves the mail,
+    /// and later ones move down by one place. It allocates no memory.
     ///
-    /// `NoObject` or `NoMessage` where there is none, `NotNow` where it is a request, and `Full` where the limit of
-    /// steps is met. It takes no memory.
+    /// `NoObject` where no object has this name, `NoMessage` where there is no message at this place, `NotNow` where it
+    /// is a request, and `Full` where the counter is at `MOST_STEPS`.
     pub fn take(&mut self, name: &str, place: usize) -> Result<Took, Refusal>
         ensures step { OnOk result (self.new ≡ stepped self.old name.entry.now (Step.Take place)) }
         ensures took { IfOk result
@@ -78,9 +80,10 @@ impl Cluster {
         }
     }
 
-    /// The message at a place is lost.
+    /// The message at a place is lost. Later ones move down by one place. It allocates no memory.
     ///
-    /// `NoObject` or `NoMessage` where there is none, and `Full` where the limit of steps is met. It takes no memory.
+    /// `NoObject` where no object has this name, `NoMessage` where there is no message at this place, and `Full` where
+    /// the counter is at `MOST_STEPS`.
     pub fn lose(&mut self, name: &str, place: usize) -> Result<(), Refusal>
         ensures step { OnOk result (self.new ≡ stepped self.old name.entry.now (Step.Lose place)) }
         ensures cause { IsExactlyByCause
@@ -93,10 +96,10 @@ impl Cluster {
         }
     }
 
-    /// A copy of the message at a place is posted behind those that wait.
+    /// A copy of the message at a place is put at the end of the object's mail.
     ///
-    /// `NoObject` or `NoMessage` where there is none, and `Full` where the limit of steps is met or one more message
-    /// has no room.
+    /// `NoObject` where no object has this name, `NoMessage` where there is no message at this place, and `Full` where
+    /// the counter is at `MOST_STEPS` or `MOST_MESSAGES` messages of the object wait.
     pub fn repeat(&mut self, name: &str, place: usize) -> Result<(), Refusal>
         ensures step { OnOk result (self.new ≡ stepped self.old name.entry.now (Step.Repeat place)) }
         ensures cause { IsByCause
@@ -109,9 +112,10 @@ impl Cluster {
         }
     }
 
-    /// Whether the message at a place is a reply, or a request to a server that is up. It is no step.
+    /// Whether the message at a place is a reply, or a request to a server that is up. It is no step and allocates no
+    /// memory.
     ///
-    /// `NoObject` or `NoMessage` where there is none.
+    /// `NoObject` where no object has this name, and `NoMessage` where there is no message at this place.
     pub fn can_handle(&self, name: &str, place: usize) -> Result<bool, Refusal>
         ensures value { IfOk result (λ b. if_named self.now name.now (handled_at self.now place) ≡ Some b) }
         ensures cause { IsExactlyByCause (object_cause self.now name.now (place_cause place)) result }

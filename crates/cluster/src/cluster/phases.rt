@@ -19,7 +19,9 @@ use register::Act;
 use tag::Refusal;
 
 impl Cluster {
-    /// What the call of this number wants. `NoObject` or `NoCall` where there is none.
+    /// What the call of this number wants next: `Done` where it is answered. It is no step and allocates no memory.
+    ///
+    /// `NoObject` where no object has this name, and `NoCall` where it has no call of this number.
     pub fn want(&self, name: &str, call: u64) -> Result<Want, Refusal>
         ensures want { IfOk result (λ w. if_named self.now name.now (λ object. want_at object call) ≡ Some w) }
         ensures cause { IsExactlyByCause (object_cause self.now name.now (λ object. number_cause object call)) result }
@@ -30,10 +32,12 @@ impl Cluster {
         }
     }
 
-    /// The call of this number begins the phase that is due, where that sends no pieces.
+    /// The call of this number begins the phase that is due, where that phase sends no pieces: a request goes to each
+    /// of the n members of its position.
     ///
-    /// `NoObject` or `NoCall` where there is none, `NotNow` unless it wants to advance, and `Full` where a limit of the
-    /// steps, of its phases or of the messages is met.
+    /// `NoObject` where no object has this name, `NoCall` where it has no call of this number, and `NotNow` unless the
+    /// call wants to advance. `Full` where the counter is at `MOST_STEPS`, the call has `MOST_PHASES` phases, or the
+    /// requests would make more than `MOST_MESSAGES` waiting messages of the object.
     pub fn advance(&mut self, name: &str, call: u64) -> Result<(), Refusal>
         ensures step { OnOk result (self.new ≡ stepped self.old name.entry.now (Step.Advance (pred call))) }
         ensures cause { IsByCause
@@ -46,10 +50,11 @@ impl Cluster {
         }
     }
 
-    /// The call of this number, whose fetch lacks pieces, begins anew: a read its first reading, a move its query. Its
-    /// phases are numbered on.
+    /// Restarts the call of this number, whose fetch lacks pieces: a read with a first reading, which begins at the
+    /// base of this step, and a move with its query. The numbers of its phases go on.
     ///
-    /// `NoObject` or `NoCall` where there is none, `NotNow` unless it wants to begin anew, and `Full` as for `advance`.
+    /// `NoObject` where no object has this name, `NoCall` where it has no call of this number, `NotNow` unless the call
+    /// wants to be restarted, and `Full` as for `advance`.
     pub fn again(&mut self, name: &str, call: u64) -> Result<(), Refusal>
         ensures step { OnOk result (self.new ≡ stepped self.old name.entry.now (Step.Again (pred call))) }
         ensures cause { IsByCause
@@ -62,10 +67,11 @@ impl Cluster {
         }
     }
 
-    /// A copy, which shares its bytes, of the value whose pieces the call of this number is to send, with the k and the
-    /// n of the layout that they are for.
+    /// The value whose pieces the call of this number is to send, with the k and the n of the layout that gets them.
+    /// The value is a copy that shares its bytes. It is no step.
     ///
-    /// `NoObject` or `NoCall` where there is none, and `NotNow` where there are no pieces to send.
+    /// `NoObject` where no object has this name, and `NoCall` where it has no call of this number. `NotNow` unless the
+    /// phase that is due sends pieces, or the current phase sends them and has no quorum of replies yet.
     pub fn value_to_code(&self, name: &str, call: u64) -> Result<(Bytes, u8, u8), Refusal>
         ensures value { IfOk result (λ r. if_named self.now name.now (λ object. coding_at object call) ≡ Some r) }
         ensures cause { IsByCause (object_cause self.now name.now (λ object. value_cause object call)) result }
@@ -76,11 +82,14 @@ impl Cluster {
         }
     }
 
-    /// The coded value of the call of this number: its pieces begin the phase that is due, or, where that phase has
-    /// begun, they go again to each member without a recorded reply and without a waiting message of the phase.
+    /// Hands in the encoded value of the call of this number. Its n pieces begin the phase that is due. Where that
+    /// phase has begun already, they are sent again to each member that has no recorded reply and no waiting message of
+    /// the phase.
     ///
-    /// `NoObject`, `NoCall` and `NotNow` as for `value_to_code`, `WrongCode` unless the value is that one, coded for
-    /// that k and n, and `Full` where a limit of the steps, of the call's phases or of the messages is met.
+    /// `NoObject`, `NoCall` and `NotNow` as for `value_to_code`, and `WrongCode` unless `coded` has the value, the k
+    /// and the n that `value_to_code` gives. `Full` where the counter is at `MOST_STEPS`, the call has `MOST_PHASES`
+    /// phases and would begin one more, or the requests would make more than `MOST_MESSAGES` waiting messages of the
+    /// object.
     pub fn supply(&mut self, name: &str, call: u64, coded: Coded) -> Result<(), Refusal>
         ensures step { OnOk result (self.new ≡ stepped self.old name.entry.now (Step.Supply (pred call))) }
         ensures cause { IsByCause
@@ -93,11 +102,12 @@ impl Cluster {
         }
     }
 
-    /// The current phase of the call of this number asks again: a request goes to each member without a recorded reply
-    /// and without a waiting message of the phase.
+    /// Resends the requests of the current phase of the call of this number: one to each member that has no recorded
+    /// reply and no waiting message of the phase. It is a step even where there is no such member.
     ///
-    /// `NoObject` or `NoCall` where there is none, `NotNow` unless its current phase lacks a quorum and sends no
-    /// pieces, and `Full` where the limit of steps is met or the messages have no room.
+    /// `NoObject` where no object has this name, `NoCall` where it has no call of this number, and `NotNow` unless the
+    /// current phase lacks a quorum and sends no pieces (see `supply`). `Full` where the counter is at `MOST_STEPS` or
+    /// the requests would make more than `MOST_MESSAGES` waiting messages of the object.
     pub fn post(&mut self, name: &str, call: u64) -> Result<(), Refusal>
         ensures step { OnOk result (self.new ≡ stepped self.old name.entry.now (Step.Post (pred call))) }
         ensures cause { IsByCause
@@ -110,10 +120,11 @@ impl Cluster {
         }
     }
 
-    /// Of the pieces that the call's current phase took, the k of least points.
+    /// The pieces that the call of this number is to decode: the k of least points among those that its current phase
+    /// took, by rising point. It is no step.
     ///
-    /// `NoObject` or `NoCall` where there is none, `NotNow` unless it wants to settle a value, and `Collected` where
-    /// its fetch lacks pieces.
+    /// `NoObject` where no object has this name, `NoCall` where it has no call of this number, `NotNow` unless the call
+    /// wants to settle a value, and `Collected` where its fetch lacks pieces, so that it wants to be restarted.
     pub fn pieces(&self, name: &str, call: u64) -> Result<Vec<Piece>, Refusal>
         ensures pieces { IfOk result
             (λ ps. if_named self.now name.now (λ object. Some (pieces_at object call)) ≡ Some ps.items) }
@@ -125,11 +136,11 @@ impl Cluster {
         }
     }
 
-    /// The call of this number settles the value that was decoded from pieces of its current phase.
+    /// The call of this number settles the value that was decoded. It allocates no memory.
     ///
-    /// `NoObject` or `NoCall` where there is none, `NotNow` unless it wants to settle a value, `Collected` where its
-    /// fetch lacks pieces, `WrongCode` unless the value was decoded from k pieces that were all recorded in that phase,
-    /// and `Full` where the limit of steps is met. It takes no memory.
+    /// `NoObject` where no object has this name, `NoCall` where it has no call of this number, `NotNow` unless the call
+    /// wants to settle a value, `Collected` where its fetch lacks pieces, `WrongCode` unless the value was decoded from
+    /// k pieces that its current phase took, and `Full` where the counter is at `MOST_STEPS`.
     pub fn settle(&mut self, name: &str, call: u64, decoded: Decoded) -> Result<(), Refusal>
         ensures step { OnOk result
             (self.new ≡ stepped self.old name.entry.now (Step.Settle (pred call) decoded.value)) }

@@ -16,11 +16,12 @@ use register::Register;
 use tag::Refusal;
 
 impl Cluster {
-    /// The base position of an object is retired: its banks drop all pieces, and those that come from now on. Readings
-    /// that begin later begin at the next position. It answers how many bytes that frees.
+    /// Retires the base of an object, which must be this position. Its banks drop all pieces, and drop those that come
+    /// later; the next position becomes the base, where first readings begin from then on. Returns how many bytes this
+    /// frees. It allocates no memory.
     ///
-    /// `NoObject` where there is none, `NotNow` unless the position is the object's base and the move out of it was
-    /// answered, and `Full` where the limit of steps is met. It takes no memory.
+    /// `NoObject` where no object has this name, `NotNow` unless the position is the object's base and the move out of
+    /// it was answered, and `Full` where the counter is at `MOST_STEPS`.
     pub fn retire(&mut self, name: &str, position: u64) -> Result<u64, Refusal>
         ensures step { OnOk result (self.new ≡ stepped self.old name.entry.now Step.Retire) }
         ensures freed { IfOk result (λ bytes. stored_all self.new + bytes ≡ stored_all self.old) }

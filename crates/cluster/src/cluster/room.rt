@@ -1,4 +1,4 @@
-//! What a client asks of a cluster before a step, and of its calls.
+//! What a caller may ask of a cluster and of its calls before it makes a step.
 
 ghost use Rattle.std.specs.Prelude.{◌≡◌, ℕ, nat_le, option_map, Some, None, IfOk};
 ghost use Rattle.tag.specs.Refusal.{IsByCause, IsExactlyByCause};
@@ -16,7 +16,8 @@ use record::Entry;
 use tag::{LONGEST_VALUE, Refusal};
 
 impl Cluster {
-    /// What every step keeps: the limits, and that no name is given twice. It does nothing, and takes no memory.
+    /// A law: the limits hold, no two objects have the same name, and each member of a layout is a server. It changes
+    /// nothing and allocates no memory.
     pub fn keeping(&self)
         ensures { (bytes : ℕ) × ((count : ℕ) × IsKeptCluster self.now bytes count) }
     {
@@ -24,7 +25,9 @@ impl Cluster {
         let _ = &self.layouts;
     }
 
-    /// The place of an object in order of creation. `NoObject` where there is none.
+    /// The index of an object in the order of creation, from 0. It allocates no memory.
+    ///
+    /// `NoObject` where no object has this name.
     pub fn place(&self, name: &str) -> Result<u32, Refusal>
         ensures place { IfOk result (λ p. p ≡ place_of self.now.objects name.now) }
         ensures cause { IsExactlyByCause (object_cause self.now name.now (λ object. None)) result }
@@ -35,8 +38,9 @@ impl Cluster {
         }
     }
 
-    /// The entry of the call of this number of the object at a place in order of creation. `NoObject` or `NoCall` where
-    /// there is none.
+    /// The entry of the call of this number of an object, which is named by its index in the order of creation.
+    ///
+    /// `NoObject` where there is no object of this index, and `NoCall` where it has no call of this number.
     pub fn entry(&self, object: u32, call: u64) -> Result<Entry, Refusal>
         ensures entry { IfOk result
             (λ e. if_placed self.now object (λ o. option_map (entry_of call) (call_at o call)) ≡ Some e) }
@@ -48,10 +52,10 @@ impl Cluster {
         }
     }
 
-    /// Whether a read may begin, or a write of a value of this length. It is no step, and takes no memory.
+    /// Whether a read may begin, or a write of `len` bytes. It is no step and allocates no memory.
     ///
-    /// `NoObject` where there is none, `TooLong` where the length is above `LONGEST_VALUE`, and `Full` where a limit of
-    /// the steps, of the calls or of the messages is met.
+    /// `NoObject` where no object has this name, `TooLong` where `len` is above `LONGEST_VALUE`, and `Full` as for
+    /// `call_read`.
     pub fn may_call(&self, name: &str, len: usize) -> Result<(), Refusal>
         ensures cause { IsExactlyByCause (object_cause self.now name.now (λ object.
             unless (nat_le len LONGEST_VALUE) TooLong (read_cause (next self.now) object))) result }
@@ -65,10 +69,9 @@ impl Cluster {
         register.may_call(self.counter + 1)
     }
 
-    /// Whether a move to a layout may begin. It is no step, and takes no memory.
+    /// Whether a move to a layout may begin. It is no step and allocates no memory.
     ///
-    /// `NoObject` where there is none, `MovePending` where a move is not answered, `BadLayout` where there is no such
-    /// layout, and `Full` where a limit of the steps, of the positions, of the calls or of the messages is met.
+    /// `NoObject`, `MovePending`, `BadLayout` and `Full` as for `call_move`.
     pub fn may_move(&self, name: &str, id: LayoutId) -> Result<(), Refusal>
         ensures cause { IsExactlyByCause (object_cause self.now name.now (moving_cause self.now id)) result }
     {
@@ -84,10 +87,10 @@ impl Cluster {
         register.may_move(self.counter + 1)
     }
 
-    /// Whether a call may be supplied with its own value, before that is coded. It is no step, and takes no memory.
+    /// Whether a call may be supplied with its own value, so that the value need not be encoded in vain. It is no step
+    /// and allocates no memory.
     ///
-    /// `NoObject`, `NoCall` and `NotNow` as for `value_to_code`, and `Full` where a limit of the steps, of the call's
-    /// phases or of the messages is met.
+    /// `NoObject`, `NoCall` and `NotNow` as for `value_to_code`, and `Full` as for `supply`.
     pub fn may_supply(&self, name: &str, call: u64) -> Result<(), Refusal>
         ensures cause { IsExactlyByCause
             (object_cause self.now name.now (λ object. supplying_cause (next self.now) object call)) result }

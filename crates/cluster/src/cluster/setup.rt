@@ -12,9 +12,10 @@ use register::Register;
 use tag::{LONGEST_NAME, MOST_LAYOUTS, MOST_OBJECTS, MOST_STEPS, Refusal};
 
 impl Cluster {
-    /// One more layout, which objects may have from now on. It answers the layout's number.
+    /// Adds a layout, which objects may have from then on. Returns its number.
     ///
-    /// `BadLayout` where a member is no server, and `Full` where the limit of steps or of layouts is met.
+    /// `BadLayout` where a member is no server of the cluster, and `Full` where the counter is at `MOST_STEPS` or there
+    /// are `MOST_LAYOUTS` layouts.
     pub fn add_layout(&mut self, layout: Layout) -> Result<LayoutId, Refusal>
         ensures step { OnOk result (self.new ≡ with_layout self.old layout) }
         ensures id { IfOk result (λ id. id ≡ length self.old.layouts) }
@@ -33,7 +34,7 @@ impl Cluster {
         Ok(id)
     }
 
-    /// One more object, with one position of this layout and no calls, whose banks keep every piece.
+    /// Creates an object, with one position of this layout and no calls, whose banks keep every piece.
     ///
     /// It is refused as `create_with` is.
     pub fn create(&mut self, name: &str, id: LayoutId) -> Result<(), Refusal>
@@ -44,11 +45,12 @@ impl Cluster {
         self.create_with(name, id, None)
     }
 
-    /// One more object, with one position of this layout and no calls. The banks of all its positions keep the pieces
-    /// of the newest finalized version and of `delta` others; all where there is no `delta`.
+    /// Creates an object, with one position of this layout and no calls. The banks of all its positions keep the pieces
+    /// of the newest finalized version and of `delta` others; without `delta` they keep every piece.
     ///
-    /// `ObjectExists` where an object has this name, `BadLayout` where there is no such layout, `TooLong` where the
-    /// name is longer than `LONGEST_NAME` bytes, and `Full` where the limit of steps or of objects is met.
+    /// `ObjectExists` where an object has this name, `BadLayout` where there is no layout of this number, `TooLong`
+    /// where the name is longer than `LONGEST_NAME` bytes, and `Full` where the counter is at `MOST_STEPS` or there are
+    /// `MOST_OBJECTS` objects.
     pub fn create_with(
         &mut self,
         name: &str,
@@ -80,8 +82,9 @@ impl Cluster {
         Ok(())
     }
 
-    /// A server goes up or down. `BadLayout` where there is no such server, and `Full` where the limit of steps is met.
-    /// It takes no memory.
+    /// Takes a server up or down. It is a step even where the server is so already. It allocates no memory.
+    ///
+    /// `BadLayout` where there is no server of this number, and `Full` where the counter is at `MOST_STEPS`.
     pub fn set_server(&mut self, server: u8, up: bool) -> Result<(), Refusal>
         ensures step { OnOk result (self.new ≡ with_server self.old server up) }
         ensures cause { IsExactlyByCause (server_cause self.old server) result }
