@@ -1,18 +1,19 @@
 //! Who chooses the message that is handled next.
 ghost use Rattle.std.specs.Prelude.{◌≡◌, ◌<◌, ℕ};
 
-/// Chooses among what a driver may handle next.
+/// Chooses which message is handled next.
 pub trait Chooser {
     /// What it may choose: itself before, how many things there are, the number that it answers, and itself after.
     ghost chooses: { Self → ℕ → ℕ → Self → Type 0 } = { λ _ _ _ _. Unit {0} };
 
-    /// A number for a choice among `below` things. The driver takes its remainder by `below`, so any number will do.
+    /// A number for a choice among `below` things, of which there is at least one. The driver takes it modulo `below`,
+    /// so any number will do.
     fn choose(&mut self, below: usize) -> usize
         requires { 0 < below }
         ensures { chooses self.old below result self.new };
 }
 
-/// Always chooses the first.
+/// Always chooses the first message.
 #[derive(Clone, Copy, Debug)]
 pub struct First;
 

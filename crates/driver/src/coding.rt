@@ -1,4 +1,4 @@
-//! Values that are coded for a call, or decoded, and the steps that they are for.
+//! Values that are encoded or decoded for a call, and the steps that they are for.
 ghost use Rattle.std.specs.Prelude.{◌≡◌, ℕ, List, pred, Some, IfOk, OnOk, OnErr};
 ghost use Rattle.tag.specs.Refusal.{IsByCause};
 ghost use Rattle.record.specs.Steps.{Step};
@@ -22,10 +22,12 @@ use record::Want;
 use std::alloc::Global;
 use tag::{MOST_STEPS, Refusal};
 
-/// The value that the call of this number is to send is coded, and the call is supplied with it.
+/// Encodes the value that the call of this number is to send, and supplies the call with it: one step. Whatever else
+/// refuses the step is found before the value is copied and encoded.
 ///
-/// `NoObject` or `NoCall` where there is none, `NotNow` where it sends no value, and `Full` where a limit of the steps,
-/// of its phases or of the messages is met.
+/// `NoObject` where no object has this name, `NoCall` where it has no call of this number, and `NotNow` where the call
+/// has no pieces to send. `Full` where the limit of steps, of the call's phases or of the object's waiting messages is
+/// met.
 pub fn supply(alloc: Global, cluster: &mut Cluster, name: &str, call: u64) -> Result<(), Refusal>
     ensures step { OnOk result (cluster.new ≡ stepped cluster.old name.entry.now (Step.Supply (pred call))) }
     ensures cause { IsByCause
@@ -36,10 +38,11 @@ pub fn supply(alloc: Global, cluster: &mut Cluster, name: &str, call: u64) -> Re
     supply_value(alloc, cluster, name, call, value, k, n)
 }
 
-/// The value that the call of this number is to settle is decoded from the pieces that it took, and settled.
+/// Decodes the value that the call of this number is to settle, from k pieces that its current phase took, and settles
+/// it: one step.
 ///
-/// `NoObject` or `NoCall` where there is none, `NotNow` unless it wants to settle a value, `Collected` where its fetch
-/// lacks pieces, and `Full` where the limit of steps is met.
+/// `NoObject` where no object has this name, `NoCall` where it has no call of this number, `NotNow` unless the call
+/// wants to settle a value, `Collected` where its fetch lacks pieces, and `Full` where the limit of steps is met.
 pub fn settle(alloc: Global, cluster: &mut Cluster, name: &str, call: u64) -> Result<(), Refusal>
     ensures step { OnOk result (SettlesOwn cluster.old name.entry.now call cluster.new) }
     ensures cause { IsByCause

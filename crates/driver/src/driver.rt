@@ -11,14 +11,21 @@ use register::Receipt;
 use std::alloc::Global;
 use tag::Refusal;
 
-/// Carries the call of this number on to its answer, in at most `turns` steps: each handles one of the call's messages,
-/// where it wants replies, or is the one that the call wants. With `resumed` the first step of a call that wants
-/// replies is that its current phase asks again, and that of a call whose fetch lacks pieces is to begin anew.
+/// Brings the call of this number to its answer, in at most `turns` turns. Each turn is one step: where the call wants
+/// replies, one of its messages is handled, the one that `chooser` chooses; otherwise it is the step that the call
+/// wants.
 ///
-/// `NoObject` or `NoCall` where there is none; `NotNow` where the call is answered; `GaveUp` once the turns are used
-/// up; `Stuck` where the call wants replies and none of its messages can be handled; `Collected` where its fetch lacks
-/// pieces, but in the first step with `resumed`; and `Full` as the step that comes next. The steps before a refusal
-/// stay made, and the call stays open.
+/// With `resumed` the first turn of a call that wants replies resends its current phase's requests instead, and the
+/// first turn of a call whose fetch lacks pieces restarts it.
+///
+/// - `NoObject` where no object has this name, `NoCall` where it has no call of this number, and `NotNow` where the
+///   call is answered. Nothing has changed then.
+/// - `GaveUp` after `turns` turns.
+/// - `Stuck` where the call wants replies and none of its messages can be handled.
+/// - `Collected` where the call's fetch lacks pieces, except in the first turn with `resumed`.
+/// - `Full` where the step that comes next meets a limit.
+///
+/// After the last four, and after `NoMemory`, the turns before stay made and the call stays open.
 pub fn finish<C: Chooser>(
     alloc: Global,
     cluster: &mut Cluster,

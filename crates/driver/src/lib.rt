@@ -1,4 +1,4 @@
-//! The driver of one call: its rounds, and whole calls for one thread.
+//! Brings a call to its answer: single rounds, and whole calls for one thread.
 #![tactic(auto)]
 
 pub use choices::{Among, choice_at, choose};

@@ -25,10 +25,10 @@ pub enum Handled {
     Taken(Took),
 }
 
-/// The message at a place is handled: a request is served, and a reply is taken.
+/// Handles the message at a place, from 0, of an object's mail: a request is served, and a reply is taken. One step.
 ///
-/// `NoObject` or `NoMessage` where there is none, `Down` where it is a request to a server that is down, and `Full` as
-/// for `serve` and `take`.
+/// `NoObject` where no object has this name, `NoMessage` where there is no message at this place, `Down` where it is a
+/// request to a server that is down, and `Full` as for `Cluster::serve` and `Cluster::take`.
 pub fn handle(cluster: &mut Cluster, name: &str, place: usize) -> Result<Handled, Refusal>
     ensures step { IfOk result (λ h. cluster.new ≡ stepped cluster.old name.entry.now (step_of place h)) }
     ensures handled { IfOk result (λ h. if_named cluster.old name.entry.now (handled_at place) ≡ Some h) }

@@ -1,4 +1,4 @@
-//! One round of the driver, but for the coding.
+//! One round of the driver, without the coding.
 ghost use Rattle.std.specs.Prelude.{◌≡◌, true, Some, IfOk, IfErr, OnErr};
 ghost use Rattle.record.specs.declared.stage.Want.TheVariants as want;
 ghost use Rattle.driver.specs.Driver.{wanted, IsRefused};
@@ -14,26 +14,32 @@ use record::Want;
 use register::Receipt;
 use tag::Refusal;
 
-/// What a round came to: its step is made, or is to be made once a value is coded or decoded.
+/// What a round came to: its step was made, or it is still to be made, once a value is encoded or decoded.
 #[derive(Debug, Drop)]
 pub enum Round {
-    /// The step is made.
+    /// The step was made, and the call is still open.
     Stepped,
-    /// The call is to be supplied with this value, coded for this k and n.
+    /// The call is to be supplied with this value, encoded for this k and n.
     Encode { value: Bytes, k: u8, n: u8 },
-    /// The call is to settle the value that is decoded from these pieces.
+    /// The call is to settle the value, of `len` bytes, that is decoded from these k pieces.
     Decode { pieces: Vec<Piece>, k: u8, len: u32 },
-    /// The call is answered.
+    /// The call was answered.
     Answered(Receipt),
-    /// What was coded for the call came too late, since its phase is complete, and no step is made. Only a round that
-    /// is handed a coded value comes to this.
+    /// A value that was encoded for the call came too late, since its phase is complete, and no step was made. Only a
+    /// round that is handed an encoded value returns this, so `make_round` never does.
     Late,
 }
 
-/// One round for the call of this number, which wants this, but for the coding.
+/// One round of the call of this number, without the coding. `want` must be what the call wants now.
 ///
-/// Where the call wants replies one of its messages is handled, or, where it `asks_again`, its current phase asks
-/// again. Where its fetch lacks pieces it begins anew if it `asks_again`, and is answered `Collected` if not.
+/// Where the call wants replies, one of its messages is handled, or, with `asks_again`, its current phase's requests
+/// are resent; where these have pieces, the value to encode is returned instead. A call that wants to be restarted is
+/// restarted with `asks_again`. Where the call wants a value encoded or decoded, the round hands out the value or the
+/// pieces, and changes nothing. Any other round makes the step that the call wants.
+///
+/// `NotNow` where the call is answered, `Stuck` where it wants replies and none of its messages can be handled,
+/// `Collected` where it wants to be restarted without `asks_again`, and `Full` where the step, made or still to be
+/// made, meets a limit.
 pub fn make_round<C: Chooser>(
     cluster: &mut Cluster,
     name: &str,

@@ -1,4 +1,4 @@
-//! Whole calls, for one thread: the call step, and then the driver.
+//! Whole calls, for one thread: the step that begins a call, and then the driver.
 ghost use Rattle.std.specs.Prelude.{MatchResult, ◌≡◌, false};
 ghost use Rattle.driver.specs.Driver.{IsFinished, IsUnfinished};
 ghost use Rattle.driver.specs.WholeCalls.{IsWholeRead, IsWholeWrite, IsWholeMove};
@@ -15,15 +15,17 @@ use tag::Refusal;
 /// Why a whole call has no answer.
 #[derive(Clone, Copy, Debug, PartialEq, Eq)]
 pub enum NotAnswered {
-    /// The call step was refused, and nothing was done.
+    /// The step that begins the call was refused, and nothing was done.
     NotCalled(Refusal),
-    /// The driver was refused. The call of this number stays open.
+    /// The driver was refused. The call of this number stays open, and `finish` can resume it.
     Open { call: u64, refusal: Refusal },
 }
 
-/// A whole read: `Cluster::call_read`, and then the driver, as `finish` without a resume.
+/// A whole read: `Cluster::call_read`, and then `finish` without a resume, in at most `turns` turns beside the first
+/// step.
 ///
-/// What it costs does not grow with the messages of other calls.
+/// The error is `NotCalled` with a refusal of `call_read`, or `Open` with a refusal of `finish`. What the call costs
+/// does not grow with the messages of other calls.
 pub fn read<C: Chooser>(
     alloc: Global,
     cluster: &mut Cluster,
@@ -56,7 +58,7 @@ pub fn write<C: Chooser>(
     }
 }
 
-/// A whole move: `Cluster::call_move`, and then the driver, as for a read.
+/// A whole move to the layout of this number: `Cluster::call_move`, and then the driver, as for a read.
 pub fn move_to<C: Chooser>(
     alloc: Global,
     cluster: &mut Cluster,
