@@ -14,7 +14,8 @@ use std::marker::{Model, PhantomData};
 use std::snapshot::Snapshot;
 use tag::Refusal;
 
-/// The right to add layouts, to create and move objects, to retire positions and to turn servers on and off.
+/// The one administrator of a store: the right to add layouts, to create and move objects, to retire positions, and to
+/// take servers up and down. It has at most one move that is not answered.
 #[derive(Drop)]
 pub struct Admin<L: StoreName> {
     // The number of the move that is not answered, and the name of its object.
@@ -29,15 +30,19 @@ pub struct Admin<L: StoreName> {
     pub(crate) of: PhantomData<L>,
 }
 
-/// What an administrator may do in one step.
+/// An order that the administrator carries out in one step.
 #[derive(Drop)]
 pub enum Order<'a> {
+    /// Adds a layout.
     AddLayout(Layout),
+    /// Creates an object under a layout. Its banks keep `delta` finalized versions beside the newest, or all pieces
+    /// without `delta`.
     Create {
         name: &'a str,
         layout: LayoutId,
         delta: Option<u32>,
     },
+    /// Takes a server up or down.
     SetServer {
         server: u8,
         up: bool,
@@ -76,28 +81,30 @@ impl<L: StoreName> Admin<L> {
         }
     }
 
-    /// Whether it has a move without an answer, which `resume_move` goes on with.
+    /// Whether it has a move that is not answered. `move_round_in` goes on with that one.
     pub fn is_pending(&self) -> bool
         ensures { IsTrue result ↔ IsSome self.now.moving }
     {
         self.pending.is_some()
     }
 
-    /// How many orders were carried out for it: layouts, objects, servers, positions retired, and moves that began.
+    /// How many orders were carried out: layouts added, objects created, servers set, positions retired, and moves
+    /// begun.
     pub fn orders(&self) -> u64
         ensures { result ≡ self.now.orders }
     {
         self.orders
     }
 
-    /// How often its moves have asked again.
+    /// How many rounds of its moves have asked again.
     pub fn asked(&self) -> u64
         ensures { result ≡ self.now.asked }
     {
         self.asked
     }
 
-    /// Takes down the name of the object that is to be moved, where no move is pending. `NoMemory` is the only refusal.
+    /// Copies the name of the object that is to be moved, so that `begin_move_in` need not do it under the lock. It
+    /// does nothing where a move is pending. `NoMemory` is the only refusal.
     pub fn make_room(&mut self, name: &str) -> Result<(), Refusal>
         ensures same { self.new ≡ self.old }
         ensures refused { IfErr result (λ r. r ≡ NoMemory) }

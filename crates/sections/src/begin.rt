@@ -15,12 +15,12 @@ use crate::seat::Seat;
 use cluster::Cluster;
 use tag::Refusal;
 
-/// A read or a write begins: one step, with its record in the seat.
+/// Begins a read or a write of a seat: one step, with its record in the seat.
 ///
-/// `Stranger` where the seat has seen a later step than there was, `NoObject` where there is none of this name,
-/// `NotNow` where the seat has a call without an answer, `TooLong` where the value is too long, and `Full` where a
-/// limit of the steps, of the calls or of the messages is met. Else `NoMemory`, also where `Seat::make_room` has not
-/// made room for a call of this name: that is not asked for under a lock.
+/// `Stranger` where the seat's floor is above the cluster's counter, `NoObject` where no object has this name, `NotNow`
+/// where the seat has a pending call, `TooLong` where the value is longer than `LONGEST_VALUE` bytes, and `Full` where
+/// the limit of steps, of the object's calls or of its waiting messages is met. Else `NoMemory`, also where
+/// `Seat::make_room` was not called for this name: the seat does not grow under the lock.
 pub fn begin_in<L: StoreName>(
     booked: &mut Booked<L>,
     seat: &mut Seat<L>,

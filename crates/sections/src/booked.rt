@@ -9,7 +9,8 @@ use cluster::Cluster;
 use std::marker::{Brand, Model};
 use std::sync::ledger::{Book, Ledger, Share};
 
-/// Names one store. A store is opened in a function over a name, which its caller picks as `Brand`.
+/// The name of one store, as a type. A store is opened in a function that is generic over its name; the caller of that
+/// function picks `Brand` for it.
 pub trait StoreName: Ledger {
     /// How many seats the store has.
     ghost seats: { ℕ };
@@ -24,8 +25,10 @@ impl StoreName for Brand {
     ghost first = { record { servers = []; layouts = []; objects = []; counter = 0 } };
 }
 
-/// A cluster with the book of its calls: the total is the number of its reads and writes. It has become what it is,
-/// step by step, of the cluster that the store was opened with.
+/// A cluster with the book of its calls, as it lies under the lock.
+///
+/// The book's total is the number of the cluster's reads and writes. Steps lead from the cluster that the store was
+/// opened with to this one.
 #[derive(Drop)]
 pub struct Booked<L: StoreName> {
     pub(crate) cluster: Cluster,

@@ -9,28 +9,29 @@ use record::Operation;
 use register::Receipt;
 use tag::{Refusal, Stamp};
 
-/// What a client asks of an object.
+/// The call that a client asks for.
 #[derive(Debug, Drop)]
 pub enum Begin {
     Read,
+    /// A write of this value.
     Write(Bytes),
 }
 
 /// A call that a seat began.
 #[derive(Debug, Drop)]
 pub struct CallRecord {
-    /// The object's place in the order of creation.
+    /// The object's place in the order of creation, from 0.
     pub object: u32,
     /// The call's number in its object, from 1.
     pub call: u64,
     pub operation: Operation,
-    /// The value of a write.
+    /// The value of a write; none for a read.
     pub written: Option<Bytes>,
-    /// What the seat had seen when the call began.
+    /// The seat's floor when the call began: the greatest answer step that the seat had seen.
     pub floor: Stamp,
-    /// The step of the call.
+    /// The number of the step that began the call.
     pub called: Stamp,
-    /// None before the answer.
+    /// The receipt; none before the answer.
     pub receipt: Option<Receipt>,
 }
 

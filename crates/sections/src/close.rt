@@ -10,14 +10,14 @@ use cluster::Cluster;
 use std::alloc::Global;
 use tag::Refusal;
 
-/// A closed store: its cluster, and how many receipts its seats had.
+/// A closed store: its cluster, and how many of its seats' records have a receipt.
 #[derive(Drop)]
 pub struct Closed {
     pub cluster: Cluster,
     pub receipts: u64,
 }
 
-/// A store that could not be closed.
+/// A store that was not closed: why, and its cluster and seats as they were.
 #[derive(Drop)]
 pub struct NotClosed<L: StoreName> {
     pub refusal: Refusal,
@@ -27,8 +27,9 @@ pub struct NotClosed<L: StoreName> {
 
 /// Closes a store that nobody uses any more.
 ///
-/// `Stranger` where the seats are not those of the store, or do not fit its history: a record or receipt does not stand
-/// in it, a call is recorded twice, or one without a receipt is answered. `NoMemory` may come before.
+/// `Stranger` where the seats are not all seats of the store, each once, or do not fit its history: a record or its
+/// receipt differs from the history, a call is recorded twice, or a call whose record has no receipt is answered.
+/// `NoMemory` may come before that is known. Both give the cluster and the seats back.
 pub fn close_in<L: StoreName>(
     alloc: Global,
     booked: Booked<L>,

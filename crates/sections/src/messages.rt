@@ -1,4 +1,4 @@
-//! What happens to an object's messages beside its calls.
+//! What is done to waiting messages under the lock.
 
 ghost use Rattle.std.specs.Prelude.{◌≡◌, IfOk, IfErr, OnErr};
 ghost use Rattle.sections.specs.Calls.{client_calls};
@@ -10,7 +10,10 @@ use cluster::Cluster;
 use driver::{Among, Chooser, choose, handle};
 use tag::Refusal;
 
-/// One message of an object that can be handled is served or taken, the chosen one. False where there is none.
+/// Handles one message of an object, the one that `chooser` chooses among those that can be handled: a request to a
+/// server that is up is served, and a reply is taken. One step. False, and no step, where no message can be handled.
+///
+/// `NoObject` where no object has this name, and `Full` where the limit of steps or of stored bytes is met.
 pub fn stir_in<L: StoreName, C: Chooser>(
     booked: &mut Booked<L>,
     name: &str,
@@ -41,7 +44,12 @@ fn stir<C: Chooser>(cluster: &mut Cluster, name: &str, chooser: &mut C) -> Resul
     Ok(true)
 }
 
-/// One waiting message of an object, the chosen one, is lost or repeated, as is chosen. False where there is none.
+/// Loses or repeats one waiting message of an object: one step. `chooser` first chooses the message among all that
+/// wait, and then among two: an even number loses it, an odd one repeats it. False, and no step, where no message
+/// waits.
+///
+/// `NoObject` where no object has this name, and `Full` where the limit of steps or of the object's waiting messages is
+/// met.
 pub fn disturb_in<L: StoreName, C: Chooser>(
     booked: &mut Booked<L>,
     name: &str,

@@ -17,11 +17,12 @@ use cluster::{Cluster, LayoutId};
 use driver::{Chooser, Round};
 use tag::Refusal;
 
-/// A move begins: one step.
+/// Begins a move of an object to the layout of this number: one step, which counts as an order.
 ///
-/// `NoObject` where there is none of this name, `MovePending` where the object or the administrator has a move without
-/// an answer, `BadLayout` where there is no such layout, and `Full` where a limit is met. Else `NoMemory`, also where
-/// `Admin::make_room` has not taken down this name.
+/// `NoObject` where no object has this name, `MovePending` where the object or the administrator has a move that is not
+/// answered, `BadLayout` where there is no layout of this number, and `Full` where the limit of steps, of the object's
+/// positions, of its calls or of its waiting messages is met. Else `NoMemory`, also where `Admin::make_room` was not
+/// called for this name.
 pub fn begin_move_in<L: StoreName>(
     booked: &mut Booked<L>,
     admin: &mut Admin<L>,
@@ -63,8 +64,10 @@ fn call_move(cluster: &mut Cluster, name: &str, layout: LayoutId) -> Result<u64,
     cluster.call_move(name, layout)
 }
 
-/// One round of the administrator's move, as `round_in` makes it of a seat's call; one that asks again is counted. At
-/// the answer the move is over.
+/// Makes one round of the administrator's pending move, as `round_in` makes one of a seat's call. It counts a round
+/// that asks again. Where the round answers the move, none is pending any more.
+///
+/// `NoCall` where no move is pending, and else refused as `round_in`, but never as `Stranger`.
 pub fn move_round_in<L: StoreName, C: Chooser>(
     booked: &mut Booked<L>,
     admin: &mut Admin<L>,

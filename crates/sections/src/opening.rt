@@ -14,12 +14,13 @@ use std::alloc::Global;
 use std::sync::ledger::Blank;
 use tag::Refusal;
 
-/// The cluster with its book, the seats and the administrator of a store.
+/// The cluster with its book, the seats, and the administrator of a store.
 pub type Parts<L> = (Booked<L>, Vec<Seat<L>>, Admin<L>);
 
-/// The parts of a store over a cluster without calls, with this many seats. `NoMemory` is the only refusal.
+/// The parts of a store over a cluster without calls, with `seats` seats, numbered from 0. The blank must have one part
+/// for each seat and one for the store.
 ///
-/// The blank has one part for each seat and one for the store.
+/// `NoMemory` is the only refusal.
 pub fn open_in<L: StoreName>(
     alloc: Global,
     blank: Blank,

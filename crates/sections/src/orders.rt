@@ -12,8 +12,14 @@ use crate::booked::{Booked, StoreName};
 use cluster::{Cluster, LayoutId};
 use tag::Refusal;
 
-/// The order is carried out in one step, which the administrator counts. It answers the number of a layout that is
-/// added.
+/// Carries out an order in one step, and counts it. Returns the number of the layout where the order adds one, and else
+/// none.
+///
+/// - `AddLayout`: `BadLayout` where a member is no server, and `Full` where the limit of steps or of layouts is met.
+/// - `Create`: `ObjectExists` where an object has this name, `BadLayout` where there is no layout of this number,
+///   `TooLong` where the name is longer than `LONGEST_NAME` bytes, and `Full` where the limit of steps or of objects is
+///   met.
+/// - `SetServer`: `BadLayout` where there is no such server, and `Full` where the limit of steps is met.
 pub fn admin_in<L: StoreName>(
     booked: &mut Booked<L>,
     admin: &mut Admin<L>,

@@ -13,8 +13,11 @@ use crate::booked::{Booked, StoreName};
 use cluster::Cluster;
 use tag::Refusal;
 
-/// The base position of an object is retired in one step, which the administrator counts as an order. It answers how
-/// many bytes that frees, and takes no memory.
+/// Retires the base of an object, which must be this position: one step, which counts as an order. Returns how many
+/// bytes this frees. It allocates no memory.
+///
+/// `NoObject` where no object has this name, `NotNow` unless the position is the object's base and the move out of it
+/// was answered, and `Full` where the limit of steps is met.
 pub fn retire_in<L: StoreName>(
     booked: &mut Booked<L>,
     admin: &mut Admin<L>,

@@ -25,7 +25,8 @@ use encoder::Coded;
 use record::Want;
 use tag::{MOST_STEPS, Refusal};
 
-/// What a driver hands in at a round: what an earlier round asked to be coded or decoded, if it did.
+/// What a thread hands in at a round: the result of what an earlier round handed out to be encoded or decoded, if it
+/// handed out something.
 #[derive(Debug, Drop)]
 pub enum Hand {
     Empty,
@@ -45,13 +46,16 @@ impl Hand {
     }
 }
 
-/// One round of the seat's pending call: one step of the call, or of one of its messages; or none and a copy of what is
-/// to be coded or decoded for the next round, or none where what is handed in came too late. The seat counts the rounds
-/// that ask again.
+/// Makes one round of the seat's pending call. With an empty `hand` it is the round of `driver::make_round`: one step,
+/// or no step and a copy of what is to be encoded or decoded before the next round. With an encoded value in `hand` it
+/// supplies the call, and with a decoded value it settles it; where an encoded value comes too late, it makes no step
+/// and returns `Round::Late`. The seat counts each round that asks again, and keeps the receipt of the answer.
 ///
-/// `Stranger` where the seat has seen a later step than there was, `NoCall` where it has no pending call, `NotNow`
-/// where that is answered, `GaveUp` where no turns are left, and else as `make_round`, `supply` and `settle` are
-/// refused.
+/// `turns` is how many turns the call has left; a round needs one.
+///
+/// `Stranger` where the seat's floor is above the cluster's counter, `NoCall` where the seat has no pending call,
+/// `NotNow` where that call is answered, and `GaveUp` where `turns` is 0. Else it is refused as `make_round`,
+/// `Cluster::supply` or `Cluster::settle`.
 pub fn round_in<L: StoreName, C: Chooser>(
     booked: &mut Booked<L>,
     seat: &mut Seat<L>,

@@ -14,7 +14,8 @@ use std::marker::Model;
 use std::sync::ledger::Share;
 use tag::{Refusal, Stamp};
 
-/// The right of one client to make calls through the store of this name, one at a time.
+/// The right of one client to make calls through the store of this name, one at a time. It keeps a record of each call,
+/// and its floor: the greatest answer step that it has seen.
 #[derive(Drop)]
 pub struct Seat<L: StoreName> {
     pub(crate) number: u32,
@@ -52,28 +53,28 @@ impl<L: StoreName> Model for Seat<L> {
 }
 
 impl<L: StoreName> Seat<L> {
-    /// Which seat of its store it is, from 0.
+    /// The number of the seat in its store, from 0.
     pub fn number(&self) -> u32
         ensures { result ≡ self.now.number }
     {
         self.number
     }
 
-    /// Whether it has a call without an answer, which `resume` goes on with.
+    /// Whether it has a pending call: one that is neither answered nor abandoned. `round_in` goes on with that one.
     pub fn is_pending(&self) -> bool
         ensures { IsTrue result ↔ IsSome self.now.pending }
     {
         self.pending.is_some()
     }
 
-    /// The greatest answer step that it has seen.
+    /// Its floor: the greatest answer step that it has seen, or 0.
     pub fn floor(&self) -> Stamp
         ensures { result ≡ self.now.floor }
     {
         self.floor
     }
 
-    /// How often its calls have asked again.
+    /// How many rounds of its calls have asked again.
     pub fn asked(&self) -> u64
         ensures { result ≡ self.now.asked }
     {
@@ -87,7 +88,8 @@ impl<L: StoreName> Seat<L> {
         self.asked = self.asked.wrapping_add(1);
     }
 
-    /// Sees another seat's receipt: calls of this seat begin later from now on. It takes no memory.
+    /// Sees another seat's receipt. The floor rises to its answer step, unless it is higher already, so calls of this
+    /// seat begin later than that step from now on. It allocates no memory.
     pub fn learn(&mut self, receipt: &Receipt)
         ensures { self.new ≡ learnt self.old receipt.now }
     {
@@ -95,7 +97,7 @@ impl<L: StoreName> Seat<L> {
         self.floor = self.floor.max(answered);
     }
 
-    /// Forgets the pending call, whose record stays. It takes no memory.
+    /// Gives up the pending call, if there is one. Its record stays, without a receipt. It allocates no memory.
     pub fn abandon(&mut self)
         ensures { self.new ≡ abandoned self.old }
     {
@@ -129,7 +131,8 @@ impl<L: StoreName> Seat<L> {
         }
     }
 
-    /// Makes room for a call of an object of this name, where no call is pending. `NoMemory` is the only refusal.
+    /// Makes room for the record of a call of an object of this name, so that `begin_in` need not grow the seat under
+    /// the lock. It does nothing where a call is pending. `NoMemory` is the only refusal.
     pub fn make_room(&mut self, name: &str) -> Result<(), Refusal>
         ensures same { self.new ≡ self.old }
         ensures refused { IfErr result (λ r. r ≡ NoMemory) }
