@@ -81,7 +81,7 @@ impl<L: StoreName> Admin<L> {
         }
     }
 
-    /// Whether it has a move that is not answered. `move_round_in` goes on with that one.
+    /// Whether it has a move that is not answered. A resume goes on with that move (`move_round_in`).
     pub fn is_pending(&self) -> bool
         ensures { IsTrue result ↔ IsSome self.now.moving }
     {

@@ -1,8 +1,8 @@
 //! The critical sections of a store that threads share. Each locked section is one call of a function that is lent the
 //! cluster with its book, and whose contract says which steps it made. The lock and the waiting are in `client`.
 //!
-//! A section that is refused changes nothing. Any section may be refused with `NoMemory`, unless its comment says that
-//! it allocates no memory.
+//! A section that is refused leaves cluster, book and seats as they were. Any section may be refused with `NoMemory`,
+//! unless its comment says that it allocates no memory.
 #![tactic(auto)]
 
 pub use admin::{Admin, Order};

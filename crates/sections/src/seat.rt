@@ -60,7 +60,8 @@ impl<L: StoreName> Seat<L> {
         self.number
     }
 
-    /// Whether it has a pending call: one that is neither answered nor abandoned. `round_in` goes on with that one.
+    /// Whether it has a pending call: one that is neither answered nor abandoned. A resume goes on with that call
+    /// (`round_in`).
     pub fn is_pending(&self) -> bool
         ensures { IsTrue result ↔ IsSome self.now.pending }
     {
