@@ -1,4 +1,7 @@
 //! Whole calls of client threads: a store under one lock that they share, with their seats.
+//!
+//! Each method takes the lock for one step at a time, and encodes and decodes while the lock is free. A method may be
+//! refused with `NoMemory`, unless its comment says that it allocates no memory.
 #![tactic(auto)]
 
 pub use driver::{Chooser, First};

@@ -24,7 +24,7 @@ mod calls;
 mod finish;
 mod moves;
 
-/// A cluster under one lock, for the seats of one name, with so many coding workers.
+/// A cluster under one lock, for the seats of one name, with a number of coding workers.
 #[derive(Drop)]
 pub struct Store<L: StoreName> {
     booked: Mutex<Booked<L>>,
@@ -36,10 +36,11 @@ pub struct Store<L: StoreName> {
 pub type Opened<L> = (Store<L>, Vec<Seat<L>>, Admin<L>);
 
 impl<L: StoreName> Store<L> {
-    /// A store over a cluster without calls, with this many seats.
+    /// A store over a cluster without calls, with `seats` seats, numbered from 0. For each value that is encoded,
+    /// `workers` threads make the pieces; with 0 workers the thread of the seat makes them. The blank must have one
+    /// part for each seat and one for the store.
     ///
-    /// `NotNow` where the cluster has a call, and `Full` above `MOST_SEATS` seats or `MOST_WORKERS` workers. The blank
-    /// has one part for each seat and one for the store.
+    /// `NotNow` where the cluster has a call, and `Full` above `MOST_SEATS` seats or `MOST_WORKERS` workers.
     pub fn open(
         alloc: Global,
         blank: Blank,
@@ -70,11 +71,10 @@ impl<L: StoreName> Store<L> {
         Ok((store, list, admin))
     }
 
-    /// One message of an object that can be handled is served or taken, the chosen one. It answers whether there is
-    /// one.
+    /// Handles one message of an object, the one that `chooser` chooses among those that can be handled: a request to a
+    /// server that is up is served, and a reply is taken. False, and no step, where no message can be handled.
     ///
-    /// `NoObject` where there is none of this name, and else as the step is refused: `Full` where the limit of steps is
-    /// met, or `NoMemory`.
+    /// `NoObject` where no object has this name, and `Full` where the limit of steps or of stored bytes is met.
     pub fn stir<R: Wait, C: Chooser>(
         &self,
         rt: &R,
@@ -87,11 +87,11 @@ impl<L: StoreName> Store<L> {
         stir_in(&mut *self.booked.lock(rt), name, chooser)
     }
 
-    /// One waiting message of an object, the chosen one, is lost or repeated, as is chosen. It answers whether there is
-    /// one.
+    /// Loses or repeats one waiting message of an object. `chooser` first chooses the message among all that wait, and
+    /// then among two: an even number loses it, an odd one repeats it. False, and no step, where no message waits.
     ///
-    /// `NoObject` where there is none of this name, and else as the step is refused: `Full` where the limit of the
-    /// steps or of the messages is met, or `NoMemory`.
+    /// `NoObject` where no object has this name, and `Full` where the limit of steps or of the object's waiting
+    /// messages is met.
     pub fn disturb<R: Wait, C: Chooser>(
         &self,
         rt: &R,
@@ -104,10 +104,11 @@ impl<L: StoreName> Store<L> {
         disturb_in(&mut *self.booked.lock(rt), name, chooser)
     }
 
-    /// Closes the store with all its seats, once all clients have ended.
+    /// Closes the store with all its seats, once all clients have ended. Returns the cluster and the number of
+    /// receipts.
     ///
-    /// `Stranger` where the seats are not those of the store, or their records do not fit its history; `NoMemory` may
-    /// come before. Both hand the cluster and the seats back.
+    /// `Stranger` where the seats are not those of the store, or their records do not fit its history. `NoMemory` may
+    /// come before that is known. Both give the cluster and the seats back.
     pub fn close(self, seats: Vec<Seat<L>>) -> Result<Closed, NotClosed<L>>
         ensures course { MatchResult result (λ closed. HasBecome L.first closed.cluster)
             (λ e. HasBecome L.first e.cluster) }

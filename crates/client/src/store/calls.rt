@@ -15,12 +15,13 @@ use std::thread::Threads;
 use tag::Refusal;
 
 impl<L: StoreName> Store<L> {
-    /// Writes a value, in at most so many turns beside the call step.
+    /// Writes a value of at most `LONGEST_VALUE` bytes to an object, in at most `turns` steps beside the one that
+    /// begins the call. Where the call wants replies, `chooser` chooses which of its messages is handled next.
     ///
-    /// Where the call does not begin, the seat is as it was: `Stranger` where it has seen a later step than there was,
-    /// `NoObject` where there is none of this name, `NotNow` where it has a pending call, `TooLong` where the value is
-    /// too long, `Full` where a limit of the steps, of the calls or of the messages is met, and else `NoMemory`. A
-    /// refusal after that leaves the call pending, as of `resume`.
+    /// Where the call does not begin, the seat is unchanged: `Stranger` where its floor is above the store's counter,
+    /// `NoObject` where no object has this name, `NotNow` where it has a pending call, `TooLong` where the value is too
+    /// long, `Full` where the limit of steps, of the object's calls or of its waiting messages is met, and else
+    /// `NoMemory`. A later refusal leaves the call pending in the seat, and comes as of `resume`.
     pub fn write<R: Threads + Wait + Sync, C: Chooser>(
         &self,
         rt: &R,
@@ -39,7 +40,8 @@ impl<L: StoreName> Store<L> {
         self.call(rt, &NoGate, seat, name, Begin::Write(value), chooser, turns)
     }
 
-    /// Reads, in at most so many turns beside the call step. Refused as `write`, but for the value.
+    /// Reads an object, in at most `turns` steps beside the one that begins the call. It is refused as `write`, except
+    /// for the value.
     pub fn read<R: Threads + Wait + Sync, C: Chooser>(
         &self,
         rt: &R,
@@ -55,12 +57,18 @@ impl<L: StoreName> Store<L> {
         self.call(rt, &NoGate, seat, name, Begin::Read, chooser, turns)
     }
 
-    /// Goes on with the seat's pending call, in at most so many turns.
+    /// Goes on with the seat's pending call, in at most `turns` steps. The first round resends the requests of the
+    /// call's current phase where it wants replies, and restarts a call whose fetch lacks pieces.
     ///
-    /// `Stranger` where the seat has seen a later step than there was; `NoCall` where it has no pending call; `GaveUp`
-    /// once the turns are used up; `Stuck` where the call wants replies and none of its messages can be handled; `Full`
-    /// where a limit is met; `Collected` where banks have dropped pieces that its fetch needs, after which the next
-    /// resume begins anew; and `NoMemory`. The seat stays as it was, its call pending.
+    /// - `Stranger` where the seat's floor is above the store's counter.
+    /// - `NoCall` where the seat has no pending call.
+    /// - `GaveUp` once `turns` steps were made.
+    /// - `Stuck` where the call wants replies and none of its messages can be handled.
+    /// - `Full` where a limit is met.
+    /// - `Collected` where the call's fetch lacks pieces after the first round; the next resume restarts the call.
+    /// - `NoMemory` where an allocation is refused.
+    ///
+    /// The call then stays pending in the seat.
     pub fn resume<R: Threads + Wait + Sync, C: Chooser>(
         &self,
         rt: &R,
@@ -77,9 +85,9 @@ impl<L: StoreName> Store<L> {
         self.finish(rt, &NoGate, seat, true, chooser, turns)
     }
 
-    /// A whole read or write, as `read` and `write` make them, through a gate that is told of each coding: the number
-    /// of the piece that a worker makes, and 0 where the client decodes. The growths for its record are made before the
-    /// lock is taken, where they can be.
+    /// A whole read or write, as `read` and `write` make it. A gate is told when each piece that a worker makes begins
+    /// and ends, by the piece's number, and when a decoding on the thread of the seat begins and ends, by 0. The seat
+    /// grows before the lock is taken, where there is memory for it.
     pub fn call<G: Gate, R: Threads + Wait + Sync, C: Chooser>(
         &self,
         rt: &R,

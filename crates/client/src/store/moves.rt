@@ -16,7 +16,7 @@ use std::thread::Threads;
 use tag::Refusal;
 
 impl<L: StoreName> Store<L> {
-    /// One more layout, whose number it answers.
+    /// Adds a layout. Returns its number, from 0 in the order in which the layouts were added.
     ///
     /// `BadLayout` where a member is no server, and `Full` where the limit of steps or of layouts is met.
     pub fn add_layout<R: Wait>(
@@ -34,7 +34,7 @@ impl<L: StoreName> Store<L> {
         }
     }
 
-    /// One more object, with one position of this layout, whose banks keep every piece.
+    /// Creates an object, with one position of this layout, whose banks keep every piece.
     ///
     /// It is refused as `create_with` is.
     pub fn create<R: Wait>(
@@ -49,11 +49,11 @@ impl<L: StoreName> Store<L> {
         self.create_with(rt, admin, name, layout, None)
     }
 
-    /// One more object, with one position of this layout. The banks of all its positions keep the pieces of the newest
-    /// finalized version and of `delta` others; all where there is no `delta`.
+    /// Creates an object, with one position of this layout. The banks of all its positions keep the pieces of the
+    /// newest finalized version and of `delta` others; without `delta` they keep every piece.
     ///
-    /// `ObjectExists` where an object has this name, `BadLayout` where there is no such layout, `TooLong` where the
-    /// name is too long, and `Full` where the limit of steps or of objects is met.
+    /// `ObjectExists` where an object has this name, `BadLayout` where there is no layout of this number, `TooLong`
+    /// where the name is longer than `LONGEST_NAME` bytes, and `Full` where the limit of steps or of objects is met.
     pub fn create_with<R: Wait>(
         &self,
         rt: &R,
@@ -73,7 +73,9 @@ impl<L: StoreName> Store<L> {
         Ok(())
     }
 
-    /// A server goes up or down. `BadLayout` where there is no such server, and `Full` where the limit of steps is met.
+    /// Takes a server up or down.
+    ///
+    /// `BadLayout` where there is no server of this number, and `Full` where the limit of steps is met.
     pub fn set_server<R: Wait>(
         &self,
         rt: &R,
@@ -88,11 +90,12 @@ impl<L: StoreName> Store<L> {
         Ok(())
     }
 
-    /// The base position of an object is retired: its banks drop all pieces, and those that come from now on. Readings
-    /// that begin later begin at the next position. It answers how many bytes that frees.
+    /// Retires the base of an object, which must be this position. Its banks drop all pieces, and drop those that come
+    /// later; the next position becomes the base, where first readings begin from then on. Returns how many bytes this
+    /// frees. It allocates no memory.
     ///
-    /// `NoObject` where there is none of this name, `NotNow` unless the position is the object's base and the move out
-    /// of it was answered, and `Full` where the limit of steps is met. It takes no memory.
+    /// `NoObject` where no object has this name, `NotNow` unless the position is the object's base and the move out of
+    /// it was answered, and `Full` where the limit of steps is met.
     pub fn retire<R: Wait>(
         &self,
         rt: &R,
@@ -108,11 +111,12 @@ impl<L: StoreName> Store<L> {
         }
     }
 
-    /// Moves an object to a layout, in at most so many turns beside the call step.
+    /// Moves an object to the layout of this number, in at most `turns` steps beside the one that begins the move.
     ///
-    /// Where the move does not begin: `NoObject` where there is none of this name, `MovePending` where the object or
-    /// the administrator has a move without an answer, `BadLayout` where there is no such layout, `Full` where a limit
-    /// is met, and else `NoMemory`. A refusal after that leaves the move pending, as of `resume_move`.
+    /// Where the move does not begin, the administrator is unchanged: `NoObject` where no object has this name,
+    /// `MovePending` where the object or the administrator has a move that is not answered, `BadLayout` where there is
+    /// no layout of this number, `Full` where a limit is met, and else `NoMemory`. A later refusal leaves the move
+    /// pending, and comes as of `resume_move`.
     pub fn move_object<R: Threads + Wait + Sync, C: Chooser>(
         &self,
         rt: &R,
@@ -131,8 +135,8 @@ impl<L: StoreName> Store<L> {
         self.finish(rt, &NoGate, admin, false, chooser, turns)
     }
 
-    /// Goes on with the administrator's pending move, in at most so many turns. Refused as `resume`, but never as a
-    /// stranger: `NoCall` where there is no move.
+    /// Goes on with the administrator's pending move, in at most `turns` steps. `NoCall` where no move is pending, and
+    /// else refused as `resume`, but never as `Stranger`. The move then stays pending.
     pub fn resume_move<R: Threads + Wait + Sync, C: Chooser>(
         &self,
         rt: &R,
