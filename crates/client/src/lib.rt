@@ -1,6 +1,6 @@
 //! Whole calls of client threads: a store under one lock that they share, with their seats.
 //!
-//! Each method takes the lock for one step at a time, and encodes and decodes while the lock is free. A method may be
+//! A method holds the lock for at most one step at a time, and encodes and decodes while the lock is free. It may be
 //! refused with `NoMemory`, unless its comment says that it allocates no memory.
 #![tactic(auto)]
 

@@ -17,22 +17,31 @@ use tag::{Refusal, Stamp};
 /// mail, from 0.
 #[derive(Debug, Drop)]
 pub enum Act {
+    /// Begins a read.
     CallRead,
+    /// Begins a write of this value.
     CallWrite(Bytes),
+    /// Begins a move to this layout.
     CallMove(Layout),
+    /// The call of this number begins the phase that is due.
     Advance(u64),
     /// Restarts the call of this number.
     Again(u64),
-    /// The coded value of the call of this number.
+    /// Hands in the encoded value of the call of this number.
     Supply(u64, Coded),
     /// Resends the requests of the current phase of the call of this number.
     Post(u64),
-    /// The value that was decoded for the call of this number.
+    /// Hands in the value that was decoded for the call of this number.
     Settle(u64, Decoded),
+    /// Answers the call of this number.
     Answer(u64),
+    /// The request at this place is served.
     Serve(usize),
+    /// The reply at this place is taken.
     Take(usize),
+    /// The message at this place is lost.
     Lose(usize),
+    /// The message at this place is repeated.
     Repeat(usize),
 }
 
@@ -41,8 +50,11 @@ pub enum Act {
 pub enum Answered {
     /// The number of the call that began.
     Call(u64),
+    /// The receipt of the call that was answered.
     Receipt(Receipt),
+    /// What the call did with the reply.
     Took(Took),
+    /// Any other act returns nothing.
     Nothing,
 }
 

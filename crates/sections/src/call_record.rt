@@ -12,6 +12,7 @@ use tag::{Refusal, Stamp};
 /// The call that a client asks for.
 #[derive(Debug, Drop)]
 pub enum Begin {
+    /// A read.
     Read,
     /// A write of this value.
     Write(Bytes),
