@@ -1,5 +1,5 @@
-//! The coding library for a program in Rust: safe functions over `libcoding.a`, to be taken as a module and linked by
-//! `-L native=PREFIX/lib -l static=coding`. `coding.h` beside it says what each call does.
+//! The coding library for programs in Rust: safe functions over `libcoding.a`. Include this file as a module, and link
+//! with `-L native=PREFIX/lib -l static=coding`. `coding.h` beside it says what each function does.
 #![allow(dead_code)] // a program calls some of these
 
 use std::ffi::CStr;
@@ -24,7 +24,7 @@ impl<'a> From<&'a [u8]> for Fragment<'a> {
     }
 }
 
-/// Why a call was refused: then it changed nothing. It prints as its number and its name.
+/// Why a call was refused; it then changed nothing. It prints as its number and its name.
 #[derive(Clone, Copy, Debug, PartialEq, Eq)]
 pub struct Refused(pub u8);
 
@@ -75,7 +75,7 @@ pub fn encode_one(k: u8, point: u8, value: &[u8], out: &mut [u8]) -> Result<(), 
     result(unsafe { coding_encode_one(k, point, value.as_ptr(), value.len(), out.as_mut_ptr(), out.len()) })
 }
 
-/// Writes the value that has these fragments at these points to `value`, whose length is the value's.
+/// Writes the value that has these fragments at these points to `value`, which must have the value's length.
 pub fn decode(k: u8, points: &[u8], fragments: &[Fragment<'_>], value: &mut [u8]) -> Result<(), Refused> {
     result(unsafe {
         coding_decode(k, points.as_ptr(), points.len(), fragments.as_ptr(), fragments.len(), value.as_mut_ptr(),
@@ -83,7 +83,7 @@ pub fn decode(k: u8, points: &[u8], fragments: &[Fragment<'_>], value: &mut [u8]
     })
 }
 
-/// Writes the value to `value` as `decode` does, and its fragment at `point` to `out`.
+/// Writes the value to `value`, as `decode` does, and the value's fragment at `point` to `out`.
 pub fn repair(k: u8, points: &[u8], fragments: &[Fragment<'_>], point: u8, value: &mut [u8], out: &mut [u8])
     -> Result<(), Refused>
 {
