@@ -8,9 +8,10 @@ from kit import rtlib
 
 @dataclass(frozen=True)
 class Function:
-    """A function with a body. `begin` and `end` are the places of the body's braces, in bytes of the file."""
+    """A function with a body. In bytes of the file, `head` is where it begins, `begin` and `end` are its body's braces."""
 
     path: str
+    head: int
     begin: int
     end: int
     module: tuple  # the modules down to the item, without the crate
@@ -121,7 +122,7 @@ def functions_in(path, tokens):
             body = opening(tokens, at)
             if tokens[body].text == "{":
                 end = closing(tokens, body)
-                found.append(Function(path, tokens[body].start, tokens[end].end, module, owner, behind))
+                found.append(Function(path, tokens[at].start, tokens[body].start, tokens[end].end, module, owner, behind))
                 at = end
             else:
                 at = body
@@ -138,6 +139,6 @@ def functions_in(path, tokens):
 
 def functions_of(crate):
     """The functions of a crate's source files, by the path of the file."""
-    paths = [path for path in (file[len(crate.folder) + 1 :] for file in rtlib.files_of(crate.folder))]
-    paths = [path for path in paths if path.startswith("src/") and path.endswith(".rt")]
+    files = [file.removeprefix(f"{crate.folder}/") for file in rtlib.files_of(crate.folder)]
+    paths = [path for path in files if path.startswith("src/") and path.endswith(".rt")]
     return {path: functions_in(path, tokens) for path, tokens in code_tokens(crate.folder, paths).items()}

@@ -76,7 +76,7 @@ class Report:
         """The lines that say why the edit's functions fail, those that name more than what went away first."""
         told = []
         for function in edit.functions:
-            first, last = line_of(function.path, function.begin), line_of(function.path, function.end)
+            first, last = line_of(function.path, function.head), line_of(function.path, function.end)
             folders = ["proofs/" + name.partition("::")[2].replace("::", "/") + "/" for name in self.names_of(function)]
             for row in self.lines:
                 at = re.match(r"(?:note: )?(?:\./)?(\S+?):(\d+):\d+: ?(.*)", row)
