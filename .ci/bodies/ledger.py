@@ -1,10 +1,11 @@
 """The ledger of wrong bodies that were tried: a line for each crate, with a sum over all that the verdicts rest on.
 
 The sum is over the kit's line, the crate's own sources, definitions, proofs and wrong bodies, and of each library below
-its interface and its definitions. A body that changed in a library below alters none of these.
+its interface and its definitions. A body or a comment that changed in a library below alters none of these.
 """
 import hashlib
 import os
+import re
 
 from kit import KIT_LINE, rtlib
 
@@ -19,10 +20,11 @@ def sum_of(crate):
     """The sum of a crate whose libraries below stand built."""
     total = hashlib.sha256(KIT_LINE.encode())
 
-    def add(folder, files):
+    def add(folder, files, comments=None):
         for file in files:
             with open(file, "rb") as it:
-                total.update(repr((file.removeprefix(folder), it.read())).encode())
+                text = re.sub(comments, b"", it.read()) if comments else it.read()
+            total.update(repr((file.removeprefix(folder), text)).encode())
 
     add(crate.folder, rtlib.files_of(crate.folder))
     for folder in ("wrong-bodies", "must-fail"):
@@ -30,7 +32,7 @@ def sum_of(crate):
     for below in sorted(crate.below(), key=lambda it: it.name):
         total.update(below.name.encode())
         add(below.rlib, files_below(f"{below.rlib}/interface/lang/src"))
-        add(below.folder, files_below(f"{below.folder}/specs"))
+        add(below.folder, files_below(f"{below.folder}/specs"), rb"(?m)^\s*--.*\n")
     return total.hexdigest()[:32]
 
 
