@@ -1,10 +1,10 @@
--- Why the program ends early.
+-- Why the program ends early, and with which exit status.
 use Rattle.std.specs.Prelude.{ℕ}
 use Rattle.player.specs.Script.{status_of as status_of_end}
 use Rattle.trace.specs.declared.fault.Fault.{Fault}
 use Rattle.trace.specs.declared.fault.Fault.TheVariants as fault
 
--- the exit status
+-- the exit status of each fault
 abbrev pub status_of : Fault → ℕ
 status_of fault.NotText = 2
 status_of fault.Usage = 2

@@ -1,4 +1,4 @@
--- What a run of the program does.
+-- What a run of the program writes, and with which exit status it ends.
 use Rattle.std.specs.Prelude.{◌≡◌, ◌⊎◌, ℕ, List, Option, None, Result, Ok, Err}
 use Rattle.std.specs.Io.KnownBytes.{Keeps}
 use Rattle.cluster.specs.Cluster.{Cluster}
@@ -16,19 +16,19 @@ abbrev pub IsUnopened : (old new : Option (List ℕ)) → Result Unit Fault → 
 IsUnopened old new result =
     ((result ≡ Err (fault.Ended NoMemory)) ⊎ (result ≡ Err (fault.Ended Unread))) × Keeps old new
 
--- the script that is given ends early, and nothing is written; or it is played, and the object shown, or not
+-- playing the script ends early, and nothing is written; or it is played to its end, and the object is shown or not
 abbrev pub Carries : (given : Option (List ℕ)) → Form → (name : Word) → (old new : Option (List ℕ))
     → Result Unit Fault → Type 0
 Carries given asked name old new result =
     ((why : Fault) × IsUnplayed given why × (result ≡ Err why) × Keeps old new)
     ⊎ ((cluster : Option Cluster) × LeadsTo given cluster × Shows asked cluster name old new result)
 
--- what a file holds, no clause can say: it could not be opened, or gave some script
+-- the file could not be opened, or it gave some script: no clause can say what a file holds
 abbrev pub ShowsOfFile : Form → (name : Word) → (old new : Option (List ℕ)) → Result Unit Fault → Type 0
 ShowsOfFile asked name old new result =
     IsUnopened old new result ⊎ ((given : Option (List ℕ)) × Carries given asked name old new result)
 
--- this exit status is that of such a result
+-- this is the exit status of a result of which `Is` holds
 abbrev pub IsStatusOf : (Result Unit Fault → Type 0) → (status : ℕ) → Type 0
 IsStatusOf Is status =
     ((status ≡ 0) × (Is (Ok tt))) ⊎ ((why : Fault) × (status ≡ status_of why) × Is (Err why))

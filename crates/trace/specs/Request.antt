@@ -4,7 +4,7 @@ use Rattle.trace.specs.declared.request.Form.{Form}
 use Rattle.trace.specs.declared.request.Form.TheVariants as form
 use Rattle.trace.specs.declared.request.Request.{Request}
 
--- a word, by its bytes
+-- the bytes of a word
 abbrev pub Word : Type 0
 Word = List ℕ
 
@@ -15,7 +15,7 @@ words_of form.Edn script name = codes "history" ∷ script ∷ name ∷ codes "e
 words_of form.Json script name = codes "history" ∷ script ∷ name ∷ codes "json" ∷ []
 words_of form.Costs script name = codes "costs" ∷ script ∷ name ∷ []
 
--- the request that the words spell, or none where they spell none
+-- the words spell this request, or no request at all
 abbrev pub IsReading : List Word → Option Request → Type 0
 IsReading words None = (asked : Form) (script name : Word) → ¬ (words ≡ words_of asked script name)
 IsReading words (Some request) = words ≡ words_of request.form request.script.now request.name.now

@@ -1,4 +1,4 @@
--- What is shown of an object.
+-- What the program writes of an object.
 use Rattle.std.specs.Prelude.{◌≡◌, ◌⊎◌, ℕ, ◌+◌, ◌-◌, ◌^◌, min, ⊤, List, Option, Some, None, Result, Ok, Err}
 use Rattle.std.specs.Io.KnownBytes.{Appends, Keeps}
 use Rattle.tag.specs.declared.refusal.Refusal.{Refusal}
@@ -17,11 +17,11 @@ use Rattle.trace.specs.declared.fault.Fault.TheVariants as fault
 use Rattle.trace.specs.declared.request.Form.{Form}
 use Rattle.trace.specs.declared.request.Form.TheVariants as form
 
--- the step behind the last one
+-- the number of the step after the last one, at which open calls end in a history
 abbrev pub behind : State → ℕ
 behind state = min (state.last + 1) (2 ^ 64 - 1)
 
--- the object is written in a form; of the picture nothing is said
+-- what is written is the object in this form; nothing is claimed of a picture
 abbrev pub IsShown : Form → State → (old new : Option (List ℕ)) → Type 0
 IsShown form.Picture state old new = ⊤
 IsShown form.Edn state old new =
@@ -30,32 +30,32 @@ IsShown form.Json state old new =
     (events : List Event) × IsHistory (entries state.object) (behind state) events × Appends old new (json_text events)
 IsShown form.Costs state old new = Appends old new (costs_text state.object (entries state.object))
 
--- memory is wanting
+-- the fault is that memory is refused
 abbrev pub IsWant : Fault → Type 0
 IsWant why = why ≡ fault.Refused NoMemory
 
--- memory is wanting, or the output is lost
+-- the fault is that memory is refused or that the output is lost
 abbrev pub IsLoss : Fault → Type 0
 IsLoss why = IsWant why ⊎ (why ≡ fault.OutputLost)
 
--- the refusal of a name where there is no object of it
+-- the refusal where no object has this name; none where one has it
 abbrev pub absence : Option Cluster → (name : List ℕ) → Option Refusal
 absence None name = Some NoObject
 absence (Some cluster) name = object_cause cluster name (λ object. None)
 
--- the object of this name is there, and is written
+-- an object has this name, and it is written
 abbrev pub ShowsOf : Form → Option Cluster → (name : List ℕ) → (old new : Option (List ℕ)) → Type 0
 ShowsOf asked None name old new = ⊥
 ShowsOf asked (Some cluster) name old new =
     (state : State) × (named cluster.objects name ≡ Some state) × IsShown asked state old new
 
--- there is no object of this name, and nothing is written; or it is not shown for want of memory, or is lost
+-- no object has this name, and nothing is written; or one has it, and memory is refused or the output is lost
 abbrev pub IsWhyNot : Option Cluster → (name : List ℕ) → (old new : Option (List ℕ)) → Fault → Type 0
 IsWhyNot cluster name old new why =
     ((refusal : Refusal) × (why ≡ fault.Refused refusal) × (absence cluster name ≡ Some refusal) × Keeps old new)
     ⊎ ((absence cluster name ≡ None) × IsLoss why)
 
--- an object is shown, or a fault says why not
+-- the object is shown, or the fault says why it is not
 abbrev pub Shows : Form → Option Cluster → (name : List ℕ) → (old new : Option (List ℕ)) → Result Unit Fault → Type 0
 Shows asked cluster name old new (Ok x) = ShowsOf asked cluster name old new
 Shows asked cluster name old new (Err why) = IsWhyNot cluster name old new why

@@ -11,18 +11,18 @@ use std::io;
 use std::io::{ErrorKind, Write};
 use tag::Refusal;
 
-/// Why the program ended early. Nothing is shown.
+/// Why the program ended early. The object is not shown.
 #[derive(Clone, Copy, Debug, PartialEq, Eq)]
 pub enum Fault {
     /// A word of the command line is not UTF-8.
     NotText,
-    /// The command line has another form.
+    /// The words of the command line spell no request.
     Usage,
     /// The script was not played to its end.
     Ended(End),
-    /// There is no object of the name, or memory is wanting.
+    /// No object has the name, or memory is refused.
     Refused(Refusal),
-    /// A write of output failed, and not for want of memory.
+    /// A write of output failed for another reason than a lack of memory.
     OutputLost,
 }
 
@@ -32,7 +32,7 @@ const USAGE: &str = "usage: trace picture SCRIPT NAME\n       \
     trace costs SCRIPT NAME";
 
 impl Fault {
-    /// Why the program's arguments cannot be had: they are not text, or find no memory.
+    /// Why the program's arguments could not be read: one is not UTF-8, or memory is refused.
     pub fn from_arguments(error: io::Error) -> Fault
         ensures memory { error_kind error ≡ ErrorKind.OutOfMemory → result ≡ fault.Refused NoMemory }
         ensures text { error_kind error ≢ ErrorKind.OutOfMemory → result ≡ fault.NotText }
@@ -43,7 +43,7 @@ impl Fault {
         }
     }
 
-    /// Why output is lost: its write found no memory, or failed otherwise.
+    /// Why output is lost: memory was refused to a write, or a write failed for another reason.
     pub fn from_output(error: io::Error) -> Fault
         ensures memory { error_kind error ≡ ErrorKind.OutOfMemory → result ≡ fault.Refused NoMemory }
         ensures other { error_kind error ≢ ErrorKind.OutOfMemory → result ≡ fault.OutputLost }
@@ -54,8 +54,8 @@ impl Fault {
         }
     }
 
-    /// Prints why on `err`, for a script of this name, and answers the exit status: 1 for a refusal or lost output, 2
-    /// for the command line or the script. A failed write is passed over.
+    /// Prints the reason on `err`, for a script of this name, and returns the exit status: 1 for a refusal or lost
+    /// output, 2 for the command line or the script. A write that fails is ignored.
     pub fn report<W: Write>(self, script: &str, err: &mut W) -> u8
         ensures { result ≡ status_of self }
     {

@@ -1,5 +1,5 @@
-//! The program `trace`: plays a script, and then shows one object: its picture, its history as other checkers read it,
-//! or what its calls cost.
+//! The program `trace`: it plays a script and then shows one object, as a picture, as a history that other checkers
+//! read, or as the costs of its calls.
 #![tactic(auto)]
 
 mod fault;
@@ -24,7 +24,7 @@ fn main(rt: HostRuntime) -> ExitCode {
     ExitCode::from(status)
 }
 
-/// The words after the program's name, and standard output behind a buffer.
+/// The words after the program's name, and a buffered standard output.
 fn begun(rt: &HostRuntime) -> Result<(Vec<String>, BufWriter<Stdout>), Fault> {
     let mut arguments = env::args(rt).map_err(Fault::from_arguments)?;
     let _program = arguments.next();

@@ -1,4 +1,4 @@
-//! The script, played line by line.
+//! Playing a script line by line.
 ghost use Rattle.std.specs.Prelude.{◌≡◌, ℕ, List, None, map, IfErr, MatchResult};
 ghost use Rattle.std.specs.Str.Lines.{lines as lines_of};
 ghost use Rattle.tag.specs.declared.refusal.Refusal.TheVariants.{NoMemory};
@@ -15,17 +15,17 @@ use std::alloc::Global;
 use std::io;
 use std::io::Read;
 
-/// What a script leaves.
+/// What a script leaves behind.
 #[derive(Drop)]
 pub struct Played {
-    /// The cluster, unless the script has no command.
+    /// The cluster; none where the script has no command.
     pub cluster: Option<Cluster>,
-    /// The messages of the object that the script loses.
+    /// The messages of the shown object that the script loses.
     pub losses: Vec<Loss>,
 }
 
-/// Plays the script that the reader gives, and notes which messages of an object it loses. What its commands print is
-/// let go.
+/// Plays the script that the reader gives, and notes which messages of the object of this name it loses. The output of
+/// its commands is discarded.
 pub fn play_script<R: Read>(alloc: Global, reader: &mut R, name: &str) -> Result<Played, Fault>
     ensures { MatchResult result (λ played. LeadsTo (R.remaining reader.old) played.cluster)
         (IsUnplayed (R.remaining reader.old)) }
@@ -84,7 +84,7 @@ fn note(losses: &mut Vec<Loss>, lost: Option<Loss>) -> Result<(), Fault>
     Ok(())
 }
 
-// The message of the object that the line loses.
+// The message of the named object that this line loses, if it loses one.
 fn lost_by(alloc: Global, cluster: &Option<Cluster>, name: &str, line: &[u8]) -> Option<Loss> {
     let cluster = cluster.as_ref()?;
     let Ok(Line::Command(Command::Lose { name: of, place })) = parse_line(alloc, line) else {

@@ -2,18 +2,23 @@
 ghost use Rattle.std.specs.Prelude.{◌∷◌, [], map, string_bytes};
 ghost use Rattle.trace.specs.Request.{IsReading};
 
-/// What is shown of an object.
+/// The form in which an object is shown.
 #[derive(Clone, Copy, Debug, PartialEq, Eq)]
 pub enum Form {
+    /// A picture in SVG.
     Picture,
+    /// The history of the calls in EDN, as Jepsen and Knossos read it.
     Edn,
+    /// The history of the calls as lines of JSON.
     Json,
+    /// What each call cost, and all of them together.
     Costs,
 }
 
-/// A form of an object, after a script.
+/// A request: play a script, then show one object in one form.
 #[derive(Clone, Copy, Debug, PartialEq, Eq)]
 pub struct Request<'a> {
+    /// The form in which the object is shown.
     pub form: Form,
     /// The name of the script's file.
     pub script: &'a str,
@@ -21,7 +26,7 @@ pub struct Request<'a> {
     pub name: &'a str,
 }
 
-/// The request that the words after the program's name spell.
+/// The request that the words after the program's name spell; none where they spell none.
 pub fn parse_request(words: &[String]) -> Option<Request<'_>>
     ensures { IsReading (map string_bytes words.entry.now) result }
 {

@@ -1,4 +1,4 @@
-//! What is shown of an object.
+//! What the program writes of an object.
 ghost use Rattle.std.specs.Prelude.{◌≡◌, ℕ, List, Some, IfErr, OnOk, MatchResult};
 ghost use Rattle.std.specs.Io.KnownBytes.{Appends};
 ghost use Rattle.record.specs.Journals.{entries};
@@ -19,8 +19,8 @@ use std::fmt::Display;
 use std::io::Write;
 use tag::Refusal;
 
-/// Writes what the request asks for of its object, or nothing: there is no object of the name, memory is wanting, or
-/// the output is lost, of which some may be written then.
+/// Writes the requested object in the requested form and flushes it. `NoObject` where no object has the
+/// name. With any other error memory is refused or the output is lost, and part of the text may have been written.
 pub fn show<O: Write>(
     alloc: Global,
     played: &Played,
@@ -77,7 +77,7 @@ fn show_json<O: Write>(alloc: Global, register: &Register, out: &mut O) -> Resul
     }
 }
 
-// The events of the object's calls, of which the open ones end behind the last step.
+// The events of the object's calls. Calls that are still open end at the step after the last one.
 fn history_of(alloc: Global, register: &Register) -> Result<Vec<Event>, Fault>
     ensures { MatchResult result
         (λ events. IsHistory (entries register.now.object) (behind register.now) events.items) IsWant }
