@@ -1,5 +1,5 @@
-//! An example: a program that embeds a `Store`, a cluster under one lock for client threads. Through a seat it writes a
-//! value, has the object moved to another layout, reads the value back, and closes the store.
+//! An example: a program that embeds a `Store`, the cluster under one lock that client threads share. It writes a value
+//! through a seat, moves the object to another layout, reads the value back, and closes the store.
 #![tactic(auto)]
 
 ghost use Rattle.std.specs.Prelude.{◌≡◌, ◌+◌};
@@ -20,16 +20,16 @@ use words::Hexadecimal;
 /// The name of the object.
 const NAME: &str = "greeting";
 
-/// More turns than a call takes here.
+/// A limit on the turns of one call, above what a call takes here.
 const MOST_TURNS: u64 = 1000;
 
-/// The seats of the store. Its blank has one part for each, and one for the store.
+/// The number of seats. The store's blank needs one part for each seat, and one for the store itself.
 const SEATS: u32 = 1;
 
-/// No workers: the thread of a seat codes by itself.
+/// No workers: the thread of a seat encodes by itself.
 const WORKERS: usize = 0;
 
-/// What was read back, and how many receipts the closed store has accounted for.
+/// The value that was read back, and the number of receipts that the close accounts for.
 #[derive(Drop)]
 struct Outcome {
     value: Bytes,
@@ -50,13 +50,13 @@ fn main(rt: HostRuntime) -> ExitCode {
     }
 }
 
-/// Opens the store under a name of its own.
+/// Opens the store under a name of its own, and uses it.
 fn play<R: Threads + Wait + Sync>(rt: &R, alloc: Global) -> Result<Outcome, Refusal> {
     write_move_and_read::<Brand, R>(rt, alloc, Blank::new(2), four_servers(alloc)?)
 }
 
-/// Writes `hello` to an object of four servers, of which any two give the value back, moves it to three of them, of
-/// which each has it whole, and reads it. Several seats would be lent to several threads.
+/// Writes `hello` to an object of four servers, any two of which give the value back. Moves the object to three
+/// servers, each of which keeps the whole value, and reads it. With several seats, each thread would borrow one.
 fn write_move_and_read<L: StoreName, R: Threads + Wait + Sync>(
     rt: &R,
     alloc: Global,
@@ -84,7 +84,7 @@ fn write_move_and_read<L: StoreName, R: Threads + Wait + Sync>(
     }
 }
 
-/// Four servers and the object.
+/// A cluster of four servers, with the object.
 fn four_servers(alloc: Global) -> Result<Cluster, Refusal> {
     let mut cluster = Cluster::new(alloc, 4);
     let layout = cluster.add_layout(Layout::new(2, &[0, 1, 2, 3])?)?;
