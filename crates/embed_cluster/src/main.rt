@@ -1,5 +1,5 @@
-//! An example: a program that embeds a `Cluster`. It writes a value and reads it back, and it delivers every message
-//! itself.
+//! An example: a program that embeds a `Cluster` and delivers every message itself. It writes a value and reads it
+//! back.
 #![tactic(auto)]
 
 ghost use Rattle.cluster.specs.Atomic.{AreAtomic, AreFragments};
@@ -20,7 +20,7 @@ use words::Hexadecimal;
 /// The name of the object.
 const NAME: &str = "greeting";
 
-/// More turns than a write or a read takes here.
+/// A limit on the turns of one call, above what a write or a read takes here.
 const MOST_TURNS: u64 = 1000;
 
 fn main(rt: HostRuntime) -> ExitCode {
@@ -34,7 +34,7 @@ fn main(rt: HostRuntime) -> ExitCode {
     }
 }
 
-/// Writes `hello` to an object of four servers, of which any two give the value back, and reads it.
+/// Writes `hello` to an object of four servers, any two of which give the value back, and reads it.
 fn write_and_read(alloc: Global) -> Result<Bytes, Refusal> {
     let mut cluster = Cluster::new(alloc, 4);
     let layout = cluster.add_layout(Layout::new(2, &[0, 1, 2, 3])?)?;
@@ -46,8 +46,8 @@ fn write_and_read(alloc: Global) -> Result<Bytes, Refusal> {
     receipt.value.ok_or(Refusal::NotNow)
 }
 
-/// Goes on with a call until it is answered: the loop over `want`. Whatever it does, the objects stay atomic, and what
-/// lies in banks and messages stays fragments of what was written.
+/// Makes turns until the call is answered: the loop over `want`. Whatever the loop does, every object stays atomic, and
+/// each piece in a bank or message stays its member's fragment of a value that was written.
 fn bring_to_answer(alloc: Global, cluster: &mut Cluster, call: u64) -> Result<Receipt, Refusal>
     ensures atomic { AreAtomic cluster.new }
     ensures fragments { AreFragments cluster.new }
@@ -78,7 +78,7 @@ fn make_turns(alloc: Global, cluster: &mut Cluster, call: u64) -> Result<Receipt
     Err(Refusal::GaveUp)
 }
 
-/// Delivers the message that has waited longest: a request is served, and a reply taken.
+/// Handles the message that has waited longest: a request is served, and a reply is taken.
 fn handle_first(cluster: &mut Cluster) -> Result<(), Refusal> {
     handle(cluster, NAME, 0)?;
     Ok(())
