@@ -1,5 +1,5 @@
-//! The program `cas`: the fragments of a value, the value of fragments, the run of a script, and a soak of the store,
-//! from the command line.
+//! The program `cas`: from the command line it codes a value into fragments, decodes a value from fragments, runs a
+//! script, and soaks the store.
 #![tactic(auto)]
 
 use coding_commands::Fault;
@@ -20,7 +20,7 @@ fn main(rt: HostRuntime) -> ExitCode {
     ExitCode::from(status)
 }
 
-/// The words after the program's name, and standard output behind a buffer.
+/// The words after the program's name, and a buffered standard output.
 fn begun(rt: &HostRuntime) -> Result<(Vec<String>, BufWriter<Stdout>), Fault> {
     let mut arguments = env::args(rt).map_err(Fault::from_arguments)?;
     let _program = arguments.next();

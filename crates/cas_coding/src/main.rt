@@ -1,5 +1,5 @@
-//! The coding alone of the program `cas`: the fragments of a value, and the value of fragments, from the command line.
-//! `./cas` runs it for these two requests until the whole program is built.
+//! The coding requests of the program `cas` as a program of their own: it codes a value into fragments and decodes a
+//! value from fragments. `./cas` runs it for these two requests until the whole program is built.
 #![tactic(auto)]
 
 use coding_commands::{Fault, run_words};
@@ -17,7 +17,7 @@ fn main(rt: HostRuntime) -> ExitCode {
     ExitCode::from(status)
 }
 
-/// Carries out the words after the program's name, and answers the exit status.
+/// Carries out the words after the program's name, and returns the exit status.
 fn answered(rt: &HostRuntime) -> Result<u8, Fault> {
     let mut arguments = env::args(rt).map_err(Fault::from_arguments)?;
     let _program = arguments.next();
