@@ -19,8 +19,8 @@ use std::fmt::Display;
 use std::io::Write;
 use tag::Refusal;
 
-/// Writes the requested object in the requested form and flushes it. `NoObject` where no object has the
-/// name. With any other error memory is refused or the output is lost, and part of the text may have been written.
+/// Writes the requested object in the requested form and flushes it. `NoObject` where no object has the name. With any
+/// other error memory is refused or the output is lost, and part of the text may have been written.
 pub fn show<O: Write>(
     alloc: Global,
     played: &Played,
