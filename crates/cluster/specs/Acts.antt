@@ -1,10 +1,10 @@
--- What an act asks of a cluster, beside its step of one object.
+-- What an act requires of a cluster, beyond what its object's step requires.
 use Rattle.std.specs.Prelude.{ℕ}
 use Rattle.register.specs.declared.act.Act.{Act}
 use Rattle.register.specs.declared.act.Act.TheVariants as act
 use Rattle.cluster.specs.Kept.{HasMembersBelow}
 
--- a move's layout is of the cluster's servers; what is served is stored at a server, and is no act of this kind
+-- a serve is never ready, a move is where each member of its layout is a server, and any other act always is
 abbrev pub IsReady : (servers : ℕ) → Act → Type 0
 IsReady servers (act.CallMove layout) = HasMembersBelow servers layout
 IsReady servers (act.Serve place) = ⊥

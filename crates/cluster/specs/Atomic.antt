@@ -16,11 +16,11 @@ use Rattle.cluster.specs.Accounts as of
 use Rattle.cluster.specs.Cluster.{Cluster}
 use Rattle.cluster.specs.declared.cluster.accounts.Accounts.{Accounts}
 
--- the record of each object is sound: it is legal, its messages are true, and its steps are past
+-- the record of each object is sound: it is legal, its messages are true, and none of its steps is in the future
 abbrev pub AreSound : Cluster → Type 0
 AreSound cluster = AllByRecursion (λ o. IsSound fragment o.state.object o.state.last) cluster.objects
 
--- each object is within the written limits
+-- the record of each object is within the limits of `tag`
 abbrev pub AreWithinLimits : Cluster → Type 0
 AreWithinLimits cluster = AllByRecursion (λ o. IsWithinLimits o.state.object) cluster.objects
 

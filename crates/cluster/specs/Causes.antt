@@ -1,4 +1,4 @@
--- Why each step is refused: of all that hold, the first by the order of refusals. `NoMemory` comes after these.
+-- Why each step is refused: the first refusal that applies, in the order of refusals. `NoMemory` comes after these.
 use Rattle.std.specs.Prelude.{ℕ, suc, ◌+◌, Bool, true, not, nat_le, nat_lt, is_some}
 use Rattle.std.specs.Prelude.{List, length, Option, Some, None, option_map, slice_get}
 use Rattle.std.specs.List.{list_all}
@@ -22,32 +22,32 @@ use Rattle.cluster.specs.Accounts.{banks_all}
 abbrev pub next : Cluster → ℕ
 next cluster = suc cluster.counter
 
--- there is an object, and then its own cause
+-- NoObject where there is no object; otherwise the cause that is read of the object
 abbrev pub if_object : Option State → (Object → Option Refusal) → Option Refusal
 if_object None cause = Some NoObject
 if_object (Some state) cause = cause state.object
 
--- there is an object of this name, and then its cause
+-- NoObject where no object has this name; otherwise the cause that is read of that object
 abbrev pub object_cause : Cluster → (name : List ℕ) → (Object → Option Refusal) → Option Refusal
 object_cause cluster name cause = if_object (named cluster.objects name) cause
 
--- there is such a layout, and then what comes after it
+-- BadLayout where there is no layout; otherwise the cause that is read of the layout
 abbrev pub if_layout : Option Layout → (Layout → Option Refusal) → Option Refusal
 if_layout None cause = Some BadLayout
 if_layout (Some layout) cause = cause layout
 
--- each member is a server
+-- whether each member of a layout is a server of the cluster
 abbrev pub has_servers : Cluster → Layout → Bool
 has_servers cluster layout = list_all (λ member. nat_lt member (length cluster.servers)) layout.members
 
--- a layout is added where each member is a server, and where one more step and one more layout have room
+-- why a layout is not added: a member is no server, or the limit of steps or of layouts is met
 abbrev pub layout_cause : Cluster → Layout → Option Refusal
 layout_cause cluster layout =
     unless (has_servers cluster layout) BadLayout
     (if_step (next cluster) (unless (nat_lt (length cluster.layouts) MOST_LAYOUTS) Full None))
 
--- an object is added where no other has its name, there is such a layout,
--- the name is short, and one more step and one more object have room
+-- why an object is not created: its name is in use or is too long, there is no layout of this number, or the limit of
+-- steps or of objects is met
 abbrev pub create_cause : Cluster → (name : List ℕ) → (id : ℕ) → Option Refusal
 create_cause cluster name id =
     unless (not (is_some (named cluster.objects name))) ObjectExists
@@ -55,24 +55,24 @@ create_cause cluster name id =
     unless (nat_le (length name) LONGEST_NAME) TooLong
     (if_step (next cluster) (unless (nat_lt (length cluster.objects) MOST_OBJECTS) Full None))))
 
--- a server that is there goes up or down, where one more step has room
+-- why a server is not set up or down: there is no such server, or the limit of steps is met
 abbrev pub server_cause : Cluster → (server : ℕ) → Option Refusal
 server_cause cluster server = unless (nat_lt server (length cluster.servers)) BadLayout (if_step (next cluster) None)
 
--- a move that is open comes before a layout that is not there
+-- why a move does not begin: another move is open, there is no layout of this number, or the move has its own cause
 abbrev pub moving_cause : Cluster → (id : ℕ) → Object → Option Refusal
 moving_cause cluster id object =
     unless (not (has_open_move object.calls)) MovePending
     (if_layout (slice_get cluster.layouts id) (λ layout. move_cause layout (next cluster) object))
 
--- a request is served where its server is up, and where its piece has room beside all that the cluster stores
+-- why a message is not served: it is a reply, its server is down, or the limit of steps or of stored bytes is met
 abbrev pub served_cause : Cluster → Object → Message → Body → Option Refusal
 served_cause cluster object message (body.Request asked) =
     unless (is_reached cluster object message) Down
     (if_step (next cluster) (unless (nat_le (banks_all cluster.objects + request_bytes asked) MOST_BYTES) Full None))
 served_cause cluster object message (body.Reply kind made) = Some NotNow
 
--- there is a message at this place, and then the cause of serving it
+-- why the message at this place is not served; NoMessage where there is none
 abbrev pub serving_cause : Cluster → (place : ℕ) → Object → Option Refusal
 serving_cause cluster place object =
     if_message (slice_get object.mail place) (λ message. served_cause cluster object message message.body)
@@ -82,11 +82,11 @@ abbrev pub can_handle : Cluster → Object → Message → Body → Bool
 can_handle cluster object message (body.Request asked) = is_reached cluster object message
 can_handle cluster object message (body.Reply kind made) = true
 
--- whether the message at this place can be handled, where there is one
+-- whether the message at this place can be handled; none where there is no message
 abbrev pub handled_at : Cluster → (place : ℕ) → Object → Option Bool
 handled_at cluster place object =
     option_map (λ message. can_handle cluster object message message.body) (slice_get object.mail place)
 
--- there is a message at this place
+-- NoMessage where there is no message at this place
 abbrev pub place_cause : (place : ℕ) → Object → Option Refusal
 place_cause place object = if_message (slice_get object.mail place) (λ message. None)

@@ -1,4 +1,4 @@
--- All objects, the layouts that they may have, and the servers.
+-- A cluster: all objects, the layouts that they may have, and the servers.
 use Rattle.std.specs.Prelude.{ℕ, zero, suc, Bool, true, false, refl, List, [], ◌∷◌, Option}
 use Rattle.std.specs.Prelude.{Some, None, if◌then◌else◌, bytes_eq, get_or, slice_get}
 use Rattle.std.specs.Coded.{Coded, code_by, coded×, coded_list, coded_ℕ, coded_bool}
@@ -12,20 +12,20 @@ pub record Named : Type 0 where
   pub name : List ℕ
   pub state : State
 
--- whether each server is up, the layouts by their ids, the
--- objects in order of creation, and the number of the last step
+-- a cluster: whether each server is up, the layouts by their numbers, the objects in order of creation, and the number
+-- of the last step
 pub record Cluster : Type 0 where
   pub servers : List Bool
   pub layouts : List Layout
   pub objects : List Named
   pub counter : ℕ
 
--- a name and an object are stored as their pair
+-- the code of an object with its name, as their pair
 abbrev pub named_code : Coded State → Coded Named
 named_code state = code_by (List ℕ × State) (coded× (coded_list coded_ℕ) state)
     (λ o. (o.name, o.state)) (λ p. record { name = p.0; state = p.1 }) (λ _. refl)
 
--- a cluster is stored as the tuple of its parts
+-- the code of a cluster, as the tuple of its parts
 abbrev pub cluster_code : Coded Layout → Coded State → Coded Cluster
 cluster_code layout state =
     code_by (List Bool × (List Layout × (List Named × ℕ)))
@@ -33,12 +33,12 @@ cluster_code layout state =
     (λ c. (c.servers, (c.layouts, (c.objects, c.counter))))
     (λ p. record { servers = p.0; layouts = p.1.0; objects = p.1.1.0; counter = p.1.1.1 }) (λ _. refl)
 
--- the object of this name
+-- the object of this name; none where no object has it
 abbrev pub named : List Named → List ℕ → Option State
 named [] name = None
 named (object ∷ objects) name = if bytes_eq name object.name then Some object.state else named objects name
 
--- the objects once the one of this name has changed
+-- the objects, with the state of the object of this name changed
 abbrev pub changed : List Named → List ℕ → (State → State) → List Named
 changed [] name change = []
 changed (object ∷ objects) name change =
@@ -50,20 +50,20 @@ abbrev pub place_of : List Named → List ℕ → ℕ
 place_of [] name = 0
 place_of (object ∷ objects) name = if bytes_eq name object.name then 0 else suc (place_of objects name)
 
--- what is read of an object, where it is there
+-- what is read of an object; none where there is no object
 abbrev pub if_some : {X : Type 0} → Option State → (Object → Option X) → Option X
 if_some None read = None
 if_some (Some state) read = read state.object
 
--- what is read of the object of this name in a cluster
+-- what is read of the object of this name; none where no object has it
 abbrev pub if_named : {X : Type 0} → Cluster → (name : List ℕ) → (Object → Option X) → Option X
 if_named cluster name read = if_some (named cluster.objects name) read
 
--- the layout of this number
+-- the layout of this number; the layout without members where there is none
 abbrev pub layout_of : Cluster → (id : ℕ) → Layout
 layout_of cluster id = get_or cluster.layouts id no_layout
 
--- so many servers, all up
+-- this many servers, all up
 abbrev pub all_up : (count : ℕ) → List Bool
 all_up zero = []
 all_up (suc count) = true ∷ all_up count

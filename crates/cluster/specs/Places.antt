@@ -1,4 +1,4 @@
--- Objects by their places, in order of creation.
+-- Objects by their index in the order of creation.
 use Rattle.std.specs.Prelude.{ℕ, List, Option, option_map, slice_get}
 use Rattle.tag.specs.declared.refusal.Refusal.{Refusal}
 use Rattle.record.specs.Records.{Object}
@@ -6,14 +6,14 @@ use Rattle.register.specs.State.{State}
 use Rattle.cluster.specs.Cluster.{Named, Cluster, if_some}
 use Rattle.cluster.specs.Causes.{if_object}
 
--- the object at a place
+-- the object at this index; none where there is none
 abbrev pub object_at : List Named → (place : ℕ) → Option State
 object_at objects place = option_map (λ o. o.state) (slice_get objects place)
 
--- what is read of the object at a place, where it is there
+-- what is read of the object at this index; none where there is no object
 abbrev pub if_placed : {X : Type 0} → Cluster → (place : ℕ) → (Object → Option X) → Option X
 if_placed cluster place read = if_some (object_at cluster.objects place) read
 
--- there is an object at this place, and then its own cause
+-- NoObject where there is no object at this index; otherwise the cause that is read of it
 abbrev pub placed_cause : Cluster → (place : ℕ) → (Object → Option Refusal) → Option Refusal
 placed_cause cluster place cause = if_object (object_at cluster.objects place) cause

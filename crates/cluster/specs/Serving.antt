@@ -1,17 +1,17 @@
--- What a served request asks of a cluster.
+-- What a cluster and a message must be like for a request to be served.
 use Rattle.std.specs.Prelude.{◌≡◌, ℕ, Bool, List, Some, slice_get}
 use Rattle.mail.specs.declared.message.Message.{Message}
 use Rattle.record.specs.Records.{Object, layout_at}
 use Rattle.cluster.specs.Cluster.{Cluster}
 use Rattle.cluster.specs.Accounts.{banks_all}
 
--- the cluster has these servers, its last step this number, and all its banks store so many bytes
+-- the cluster has these servers, this number of its last step, and this many bytes in all banks
 pub record IsOf (cluster : Cluster) (up : List Bool) (last stored : ℕ) : Type 0 where
   pub servers : cluster.servers ≡ up
   pub counter : cluster.counter ≡ last
   pub bytes : banks_all cluster.objects ≡ stored
 
--- the message at this place goes to this server
+-- the server that the message at this place names is this one
 abbrev pub GoesTo : Object → (place server : ℕ) → Type 0
 GoesTo object place server =
     (message : Message) → slice_get object.mail place ≡ Some message →

@@ -1,11 +1,11 @@
--- What each step makes of a cluster. Each raises the counter by one.
+-- What each step changes in a cluster. Each step raises the counter by one.
 use Rattle.std.specs.Prelude.{ℕ, suc, Bool, List, [], ◌∷◌, ◌++◌, Option, slice_set}
 use Rattle.layout.specs.Layout.{Layout}
 use Rattle.record.specs.Steps.{Step, opened_object}
 use Rattle.register.specs.State.{made}
 use Rattle.cluster.specs.Cluster.{Cluster, changed, layout_of}
 
--- a step of the object of this name
+-- the cluster after a step of the object of this name
 abbrev pub stepped : Cluster → (name : List ℕ) → Step → Cluster
 stepped cluster name step =
     record cluster {
@@ -13,12 +13,13 @@ stepped cluster name step =
       counter = suc cluster.counter;
     }
 
--- one more layout
+-- the cluster after one more layout is added
 abbrev pub with_layout : Cluster → Layout → Cluster
 with_layout cluster layout =
     record cluster { layouts = cluster.layouts ++ layout ∷ []; counter = suc cluster.counter }
 
--- one more object, opened with this layout, whose banks keep `delta` finalized versions beside the newest
+-- the cluster after one more object is created with this layout; its banks keep `delta` finalized versions beside the
+-- newest
 abbrev pub with_object : Cluster → (name : List ℕ) → Layout → (delta : Option ℕ) → Cluster
 with_object cluster name layout delta = record cluster {
   objects = cluster.objects ++ record {
@@ -28,15 +29,15 @@ with_object cluster name layout delta = record cluster {
   counter = suc cluster.counter;
 }
 
--- a server goes up or down
+-- the cluster after a server goes up or down
 abbrev pub with_server : Cluster → (server : ℕ) → (up : Bool) → Cluster
 with_server cluster server up =
     record cluster { servers = slice_set cluster.servers server up; counter = suc cluster.counter }
 
--- a move of the object of this name to the layout of this number
+-- the cluster after a move of the object of this name to the layout of this number begins
 abbrev pub moved : Cluster → (name : List ℕ) → (id : ℕ) → Cluster
 moved cluster name id = stepped cluster name (Step.CallMove (layout_of cluster id))
 
--- an object of this name with the layout of this number, whose banks keep `delta` finalized versions beside the newest
+-- the cluster after an object of this name is created with the layout of this number
 abbrev pub created : Cluster → (name : List ℕ) → (id : ℕ) → (delta : Option ℕ) → Cluster
 created cluster name id delta = with_object cluster name (layout_of cluster id) delta

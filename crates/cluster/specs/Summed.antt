@@ -1,4 +1,4 @@
--- The running sums of a cluster, beside what every step keeps of it.
+-- The running sums of a cluster, with the invariant that every step keeps.
 use Rattle.std.specs.Prelude.{◌≡◌, ℕ, zero, suc, ◌*◌, ◌≤◌}
 use Rattle.std.specs.Prelude.{◌<◌, List, [], ◌∷◌, length, get_or}
 use Rattle.std.specs.List.{AllByRecursion}
@@ -8,13 +8,13 @@ use Rattle.cluster.specs.Accounts as all
 use Rattle.cluster.specs.Cluster.{Cluster}
 use Rattle.cluster.specs.Kept.{IsKeptCluster}
 
--- nothing, for so many servers
+-- a zero for each of this many servers
 abbrev pub all_none : (count : ℕ) → List ℕ
 all_none zero = []
 all_none (suc count) = 0 ∷ all_none count
 
--- the running sums are what waits in all messages and what each
--- server stores, and what waits for each object is within the limit
+-- the running sums `waiting` and `loads` equal the bytes in messages and the bytes that each server stores, and the
+-- bytes that wait for each object are within the limit
 pub record AreSummed (cluster : Cluster) (waiting : ℕ) (loads : List ℕ) : Type 0 where
   pub mailed : waiting ≡ all.mailed cluster
   pub few : AllByRecursion (λ o. of.mailed o.state.object ≤ MOST_MESSAGES * LONGEST_VALUE) cluster.objects
@@ -22,7 +22,7 @@ pub record AreSummed (cluster : Cluster) (waiting : ℕ) (loads : List ℕ) : Ty
   pub stored : (server : ℕ) → server < length cluster.servers →
       get_or loads server 0 ≡ all.stored cluster server
 
--- what every step keeps, with the running sums
+-- the invariant of a cluster and of its running sums
 pub record IsCounted (cluster : Cluster) (bytes count waiting : ℕ) (loads : List ℕ) : Type 0 where
   pub kept : IsKeptCluster cluster bytes count
   pub summed : AreSummed cluster waiting loads

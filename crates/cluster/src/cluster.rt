@@ -49,7 +49,7 @@ pub struct Cluster {
     loads: Loads,
     // The bytes of all pieces in all messages.
     mailed: u64,
-    // How many calls all objects have.
+    // The number of calls of all objects.
     called: u64,
 }
 

@@ -1,5 +1,5 @@
-//! All objects of a store by name, the layouts that they may have, and the servers. Each step is a step of one object
-//! or of the cluster itself, and raises one counter by one.
+//! All objects of a store by name, the layouts that they may have, and the servers. Each step changes one object or the
+//! cluster itself, and raises one counter by one.
 #![tactic(auto)]
 
 pub use cluster::{Accounts, Cluster, LayoutId};

@@ -1,4 +1,4 @@
-//! What each server stores.
+//! How many bytes each server stores.
 ghost use Rattle.std.specs.Prelude.{◌≡◌, ◌+◌, ◌-◌, ◌*◌, ◌≤◌, ◌<◌, length, get_or, slice_set};
 ghost use Rattle.tag.specs.declared.limits.TheConstants.{MOST_BYTES};
 ghost use Rattle.cluster.specs.Summed.{all_none};
@@ -22,7 +22,7 @@ impl Model for Loads {
 }
 
 impl Loads {
-    /// Nothing, for so many servers. It takes no memory.
+    /// Zero bytes for each of this many servers. It allocates no memory.
     pub fn new(count: u8) -> Loads
         ensures { result ≡ all_none count }
     {
@@ -33,7 +33,7 @@ impl Loads {
         Loads { bytes }
     }
 
-    /// What a server stores.
+    /// How many bytes a server stores.
     pub fn at(&self, server: u8) -> u64
         requires { server < length self.now }
         ensures { result ≡ get_or self.now server 0 }
@@ -41,7 +41,7 @@ impl Loads {
         self.bytes[usize::from(server)]
     }
 
-    /// One part of what a server stores weighs `new` bytes in place of `old`.
+    /// Replaces a part of `old` bytes by one of `new` bytes in what a server stores.
     pub fn exchange(&mut self, server: u8, old: u64, new: u64)
         requires there { server < length self.old }
         requires part { old ≤ get_or self.old server 0 + new }

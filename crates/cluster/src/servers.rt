@@ -21,7 +21,7 @@ impl Model for Servers {
 }
 
 impl Servers {
-    /// So many servers, all up. It takes no memory.
+    /// This many servers, all up. It allocates no memory.
     pub fn new(count: u8) -> Servers
         ensures { result ≡ all_up count }
     {
@@ -32,14 +32,14 @@ impl Servers {
         Servers { up }
     }
 
-    /// How many there are.
+    /// How many servers there are.
     pub fn count(&self) -> u8
         ensures { result ≡ length self.now }
     {
         self.up.len() as u8
     }
 
-    /// Whether a server is there and up.
+    /// Whether a server is up; false where there is no such server.
     pub fn is_up(&self, server: u8) -> bool
         ensures { result ≡ get_or self.now server false }
     {
@@ -49,7 +49,7 @@ impl Servers {
         }
     }
 
-    /// A server goes up or down.
+    /// Sets whether a server is up.
     pub fn set(&mut self, server: u8, up: bool)
         requires { server < length self.old }
         ensures { self.new ≡ slice_set self.old server up }

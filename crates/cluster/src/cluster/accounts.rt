@@ -1,4 +1,4 @@
-//! What is read of a cluster without a step.
+//! Reading a cluster without a step.
 
 ghost use Rattle.std.specs.Prelude.{◌≡◌, ◌≤◌, ◌<◌, length, Some, None, IfOk};
 ghost use Rattle.tag.specs.Refusal.{IsByCause, IsExactlyByCause};
@@ -51,7 +51,7 @@ impl Cluster {
         self.mailed
     }
 
-    // What the accounts answer, one after another.
+    // The accounts: what `stored`, `stored_all` and `mailed` return.
     pub(crate) fn accounts(&self) -> Accounts
         ensures { AreSums self.now result }
     {

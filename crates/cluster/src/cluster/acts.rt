@@ -1,4 +1,4 @@
-//! One act of one object, whatever it asks for.
+//! Any step of one object, by the act that asks for it.
 
 ghost use Rattle.std.specs.Prelude.{◌≡◌, ◌≤◌, length, Some, IfOk, OnOk, OnErr};
 ghost use Rattle.register.specs.Act.{IsActCause, act_cause, answered_by, step_of};
@@ -13,7 +13,7 @@ use register::{Act, Answered};
 use tag::Refusal;
 
 impl Cluster {
-    // The step that an act asks for, of the object of this name.
+    // Makes the step that an act asks for, of the object of this name.
     pub(crate) fn act(&mut self, name: &str, act: Act) -> Result<Answered, Refusal>
         requires ready { IsReady (length self.old.servers) act }
         ensures step { OnOk result (self.new ≡ stepped self.old name.entry.now (step_of act)) }

@@ -1,4 +1,4 @@
-//! How a running sum follows a step of one object.
+//! How the running sum of waiting bytes follows a step of one object.
 
 ghost use Rattle.std.specs.Prelude.{◌≡◌, ◌+◌, ◌*◌, ◌≤◌};
 ghost use Rattle.tag.specs.declared.limits.TheConstants.{LONGEST_VALUE, MOST_BYTES, MOST_MESSAGES};
@@ -8,19 +8,19 @@ ghost use Rattle.record.specs.Sound.{IsSound};
 
 use register::Register;
 
-// How many bytes of pieces wait in an object's messages.
+// How many bytes of pieces wait in the messages of an object.
 pub(crate) fn waiting(register: &Register) -> u64
     ensures value { result ≡ mailed register.now.object }
     ensures within { result ≤ MOST_MESSAGES * LONGEST_VALUE }
     ensures sound { IsSound fragment register.now.object register.now.last }
 {
-    // What a register keeps bounds its messages, and their pieces.
+    // The register's invariant bounds the number of its messages, and with it the bytes of their pieces.
     register.soundness();
     let _few = register.mail_view().len();
     register.mailed()
 }
 
-// A sum with one part in place of another.
+// The sum with one of its parts, `old`, replaced by `new`.
 pub(crate) fn exchanged(sum: u64, old: u64, new: u64) -> u64
     requires part { old ≤ sum }
     requires within { sum + new ≤ MOST_BYTES + old }

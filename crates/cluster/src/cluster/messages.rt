@@ -1,4 +1,4 @@
-//! Steps that handle messages.
+//! Steps that handle a message.
 
 ghost use Rattle.std.specs.Prelude.{◌≡◌, ◌≤◌, Some, IfOk, OnOk, OnErr};
 ghost use Rattle.tag.specs.Refusal.{IsByCause, IsExactlyByCause};
@@ -131,7 +131,7 @@ impl Cluster {
     }
 }
 
-// The server that serves the request at a place, where it may be served.
+// The server that is to serve the request at a place, or why the request cannot be served.
 fn room_to_serve(
     servers: &Servers,
     register: &Register,

@@ -1,4 +1,4 @@
-//! What calls want, and how they go on.
+//! What calls want next, and the steps that continue them.
 
 ghost use Rattle.std.specs.Prelude.{◌≡◌, pred, Some, IfOk, OnOk, OnErr};
 ghost use Rattle.tag.specs.Refusal.{IsByCause, IsExactlyByCause};

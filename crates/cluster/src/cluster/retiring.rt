@@ -1,4 +1,4 @@
-//! How positions are retired.
+//! Retiring positions.
 
 ghost use Rattle.std.specs.Prelude.{◌≡◌, ◌+◌, ◌≤◌, ◌<◌, ℕ, length, get_or, IfOk, OnOk, OnErr};
 ghost use Rattle.tag.specs.Refusal.{IsExactlyByCause};
@@ -51,7 +51,7 @@ impl Cluster {
     }
 }
 
-// What each of so many servers stores without what an object's base stores there.
+// Subtracts from the load of each of this many servers what the base of an object stores there.
 fn unload(loads: &mut Loads, register: &Register, servers: u8)
     requires count { servers ≡ length loads.old }
     requires part { (server : ℕ) → server < length loads.old

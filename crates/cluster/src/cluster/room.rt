@@ -1,4 +1,4 @@
-//! What a caller may ask of a cluster and of its calls before it makes a step.
+//! What a caller can ask of a cluster and of its calls before it makes a step.
 
 ghost use Rattle.std.specs.Prelude.{◌≡◌, ℕ, nat_le, option_map, Some, None, IfOk};
 ghost use Rattle.tag.specs.Refusal.{IsByCause, IsExactlyByCause};
@@ -21,7 +21,7 @@ impl Cluster {
     pub fn keeping(&self)
         ensures { (bytes : ℕ) × ((count : ℕ) × IsKeptCluster self.now bytes count) }
     {
-        // What a cluster keeps is known where a field is read.
+        // Reading a field gives the prover the invariant of the type.
         let _ = &self.layouts;
     }
 

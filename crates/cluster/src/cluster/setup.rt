@@ -1,4 +1,4 @@
-//! Layouts, objects and servers.
+//! Steps that add layouts and objects, and that take servers up or down.
 
 ghost use Rattle.std.specs.Prelude.{◌≡◌, nat_lt, length, None, IfOk, OnOk, OnErr};
 ghost use Rattle.std.specs.List.{list_all};
@@ -102,7 +102,7 @@ impl Cluster {
     }
 }
 
-// Whether each member is one of so many servers.
+// Whether each member is a server, where there are `servers` of them.
 fn has_servers(layout: &Layout, servers: u8) -> bool
     ensures { result ≡ list_all (λ member. nat_lt member servers) layout.now.members }
 {
