@@ -1,4 +1,4 @@
--- The messages of a call that can be handled, which of them is chosen, and how one is handled.
+-- Which messages of an object can be handled, which of them is chosen, and how one is handled.
 use Rattle.std.specs.Prelude.{◌≡◌, ℕ, suc, ◌%◌, ◌==◌, ◌&&◌, Bool, true, false, if◌then◌else◌, List, [], ◌∷◌, length}
 use Rattle.std.specs.Prelude.{drop, Option, Some, option_map, slice_get}
 use Rattle.tag.specs.declared.refusal.Refusal.{Refusal}
@@ -16,30 +16,30 @@ use Rattle.driver.specs.declared.choices.Among.TheVariants as among
 use Rattle.driver.specs.declared.messages.Handled.{Handled}
 use Rattle.driver.specs.declared.messages.Handled.TheVariants as handled
 
--- the places of the messages that pass a test, where the first message stands at `place`
+-- the places of the messages that pass a test, where the first message is at `place`
 abbrev pub places : (Message → Bool) → (place : ℕ) → List Message → List ℕ
 places test place [] = []
 places test place (message ∷ messages) =
     if test message then place ∷ places test (suc place) messages else places test (suc place) messages
 
--- whether a message is the call's, and a reply or a request to a server that is up
+-- whether a message belongs to the call and can be handled: it is a reply, or a request to a server that is up
 abbrev pub is_choice : Cluster → (call : ℕ) → Object → Message → Bool
 is_choice cluster call object message = message.call == call && can_handle cluster object message message.body
 
--- where the call's messages that can be handled are, in mail order
+-- the places of the call's messages that can be handled, in mail order
 abbrev pub choices : Cluster → (call : ℕ) → Object → List ℕ
 choices cluster call object = places (is_choice cluster call object) 0 object.mail
 
--- whether a message is of those that are looked at, and a reply or a request to a server that is up
+-- whether a message is one of those that are looked at and can be handled
 abbrev pub is_among : Cluster → Object → Among → Message → Bool
 is_among cluster object among.Every message = can_handle cluster object message message.body
 is_among cluster object (among.Call call) message = is_choice cluster call object message
 
--- where those messages are from a place of the mail on, in mail order
+-- the places of those messages, from a place of the mail on, in mail order
 abbrev pub choices_from : Cluster → Object → Among → (place : ℕ) → List ℕ
 choices_from cluster object among place = places (is_among cluster object among) place (drop place object.mail)
 
--- the chooser answers a number, and this is the place at its remainder by their count
+-- this place is the one at index `answer` modulo the count, where `answer` is the number that the chooser returns
 abbrev pub Picks : {C : Type 0} → (C → ℕ → ℕ → C → Type 0) → (among : List ℕ) → (before after : C) → (place : ℕ)
     → Type 0
 Picks chooses among before after place =
@@ -50,27 +50,27 @@ abbrev pub handling : (place : ℕ) → Body → Step
 handling place (body.Request asked) = Step.Serve place
 handling place (body.Reply kind made) = Step.Take place
 
--- the step that was made for a message
+-- the step that was made for the message at a place
 abbrev pub step_of : (place : ℕ) → Handled → Step
 step_of place handled.Served = Step.Serve place
 step_of place (handled.Taken took) = Step.Take place
 
--- what is done with a message at a place: a request is served, a reply is taken
+-- what is returned for the message at a place: a request was served, or a reply was taken
 abbrev pub handled_as : Object → (place : ℕ) → Body → Handled
 handled_as object place (body.Request asked) = handled.Served
 handled_as object place (body.Reply kind made) = handled.Taken (took_at object place)
 
--- what is done with the message at a place
+-- what is returned for the message at a place; none where there is no message
 abbrev pub handled_at : (place : ℕ) → Object → Option Handled
 handled_at place object =
     option_map (λ (message : Message). handled_as object place message.body) (slice_get object.mail place)
 
--- why a message is not handled: served where it is a request, taken where it is a reply
+-- why a message is not handled: the cause of serving a request, or of taking a reply
 abbrev pub handled_cause : Cluster → Object → Message → Body → Option Refusal
 handled_cause cluster object message (body.Request asked) = served_cause cluster object message (body.Request asked)
 handled_cause cluster object message (body.Reply kind made) = taken_cause (next cluster) (body.Reply kind made)
 
--- why the message at a place is not handled
+-- why the message at a place is not handled; NoMessage where there is none
 abbrev pub handling_cause : Cluster → (place : ℕ) → Object → Option Refusal
 handling_cause cluster place object =
     if_message (slice_get object.mail place) (λ message. handled_cause cluster object message message.body)
@@ -80,6 +80,6 @@ abbrev pub is_request : Body → Bool
 is_request (body.Request asked) = true
 is_request (body.Reply kind made) = false
 
--- whether the message at a place is a request
+-- whether the message at a place is a request; none where there is no message
 abbrev pub request_at : (place : ℕ) → Object → Option Bool
 request_at place object = option_map (λ (message : Message). is_request message.body) (slice_get object.mail place)

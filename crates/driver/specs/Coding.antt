@@ -1,4 +1,4 @@
--- Values that are decoded for a call: why its settling is refused, and what it settles.
+-- Values that are decoded for a call: why a settle is refused, and which value it settles.
 use Rattle.std.specs.Prelude.{◌≡◌, ℕ, pred, List, length, Option, None}
 use Rattle.tag.specs.declared.refusal.Refusal.{Refusal}
 use Rattle.encoder.specs.declared.fragment.Piece.{Piece}
@@ -11,18 +11,18 @@ use Rattle.record.specs.declared.stage.Want.TheVariants as want
 use Rattle.register.specs.Causes.{call_at, if_call, if_step, if_settle}
 use Rattle.register.specs.View.{pieces_at}
 
--- why a call does not settle the value of its own pieces: it wants none, they are collected, or the limit of steps is
--- met
+-- why a call does not settle the value of its own pieces: it wants no settling, it lacks pieces, or the limit of steps
+-- is met
 abbrev pub settling_cause : (now : ℕ) → Object → (number : ℕ) → Option Refusal
 settling_cause now object number =
     if_call (call_at object number)
     (λ call. if_settle (want_of object (pred number) call) (if_step now None))
 
--- any decoding of these pieces gives a value of this length
+-- these pieces are pieces of some value of this length
 abbrev pub GiveBack : (k len : ℕ) → List Piece → Type 0
 GiveBack k len pieces = (value : List ℕ) × (length value ≡ len) × ArePiecesOf value k pieces
 
--- the call settles the value that its pieces give
+-- the step settles the value that the call's pieces give
 abbrev pub Settles : Object → (number : ℕ) → Step → Want → Type 0
 Settles object number step (want.Settle k len) =
     (value : List ℕ) × (step ≡ Step.Settle (pred number) value) × IsInterpolated k len (pieces_at object number) value

@@ -25,20 +25,20 @@ use Rattle.driver.specs.Coding.{settling_cause, Settles}
 abbrev pub wanted : Cluster → (name : List ℕ) → (call : ℕ) → Option Want
 wanted cluster name call = if_named cluster name (λ object. want_at object call)
 
--- a call is there that is not answered
+-- there is such a call, and it is not answered
 abbrev pub IsOpen : Cluster → (name : List ℕ) → (call : ℕ) → Type 0
 IsOpen cluster name call = (w : Want) × (wanted cluster name call ≡ Some w) × (w ≢ want.Done)
 
--- the step by which the current phase of a call asks again: the pieces of a value are supplied, other requests are
--- posted
+-- the step by which the current phase of a call resends: a supply where its requests have pieces, a post where they
+-- have none
 abbrev pub asking : (number : ℕ) → Call → Step
 asking number call = if is_plain (current_phase call.phases) then Step.Post (pred number) else Step.Supply (pred number)
 
--- the step by which the call of this number asks again
+-- the step by which the call of this number resends
 abbrev pub IsAsking : Object → (number : ℕ) → Step → Type 0
 IsAsking object number step = (call : Call) × (call_at object number ≡ Some call) × (step ≡ asking number call)
 
--- why the step of a call that comes next is refused
+-- why the next step of a call is refused
 abbrev pub due_cause : Cluster → (number : ℕ) → Step → Object → Option Refusal
 due_cause cluster number (Step.Advance index) object = advance_cause (next cluster) object number
 due_cause cluster number (Step.Again index) object = again_cause (next cluster) object number
@@ -50,23 +50,23 @@ due_cause cluster number (Step.Serve place) object = handling_cause cluster plac
 due_cause cluster number (Step.Take place) object = handling_cause cluster place object
 due_cause cluster number _ object = None
 
--- why the step of a call of this object that comes next is refused
+-- why the next step of a call of the object of this name is refused
 abbrev pub turn_cause : Cluster → (name : List ℕ) → (call : ℕ) → Step → Option Refusal
 turn_cause cluster name call step = object_cause cluster name (due_cause cluster call step)
 
--- whether a turn after so many asks again: the first of a resume does
+-- whether the turn after `count` others resends: only the first turn of a resume does
 abbrev pub asks_again : (resumed : Bool) → (count : ℕ) → Bool
 asks_again resumed count = resumed && count == 0
 
 module _ {C : Type 0} (chooses : C → ℕ → ℕ → C → Type 0) (name : List ℕ) (call : ℕ) where
-  -- where the call wants replies, it asks again, or one of its messages is handled, the chosen one
+  -- the turn of a call that wants replies: it resends, or it handles the chosen one of the call's messages
   abbrev pub IsWaitingStep : Cluster → Object → (again : Bool) → (before after : C) → Step → Type 0
   IsWaitingStep cluster object true before after step = (after ≡ before) × IsAsking object call step
   IsWaitingStep cluster object false before after step =
       (place : ℕ) × (message : Message) × Picks chooses (choices cluster call object) before after place
       × (slice_get object.mail place ≡ Some message) × (step ≡ handling place message.body)
 
-  -- the step that comes next for a call that wants this; only a turn that asks again begins anew
+  -- the next step of a call that wants this; only a turn that resends restarts a call
   abbrev pub IsNext : Cluster → Object → (again : Bool) → (before after : C) → Step → Want → Type 0
   IsNext cluster object again before after step want.Replies = IsWaitingStep cluster object again before after step
   IsNext cluster object again before after step want.Advance = (after ≡ before) × (step ≡ Step.Advance (pred call))
@@ -78,7 +78,7 @@ module _ {C : Type 0} (chooses : C → ℕ → ℕ → C → Type 0) (name : Lis
   IsNext cluster object again before after step want.Answer = (after ≡ before) × (step ≡ Step.AnswerCall (pred call))
   IsNext cluster object again before after step want.Done = ⊥
 
-  -- the step that comes next, and what becomes of the chooser
+  -- the next step of the call, and how it leaves the chooser
   pub record IsDue (cluster : Cluster) (again : Bool) (before after : C) (step : Step) : Type 0 where
     pub state : State
     pub there : named cluster.objects name ≡ Some state
@@ -86,14 +86,14 @@ module _ {C : Type 0} (chooses : C → ℕ → ℕ → C → Type 0) (name : Lis
     pub wants : want_at state.object call ≡ Some want
     pub next : IsNext cluster state.object again before after step want
 
-  -- a turn: the step that comes next is made
+  -- a turn: the next step is made, and nothing refuses it
   pub record IsTurn (again : Bool) (old : Cluster) (before : C) (new : Cluster) (after : C) : Type 0 where
     pub step : Step
     pub due : IsDue old again before after step
     pub room : turn_cause old name call step ≡ None
     pub made : new ≡ stepped old name step
 
-  -- a turn that answers the call, with this receipt
+  -- the turn that answers the call, with this receipt
   pub record IsAnswer (again : Bool) (old : Cluster) (before : C) (new : Cluster) (after : C) (receipt : Receipt)
       : Type 0 where
     pub wants : wanted old name call ≡ Some want.Answer
@@ -101,13 +101,13 @@ module _ {C : Type 0} (chooses : C → ℕ → ℕ → C → Type 0) (name : Lis
     pub handed : if_named old name
         (λ object. receipt_at object (place_of old.objects name) call (next old)) ≡ Some receipt
 
-  -- no message of a call that wants replies can be handled
+  -- the call wants replies, the turn does not resend, and none of the call's messages can be handled
   pub record IsStuck (cluster : Cluster) (again : Bool) : Type 0 where
     pub no_asking : again ≡ false
     pub wants : wanted cluster name call ≡ Some want.Replies
     pub none : if_named cluster name (λ object. Some (choices cluster call object)) ≡ Some []
 
-  -- why a turn is refused; with no other refusal
+  -- why a turn is refused; a turn has no other refusals
   abbrev pub IsRefused : Cluster → (again : Bool) → (before after : C) → Refusal → Type 0
   IsRefused cluster again before after NoObject =
       (after ≡ before) × (object_cause cluster name (λ object. number_cause object call) ≡ Some NoObject)
@@ -123,7 +123,7 @@ module _ {C : Type 0} (chooses : C → ℕ → ℕ → C → Type 0) (name : Lis
       (step : Step) × IsDue cluster again before after step × (turn_cause cluster name call step ≡ None)
   IsRefused cluster again before after _ = ⊥
 
-  -- so many turns, one after another, lead from one cluster to another
+  -- this many turns lead from the one cluster to the other
   abbrev pub Drives : (resumed : Bool) → (count : ℕ) → (old : Cluster) → (before : C) → (new : Cluster) → (after : C)
       → Type 0
   Drives resumed zero old before new after = (new ≡ old) × (after ≡ before)
@@ -131,7 +131,7 @@ module _ {C : Type 0} (chooses : C → ℕ → ℕ → C → Type 0) (name : Lis
       (middle : Cluster) × (held : C) × Drives resumed count old before middle held
       × IsTurn (asks_again resumed count) middle held new after
 
-  -- the turns before the last, which answers the call
+  -- fewer than `turns` turns are made, and then the one that answers the call with this receipt
   pub record IsFinished (resumed : Bool) (turns : ℕ) (old : Cluster) (before : C) (new : Cluster) (after : C)
       (receipt : Receipt) : Type 0 where
     pub count : ℕ
@@ -141,7 +141,7 @@ module _ {C : Type 0} (chooses : C → ℕ → ℕ → C → Type 0) (name : Lis
     pub drives : Drives resumed count old before middle held
     pub answers : IsAnswer (asks_again resumed count) middle held new after receipt
 
-  -- the turns before one that is refused
+  -- fewer than `turns` turns are made, and then one is refused
   pub record IsStopped (resumed : Bool) (turns : ℕ) (old : Cluster) (before : C) (new : Cluster) (after : C)
       (refusal : Refusal) : Type 0 where
     pub count : ℕ
@@ -150,11 +150,11 @@ module _ {C : Type 0} (chooses : C → ℕ → ℕ → C → Type 0) (name : Lis
     pub drives : Drives resumed count old before new held
     pub refused : IsRefused new (asks_again resumed count) held after refusal
 
-  -- nothing is done
+  -- nothing has changed
   abbrev pub IsUntouched : (old : Cluster) → (before : C) → (new : Cluster) → (after : C) → Type 0
   IsUntouched old before new after = (new ≡ old) × (after ≡ before)
 
-  -- why `finish` is refused; with no other refusal
+  -- why `finish` is refused; it has no other refusals
   abbrev pub IsUnfinished : (resumed : Bool) → (turns : ℕ) → (old : Cluster) → (before : C) → (new : Cluster)
       → (after : C) → Refusal → Type 0
   IsUnfinished resumed turns old before new after NoObject =

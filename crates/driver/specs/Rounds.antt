@@ -1,4 +1,4 @@
--- What a round of the driver comes to.
+-- What a round of the driver does.
 use Rattle.std.specs.Prelude.{◌≡◌, ◌≢◌, ℕ, pred, Bool, List, Some, None}
 use Rattle.encoder.specs.Coded.{IsLawful}
 use Rattle.encoder.specs.declared.fragment.Piece.{Piece}
@@ -15,13 +15,13 @@ use Rattle.driver.specs.declared.round.Round.TheVariants as round
 use Rattle.driver.specs.Coding.{settling_cause, GiveBack}
 use Rattle.driver.specs.Driver.{wanted, IsDue, IsTurn, IsAnswer}
 
--- the value is the one that the call is to send, with its k and n, it can be coded, and the call's step has room
+-- this is the value that the call is to send, with its k and n; it can be encoded, and nothing refuses the supply
 pub record IsToEncode (cluster : Cluster) (name : List ℕ) (call k n : ℕ) (value : List ℕ) : Type 0 where
   pub sent : if_named cluster name (λ object. coding_at object call) ≡ Some (value, k, n)
   pub lawful : IsLawful k n value
   pub room : object_cause cluster name (λ object. supplying_cause (next cluster) object call) ≡ None
 
--- the pieces are those of which the call is to settle the value, they give one, and its step has room
+-- these are the pieces that the call is to decode; some value has them, and nothing refuses the settle
 pub record IsToDecode (cluster : Cluster) (name : List ℕ) (call k len : ℕ) (pieces : List Piece) : Type 0 where
   pub wants : wanted cluster name call ≡ Some (want.Settle k len)
   pub taken : if_named cluster name (λ object. Some (pieces_at object call)) ≡ Some pieces
@@ -40,7 +40,7 @@ pub record SettlesOwn (old : Cluster) (name : List ℕ) (call : ℕ) (new : Clus
   pub made : new ≡ stepped old name (Step.Settle (pred call) value)
 
 module _ {C : Type 0} (chooses : C → ℕ → ℕ → C → Type 0) (name : List ℕ) (call : ℕ) where
-  -- a round is a turn, or leaves all as it is and hands out what is to be coded or decoded for one
+  -- a round is a turn, or it changes nothing and hands out a value to encode or pieces to decode
   abbrev pub IsRound : (again : Bool) → (old : Cluster) → (before : C) → (new : Cluster) → (after : C) → Round → Type 0
   IsRound again old before new after round.Stepped =
       IsTurn chooses name call again old before new after × (wanted old name call ≢ Some want.Answer)

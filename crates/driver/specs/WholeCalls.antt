@@ -1,4 +1,4 @@
--- Whole calls: the call step, and then the driver.
+-- Whole calls: the step that begins a call, and then the driver.
 use Rattle.std.specs.Prelude.{◌≡◌, ◌⊎◌, ℕ, suc, false, List, length, Option, Some, None, Result, Ok, Err}
 use Rattle.tag.specs.declared.refusal.Refusal.{Refusal}
 use Rattle.tag.specs.declared.refusal.Refusal.TheVariants.{NoMemory}
@@ -18,8 +18,8 @@ next_number cluster name = if_named cluster name (λ object. Some (suc (length o
 
 module _ {C : Type 0} (chooses : C → ℕ → ℕ → C → Type 0) (name : List ℕ) (turns : ℕ) (old : Cluster) (before : C)
     (new : Cluster) (after : C) where
-  -- the call step has no cause of refusal and leads to `begun`, from where the driver brings the call to its answer, or
-  -- is refused; or the call step is refused, and nothing is done
+  -- the call begins in the cluster `begun`, and the driver answers it or is refused; or the first step is refused, by
+  -- this cause or for want of memory, and nothing changes
   abbrev pub IsWholeCall : (cause : Option Refusal) → (begun : Cluster) → Result Receipt NotAnswered → Type 0
   IsWholeCall cause begun (Ok receipt) =
       (call : ℕ) × (cause ≡ None) × (next_number old name ≡ Some call)
@@ -30,18 +30,18 @@ module _ {C : Type 0} (chooses : C → ℕ → ℕ → C → Type 0) (name : Lis
   IsWholeCall cause begun (Err (unanswered.NotCalled refusal)) =
       ((cause ≡ Some refusal) ⊎ ((cause ≡ None) × (refusal ≡ NoMemory))) × (new ≡ old) × (after ≡ before)
 
-  -- a whole read
+  -- a whole read has this outcome
   abbrev pub IsWholeRead : Result Receipt NotAnswered → Type 0
   IsWholeRead answer =
       IsWholeCall (object_cause old name (λ object. read_cause (next old) object)) (stepped old name Step.CallRead)
       answer
 
-  -- a whole write of this value
+  -- a whole write of this value has this outcome
   abbrev pub IsWholeWrite : (value : List ℕ) → Result Receipt NotAnswered → Type 0
   IsWholeWrite value answer =
       IsWholeCall (object_cause old name (λ object. write_cause value (next old) object))
       (stepped old name (Step.CallWrite value)) answer
 
-  -- a whole move to the layout of this number
+  -- a whole move to the layout of this number has this outcome
   abbrev pub IsWholeMove : (id : ℕ) → Result Receipt NotAnswered → Type 0
   IsWholeMove id answer = IsWholeCall (object_cause old name (moving_cause old id)) (moved old name id) answer

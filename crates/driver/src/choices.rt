@@ -82,7 +82,7 @@ fn choice_count(cluster: &Cluster, register: &Register, among: Among, from: usiz
     count
 }
 
-// Whether a message is of those that are looked at, and can be handled.
+// Whether a message is one of those that are looked at and can be handled.
 fn is_among(cluster: &Cluster, register: &Register, among: Among, message: &Message) -> bool
     ensures { result ≡ is_among cluster.now register.now.object among message.now }
 {

@@ -1,9 +1,10 @@
-//! Who chooses the message that is handled next.
+//! How the message that is handled next is chosen.
 ghost use Rattle.std.specs.Prelude.{◌≡◌, ◌<◌, ℕ};
 
 /// Chooses which message is handled next.
 pub trait Chooser {
-    /// What it may choose: itself before, how many things there are, the number that it answers, and itself after.
+    /// What it may choose: the chooser before, how many things there are, the number that it returns, the chooser
+    /// after.
     ghost chooses: { Self → ℕ → ℕ → Self → Type 0 } = { λ _ _ _ _. Unit {0} };
 
     /// A number for a choice among `below` things, of which there is at least one. The driver takes it modulo `below`,

@@ -59,7 +59,7 @@ pub fn settle(alloc: Global, cluster: &mut Cluster, name: &str, call: u64) -> Re
     }
 }
 
-/// The value that a call is to send, with its k and n, once it is known that no limit refuses the supply.
+/// The value that a call is to send, with its k and n. Every refusal of the supply but `NoMemory` is found here.
 pub(crate) fn value_to_encode(
     cluster: &Cluster,
     name: &str,
@@ -74,7 +74,7 @@ pub(crate) fn value_to_encode(
     cluster.value_to_code(name, call)
 }
 
-/// The pieces of which a call is to settle the value.
+/// The pieces from which the call decodes the value that it is to settle.
 pub(crate) fn pieces_to_decode(
     cluster: &Cluster,
     name: &str,
@@ -96,7 +96,7 @@ pub(crate) fn pieces_to_decode(
     cluster.pieces(name, call)
 }
 
-/// A call is supplied with its own value, which is coded for it.
+/// Encodes the value of a call, and supplies the call with it.
 pub(crate) fn supply_value(
     alloc: Global,
     cluster: &mut Cluster,
@@ -116,7 +116,7 @@ pub(crate) fn supply_value(
     cluster.supply(name, call, coded)
 }
 
-/// A call settles the value that is decoded from its own pieces.
+/// Decodes the pieces of a call, and settles the value.
 pub(crate) fn settle_pieces(
     alloc: Global,
     cluster: &mut Cluster,

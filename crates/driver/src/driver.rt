@@ -54,14 +54,15 @@ pub fn finish<C: Chooser>(
     }
 }
 
-// Whether a turn after so many asks again: the first of a resume does.
+// Whether the turn after `count` others resends: only the first turn of a resume does.
 fn asks_again(resumed: bool, count: u64) -> bool
     ensures { result ≡ asks_again resumed count }
 {
     resumed && count == 0
 }
 
-// One step of the call, with the coding that it takes. The receipt, where it answered the call.
+// Makes one step of the call, encoding or decoding where the step needs it. Returns the receipt where the step answers
+// the call.
 fn make_turn<C: Chooser>(
     alloc: Global,
     cluster: &mut Cluster,

@@ -1,4 +1,4 @@
-//! The messages of a call: which one is handled next, and how.
+//! Handling the messages of a call: which one comes next, and how.
 ghost use Rattle.std.specs.Prelude.{◌≡◌, ◌<◌, [], length, Some, IfOk, IfErr, OnErr, OnOk, MatchOption, false};
 ghost use Rattle.tag.specs.Refusal.{IsByCause, IsExactlyByCause};
 ghost use Rattle.record.specs.declared.stage.Want.TheVariants as want;
@@ -39,7 +39,7 @@ pub fn handle(cluster: &mut Cluster, name: &str, place: usize) -> Result<Handled
     handle_as(cluster, name, place, is_request)
 }
 
-// The same of a message of which it is known whether it is a request.
+// Handles the message at a place. The caller knows whether it is a request.
 fn handle_as(
     cluster: &mut Cluster,
     name: &str,
@@ -59,7 +59,7 @@ fn handle_as(
     Ok(Handled::Taken(cluster.take(name, place)?))
 }
 
-/// One of the call's messages that can be handled is handled, the one that is chosen. `Stuck` where there is none.
+/// Handles the chosen one of the call's messages that can be handled. `Stuck` where there is none.
 pub(crate) fn handle_chosen<C: Chooser>(
     cluster: &mut Cluster,
     name: &str,
@@ -105,8 +105,8 @@ fn is_request_at(register: &Register, place: usize) -> bool
     }
 }
 
-// The place of the message that is chosen among those of the call that can be handled. None where there is none. What
-// it costs does not grow with the messages of earlier calls.
+// The place of the chosen one of the call's messages that can be handled, or none where there is none. The cost does
+// not grow with the messages of earlier calls.
 fn chosen<C: Chooser>(
     cluster: &Cluster,
     register: &Register,

@@ -87,7 +87,7 @@ pub fn make_round<C: Chooser>(
     }
 }
 
-// The current phase of the call asks again; where it sends pieces, its value is to be coded for them.
+// The current phase of the call resends its requests. Where these have pieces, the value to encode is returned instead.
 fn ask_again<C: Chooser>(
     cluster: &mut Cluster,
     name: &str,

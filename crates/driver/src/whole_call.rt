@@ -75,7 +75,7 @@ pub fn move_to<C: Chooser>(
     }
 }
 
-// The driver goes on with a call that has begun.
+// Runs the driver on a call that has begun.
 fn finish_begun<C: Chooser>(
     alloc: Global,
     cluster: &mut Cluster,
