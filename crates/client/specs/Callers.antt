@@ -1,15 +1,15 @@
--- What a round leaves of who makes it.
+-- How a round changes the seat or the administrator that makes it.
 use Rattle.std.specs.Prelude.{◌≡◌, ◌⊎◌, Bool, true, false}
 use Rattle.register.specs.declared.receipt.Receipt.{Receipt}
 use Rattle.driver.specs.declared.round.Round.{Round}
 use Rattle.driver.specs.declared.round.Round.TheVariants as round
 
--- an answer ends the call; any other round leaves its maker as it is
+-- the state after a round: an answer ends the call, and any other round leaves the state as it is
 abbrev pub LeavesBy : {S : Type 0} → (S → Receipt → S → Type 0) → S → Round → S → Type 0
 LeavesBy ends s (round.Answered receipt) t = ends s receipt t
 LeavesBy ends s _ t = t ≡ s
 
--- where a call stays open: a resume that came to a round has asked again, and nothing else has become of its maker
+-- the state after a call stays open: the same, but a resume may have counted the round that resent or restarted
 abbrev pub StaysOpen : {S : Type 0} → (S → S) → (resumed : Bool) → S → S → Type 0
 StaysOpen asks true s t = (t ≡ s) ⊎ (t ≡ asks s)
 StaysOpen asks false s t = t ≡ s

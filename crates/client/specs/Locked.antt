@@ -1,4 +1,4 @@
--- What a call through the lock does in some state of the cluster: others change the cluster before and after it.
+-- What a call through the lock does in some state of the cluster. Other threads change the cluster before and after it.
 use Rattle.std.specs.Prelude.{◌≡◌, ℕ, ◌+◌, Bool, List, length, Option, Some, None, Result, MatchResult}
 use Rattle.tag.specs.Refusal.{IsByCause, IsExactlyByCause}
 use Rattle.tag.specs.Cause.{IsRefusalBy}
@@ -15,26 +15,26 @@ use Rattle.sections.specs.Messages.{Stirs, StirsNot, Disturbs, DisturbsNot}
 use Rattle.sections.specs.Orders.{begin_move_cause, move_begun, retired, retiring_cause}
 
 module _ {C : Type 0} (first : Cluster) (chooses : C → ℕ → ℕ → C → Type 0) (name : List ℕ) (before : C) where
-  -- a chosen message is served or taken, or there is none
+  -- in some state of the cluster the chosen message is served or taken, or none can be handled
   abbrev pub StirsThen : Bool → (after : C) → Type 0
   StirsThen b after =
       (old : Cluster) × (IsStateOf first old × ((new : Cluster) × Stirs chooses name old before b new after))
 
-  -- why none is
+  -- in some state of the cluster no message is served or taken, for this reason
   abbrev pub StirsNotThen : (after : C) → Refusal → Type 0
   StirsNotThen after r = (old : Cluster) × (IsStateOf first old × StirsNot chooses name old before after r)
 
-  -- a chosen message is lost or repeated, or there is none
+  -- in some state of the cluster the chosen message is lost or repeated, or none waits
   abbrev pub DisturbsThen : Bool → (after : C) → Type 0
   DisturbsThen b after =
       (old : Cluster) × (IsStateOf first old × ((new : Cluster) × Disturbs chooses name old before b new after))
 
-  -- why none is
+  -- in some state of the cluster no message is lost or repeated, for this reason
   abbrev pub DisturbsNotThen : (after : C) → Refusal → Type 0
   DisturbsNotThen after r = (old : Cluster) × (IsStateOf first old × DisturbsNot chooses name old before after r)
 
--- an order is carried out in some state of the cluster, and left this one of it, which the administrator keeps; or it
--- is refused for its cause there, or for want of memory, and the administrator is as before
+-- in some state of the cluster an order is carried out, and the administrator keeps the cluster as the order left it;
+-- or the order is refused there, by its cause or for want of memory, and the administrator is unchanged
 abbrev pub CarriesOut : {T : Type 0} → (first : Cluster) → (cause : Cluster → Option Refusal) → (Cluster → Cluster)
     → AdminState → Result T Refusal → AdminState → Type 0
 CarriesOut first cause makes old answer new =
@@ -43,7 +43,7 @@ CarriesOut first cause makes old answer new =
     × (IsByCause (cause cluster) answer
     × MatchResult answer (λ x. new ≡ ordered_by old (makes cluster)) (λ r. new ≡ old)))
 
--- a layout gets the next number, or is refused
+-- in some state of the cluster the layout is added and gets the next number, or it is refused
 abbrev pub AddsLayout : (first : Cluster) → AdminState → Layout → Result ℕ Refusal → AdminState → Type 0
 AddsLayout first old layout answer new =
     (cluster : Cluster)
@@ -53,14 +53,14 @@ AddsLayout first old layout answer new =
     (λ id. (id ≡ length cluster.layouts) × (new ≡ ordered_by old (with_layout cluster layout)))
     (λ r. new ≡ old)))
 
--- an object is created, or refused
+-- in some state of the cluster an object is created, or the creation is refused
 abbrev pub Creates : {T : Type 0} → (first : Cluster) → AdminState → (name : List ℕ) → (id : ℕ) → (delta : Option ℕ)
     → Result T Refusal → AdminState → Type 0
 Creates first old name id delta answer new =
     CarriesOut first (λ c. create_cause c name id) (λ c. created c name id delta) old answer new
 
--- this position of an object is retired, and tells how many bytes all servers store less; or it is refused, and never
--- for want of memory
+-- in some state of the cluster this position of an object is retired, and all servers store this many bytes less; or
+-- the retiring is refused, and never for want of memory
 abbrev pub Retires : (first : Cluster) → AdminState → (name : List ℕ) → (position : ℕ) → Result ℕ Refusal → AdminState
     → Type 0
 Retires first old name position answer new =
@@ -72,27 +72,27 @@ Retires first old name position answer new =
     × (new ≡ ordered_by old (retired cluster name)))
     (λ r. new ≡ old)))
 
--- a server goes up or down, or is refused
+-- in some state of the cluster a server goes up or down, or that is refused
 abbrev pub SetsServer : {T : Type 0} → (first : Cluster) → AdminState → (server : ℕ) → (up : Bool) → Result T Refusal
     → AdminState → Type 0
 SetsServer first old server up answer new =
     CarriesOut first (λ c. server_cause c server) (λ c. with_server c server up) old answer new
 
--- a move to this layout began, where none was open, and is over with this receipt
+-- no move was pending; in some state of the cluster a move to this layout began, and it ended with this receipt
 abbrev pub Moves : (first : Cluster) → AdminState → (name : List ℕ) → (layout : ℕ) → Receipt → AdminState → Type 0
 Moves first old name layout receipt new =
     (old.moving ≡ None)
     × ((cluster : Cluster) × (IsStateOf first cluster × (begin_move_cause cluster old.moving name layout ≡ None)
     × Ends (move_begun cluster old name layout) receipt new))
 
--- a move to this layout began, where none was open, and stays open
+-- no move was pending; in some state of the cluster a move to this layout began, and it stays open
 abbrev pub BeginsMove : (first : Cluster) → AdminState → (name : List ℕ) → (layout : ℕ) → AdminState → Type 0
 BeginsMove first old name layout new =
     (old.moving ≡ None)
     × ((cluster : Cluster) × (IsStateOf first cluster × (begin_move_cause cluster old.moving name layout ≡ None)
     × (new ≡ move_begun cluster old name layout)))
 
--- there is a state of the cluster in which the move does not begin for this cause
+-- in some state of the cluster the move is refused with this refusal, by its cause or for want of memory
 abbrev pub MovesNot : (first : Cluster) → AdminState → (name : List ℕ) → (layout : ℕ) → Refusal → Type 0
 MovesNot first old name layout r =
     (cluster : Cluster)

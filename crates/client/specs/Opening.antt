@@ -1,4 +1,4 @@
--- When a store is opened.
+-- Why a store is not opened.
 use Rattle.std.specs.Prelude.{ℕ, ◌==◌, nat_le, Option, None}
 use Rattle.tag.specs.declared.limits.TheConstants.{MOST_SEATS, MOST_WORKERS}
 use Rattle.tag.specs.declared.refusal.Refusal.{Refusal}

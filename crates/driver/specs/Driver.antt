@@ -66,7 +66,7 @@ module _ {C : Type 0} (chooses : C → ℕ → ℕ → C → Type 0) (name : Lis
       (place : ℕ) × (message : Message) × Picks chooses (choices cluster call object) before after place
       × (slice_get object.mail place ≡ Some message) × (step ≡ handling place message.body)
 
-  -- the next step of a call that wants this; only a turn that resends restarts a call
+  -- the next step of a call that wants this; a call that wants to be restarted is restarted only where `again` is true
   abbrev pub IsNext : Cluster → Object → (again : Bool) → (before after : C) → Step → Want → Type 0
   IsNext cluster object again before after step want.Replies = IsWaitingStep cluster object again before after step
   IsNext cluster object again before after step want.Advance = (after ≡ before) × (step ≡ Step.Advance (pred call))

@@ -1,4 +1,4 @@
-//! Who carries a call to its answer.
+//! Who makes the rounds of a call: a seat or the administrator.
 
 ghost use Rattle.std.specs.Prelude.{◌≡◌, ◌⊎◌, None, IfErr, IfOk, OnErr, OnOk};
 ghost use Rattle.tag.specs.declared.refusal.Refusal.{Refusal as RefusalOf};
@@ -14,19 +14,19 @@ use tag::Refusal;
 
 /// A client's seat, or the administrator.
 pub(crate) trait Caller<L: StoreName> {
-    /// Itself before the answer, the receipt, and itself after.
+    /// Relates the caller before the answer, the receipt, and the caller after it.
     ghost ends: { Self → ReceiptOf → Self → Type 0 };
 
-    /// What a round that asks again makes of it, beside the answer.
+    /// The caller after a round that resends or restarts its call, apart from an answer.
     ghost asks: { Self → Self };
 
-    /// It has no call to carry on.
+    /// The caller has no pending call.
     ghost is_free: { Self → Type 0 };
 
-    /// What it is refused as without a call.
+    /// The refusals of a caller that has no pending call.
     ghost refused_free: { RefusalOf → Type 0 };
 
-    /// One round of its call.
+    /// Makes one round of the caller's pending call.
     fn round<C: Chooser>(
         &mut self,
         booked: &mut Booked<L>,

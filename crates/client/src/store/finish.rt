@@ -16,7 +16,7 @@ use std::thread::Threads;
 use tag::Refusal;
 
 impl<L: StoreName> Store<L> {
-    // Rounds until the answer. What is to be coded or decoded is so with the lock free.
+    // Makes rounds until the call is answered. Values are encoded and decoded while the lock is free.
     pub(crate) fn finish<G: Gate, R: Threads + Wait + Sync, C: Chooser, K: Caller<L>>(
         &self,
         rt: &R,
@@ -49,7 +49,7 @@ impl<L: StoreName> Store<L> {
         unreachable!()
     }
 
-    // What is to be handed in at the next round: the value coded, or the pieces decoded.
+    // What the next round is to hand in: the encoded value, or the value of the decoded pieces.
     fn coded<G: Gate, R: Threads + Wait + Sync>(
         &self,
         rt: &R,
