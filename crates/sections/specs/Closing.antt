@@ -1,4 +1,4 @@
--- What the close of a store compares, and what follows.
+-- What the close of a store compares, and what it then guarantees.
 use Rattle.std.specs.Prelude.{◌≡◌, ◌<◌, ℕ, Bool, true, not, ◌&&◌, ◌==◌, List, [], ◌∷◌, ◌++◌, length, Option, Some, None}
 use Rattle.std.specs.Prelude.{MatchOption, is_some, map, count_by}
 use Rattle.std.specs.List.{AllByRecursion, list_any}
@@ -12,13 +12,13 @@ use Rattle.sections.specs.declared.call_record.CallRecord.{CallRecord}
 use Rattle.sections.specs.Calls.{Shown, entry_at, history}
 use Rattle.sections.specs.Seats.{SeatState, records_of, IsInOrder}
 
--- a write's record has the value of its entry, and a read's has none
+-- the written value of a record is the value of a write's entry, and none for a read
 abbrev pub IsWrittenAs : Operation → Option (List ℕ) → Option (List ℕ) → Type 0
 IsWrittenAs operation.Read value written = written ≡ None
 IsWrittenAs operation.Write value written = written ≡ value
 IsWrittenAs operation.Move value written = ⊥
 
--- the receipt is that of the entry, of the object at this place
+-- the receipt has the fields of the entry, of the object at this index
 pub record IsReceiptOf (place : ℕ) (e : Entry) (t : Receipt) : Type 0 where
   pub object : t.object ≡ place
   pub operation : t.operation ≡ e.operation
@@ -27,12 +27,12 @@ pub record IsReceiptOf (place : ℕ) (e : Entry) (t : Receipt) : Type 0 where
   pub answered : e.answered ≡ Some t.answered
   pub value : t.value ≡ e.value
 
--- an entry is answered where its record has a receipt, as the receipt says
+-- the entry is unanswered where there is no receipt, and is answered as the receipt says where there is one
 abbrev pub IsToldAs : (place : ℕ) → Entry → Option Receipt → Type 0
 IsToldAs place e None = e.answered ≡ None
 IsToldAs place e (Some t) = IsReceiptOf place e t
 
--- the entry says what the record says
+-- the entry agrees with the record of the call
 pub record Matches (e : Entry) (r : CallRecord) : Type 0 where
   pub call : e.call ≡ r.call
   pub operation : e.operation ≡ r.operation
@@ -40,11 +40,11 @@ pub record Matches (e : Entry) (r : CallRecord) : Type 0 where
   pub written : IsWrittenAs e.operation e.value r.written
   pub told : IsToldAs r.object e r.receipt
 
--- the record stands in the history
+-- the record's call is in the history, and its entry agrees with the record
 abbrev pub Stands : Cluster → CallRecord → Type 0
 Stands cluster r = MatchOption (entry_at cluster r.object r.call) ⊥ (λ e. Matches e r)
 
--- these records stand in the history
+-- each of these records agrees with the history
 abbrev pub AllStand : Cluster → List CallRecord → Type 0
 AllStand cluster records = AllByRecursion (Stands cluster) records
 
@@ -53,41 +53,41 @@ abbrev pub all_records : List SeatState → List CallRecord
 all_records [] = []
 all_records (s ∷ seats) = records_of s ++ all_records seats
 
--- the object and the number of the call that a record is of
+-- the call of a record: its object and its number
 abbrev pub key_of : CallRecord → ℕ × ℕ
 key_of r = (r.object, r.call)
 
--- these are the same call of the same object
+-- whether these are the same call of the same object
 abbrev pub same_key : ℕ × ℕ → ℕ × ℕ → Bool
 same_key a b = (a.0 == b.0) && (a.1 == b.1)
 
--- no call is there twice
+-- whether no call occurs twice
 abbrev pub are_distinct : List (ℕ × ℕ) → Bool
 are_distinct [] = true
 are_distinct (k ∷ ks) = not (list_any (λ q. same_key q k) ks) && are_distinct ks
 
--- the seats' numbers are those below the count, each once
+-- there are this many seats, and their numbers are those below the count, each once
 pub record AreNumbered (count : ℕ) (seats : List SeatState) : Type 0 where
   pub length : length seats ≡ count
   pub once : (k : ℕ) → k < count → count_by (λ s. s.number == k) seats ≡ 1
 
--- the seats fit the history
+-- the seats fit the history: all are there, their records agree with it, and no call is recorded twice
 pub record Fit (count : ℕ) (cluster : Cluster) (seats : List SeatState) : Type 0 where
   pub numbered : AreNumbered count seats
   pub stand : AllStand cluster (all_records seats)
   pub distinct : are_distinct (map key_of (all_records seats)) ≡ true
 
--- the step of an answer, where there is a receipt
+-- the step of the answer; none where there is no receipt
 abbrev pub answer_of : Option Receipt → Option ℕ
 answer_of None = None
 answer_of (Some t) = Some t.answered
 
--- the value that is told, where there is a receipt
+-- the value that was returned; none where there is no receipt
 abbrev pub value_of : Option Receipt → Option (List ℕ)
 value_of None = None
 value_of (Some t) = t.value
 
--- what a record shows
+-- what the record of a call shows
 abbrev pub shown_record : CallRecord → Shown
 shown_record r = record {
   object = r.object;
@@ -99,7 +99,7 @@ shown_record r = record {
   told = value_of r.receipt;
 }
 
--- the reads and writes of the history are the seats' records, each once, and each seat's calls stand in its order
+-- the reads and writes of the history are the seats' records, each once, and each seat's calls are in its own order
 pub record IsAccounted (cluster : Cluster) (seats : List SeatState) : Type 0 where
   pub same : IsPermutation (map shown_record (all_records seats)) (history cluster)
   pub order : AllByRecursion (λ s. IsInOrder 0 (records_of s) s.floor) seats

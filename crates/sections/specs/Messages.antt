@@ -1,4 +1,4 @@
--- What is done to the messages under the lock.
+-- What sections do to the messages of an object.
 use Rattle.std.specs.Prelude.{◌≡◌, ◌⊎◌, ℕ, ◌%◌, ◌==◌, Bool, true, false}
 use Rattle.std.specs.Prelude.{if◌then◌else◌, List, [], length, Option, Some, None, slice_get}
 use Rattle.tag.specs.Cause.{IsRefusalBy}
@@ -13,23 +13,23 @@ use Rattle.cluster.specs.Causes.{next, object_cause, can_handle}
 use Rattle.cluster.specs.Steps.{stepped}
 use Rattle.driver.specs.Choices.{places, Picks, handling, handling_cause}
 
--- whether a message is a reply, or a request to a server that is up
+-- whether a message can be handled: it is a reply, or a request to a server that is up
 abbrev pub any_choice : Cluster → Object → Message → Bool
 any_choice cluster object message = can_handle cluster object message message.body
 
--- where the messages of an object are that can be handled, in mail order
+-- the places of the messages of an object that can be handled, in mail order
 abbrev pub any_choices : Cluster → Object → List ℕ
 any_choices cluster object = places (any_choice cluster object) 0 object.mail
 
 module _ {C : Type 0} (chooses : C → ℕ → ℕ → C → Type 0) (name : List ℕ) (old : Cluster) (before : C) where
-  -- this place is chosen, and this message is there
+  -- this place is chosen, and this message waits there
   pub record IsStirred (after : C) (place : ℕ) (message : Message) : Type 0 where
     pub state : State
     pub there : named old.objects name ≡ Some state
     pub picks : Picks chooses (any_choices old state.object) before after place
     pub waits : slice_get state.object.mail place ≡ Some message
 
-  -- the message that is chosen is served or taken; there is none exactly where none can be handled
+  -- the chosen message is served or taken; or no message can be handled, and nothing changes
   abbrev pub Stirs : Bool → (new : Cluster) → (after : C) → Type 0
   Stirs true new after =
       (place : ℕ) × (message : Message) × IsStirred after place message
@@ -38,24 +38,24 @@ module _ {C : Type 0} (chooses : C → ℕ → ℕ → C → Type 0) (name : Lis
       (state : State) × (named old.objects name ≡ Some state) × (any_choices old state.object ≡ []) × (new ≡ old)
       × (after ≡ before)
 
-  -- why none is served or taken: there is no such object, or the chosen message is refused
+  -- why no message is served or taken: no object has this name, or the chosen message is refused
   abbrev pub StirsNot : (after : C) → Refusal → Type 0
   StirsNot after r =
       ((object_cause old name (λ object. None) ≡ Some r) × (after ≡ before))
       ⊎ ((place : ℕ) × (message : Message) × IsStirred after place message
       × IsRefusalBy (object_cause old name (handling_cause old place)) r)
 
--- an even number loses the message at a place, an odd one repeats it
+-- the step that the second number selects: an even number loses the message at a place, an odd one repeats it
 abbrev pub disturbing : (place answer : ℕ) → Step
 disturbing place answer = if (answer % 2) == 0 then Step.Lose place else Step.Repeat place
 
--- why the message at a place is neither lost nor repeated
+-- why the message at a place is not lost, or not repeated, as the second number selects
 abbrev pub disturb_cause : Cluster → (place answer : ℕ) → Object → Option Refusal
 disturb_cause cluster place answer object =
     if (answer % 2) == 0 then lose_cause (next cluster) object place else repeat_cause (next cluster) object place
 
 module _ {C : Type 0} (chooses : C → ℕ → ℕ → C → Type 0) (name : List ℕ) (old : Cluster) (before : C) where
-  -- a place and what is done there are chosen
+  -- this place is chosen, and then this number, which selects whether the message is lost or repeated
   pub record IsDisturbed (after : C) (place answer : ℕ) : Type 0 where
     pub state : State
     pub there : named old.objects name ≡ Some state
@@ -65,7 +65,7 @@ module _ {C : Type 0} (chooses : C → ℕ → ℕ → C → Type 0) (name : Lis
     pub at : place ≡ first % length state.object.mail
     pub deed : chooses middle 2 answer after
 
-  -- the message that is chosen is lost or repeated, as is chosen; there is none exactly where none waits
+  -- the chosen message is lost or repeated; or no message waits, and nothing changes
   abbrev pub Disturbs : Bool → (new : Cluster) → (after : C) → Type 0
   Disturbs true new after =
       (place : ℕ) × (answer : ℕ) × IsDisturbed after place answer × (new ≡ stepped old name (disturbing place answer))
@@ -73,7 +73,7 @@ module _ {C : Type 0} (chooses : C → ℕ → ℕ → C → Type 0) (name : Lis
       (state : State) × (named old.objects name ≡ Some state) × (state.object.mail ≡ []) × (new ≡ old)
       × (after ≡ before)
 
-  -- why none is lost or repeated: there is no such object, or what is chosen is refused
+  -- why no message is lost or repeated: no object has this name, or the chosen step is refused
   abbrev pub DisturbsNot : (after : C) → Refusal → Type 0
   DisturbsNot after r =
       ((object_cause old name (λ object. None) ≡ Some r) × (after ≡ before))

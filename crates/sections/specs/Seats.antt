@@ -1,4 +1,4 @@
--- What a seat keeps of its calls.
+-- A seat's state: the records of its calls, and how its calls change it.
 use Rattle.std.specs.Prelude.{◌≡◌, ℕ, zero, suc, ◌<◌, ◌≤◌, nat_le, not, is_some, List, [], ◌∷◌, ◌++◌, length}
 use Rattle.std.specs.Prelude.{Option, Some, None, MatchOption, max}
 use Rattle.std.specs.Option.{option_map_or}
@@ -20,13 +20,13 @@ use Rattle.sections.specs.declared.call_record.CallRecord.{CallRecord}
 use Rattle.sections.specs.declared.call_record.Begin.{Begin}
 use Rattle.sections.specs.declared.call_record.Begin.TheVariants as begin
 
--- a call without an answer, with the name of its object
+-- a pending call, one neither answered nor abandoned, with the name of its object
 pub record Pending : Type 0 where
   pub name : List ℕ
   pub kept : CallRecord
 
--- a seat: its number, the greatest answer step that it has seen, how often its calls have asked again, its calls that
--- were answered or abandoned, and then the one that is neither
+-- a seat: its number, the greatest answer step that it has seen, how many rounds of its calls resent or restarted, its
+-- answered and abandoned calls, and its pending call
 pub record SeatState : Type 0 where
   pub number : ℕ
   pub floor : ℕ
@@ -34,17 +34,17 @@ pub record SeatState : Type 0 where
   pub records : List CallRecord
   pub pending : Option Pending
 
--- the call of this object with this record, if there is one
+-- the pending call of this object with this record; none where there is no record
 abbrev pub pending_of : List ℕ → Option CallRecord → Option Pending
 pending_of name None = None
 pending_of name (Some r) = Some (record { name = name; kept = r })
 
--- the record of the call without an answer, as a list
+-- the record of the pending call as a list, which is empty where none is pending
 abbrev pub listed : Option Pending → List CallRecord
 listed None = []
 listed (Some p) = p.kept ∷ []
 
--- all records, in the order of their calls
+-- all records of a seat, in the order of their calls
 abbrev pub records_of : SeatState → List CallRecord
 records_of s = s.records ++ listed s.pending
 
@@ -52,52 +52,52 @@ records_of s = s.records ++ listed s.pending
 abbrev pub IsUnanswered : Option Pending → Type 0
 IsUnanswered pending = MatchOption pending (Unit {0}) (λ p. p.kept.receipt ≡ None)
 
--- the least floor that the next call may have
+-- the lower bound for the next call's floor: the answer step, or this call's floor where it has no answer
 abbrev pub least_after : ℕ → Option Receipt → ℕ
 least_after floor receipt = option_map_or (λ t. t.answered) receipt floor
 
--- a receipt, if there is one, is of an answer later than the call
+-- where there is a receipt, its answer is later than its call
 abbrev pub IsAnsweredLater : Option Receipt → Type 0
 IsAnsweredLater receipt = MatchOption receipt (Unit {0}) (λ t. t.called < t.answered)
 
--- floors and steps rise from record to record, up to the seat's floor
+-- floors, calls and answers rise from record to record, up to the seat's floor
 abbrev pub IsRising : ℕ → List CallRecord → ℕ → Type 0
 IsRising low [] high = low ≤ high
 IsRising low (r ∷ rs) high =
     (low ≤ r.floor) × (r.floor < r.called) × IsAnsweredLater r.receipt
     × IsRising (least_after r.floor r.receipt) rs high
 
--- of the receipts, in their order: the floor at the call, the call and the answer rise, and the next floor is not below
--- this answer, up to the seat's floor
+-- no floor is below an earlier one, and the seat's floor is not below any; in a record with a receipt, floor, call and
+-- answer rise, and no later floor is below that answer
 abbrev pub IsInOrder : ℕ → List CallRecord → ℕ → Type 0
 IsInOrder low [] high = low ≤ high
 IsInOrder low (r ∷ rs) high =
     (low ≤ r.floor) × MatchOption r.receipt (Unit {0}) (λ t. (r.floor < t.called) × (t.called < t.answered))
     × IsInOrder (least_after r.floor r.receipt) rs high
 
--- Steps of a seat
+-- How a seat's calls change it
 
--- what a call is that begins so
+-- what a call does that begins so: it reads or it writes
 abbrev pub operation_of : Begin → Operation
 operation_of begin.Read = operation.Read
 operation_of (begin.Write value) = operation.Write
 
--- the value that such a call writes
+-- the value that such a call writes; none for a read
 abbrev pub written_of : Begin → Option (List ℕ)
 written_of begin.Read = None
 written_of (begin.Write value) = Some value
 
--- how long the value is that a write brings; 0 of a read
+-- the length of the value that such a call writes; 0 for a read
 abbrev pub written_len : Begin → ℕ
 written_len begin.Read = 0
 written_len (begin.Write value) = length value
 
--- the step that begins a call
+-- the step that begins such a call
 abbrev pub call_step : Begin → Step
 call_step begin.Read = Step.CallRead
 call_step (begin.Write value) = Step.CallWrite value
 
--- how many calls an object has, none where there is no object
+-- how many calls an object has; 0 where there is no object
 abbrev pub call_count : Option State → ℕ
 call_count None = 0
 call_count (Some state) = length state.object.calls
@@ -114,11 +114,11 @@ begun cluster name floor what = record {
   receipt = None;
 }
 
--- the seat with a pending call
+-- the seat with this call pending
 abbrev pub with_pending : SeatState → (name : List ℕ) → CallRecord → SeatState
 with_pending s name r = record s { pending = Some (record { name = name; kept = r }) }
 
--- the seat after its pending call is answered
+-- the seat after its pending call is answered with this receipt
 abbrev pub settled : SeatState → CallRecord → Receipt → SeatState
 settled s r t =
     record s {
@@ -127,27 +127,27 @@ settled s r t =
       pending = None;
     }
 
--- the receipt is of the pending call
+-- there is a pending call, and the receipt has its number
 abbrev pub IsOf : Option Pending → Receipt → Type 0
 IsOf None receipt = ⊥
 IsOf (Some p) receipt = receipt.call ≡ p.kept.call
 
--- the pending call gets its receipt, whose answer is later than its call and than all that the seat has seen
+-- the pending call gets this receipt, whose answer is later than its call and than all that the seat has seen
 abbrev pub Settles : Option Pending → SeatState → Receipt → SeatState → Type 0
 Settles None s receipt t = ⊥
 Settles (Some p) s receipt t =
     (receipt.call ≡ p.kept.call) × (receipt.called < receipt.answered) × (s.floor < receipt.answered)
     × (t ≡ settled s p.kept receipt)
 
--- its call has asked again
+-- the seat after one more round in which its call resent or was restarted
 abbrev pub asked_once : SeatState → SeatState
 asked_once s = record s { asked = one_more s.asked }
 
--- the seat once its pending call is left without an answer
+-- the seat after its pending call is abandoned, so that it stays without an answer
 abbrev pub abandoned : SeatState → SeatState
 abandoned s = record s { records = records_of s; pending = None }
 
--- the seat once it has learnt of an answer
+-- the seat after it has learnt of the answer of another seat's call
 abbrev pub learnt : SeatState → Receipt → SeatState
 learnt s t = record s { floor = max s.floor t.answered }
 
@@ -160,38 +160,38 @@ abbrev pub new_seats : ℕ → List SeatState
 new_seats zero = []
 new_seats (suc n) = new_seats n ++ new_seat n ∷ []
 
--- Refusals
+-- Why a seat's call is refused
 
--- a seat has not seen more than has happened
+-- Stranger where the seat has seen a later step than the cluster has made; otherwise the later cause
 abbrev pub unless_stranger : Cluster → SeatState → Option Refusal → Option Refusal
 unless_stranger cluster s later = unless (nat_le s.floor cluster.counter) Stranger later
 
--- why an object does not begin a call
+-- why an object does not begin such a call
 abbrev pub calling_cause : Begin → (now : ℕ) → Object → Option Refusal
 calling_cause begin.Read now object = read_cause now object
 calling_cause (begin.Write value) now object = write_cause value now object
 
--- why a call of a seat does not begin
+-- why a seat does not begin such a call of the object of this name
 abbrev pub begin_cause : Cluster → SeatState → (name : List ℕ) → Begin → Option Refusal
 begin_cause cluster s name what =
     unless_stranger cluster s
     (object_cause cluster name
     (λ object. unless (not (is_some s.pending)) NotNow (calling_cause what (next cluster) object)))
 
--- one record more, of a call that begins in some state of the cluster and stays pending
+-- the seat gets one more record, of a call that begins in some state of the cluster and stays pending
 abbrev pub AddsPending : (first : Cluster) → SeatState → (name : List ℕ) → Begin → SeatState → Type 0
 AddsPending first s name what new =
     (cluster : Cluster)
     × (IsStateOf first cluster × (begin_cause cluster s name what ≡ None)
     × (new ≡ with_pending s name (begun cluster name s.floor what)))
 
--- one record more, of a call that begins so and gets this receipt
+-- the seat gets one more record, of a call that begins in some state of the cluster and gets this receipt
 abbrev pub AddsAnswered : (first : Cluster) → SeatState → (name : List ℕ) → Begin → Receipt → SeatState → Type 0
 AddsAnswered first s name what receipt new =
     (begun_seat : SeatState)
     × AddsPending first s name what begun_seat × Settles begun_seat.pending begun_seat receipt new
 
--- there is a state of the cluster in which the call does not begin for this cause
+-- in some state of the cluster the call is refused with this refusal, by its cause or for want of memory
 abbrev pub BeginsNot : (first : Cluster) → SeatState → (name : List ℕ) → Begin → Refusal → Type 0
 BeginsNot first s name what r =
     (cluster : Cluster) × (IsStateOf first cluster × IsRefusalBy (begin_cause cluster s name what) r)

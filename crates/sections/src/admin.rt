@@ -21,11 +21,11 @@ pub struct Admin<L: StoreName> {
     // The number of the move that is not answered, and the name of its object.
     pub(crate) pending: Option<u64>,
     pub(crate) name: String,
-    // How many orders were carried out. A store has fewer steps than would bring it round.
+    // How many orders were carried out. It never wraps, since a store has fewer steps.
     pub(crate) orders: u64,
-    // How often a move has asked again.
+    // How many rounds of its moves resent or restarted.
     pub(crate) asked: u64,
-    // The cluster as the last order left it, for clauses alone.
+    // The cluster as the last order left it. Only contracts see it.
     pub(crate) left: Snapshot<Cluster>,
     pub(crate) of: PhantomData<L>,
 }
@@ -67,7 +67,7 @@ impl<L: StoreName> Model for Admin<L> {
 }
 
 impl<L: StoreName> Admin<L> {
-    /// Of a store that is opened with this cluster. It takes no memory.
+    /// The administrator of a store that is opened with this cluster. It allocates no memory.
     pub(crate) fn new(alloc: Global, cluster: &Cluster) -> Admin<L>
         ensures { result ≡ new_admin cluster.now }
     {
@@ -115,7 +115,7 @@ impl<L: StoreName> Admin<L> {
         hold(&mut self.name, name)
     }
 
-    /// Counts an order, which left this cluster.
+    /// Counts an order that left this cluster.
     pub(crate) fn note_order(&mut self, cluster: &Cluster)
         ensures { self.new ≡ ordered_by self.old cluster.now }
     {
@@ -123,7 +123,7 @@ impl<L: StoreName> Admin<L> {
         self.left = Snapshot::of(cluster);
     }
 
-    /// Its move is answered with a receipt.
+    /// Ends its pending move, which is answered with this receipt.
     pub(crate) fn end_move(&mut self, receipt: &Receipt)
         requires call { IsOfMove self.old.moving receipt.now }
         requires later { receipt.now.called < receipt.now.answered }
@@ -132,7 +132,7 @@ impl<L: StoreName> Admin<L> {
         self.pending = None;
     }
 
-    /// Counts a round of its move that asked again.
+    /// Counts a round in which its move resent or was restarted.
     pub(crate) fn note_asked(&mut self)
         ensures { self.new ≡ has_asked self.old }
     {

@@ -70,7 +70,7 @@ fn has_room(records: &Vec<CallRecord>) -> bool
     records.len() < records.capacity()
 }
 
-// The call step. It answers the call's number.
+// Makes the step that begins the call, and returns the call's number.
 fn begin_call(cluster: &mut Cluster, name: &str, what: Begin) -> Result<u64, Refusal>
     ensures step { OnOk result (cluster.new ≡ stepped cluster.old name.entry.now (call_step what)) }
     ensures number { IfOk result (λ n. n ≡ suc (call_count (named cluster.old.objects name.entry.now))) }

@@ -25,6 +25,7 @@ pub struct CallRecord {
     pub object: u32,
     /// The call's number in its object, from 1.
     pub call: u64,
+    /// What the call does: it reads or it writes.
     pub operation: Operation,
     /// The value of a write; none for a read.
     pub written: Option<Bytes>,
@@ -47,7 +48,8 @@ impl Begin {
         }
     }
 
-    /// A copy, which shares its bytes, of the value that a write brings. `NoMemory` is the only refusal.
+    /// A copy of the value that a write brings, which shares its bytes; none for a read. `NoMemory` is the only
+    /// refusal.
     pub(crate) fn written(&self) -> Result<Option<Bytes>, Refusal>
         ensures value { IfOk result (λ w. w ≡ written_of self.now) }
         ensures refused { IfErr result (λ r. r ≡ NoMemory) }
@@ -58,7 +60,7 @@ impl Begin {
         }
     }
 
-    /// How long the value is that a write brings; 0 of a read.
+    /// The length in bytes of the value that a write brings; 0 for a read.
     pub(crate) fn len(&self) -> usize
         ensures { result ≡ written_len self.now }
     {

@@ -1,4 +1,4 @@
-//! The close: the seats' records are compared with the history.
+//! The close of a store: the seats' records are compared with the history.
 ghost use Rattle.std.specs.Prelude.{◌≡◌, ◌⊎◌, IfOk, IfErr, MatchResult};
 ghost use Rattle.sections.specs.Closing.{Fit, IsAccounted, all_records, receipts_of};
 ghost use Rattle.sections.specs.Course.{HasBecome};
@@ -13,15 +13,20 @@ use tag::Refusal;
 /// A closed store: its cluster, and how many of its seats' records have a receipt.
 #[derive(Drop)]
 pub struct Closed {
+    /// The cluster, as the last holder of the lock left it.
     pub cluster: Cluster,
+    /// How many records of the seats have a receipt.
     pub receipts: u64,
 }
 
 /// A store that was not closed: why, and its cluster and seats as they were.
 #[derive(Drop)]
 pub struct NotClosed<L: StoreName> {
+    /// Why the store was not closed: `Stranger` or `NoMemory`.
     pub refusal: Refusal,
+    /// The cluster, as the last holder of the lock left it.
     pub cluster: Cluster,
+    /// The seats, unchanged.
     pub seats: Vec<Seat<L>>,
 }
 

@@ -1,4 +1,4 @@
-//! Whether a record says what the history says.
+//! Whether the record of a call agrees with the history.
 ghost use Rattle.std.specs.Prelude.{◌≡◌, ◌↔◌, IsTrue, IfOk, IfErr};
 ghost use Rattle.tag.specs.declared.refusal.Refusal.TheVariants.{NoMemory};
 ghost use Rattle.sections.specs.Closing.{IsReceiptOf, IsToldAs, IsWrittenAs, Matches, Stands};
@@ -10,7 +10,7 @@ use record::{Entry, Operation};
 use register::Receipt;
 use tag::Refusal;
 
-/// Whether the call of a record is in the history as the record says. `NoMemory` is the only refusal.
+/// Whether the record's call is in the history, and its entry agrees with the record. `NoMemory` is the only refusal.
 pub(crate) fn stands(cluster: &Cluster, record: &CallRecord) -> Result<bool, Refusal>
     ensures stand { IfOk result (λ b. IsTrue b ↔ Stands cluster.now record.now) }
     ensures refused { IfErr result (λ e. e ≡ NoMemory) }

@@ -1,4 +1,4 @@
-//! Whether seats fit the history, and how many receipts they have.
+//! Whether the seats fit the history, and how many receipts they have.
 ghost use Rattle.std.specs.Prelude.{◌≡◌, ◌+◌, ◌^◌, ◌<◌, ◌==◌, ◌↔◌, ◌++◌, true, Ok, IsTrue, IfOk, IfErr, count_by};
 ghost use Rattle.std.specs.Prelude.{length, map, vec_len};
 ghost use Rattle.std.specs.List.{AllByRecursion};
@@ -15,7 +15,7 @@ use std::alloc::Global;
 use std::sync::ledger::{Book, Share};
 use tag::Refusal;
 
-/// Whether all seats are there, and fit the history. `NoMemory` is the only refusal.
+/// Whether all seats are there and fit the history. `NoMemory` is the only refusal.
 pub(crate) fn fit<L: StoreName>(
     alloc: Global,
     cluster: &Cluster,
@@ -39,7 +39,7 @@ pub(crate) fn fit<L: StoreName>(
     Ok(have_no_repeat(&mut keys))
 }
 
-// Whether the records of a seat stand. Their calls go to the keys.
+// Whether the records of a seat agree with the history. Adds their calls to `keys`.
 fn check_seat<L: StoreName>(
     cluster: &Cluster,
     seat: &Seat<L>,
@@ -62,7 +62,7 @@ fn check_seat<L: StoreName>(
     Ok(true)
 }
 
-// Whether the records stand. Their calls go to the keys.
+// Whether these records agree with the history. Adds their calls to `keys`.
 fn check_records(
     cluster: &Cluster,
     records: &[CallRecord],
@@ -102,7 +102,7 @@ fn seats_with<L: StoreName>(seats: &[Seat<L>], number: u32) -> usize
     seats.iter().filter(|s| s.number() == number).count()
 }
 
-// Whether no key is there twice. It puts them in order.
+// Whether no key occurs twice. Sorts the keys.
 fn have_no_repeat(keys: &mut [(u32, u64)]) -> bool
     ensures { result ≡ are_distinct keys.old }
 {
@@ -110,7 +110,7 @@ fn have_no_repeat(keys: &mut [(u32, u64)]) -> bool
     keys.is_sorted_by(|first, second| first < second)
 }
 
-/// How many receipts the seats have.
+/// How many receipts the records of the seats have.
 pub(crate) fn receipts<L: StoreName>(seats: &[Seat<L>]) -> u64
     requires { length (all_records seats.now) < 2 ^ 64 }
     ensures { result ≡ receipts_of (all_records seats.now) }
@@ -134,7 +134,7 @@ fn answered_in(records: &[CallRecord]) -> u64
     records.iter().filter(|r| r.receipt.is_some()).count() as u64
 }
 
-/// Puts all shares together, which tells that the book's total is the number of records.
+/// Merges all shares. From this the prover knows that the book's total is the number of records.
 pub(crate) fn account<L: StoreName>(mut book: Book<L>, mut own: Share<L>, mut seats: Vec<Seat<L>>)
     requires parts { (own.parts ≡ 1) × (own.amount ≡ 0) × (L.parts ≡ vec_len seats + 1) }
     ensures { book.total ≡ length (all_records seats.items) }
@@ -145,7 +145,7 @@ pub(crate) fn account<L: StoreName>(mut book: Book<L>, mut own: Share<L>, mut se
     book.audit(&mut own);
 }
 
-// A seat's share.
+// The share of the store's book that a seat holds.
 fn share_of<L: StoreName>(seat: Seat<L>) -> Share<L>
     ensures parts { result.parts ≡ 1 }
     ensures amount { result.amount ≡ length (records_of seat) }

@@ -1,4 +1,4 @@
-//! What is done to waiting messages under the lock.
+//! What sections do to waiting messages.
 
 ghost use Rattle.std.specs.Prelude.{◌≡◌, IfOk, IfErr, OnErr};
 ghost use Rattle.sections.specs.Calls.{client_calls};
@@ -28,7 +28,7 @@ pub fn stir_in<L: StoreName, C: Chooser>(
     stir(&mut booked.cluster, name, chooser)
 }
 
-// The same of the cluster alone.
+// The step alone, of the cluster without its book.
 fn stir<C: Chooser>(cluster: &mut Cluster, name: &str, chooser: &mut C) -> Result<bool, Refusal>
     ensures step { IfOk result (λ b. Stirs C.chooses name.entry.now cluster.old chooser.old b cluster.new chooser.new) }
     ensures refused { IfErr result (λ e. StirsNot C.chooses name.entry.now cluster.old chooser.old chooser.new e) }
@@ -64,7 +64,7 @@ pub fn disturb_in<L: StoreName, C: Chooser>(
     disturb(&mut booked.cluster, name, chooser)
 }
 
-// The same of the cluster alone.
+// The step alone, of the cluster without its book.
 fn disturb<C: Chooser>(cluster: &mut Cluster, name: &str, chooser: &mut C) -> Result<bool, Refusal>
     ensures step { IfOk result
         (λ b. Disturbs C.chooses name.entry.now cluster.old chooser.old b cluster.new chooser.new) }

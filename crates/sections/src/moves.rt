@@ -52,7 +52,7 @@ pub fn begin_move_in<L: StoreName>(
     Ok(())
 }
 
-// The call step. It answers the call's number.
+// Makes the step that begins the move, and returns the call's number.
 fn call_move(cluster: &mut Cluster, name: &str, layout: LayoutId) -> Result<u64, Refusal>
     ensures step { OnOk result (cluster.new ≡ moved cluster.old name.entry.now layout) }
     ensures number { IfOk result (λ n. n ≡ suc (call_count (named cluster.old.objects name.entry.now))) }

@@ -1,4 +1,4 @@
-//! What the administrator does in one step.
+//! The orders that the administrator carries out in one step.
 
 ghost use Rattle.std.specs.Prelude.{◌≡◌, IfOk, OnOk, OnErr};
 ghost use Rattle.tag.specs.Refusal.{IsByCause};
@@ -39,7 +39,7 @@ pub fn admin_in<L: StoreName>(
     Ok(id)
 }
 
-// The same of the cluster alone.
+// The step alone, of the cluster without its book.
 fn carry_out(cluster: &mut Cluster, order: Order) -> Result<Option<LayoutId>, Refusal>
     ensures step { OnOk result (cluster.new ≡ ordered cluster.old order.entry) }
     ensures id { IfOk result (λ id. id ≡ ordered_id cluster.old order.entry) }

@@ -1,4 +1,4 @@
-//! How the administrator retires a position.
+//! Retiring a position.
 
 ghost use Rattle.std.specs.Prelude.{◌≡◌, ◌+◌, IfOk, OnOk, OnErr};
 ghost use Rattle.tag.specs.Refusal.{IsExactlyByCause};
@@ -42,7 +42,7 @@ pub fn retire_in<L: StoreName>(
     }
 }
 
-// The same of the cluster alone.
+// The step alone, of the cluster without its book.
 fn retire(cluster: &mut Cluster, name: &str, position: u64) -> Result<u64, Refusal>
     ensures step { OnOk result (cluster.new ≡ retired cluster.old name.entry.now) }
     ensures freed { IfOk result (λ bytes. stored_all cluster.new + bytes ≡ stored_all cluster.old) }

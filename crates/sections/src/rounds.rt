@@ -29,8 +29,11 @@ use tag::{MOST_STEPS, Refusal};
 /// handed out something.
 #[derive(Debug, Drop)]
 pub enum Hand {
+    /// Nothing is handed in.
     Empty,
+    /// The encoded value.
     Coded(Coded),
+    /// The decoded value.
     Decoded(Decoded),
 }
 
@@ -100,8 +103,8 @@ pub fn round_in<L: StoreName, C: Chooser>(
     Ok(round)
 }
 
-/// One round of a call, and, where that answers it, a second copy of the value that it tells, which is had before the
-/// step.
+/// Makes one round of a call. Where the round answers the call, it also returns a second copy of the value, which is
+/// made before the step, since making it can be refused.
 pub(crate) fn round_with_copy<C: Chooser>(
     cluster: &mut Cluster,
     name: &str,
@@ -132,7 +135,7 @@ pub(crate) fn round_with_copy<C: Chooser>(
     Ok((round, copy))
 }
 
-// A copy of the value that a call wants to tell, where it will be answered.
+// A copy of the value that a call will return, where the next round answers it; otherwise none.
 fn copy_to_keep(
     cluster: &Cluster,
     name: &str,
@@ -166,7 +169,7 @@ fn copy_to_keep(
     }
 }
 
-// The calls of an object were made by the last step. It does nothing.
+// A law: no call of the object began after the last step. It changes nothing.
 fn past_calls(cluster: &Cluster, name: &str)
     ensures { (state : State) → named cluster.now.objects name.now ≡ Some state
         → AllByRecursion (λ call. call.called ≤ cluster.now.counter) state.object.calls }
@@ -178,7 +181,7 @@ fn past_calls(cluster: &Cluster, name: &str)
     }
 }
 
-// The same for a call that wants to be answered. It looks up nothing for another.
+// The same for a call that wants to be answered. For any other call it looks up nothing and states nothing.
 fn past_calls_at_end(cluster: &Cluster, name: &str, due: Want)
     ensures { due ≡ want.Answer → (state : State) → named cluster.now.objects name.now ≡ Some state
         → AllByRecursion (λ call. call.called ≤ cluster.now.counter) state.object.calls }
@@ -188,7 +191,7 @@ fn past_calls_at_end(cluster: &Cluster, name: &str, due: Want)
     }
 }
 
-// The copy, where the round answered the call and told a value.
+// The copy, where the round answered the call and returned a value; otherwise none.
 fn kept_value(round: &Round, copy: Option<Bytes>) -> Option<Bytes>
     ensures { result ≡ (if tells round.now then copy else None) }
 {
@@ -198,7 +201,7 @@ fn kept_value(round: &Round, copy: Option<Bytes>) -> Option<Bytes>
     }
 }
 
-// What a call wants that may go on.
+// What the call wants now, where a round of it may be made.
 fn want_to_go(cluster: &Cluster, name: &str, call: u64, turns: u64) -> Result<Want, Refusal>
     ensures want { IfOk result (λ w. wanted cluster.now name.now call ≡ Some w) }
     ensures cause { MatchResult result (λ w. going_cause cluster.now name.now call turns ≡ None)
@@ -214,7 +217,8 @@ fn want_to_go(cluster: &Cluster, name: &str, call: u64, turns: u64) -> Result<Wa
     Ok(want)
 }
 
-// One round of a call that wants this, which answers it only where it wants to be answered and nothing is handed in.
+// One round of a call that wants this. Only with nothing handed in, and where the call wants to be answered, does the
+// round answer it.
 fn round_with<C: Chooser>(
     cluster: &mut Cluster,
     name: &str,

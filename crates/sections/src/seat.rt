@@ -20,14 +20,14 @@ use tag::{Refusal, Stamp};
 pub struct Seat<L: StoreName> {
     pub(crate) number: u32,
     pub(crate) floor: Stamp,
-    // How often its calls have asked again. A store has fewer steps than would bring it round.
+    // How many rounds of its calls resent or restarted. It never wraps, since a store has fewer steps.
     pub(crate) asked: u64,
-    // The calls that are answered or abandoned. There is room for the pending one.
+    // The calls that are answered or abandoned. Where a call is pending, there is room for its record.
     pub(crate) records: Vec<CallRecord>,
     pub(crate) pending: Option<CallRecord>,
-    // The name of the pending call's object.
+    // The name of the object of the pending call.
     pub(crate) name: String,
-    // As much of the store's book as there are records.
+    // Its share of the store's book, with one unit for each record.
     pub(crate) share: Share<L>,
 }
 
@@ -82,7 +82,7 @@ impl<L: StoreName> Seat<L> {
         self.asked
     }
 
-    /// Counts a round that asked again.
+    /// Counts a round in which its call resent or was restarted.
     pub(crate) fn note_asked(&mut self)
         ensures { self.new ≡ asked_once self.old }
     {
@@ -107,8 +107,8 @@ impl<L: StoreName> Seat<L> {
         }
     }
 
-    /// Its pending call is answered with a receipt, of which it keeps a copy with this copy of the value. It takes no
-    /// memory.
+    /// Answers the pending call with a receipt. The seat keeps a copy of the receipt with this copy of the value. It
+    /// allocates no memory.
     pub(crate) fn settle(&mut self, receipt: &Receipt, value: Option<Bytes>)
         requires pending { IsSome self.old.pending }
         requires call { IsOf self.old.pending receipt.now }
@@ -147,7 +147,7 @@ impl<L: StoreName> Seat<L> {
     }
 }
 
-/// A seat without calls. It takes no memory.
+/// A seat without calls. It allocates no memory.
 pub(crate) fn empty_seat<L: StoreName>(alloc: Global, number: u32, share: Share<L>) -> Seat<L>
     requires parts { share.parts ≡ 1 }
     requires amount { share.amount ≡ 0 }
@@ -164,7 +164,7 @@ pub(crate) fn empty_seat<L: StoreName>(alloc: Global, number: u32, share: Share<
     }
 }
 
-/// Makes one text a copy of another.
+/// Copies `text` into `kept`, where they differ. `NoMemory` is the only refusal.
 pub(crate) fn hold(kept: &mut String, text: &str) -> Result<(), Refusal>
     ensures copy { OnOk result (string_bytes kept.new ≡ text.now) }
     ensures refused { IfErr result (λ r. r ≡ NoMemory) }
