@@ -13,32 +13,32 @@ use Rattle.cluster.specs.Causes.{object_cause}
 use Rattle.cluster.specs.Cluster.{Cluster, named}
 use Rattle.tag.specs.declared.refusal.Refusal.{Refusal}
 
--- what a bank stores, where its member is this server
+-- how many bytes a bank stores where its member is this server, and 0 where it is not or there is no bank
 abbrev pub bytes_if : (server : ℕ) → (member : Option ℕ) → Option Bank → ℕ
 bytes_if server None bank = 0
 bytes_if server (Some member) None = 0
 bytes_if server (Some member) (Some bank) = if member == server then bank_bytes bank else 0
 
--- what the bank of a member of a position stores, where the member is this server
+-- how many bytes this server stores in the bank of this member of this position
 abbrev pub bytes_at : Object → (server position member : ℕ) → ℕ
 bytes_at object server position member =
     bytes_if server (slice_get (layout_at object position).members member) (bank_there object position member)
 
--- a number, or the greatest of 64 bits where it is more
+-- a number, or the greatest number of 64 bits where it is above that
 abbrev pub capped : ℕ → ℕ
 capped n = min n (2 ^ 64 - 1)
 
--- what is read of an object, or nothing where it is not there
+-- the number that is read of an object; 0 where there is no object
 abbrev pub of_object : Option State → (Object → ℕ) → ℕ
 of_object None read = 0
 of_object (Some state) read = read state.object
 
--- what is read of the two objects, in sum
+-- the sum of what is read of the objects `a` and `b`
 abbrev pub of_both : Cluster → (Object → ℕ) → ℕ
 of_both cluster read =
     of_object (named cluster.objects (codes "a")) read + of_object (named cluster.objects (codes "b")) read
 
--- each account is the sum over the banks or the mail of both objects
+-- each account equals the sum over the banks or the mail of the objects `a` and `b`
 pub record AreAccounted (cluster : Cluster) : Type 0 where
   pub servers : (server : ℕ) → server < length cluster.servers
       → all.stored cluster server ≡ of_both cluster (λ o. of.stored o server)
@@ -46,7 +46,7 @@ pub record AreAccounted (cluster : Cluster) : Type 0 where
       (length cluster.servers)
   pub mailed : all.mailed cluster ≡ of_both cluster of.mailed
 
--- the same, of two objects
+-- each account equals the sum over the banks or the mail of these two objects
 abbrev pub AreAdded : Cluster → (one other : Object) → Type 0
 AreAdded cluster one other =
     ((server : ℕ) → server < length cluster.servers
@@ -54,6 +54,6 @@ AreAdded cluster one other =
     × (all.stored_all cluster ≡ member_sum (λ s. of.stored one s + of.stored other s) 0 (length cluster.servers))
     × (all.mailed cluster ≡ of.mailed one + of.mailed other)
 
--- `NoObject` where an object `a` or `b` is not there
+-- `NoObject` where no object has the name `a`, or none has the name `b`
 abbrev pub missing_cause : Cluster → Option Refusal
 missing_cause cluster = object_cause cluster (codes "a") (λ _. object_cause cluster (codes "b") (λ _. None))

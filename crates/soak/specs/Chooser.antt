@@ -1,10 +1,10 @@
--- The numbers of a chooser.
+-- The numbers of the chooser `Congruential`.
 use Rattle.std.specs.Prelude.{ℕ, ◌+◌, ◌*◌, ◌/◌, ◌%◌, ◌^◌}
 
--- the state after a choice
+-- the state after one choice
 abbrev pub state_after : ℕ → ℕ
 state_after state = (state * 6364136223846793005 + 1442695040888963407) % 2 ^ 64
 
--- the number that is chosen at a state
+-- the number that a chooser in this state returns: the upper 31 of its 64 bits
 abbrev pub chosen : ℕ → ℕ
 chosen state = state / 2 ^ 33

@@ -1,4 +1,4 @@
--- What a closed store comes to.
+-- What the summary of a soak is of.
 use Rattle.std.specs.Prelude.{ℕ, List}
 use Rattle.std.specs.List.{AllByRecursion}
 use Rattle.cluster.specs.Cluster.{Cluster}
@@ -8,9 +8,8 @@ use Rattle.soak.specs.Made.{HasMade}
 use Rattle.soak.specs.Summary.{IsSummaryOf}
 use Rattle.soak.specs.declared.summary.Summary.{Summary}
 
--- a store of this cluster was closed with these seats, one for each client, with which so many calls were made, and the
--- summary is of that cluster and of their receipts: so the reads and writes of the history that it counts are those
--- that the seats recorded, each once
+-- a store of this cluster was closed with a seat for each client, and each seat made this many calls; the summary is of
+-- that cluster and of the seats' receipts, so it counts the reads and writes that the seats recorded, each once
 pub record IsOfClosed (client_count call_count : ℕ) (summary : Summary) : Type 0 where
   pub cluster : Cluster
   pub seats : List SeatState

@@ -1,4 +1,4 @@
--- What the calls that a client makes leave in its seat.
+-- What a client's calls add to its seat.
 use Rattle.std.specs.Prelude.{◌≡◌, ℕ, zero, suc, ◌%◌, ◌==◌, if◌then◌else◌}
 use Rattle.register.specs.declared.receipt.Receipt.{Receipt}
 use Rattle.cluster.specs.Cluster.{Cluster}
@@ -7,17 +7,17 @@ use Rattle.sections.specs.declared.call_record.Begin.{Begin}
 use Rattle.sections.specs.declared.call_record.Begin.TheVariants as begin
 use Rattle.soak.specs.Call.{object_of, value_of}
 
--- what a client begins in its call of this number: a write where that is even, and else a read
+-- what a client's call of this number does: an even number writes, and an odd one reads
 abbrev pub begin_of : (client call : ℕ) → Begin
 begin_of client call = if (call % 2) == 0 then begin.Write (value_of client call) else begin.Read
 
--- the seat of some store has one record more, of the call of this number, with a receipt
+-- in some store the seat gets one more record, of the call of this number with a receipt
 abbrev pub Makes : (call : ℕ) → SeatState → SeatState → Type 0
 Makes call s t =
     (first : Cluster)
     × ((receipt : Receipt) × AddsAnswered first s (object_of call) (begin_of s.number call) receipt t)
 
--- so many calls are made, one after another, from the call 0 on
+-- this many calls are made in a row, the first of which has the number 0
 abbrev pub MakesAll : (count : ℕ) → SeatState → SeatState → Type 0
 MakesAll zero s t = t ≡ s
 MakesAll (suc n) s t = (between : SeatState) × MakesAll n s between × Makes n between t
@@ -26,6 +26,6 @@ MakesAll (suc n) s t = (between : SeatState) × MakesAll n s between × Makes n 
 abbrev pub IsNew : SeatState → Type 0
 IsNew s = s ≡ new_seat s.number
 
--- the seat was new, and so many calls were made with it
+-- the seat was new, and this many calls were made with it
 abbrev pub HasMade : (count : ℕ) → SeatState → Type 0
 HasMade count t = (number : ℕ) × MakesAll count (new_seat number) t

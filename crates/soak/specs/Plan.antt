@@ -1,7 +1,7 @@
--- What a soak may be asked to do.
+-- The limits of a plan.
 use Rattle.std.specs.Prelude.{ℕ, ◌≤◌}
 
--- there is a client, and the numbers are within their limits
+-- a plan with these numbers is allowed: it has a client, and no number is above its limit
 pub record IsWithin (client_count call_count move_count : ℕ) : Type 0 where
   pub some : 1 ≤ client_count
   pub clients : client_count ≤ 64

@@ -1,4 +1,4 @@
--- What a soak comes to.
+-- The summary of a soak, its text and its exit status.
 use Rattle.std.specs.Prelude.{◌≡◌, ◌↔◌, ℕ, ◌+◌, ◌==◌, ◌&&◌, Bool, true, false, is_some, IsTrue, List, [], ◌∷◌, ◌++◌}
 use Rattle.std.specs.Prelude.{Option, Some, None, count_by, codes, if◌then◌else◌}
 use Rattle.std.specs.Fmt.{decimal}
@@ -12,7 +12,7 @@ use Rattle.cluster.specs.Cluster.{Cluster, named}
 use Rattle.soak.specs.Audit.{AreAccounted}
 use Rattle.soak.specs.declared.summary.Summary.{Summary}
 
--- the entries of an object, none where there is no object
+-- the entries of an object; no entries where there is no object
 abbrev pub entries_in : Option State → List Entry
 entries_in None = []
 entries_in (Some state) = entries state.object
@@ -27,20 +27,20 @@ is_move operation.Read = false
 is_move operation.Write = false
 is_move operation.Move = true
 
--- whether an entry is of a move that is answered
+-- whether an entry belongs to an answered move
 abbrev pub is_answered_move : Entry → Bool
 is_answered_move e = is_move e.operation && is_some e.answered
 
--- how many reads and writes of an object are answered
+-- how many reads and writes of the object of this name are answered
 abbrev pub answered_calls : Cluster → (name : List ℕ) → ℕ
 answered_calls cluster name = count_by must_stand (entries_of cluster name)
 
--- how many moves of an object are answered
+-- how many moves of the object of this name are answered
 abbrev pub answered_moves : Cluster → (name : List ℕ) → ℕ
 answered_moves cluster name = count_by is_answered_move (entries_of cluster name)
 
--- what a cluster with the objects `a` and `b` comes to, where the seats had so many receipts. That each object's
--- history has the sequence of its tags is no question: it always does
+-- the summary of a cluster with the objects `a` and `b`, whose seats have this many receipts; `check` is true, since
+-- the order of the tags is always a sequence of the object's history
 pub record IsSummaryOf (cluster : Cluster) (receipt_count : ℕ) (s : Summary) : Type 0 where
   pub calls : s.calls ≡ answered_calls cluster (codes "a") + answered_calls cluster (codes "b")
   pub receipts : s.receipts ≡ receipt_count
@@ -48,21 +48,21 @@ pub record IsSummaryOf (cluster : Cluster) (receipt_count : ℕ) (s : Summary) :
   pub check : s.check ≡ true
   pub accounts : IsTrue s.accounts ↔ AreAccounted cluster
 
--- a word and what it says, on a line
+-- a line: a word, a space, and what the word says
 abbrev pub line : (word said : List ℕ) → List ℕ
 line word said = word ++ 32 ∷ said
 
--- a truth, as a word
+-- a truth value as a word
 abbrev pub truth : Bool → List ℕ
 truth true = codes "true"
 truth false = codes "false"
 
--- the five lines, parted by line feeds
+-- the five lines of a summary, separated by line feeds
 abbrev pub summary_text : Summary → List ℕ
 summary_text s = line (codes "calls") (decimal s.calls) ++ 10 ∷ line (codes "receipts") (decimal s.receipts)
     ++ 10 ∷ line (codes "moves") (decimal s.moves) ++ 10 ∷ line (codes "check") (truth s.check)
     ++ 10 ∷ line (codes "accounts") (truth s.accounts)
 
--- 0 where the calls are the receipts and both truths hold, and else 1
+-- the exit status: 0 where there are as many calls as receipts and both truth values hold, and otherwise 1
 abbrev pub status_of : Summary → ℕ
 status_of s = if (s.calls == s.receipts) && (s.check && s.accounts) then 0 else 1

@@ -1,4 +1,4 @@
-//! The accounts of a cluster, added anew.
+//! The accounts of a cluster, added up again from its banks and mail.
 ghost use Rattle.std.specs.Prelude.{◌≡◌, ◌+◌, ◌<◌, ◌≤◌, ◌↔◌, ℕ, length, IfOk, IsTrue};
 ghost use Rattle.cluster.specs.Accounts as all;
 ghost use Rattle.soak.specs.Audit.{AreAccounted, AreAdded, bytes_at, capped, missing_cause};
@@ -10,8 +10,8 @@ use cluster::Cluster;
 use register::Register;
 use tag::{MOST_MEMBERS, MOST_POSITIONS, Refusal};
 
-/// Whether the accounts of a cluster are the sums over the banks and the mail of its objects `a` and `b`, added anew.
-/// `NoObject` where one is not there.
+/// Whether the accounts of a cluster equal the sums over the banks and the mail of its objects `a` and `b`, which are
+/// added up here. `NoObject` where one of the objects is not there.
 pub fn are_accounted(cluster: &Cluster) -> Result<bool, Refusal>
     ensures accounts { IfOk result (λ b. IsTrue b ↔ AreAccounted cluster.now) }
     ensures cause { IsExactlyByCause (missing_cause cluster.now) result }
@@ -29,7 +29,7 @@ fn are_added(cluster: &Cluster, one: &Register, other: &Register) -> bool
         && are_mailed(cluster, one, other)
 }
 
-// Whether the account of all servers is what they store of both objects, added anew.
+// Whether the account of all servers equals what they store of both objects, added up again.
 fn are_stored_together(cluster: &Cluster, one: &Register, other: &Register) -> bool
     ensures { IsTrue result ↔ (all.stored_all cluster.now
         ≡ member_sum (λ s. stored one.now.object s + stored other.now.object s) 0 (length cluster.now.servers)) }
@@ -37,14 +37,14 @@ fn are_stored_together(cluster: &Cluster, one: &Register, other: &Register) -> b
     all_anew(cluster.servers(), one, other) == cluster.stored_all()
 }
 
-// Whether the account of the mail is what waits for both objects, added anew.
+// Whether the account of the mail equals what waits for both objects, added up again.
 fn are_mailed(cluster: &Cluster, one: &Register, other: &Register) -> bool
     ensures { IsTrue result ↔ (all.mailed cluster.now ≡ mailed one.now.object + mailed other.now.object) }
 {
     mailed_anew(one).saturating_add(mailed_anew(other)) == cluster.mailed()
 }
 
-// Whether the account of each server is what it stores of both objects, added anew.
+// Whether the account of each server equals what it stores of both objects, added up again.
 fn are_stored(cluster: &Cluster, one: &Register, other: &Register) -> bool
     ensures { IsTrue result ↔ ((server : ℕ) → server < length cluster.now.servers
         → all.stored cluster.now server ≡ stored one.now.object server + stored other.now.object server) }
@@ -66,7 +66,7 @@ fn is_stored(cluster: &Cluster, one: &Register, other: &Register, server: u8) ->
     both_anew(one, other, server) == cluster.stored(server)
 }
 
-// What all servers store of two objects, added anew; or the greatest number where it is more.
+// How many bytes all servers store of two objects, added up again; the greatest number where the sum is above it.
 fn all_anew(servers: u8, one: &Register, other: &Register) -> u64
     ensures { result ≡ capped (member_sum (λ s. stored one.now.object s + stored other.now.object s) 0 servers) }
 {
@@ -77,14 +77,14 @@ fn all_anew(servers: u8, one: &Register, other: &Register) -> u64
     total
 }
 
-// What a server stores of two objects, added anew; or the greatest number where it is more.
+// How many bytes a server stores of two objects, added up again; the greatest number where the sum is above it.
 fn both_anew(one: &Register, other: &Register, server: u8) -> u64
     ensures { result ≡ capped (stored one.now.object server + stored other.now.object server) }
 {
     stored_anew(one, server).saturating_add(stored_anew(other, server))
 }
 
-// What a server stores of an object, added anew; or the greatest number where it is more.
+// How many bytes a server stores of an object, added up again; the greatest number where the sum is above it.
 fn stored_anew(register: &Register, server: u8) -> u64
     ensures { result ≡ capped (stored register.now.object server) }
 {
@@ -96,7 +96,7 @@ fn stored_anew(register: &Register, server: u8) -> u64
     total
 }
 
-// The same at one position.
+// How many bytes it stores at one position of the object; the greatest number where the sum is above it.
 fn position_anew(register: &Register, server: u8, position: u32) -> u64
     ensures { result ≡ capped (member_sum (bytes_at register.now.object server position) 0 MOST_MEMBERS) }
 {
@@ -107,7 +107,7 @@ fn position_anew(register: &Register, server: u8, position: u32) -> u64
     total
 }
 
-// The same of one member.
+// How many bytes it stores for one member of the position.
 fn member_anew(register: &Register, server: u8, position: u32, member: u8) -> u64
     ensures { result ≡ capped (bytes_at register.now.object server position member) }
 {
@@ -120,7 +120,7 @@ fn member_anew(register: &Register, server: u8, position: u32, member: u8) -> u6
     }
 }
 
-// What waits in the messages of an object, added anew; or the greatest number where it is more.
+// How many bytes wait in the messages of an object, added up again; the greatest number where the sum is above it.
 fn mailed_anew(register: &Register) -> u64
     ensures { result ≡ capped (mailed register.now.object) }
 {

@@ -5,14 +5,14 @@ ghost use Rattle.soak.specs.Call.{object_of, value_of};
 use bytes::Bytes;
 use std::alloc::{AllocError, Global};
 
-/// The object that a client's call of this number goes to: two calls go to the one and two to the other, in turn.
+/// The name of the object that a client's call of this number is for: `a` for two calls and `b` for two, in turn.
 pub fn object_of(call: u64) -> &'static str
     ensures { result.now ≡ object_of call }
 {
     if call % 4 < 2 { "a" } else { "b" }
 }
 
-/// What a client writes in its call of this number: `CLIENT:CALL`.
+/// The value that a client's call of this number writes: `CLIENT:CALL`.
 pub fn value_of(alloc: Global, client: u32, call: u64) -> Result<Bytes, AllocError>
     ensures { IfOk result (λ value. value ≡ value_of client call) }
 {

@@ -1,4 +1,4 @@
-//! The chooser of a thread.
+//! The chooser that the threads of a soak use.
 ghost use Rattle.std.specs.Prelude.{◌≡◌, ◌+◌, ◌%◌, ◌^◌};
 
 use driver::Chooser;
@@ -7,14 +7,15 @@ const FACTOR: u64 = 6_364_136_223_846_793_005;
 
 const STEP: u64 = 1_442_695_040_888_963_407;
 
-/// Chooses by the linear congruence that Knuth gives for 64 bits, of which the upper 31 are the answer.
+/// A chooser that returns the upper 31 bits of a linear congruential generator, the one that Knuth gives for 64 bits.
 #[derive(Clone, Copy, Debug, PartialEq, Eq)]
 pub struct Congruential {
+    /// The state of the generator.
     pub state: u64,
 }
 
 impl Congruential {
-    /// A chooser that starts so far from a number.
+    /// A chooser whose state begins at the sum of the two numbers, modulo 2^64.
     pub fn new(choices: u64, apart: u64) -> Congruential
         ensures { result.state ≡ (choices + apart) % 2 ^ 64 }
     {

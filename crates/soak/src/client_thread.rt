@@ -1,4 +1,4 @@
-//! What the thread of a client does.
+//! The thread of a client.
 ghost use Rattle.std.specs.Prelude.{IfOk, OnOk};
 ghost use Rattle.soak.specs.Made.{HasMade, IsNew, Makes};
 
@@ -13,13 +13,13 @@ use std::sync::Wait;
 use std::thread::Threads;
 use tag::Refusal;
 
-/// How often a client stirs an object after each of its calls.
+/// How many times a client stirs an object after each of its calls.
 const STIRS: u32 = 16;
 
-/// What the thread of a client hands back: its seat, or why one of its calls was refused.
+/// What the thread of a client returns: its seat, or the refusal of one of its calls.
 pub(crate) type Ended<L> = Result<Seat<L>, Refusal>;
 
-/// Makes the calls of the client with this seat, which is new, one after another.
+/// Makes the client's calls with this new seat, one after another.
 pub(crate) fn make_calls<L: StoreName, R: Threads + Wait + Sync>(
     rt: &R,
     alloc: Global,
@@ -40,7 +40,7 @@ pub(crate) fn make_calls<L: StoreName, R: Threads + Wait + Sync>(
     Ok(seat)
 }
 
-// The call of this number: a write where that is even, and else a read.
+// Makes the call of this number: an even number writes, and an odd one reads.
 fn make_call<L: StoreName, R: Threads + Wait + Sync>(
     rt: &R,
     alloc: Global,
@@ -61,7 +61,7 @@ fn make_call<L: StoreName, R: Threads + Wait + Sync>(
     Ok(())
 }
 
-// Handles messages of an object, whosever they are.
+// Handles messages of an object, whichever calls they belong to.
 fn stir_often<L: StoreName, R: Wait>(
     rt: &R,
     store: &Store<L>,

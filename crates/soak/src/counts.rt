@@ -1,7 +1,7 @@
 //! What the threads of a soak have done so far.
 use std::sync::atomic::{AtomicU64, Ordering};
 
-/// Counts that the threads of a soak share. They are for whoever watches, and nothing that is promised rests on them.
+/// Counts that the threads of a soak share. They are only shown to whoever watches, and no contract rests on them.
 #[derive(Drop)]
 pub(crate) struct Counts {
     calls: AtomicU64,
@@ -18,32 +18,32 @@ impl Counts {
         }
     }
 
-    /// A client has made a call.
+    /// Counts a call that a client has made.
     pub(crate) fn add_call(&self) {
         self.calls.fetch_add(1, Ordering::SeqCst);
     }
 
-    /// The administrator has made a move.
+    /// Counts a move that the administrator has made.
     pub(crate) fn add_move(&self) {
         self.moves.fetch_add(1, Ordering::SeqCst);
     }
 
-    /// A thread has ended, or could not be started.
+    /// Counts a thread that has ended or could not be started.
     pub(crate) fn add_end(&self) {
         self.ended.fetch_add(1, Ordering::SeqCst);
     }
 
-    /// How many calls are made.
+    /// How many calls the clients have made.
     pub(crate) fn calls(&self) -> u64 {
         self.calls.load(Ordering::SeqCst)
     }
 
-    /// How many moves are made.
+    /// How many moves the administrator has made.
     pub(crate) fn moves(&self) -> u64 {
         self.moves.load(Ordering::SeqCst)
     }
 
-    /// How many threads have ended.
+    /// How many threads have ended or could not be started.
     pub(crate) fn ended(&self) -> u64 {
         self.ended.load(Ordering::SeqCst)
     }

@@ -17,7 +17,7 @@ use std::thread::{JoinHandle, Promise, PromisedHandle, Scope, Threads};
 use std::time::Clock;
 use tag::Refusal;
 
-/// What the thread of a client promises: where it hands a seat back, so many calls were made with it.
+/// The promise of a client's thread: where it returns a seat, this many calls were made with it.
 #[derive(Clone, Copy)]
 pub(crate) struct CallsMade(pub(crate) u64);
 
@@ -28,12 +28,13 @@ impl<L: StoreName> Promise<Ended<L>> for CallsMade {
     ghost kept_by = { λ promise ended. IfOk ended (λ seat. HasMade promise.0 seat) };
 }
 
-// The thread of a client, or why there is none.
+// The thread of a client, or why it could not be started.
 type Started<L> = Result<PromisedHandle<Ended<L>, CallsMade>, Refusal>;
 
-/// Lets each client work in a thread of its own, and the administrator in another, and gives the seats back once all
-/// have ended, each with all calls of the plan made. The first client's refusal is passed on, or else that of the
-/// administrator; a thread that cannot be started is refused with `NoMemory`, and hinders no other.
+/// Lets each client work in a thread of its own, and the administrator in another. Returns the seats once all threads
+/// have ended, each with all calls of the plan made. Otherwise returns the refusal of the first client that has one, or
+/// else that of the administrator. A thread that cannot be started is refused with `NoMemory`, and the others still
+/// run.
 pub(crate) fn work_all<L: StoreName + Send + Sync, R: Threads + Wait + Clock + Sync, E: Write>(
     rt: &R,
     alloc: Global,
@@ -57,8 +58,8 @@ pub(crate) fn work_all<L: StoreName + Send + Sync, R: Threads + Wait + Clock + S
     )
 }
 
-// Starts the threads, and waits for them. A refusal is passed on once all have ended, since the scope waits for those
-// that nobody joins.
+// Starts the threads, and waits for them. A refusal is returned once all threads have ended, since the scope waits for
+// threads that nobody joins.
 fn work_in<'s, V, L: StoreName + Send + Sync, R: Threads + Wait + Clock + Sync, E: Write>(
     scope: &Scope<'s, V>,
     rt: &'s R,
@@ -83,7 +84,7 @@ fn work_in<'s, V, L: StoreName + Send + Sync, R: Threads + Wait + Clock + Sync, 
     Ok(seats)
 }
 
-// A thread for each seat, the last seat first.
+// Starts a thread for each seat, the last seat first.
 fn start_all<'s, E, L: StoreName + Send + Sync, R: Threads + Wait + Sync>(
     scope: &Scope<'s, E>,
     rt: &'s R,
@@ -155,7 +156,7 @@ fn start_moves<'s, E, L: StoreName + Send + Sync, R: Threads + Wait + Sync>(
     }
 }
 
-// Waits for the threads of the clients, from the end of the list: the first client's thread is the last in it.
+// Waits for the threads of the clients, from the end of the list, where the first client's thread is.
 fn end_all<L: StoreName, R: Threads>(
     rt: &R,
     alloc: Global,

@@ -1,5 +1,5 @@
-//! A soak: many clients and an administrator work through one store at once. When all have ended the store is closed,
-//! and what it comes to is counted and checked.
+//! A soak: many clients and an administrator work through one store at once, each in a thread. When all have ended, the
+//! store is closed, and its cluster is summed up and checked.
 #![tactic(auto)]
 
 pub use audit::are_accounted;

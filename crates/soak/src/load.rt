@@ -1,4 +1,4 @@
-//! A load that is measured: calls through one store, each client's in a thread of its own.
+//! A load whose time is measured: calls through one store, with a thread for each client.
 ghost use Rattle.std.specs.Prelude.{◌≡◌, ◌+◌, ◌*◌, ◌≤◌, IfOk};
 ghost use Rattle.tag.specs.declared.limits.TheConstants.{MOST_SEATS};
 
@@ -19,29 +19,34 @@ use tag::{MOST_SEATS, Refusal};
 /// The name of the one object.
 const NAME: &str = "a";
 
-/// So many clients make so many calls each, a write and a read in turn, with values of so many bytes.
+/// A load of calls on one object: each client makes a write and a read in turn.
 #[derive(Clone, Copy, Debug, PartialEq, Eq)]
 pub struct Load {
+    /// How many clients work.
     pub clients: u32,
+    /// How many calls each client makes.
     pub calls: u64,
+    /// The length of each written value, in bytes.
     pub length: usize,
-    /// How many messages a client handles after each of its calls, whosever they are.
+    /// How many messages of the object a client handles after each of its calls, whichever calls they belong to.
     pub late: u32,
 }
 
-/// How many calls were made, and the nanoseconds that they took; 0 where the clock told nothing.
+/// How many calls were made, and how many nanoseconds they took. A time is 0 where its clock could not be read.
 #[derive(Clone, Copy, Debug, PartialEq, Eq)]
 pub struct Cost {
+    /// How many receipts the closed store has.
     pub calls: u64,
-    /// By the clock.
+    /// The nanoseconds that passed by the monotonic clock.
     pub clock: u128,
-    /// What the processors have worked for the program meanwhile.
+    /// The nanoseconds of processor time that the program used meanwhile.
     pub processors: u128,
 }
 
-/// Opens a store of five servers of which any three give a value back, without workers, and times the calls of a load.
-/// It answers only where each call has its receipt once the store is closed, and is else refused: `NotNow` where there
-/// are fewer, or else as a call, or as a thread that can't be started, with `NoMemory`.
+/// Opens a store of five servers, any three of which give a value back, without workers, and measures the calls of a
+/// load. It returns a cost only where the closed store has a receipt for each call.
+/// `Full` above `MOST_SEATS` clients, `NotNow` where there are fewer receipts, `NoMemory` also where a thread cannot be
+/// started, and else the refusal of a call.
 pub fn run_load<R: Threads + Wait + Clock + CpuClock + Sync>(
     rt: &R,
     alloc: Global,
@@ -61,7 +66,7 @@ pub fn run_load<R: Threads + Wait + Clock + CpuClock + Sync>(
     }
 }
 
-// The same of the store of this name, with the receipts that its close counts.
+// Runs the load in a store of this name. The calls of the result are the receipts that the close counts.
 fn load_named<L: StoreName + Send + Sync, R: Threads + Wait + Clock + CpuClock + Sync>(
     rt: &R,
     alloc: Global,
@@ -88,7 +93,7 @@ fn load_named<L: StoreName + Send + Sync, R: Threads + Wait + Clock + CpuClock +
     }
 }
 
-// The clock, and what the processors have worked for the program, in nanoseconds.
+// The monotonic clock, and the processor time of the program, in nanoseconds.
 fn times<R: Clock + CpuClock>(rt: &R) -> (u128, u128) {
     (
         nanoseconds(rt.monotonic()),
@@ -103,7 +108,7 @@ fn nanoseconds(told: io::Result<Duration>) -> u128 {
     }
 }
 
-// A value of this length.
+// A value of this length, whose bytes count up from 0 to 250 and begin again.
 fn value_of(alloc: Global, length: usize) -> Result<Bytes, Refusal> {
     let mut bytes = Vec::with_capacity(alloc, length)?;
     for at in 0..length {
@@ -112,7 +117,7 @@ fn value_of(alloc: Global, length: usize) -> Result<Bytes, Refusal> {
     Ok(Bytes::from_vec(bytes)?)
 }
 
-// Five servers and the object.
+// A cluster of five servers, with the object.
 fn five_servers(alloc: Global) -> Result<Cluster, Refusal> {
     let mut cluster = Cluster::new(alloc, 5);
     let layout = cluster.add_layout(Layout::new(3, &[0, 1, 2, 3, 4])?)?;
@@ -120,7 +125,7 @@ fn five_servers(alloc: Global) -> Result<Cluster, Refusal> {
     Ok(cluster)
 }
 
-// Lets each seat make its calls in a thread of its own, and gives the seats back.
+// Lets each seat make its calls in a thread of its own, and returns the seats.
 fn call_all<L: StoreName + Send + Sync, R: Threads + Wait + Sync>(
     rt: &R,
     alloc: Global,

@@ -1,29 +1,32 @@
-//! What a soak is asked to do.
+//! The plan of a soak.
 ghost use Rattle.std.specs.Prelude.{◌≡◌, MatchOption};
 ghost use Rattle.soak.specs.Plan.{IsWithin};
 
-/// The most clients of a soak.
+/// The greatest number of clients of a soak.
 pub const MOST_CLIENTS: u64 = 64;
 
-/// The most calls of each client.
+/// The greatest number of calls of each client.
 pub const MOST_CALLS: u64 = 10_000;
 
-/// The most moves of the administrator.
+/// The greatest number of moves of the administrator.
 pub const MOST_MOVES: u64 = 100;
 
-/// So many clients make so many calls each, the administrator makes so many moves, and the choosers start from a
-/// number.
+/// How many clients work, how many calls each of them makes, how many moves the administrator makes, and the number
+/// from which the choosers begin.
 #[derive(Clone, Copy, Debug, PartialEq, Eq)]
 pub struct Plan {
+    /// How many clients work.
     pub clients: u32,
+    /// How many calls each client makes.
     pub calls: u64,
+    /// How many moves the administrator makes.
     pub moves: u64,
-    /// Where the choosers start.
+    /// The number from which the choosers begin; each thread adds a number of its own.
     pub choices: u64,
 }
 
 impl Plan {
-    /// The plan of these numbers. None where there is no client, or a number is above its limit.
+    /// The plan of these numbers; none where there is no client, or a number is above its limit.
     pub fn new(clients: u64, calls: u64, moves: u64, choices: u64) -> Option<Plan>
         ensures { MatchOption result (¬ (IsWithin clients calls moves))
             (λ plan. IsWithin clients calls moves

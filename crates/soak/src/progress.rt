@@ -6,13 +6,13 @@ use std::fmt;
 pub struct Progress {
     /// How many calls the clients have made.
     pub calls: u64,
-    /// How many they are to make.
+    /// How many calls the clients make in all.
     pub all_calls: u64,
     /// How many moves the administrator has made.
     pub moves: u64,
-    /// How many are to be made.
+    /// How many moves the administrator makes in all.
     pub all_moves: u64,
-    /// How many whole seconds have gone by.
+    /// How many whole seconds have passed.
     pub seconds: u64,
 }
 

@@ -17,17 +17,16 @@ use std::thread::Threads;
 use std::time::Clock;
 use tag::Refusal;
 
-/// How many workers code a value.
+/// How many workers encode a value.
 const WORKERS: usize = 2;
 
-/// Lets the clients and the administrator of a plan work through one store at once, closes it once all have ended, and
-/// says what it comes to: each client has made all its calls, each with a receipt, and the summary is of a cluster
+/// Lets the clients and the administrator of a plan work through one store at once, closes the store once all have
+/// ended, and sums it up. Each client has then made all its calls, each with a receipt, and the summary is of a cluster
 /// whose reads and writes are those that the clients' seats recorded, each once.
-///
-/// Where there is a screen, one line there that moves tells how far a soak of two seconds or more has come, and is
-/// cleared at the end.
-///
-/// In place of a summary it passes on the refusal of a call, and `NoMemory` where a thread cannot be started.
+/// Where there is a screen, a line there shows how far a soak of two seconds or more has come. It is cleared at the
+/// end.
+/// Where a call, a move or the close is refused, that refusal is returned. `NoMemory` also where a thread cannot be
+/// started.
 pub fn run_plan<R: Threads + Wait + Clock + Sync, E: Write>(
     rt: &R,
     alloc: Global,
@@ -48,7 +47,7 @@ pub fn run_plan<R: Threads + Wait + Clock + Sync, E: Write>(
     )
 }
 
-// The same of the store of this name.
+// Runs the soak in a store of this name.
 fn soak_named<L: StoreName + Send + Sync, R: Threads + Wait + Clock + Sync, E: Write>(
     rt: &R,
     alloc: Global,

@@ -1,4 +1,4 @@
-//! The cluster of a soak.
+//! The cluster with which a soak begins.
 ghost use Rattle.std.specs.Prelude.{◌≡◌, IfErr, IfOk, OnOk};
 ghost use Rattle.tag.specs.declared.refusal.Refusal.TheVariants.{NoMemory};
 ghost use Rattle.soak.specs.Setting.{five_servers, setting, with_layouts};
@@ -10,8 +10,8 @@ use tag::Refusal;
 
 const SERVERS: u8 = 5;
 
-/// Five servers, all up; three layouts, of four, five and three of them with k 2, 3 and 1; and two objects, both with
-/// the first. `NoMemory` is the only refusal.
+/// A cluster of five servers, all up, with three layouts and two objects. The layouts have 4, 5 and 3 of the servers,
+/// with a k of 2, 3 and 1. The objects `a` and `b` have the first layout. `NoMemory` is the only refusal.
 pub fn make_setting(alloc: Global) -> Result<Cluster, Refusal>
     ensures cluster { IfOk result (λ cluster. cluster ≡ setting) }
     ensures refused { IfErr result (λ r. r ≡ NoMemory) }
@@ -23,7 +23,7 @@ pub fn make_setting(alloc: Global) -> Result<Cluster, Refusal>
     Ok(cluster)
 }
 
-// The three layouts of a soak.
+// Adds the three layouts of a soak.
 fn add_layouts(cluster: &mut Cluster) -> Result<(), Refusal>
     requires { cluster.old ≡ five_servers }
     ensures layouts { OnOk result (cluster.new ≡ with_layouts) }

@@ -1,4 +1,4 @@
-//! What a soak comes to.
+//! The summary of a soak.
 ghost use Rattle.std.specs.Prelude.{◌≡◌, ◌<◌, ◌^◌, true, count_by, IfErr, IfOk};
 ghost use Rattle.tag.specs.declared.refusal.Refusal.TheVariants.{NoMemory};
 ghost use Rattle.record.specs.Journals.{entries};
@@ -16,22 +16,22 @@ use std::alloc::Global;
 use std::fmt;
 use tag::Refusal;
 
-/// What is counted and checked once a store is closed. It prints as five lines, without the last line feed.
+/// The summary of a closed store. It prints as five lines, without a line feed after the last.
 #[derive(Clone, Copy, Debug, PartialEq, Eq)]
 pub struct Summary {
-    /// How many reads and writes are answered in the history.
+    /// How many reads and writes of the history are answered.
     pub calls: u64,
     /// How many receipts the seats have.
     pub receipts: u64,
-    /// How many moves are answered in the history.
+    /// How many moves of the history are answered.
     pub moves: u64,
-    /// Whether the sequence that the tags give is one of each object's history.
+    /// Whether the order of the tags is a register sequence of each object's history.
     pub check: bool,
-    /// Whether the accounts are the sums over banks and mail.
+    /// Whether the accounts equal the sums over banks and mail.
     pub accounts: bool,
 }
 
-/// The same of one object.
+/// The numbers of one object, and its check.
 #[derive(Clone, Copy)]
 struct Seen {
     calls: u64,
@@ -40,8 +40,8 @@ struct Seen {
 }
 
 impl Summary {
-    /// Counts and checks the cluster of a closed store, whose seats had so many receipts. `NoObject` where it has no
-    /// object `a` or `b`, and else `NoMemory` is the only refusal.
+    /// Sums up and checks the cluster of a closed store, whose seats have this many receipts. `NoObject` where there is
+    /// no object `a` or `b`; else `NoMemory` is the only refusal.
     pub fn of(alloc: Global, cluster: &Cluster, receipts: u64) -> Result<Summary, Refusal>
         ensures summary { IfOk result (λ s. IsSummaryOf cluster.now receipts s) }
         ensures cause { IsByCause (missing_cause cluster.now) result }
@@ -59,7 +59,7 @@ impl Summary {
         })
     }
 
-    /// The exit status: 0 where the calls are the receipts, and all is as it should be, and else 1.
+    /// The exit status: 0 where there are as many calls as receipts and both checks hold, and otherwise 1.
     pub fn status(&self) -> u8
         ensures { result ≡ status_of self.now }
     {

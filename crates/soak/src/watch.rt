@@ -1,4 +1,4 @@
-//! Whoever watches a soak at a terminal.
+//! The line on a terminal that shows how far a soak has come.
 use crate::counts::Counts;
 use crate::plan::Plan;
 use crate::progress::Progress;
@@ -7,14 +7,14 @@ use std::sync::Wait;
 use std::time::{Clock, Duration, Instant};
 use std::{io, thread};
 
-/// How often the counts are looked at, in milliseconds.
+/// The time between two looks at the counts, in milliseconds.
 const TICK: u64 = 50;
 
-/// From how many whole seconds on a soak is long.
+/// The number of whole seconds from which on a soak is long.
 const LONG: u64 = 2;
 
-/// Watches until all threads of the plan have ended. Once the soak is long, one line on the screen tells how far it has
-/// come; it is cleared at the end. A line that is lost is no matter.
+/// Watches until all threads of the plan have ended. Once the soak is long, one line on the screen shows how far it has
+/// come; it is cleared at the end. Lines that cannot be written are ignored.
 pub(crate) fn watch_all<R: Wait + Clock, E: Write>(
     rt: &R,
     counts: &Counts,
@@ -54,14 +54,14 @@ fn progress(counts: &Counts, plan: Plan, seconds: u64) -> Progress {
     }
 }
 
-// The line, in the place of the one before: that one is no longer, since the numbers only grow.
+// Writes the line over the one before, which is not longer, since the numbers only grow.
 fn show<E: Write>(screen: &mut E, progress: Progress) -> io::Result<()> {
     screen.write_all(b"\r")?;
     write!(screen, "{progress}")?;
     screen.flush()
 }
 
-// Goes back to the start of the line, and clears it.
+// Returns to the start of the line, and clears it.
 fn clear<E: Write>(screen: &mut E) -> io::Result<()> {
     screen.write_all(b"\r\x1b[K")?;
     screen.flush()
