@@ -1,4 +1,4 @@
-//! Bytes as hexadecimal digits, with `.` for no bytes.
+//! Bytes as hexadecimal digits, and no bytes as `.`.
 ghost use Rattle.std.specs.Prelude.{◌≡◌, ◌≤◌, ◌*◌, ℕ, List, IfOk, MatchOption, Some, length};
 ghost use Rattle.hex.specs.Hex.{encode_lower};
 ghost use Rattle.words.specs.Hexadecimal.{IsHexadecimal, hexadecimal_text};
@@ -8,11 +8,11 @@ use hex::FromHexError;
 use std::alloc::{AllocError, Global};
 use std::fmt;
 
-/// How many bytes are written as digits at a time.
+/// How many bytes are turned into digits at a time.
 const CHUNK: usize = 512;
 
-/// The bytes that a word writes in pairs of hexadecimal digits of either case, or as `.` for no bytes. `None` for any
-/// other word, as the empty one and one with an odd number of digits.
+/// The bytes that a word spells: two hexadecimal digits of either case for each byte, or `.` for no bytes. None for any
+/// other word, such as the empty one or one with an odd number of digits.
 pub fn parse_bytes(alloc: Global, word: &str) -> Result<Option<Bytes>, AllocError>
     ensures { IfOk result (λ found. MatchOption found
         ((bytes : List ℕ) → ¬ (IsHexadecimal word.now bytes)) (IsHexadecimal word.now)) }
@@ -30,7 +30,7 @@ pub fn parse_bytes(alloc: Global, word: &str) -> Result<Option<Bytes>, AllocErro
     }
 }
 
-/// Bytes that print as their word, in lower case.
+/// Bytes that print as the word that spells them, in lower case.
 #[derive(Clone, Copy)]
 pub struct Hexadecimal<'a>(pub &'a [u8]);
 
@@ -49,7 +49,7 @@ impl fmt::Display for Hexadecimal<'_> {
     }
 }
 
-/// The digits of `bytes`, written to the front of `digits`.
+/// The digits of `bytes`, which are written to the front of `digits`.
 fn digits_of<'a>(bytes: &[u8], digits: &'a mut [u8]) -> &'a str
     requires { 2 * length bytes.now ≤ length digits.old }
     ensures { result.now ≡ encode_lower bytes.now }

@@ -1,8 +1,8 @@
-//! Numbers as decimal digits.
+//! Numbers in decimal digits.
 ghost use Rattle.std.specs.Prelude.{ℕ, MatchOption};
 ghost use Rattle.words.specs.Number.{IsNumber};
 
-/// The number that a word's decimal digits write. None for any other word, one with a sign too, and from 2^64 on.
+/// The number that a word spells in decimal digits. None for any other word, for one with a sign, and from 2^64 on.
 pub fn parse_number(word: &str) -> Option<u64>
     ensures { MatchOption result ((n : ℕ) → ¬ (IsNumber word.now n)) (IsNumber word.now) }
 {
