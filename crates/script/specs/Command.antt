@@ -1,4 +1,4 @@
--- How the commands of a script are spelled.
+-- Which words spell which command.
 use Rattle.std.specs.Prelude.{◌≡◌, List, [], ◌∷◌, ⊤, codes, Result, MatchResult}
 use Rattle.script.specs.Arguments.{Word, AreNone, AreNumber, AreServers, AreNumberAndMembers, AreName, AreNameAndNumber}
 use Rattle.script.specs.Arguments.{AreNameAndTwoNumbers, AreNameAndNumbers, AreNameAndBytes, AreNameNumberAndBytes}
@@ -8,12 +8,12 @@ use Rattle.script.specs.declared.command.Command.TheVariants as of
 use Rattle.script.specs.declared.error.LineError.{LineError}
 use Rattle.script.specs.declared.error.LineError.TheVariants.{Bad, NoMemory}
 
--- the first word is this text, and the words after it are such words
+-- the first word is this text, and `Rest` holds of the words after it
 abbrev pub Says : Word → (List Word → Type 0) → List Word → Type 0
 Says text Rest [] = ⊥
 Says text Rest (word ∷ words) = (word ≡ text) × Rest words
 
--- the words spell the command
+-- the words spell this command
 abbrev pub Spells : List Word → Command → Type 0
 Spells words (of.Servers count) = Says (codes "servers") (AreServers count) words
 Spells words (of.Layout k members) = Says (codes "layout") (AreNumberAndMembers k members.items) words
@@ -51,11 +51,11 @@ Spells words (of.History name) = Says (codes "history") (AreName name.now) words
 Spells words (of.Sequence name) = Says (codes "sequence") (AreName name.now) words
 Spells words (of.Check name calls) = Says (codes "check") (AreNameAndNumbers name.now calls.items) words
 
--- why the words give no command: they spell none, or memory is wanting
+-- why the words give no command: they spell none, or memory is refused
 abbrev pub IsErrorOf : List Word → LineError → Type 0
 IsErrorOf words Bad = (c : Command) → ¬ (Spells words c)
 IsErrorOf words NoMemory = ⊤
 
--- the command that the words spell, or why they give none
+-- the result is the command that the words spell, or why they give none
 abbrev pub IsReading : List Word → Result Command LineError → Type 0
 IsReading words result = MatchResult result (Spells words) (IsErrorOf words)

@@ -1,4 +1,4 @@
--- The words of a line, and what the line says.
+-- The words of a line, and the command that they spell.
 use Rattle.std.specs.Prelude.{◌≡◌, ◌==◌, ℕ, List, [], ◌∷◌, ⊤, Bool, filter, length, nat_lt, slice_index, Result}
 use Rattle.std.specs.Prelude.{MatchResult}
 use Rattle.std.specs.List.{slice_split}
@@ -11,7 +11,7 @@ use Rattle.script.specs.declared.line.Line.TheVariants as of
 use Rattle.script.specs.declared.error.LineError.{LineError}
 use Rattle.script.specs.declared.error.LineError.TheVariants.{Bad, NoMemory}
 
--- the byte is a space
+-- whether a byte is a space
 abbrev pub is_space : ℕ → Bool
 is_space byte = byte == 32
 
@@ -19,21 +19,21 @@ is_space byte = byte == 32
 abbrev pub words_of : List ℕ → List Word
 words_of line = filter (λ part. nat_lt 0 (length part)) (slice_split is_space line)
 
--- there is no word, or the first word begins with `#`
+-- a line of these words is skipped: there is no word, or the first one begins with `#`
 abbrev pub IsSkipped : List Word → Type 0
 IsSkipped [] = ⊤
 IsSkipped (first ∷ rest) = slice_index first 0 ≡ 35
 
--- what the line says: it is skipped, or it is ASCII and its words spell the command
+-- the line is skipped, or it is ASCII and its words spell the command
 abbrev pub IsLine : List ℕ → Line → Type 0
 IsLine line of.Skipped = IsSkipped (words_of line)
 IsLine line (of.Command command) = ¬ (IsSkipped (words_of line)) × IsAscii line × Spells (words_of line) command
 
--- why the line says nothing: it is bad, since it is not ASCII or its words spell no command, or memory is wanting
+-- why a line that is not skipped gives no command: it is not ASCII or spells no command, or memory is refused
 abbrev pub IsErrorOfLine : List ℕ → LineError → Type 0
 IsErrorOfLine line Bad = ¬ (IsSkipped (words_of line)) × (IsAscii line → (c : Command) → ¬ (Spells (words_of line) c))
 IsErrorOfLine line NoMemory = ¬ (IsSkipped (words_of line))
 
--- what the line says, or why it says nothing
+-- the result is what the line says, or why it gives no command
 abbrev pub IsReadingOfLine : List ℕ → Result Line LineError → Type 0
 IsReadingOfLine line result = MatchResult result (IsLine line) (IsErrorOfLine line)

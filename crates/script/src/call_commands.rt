@@ -1,5 +1,5 @@
-//! Commands that call, or take one step of a call. Each function reads the words after
-//! those that name its command.
+//! Commands that begin a call, or make one step of a call. Each function reads the words after those that name its
+//! command.
 ghost use Rattle.std.specs.Prelude.{◌∷◌, codes, map};
 ghost use Rattle.script.specs.Command.{IsReading};
 

@@ -1,5 +1,4 @@
-//! Commands about the cluster as a whole. Each function reads the words after
-//! those that name its command.
+//! Commands about the cluster as a whole. Each function reads the words after those that name its command.
 ghost use Rattle.std.specs.Prelude.{◌∷◌, codes, map};
 ghost use Rattle.script.specs.Command.{IsReading};
 

@@ -8,7 +8,7 @@ pub enum LineError {
     /// The line spells no command, or has a byte that is not ASCII.
     #[error("bad")]
     Bad,
-    /// The allocator gave no memory for the line's words or the command.
+    /// Memory is refused for the words of the line or for the command.
     #[error("out of memory")]
     NoMemory,
 }

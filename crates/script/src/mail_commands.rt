@@ -1,5 +1,4 @@
-//! Commands about an object's mail and banks. Each function reads the words after
-//! those that name its command.
+//! Commands about the mail and the banks of an object. Each function reads the words after those that name its command.
 ghost use Rattle.std.specs.Prelude.{◌∷◌, codes, map};
 ghost use Rattle.script.specs.Command.{IsReading};
 

@@ -1,5 +1,5 @@
-//! Commands that make a whole call, and those about an object's history. Each function
-//! reads the words after those that name its command.
+//! Commands that make a whole call, and those about the history of an object. Each function reads the words after those
+//! that name its command.
 ghost use Rattle.std.specs.Prelude.{◌∷◌, codes, map};
 ghost use Rattle.script.specs.Command.{IsReading};
 
