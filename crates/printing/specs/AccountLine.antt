@@ -5,11 +5,11 @@ use Rattle.std.specs.List.{enumerate_from, flat_map}
 use Rattle.printing.specs.declared.account_line.Account.{Account}
 use Rattle.printing.specs.Words.{in_words}
 
--- a server, a colon, and the bytes that it stores, after a space
+-- a space, the number of a server, a colon, and how many bytes the server stores
 abbrev pub server_text : ℕ × ℕ → List ℕ
 server_text server = codes " " ++ decimal server.0 ++ (codes ":" ++ decimal server.1)
 
--- what is stored and what waits, and then what each server stores
+-- the line: the bytes that are stored, the bytes that wait in messages, and what each server stores
 abbrev pub account_text : Account → List ℕ
 account_text a =
     in_words (codes "stored" ∷ decimal a.stored ∷ codes "mailed" ∷ decimal a.mailed ∷ [])

@@ -7,11 +7,11 @@ use Rattle.register.specs.declared.receipt.Receipt.{Receipt}
 use Rattle.words.specs.Hexadecimal.{hexadecimal_text}
 use Rattle.printing.specs.Words.{in_words}
 
--- the value that a read returned, and of any other call that it is answered
+-- for a read the value that it returned, and for any other call that it is answered
 abbrev pub words_of_answer : Operation → Option (List ℕ) → List (List ℕ)
 words_of_answer operation.Read (Some value) = codes "value" ∷ hexadecimal_text value ∷ []
 words_of_answer o v = codes "answered" ∷ []
 
--- the call, and what it answered
+-- the line: the number of the call, and its answer
 abbrev pub answer_text : Receipt → List ℕ
 answer_text r = in_words (codes "call" ∷ decimal r.call ∷ words_of_answer r.operation r.value)

@@ -6,7 +6,7 @@ use Rattle.register.specs.declared.receipt.CallView.{CallView}
 use Rattle.printing.specs.Vocabulary.{word_of_kind, word_of_operation, word_of_want}
 use Rattle.printing.specs.Words.{in_words, text_or_dash}
 
--- the call and what it does, its phase, that phase's replies, the call's tag and what it wants
+-- the line: the call and what it does, its current phase, that phase's replies, the tag, and what the call wants
 abbrev pub call_text : (call : ℕ) → CallView → List ℕ
 call_text call view = in_words (
     codes "call" ∷ decimal call ∷ word_of_operation view.kind

@@ -1,4 +1,4 @@
--- The lines of a mail.
+-- The lines of the waiting messages of an object.
 use Rattle.std.specs.Prelude.{ℕ, List, [], ◌∷◌, ◌++◌, length, codes}
 use Rattle.std.specs.Fmt.{decimal}
 use Rattle.std.specs.List.{enumerate_from, flat_map}
@@ -9,22 +9,22 @@ use Rattle.mail.specs.Message.{body_kind}
 use Rattle.printing.specs.Vocabulary.{word_of_kind}
 use Rattle.printing.specs.Words.{in_words}
 
--- whether a request waits or its reply
+-- the word for a message: a request or a reply
 abbrev pub word_of_body : Body → List ℕ
 word_of_body (body.Request q) = codes "request"
 word_of_body (body.Reply k r) = codes "reply"
 
--- the place, and the message: request or reply, its call, its phase with what that asks, the position and the member
+-- a place and its message: request or reply, the call, the phase and what it asks, the position, and the member
 abbrev pub message_text : (place : ℕ) → Message → List ℕ
 message_text place m = in_words (
     decimal place ∷ word_of_body m.body ∷ decimal m.call ∷ decimal m.phase ∷ word_of_kind (body_kind m.body)
     ∷ decimal m.position ∷ decimal m.member ∷ [])
 
--- the line of a message with its place
+-- the text of a message with its line feed
 abbrev pub message_line : ℕ × Message → List ℕ
 message_line m = message_text m.0 m.1 ++ codes "\n"
 
--- how many messages wait, and the line of each
+-- the lines of a mail: how many messages wait, and then one line for each
 abbrev pub mail_text : List Message → List ℕ
 mail_text messages =
     in_words (codes "mail" ∷ decimal (length messages) ∷ []) ++ codes "\n"

@@ -1,4 +1,4 @@
--- The line of what a command did.
+-- The line that says what a command did.
 use Rattle.std.specs.Prelude.{ℕ, List, [], ◌∷◌, Bool, true, false, codes}
 use Rattle.std.specs.Fmt.{decimal}
 use Rattle.tag.specs.Refusal.{refusal_text}
@@ -7,7 +7,7 @@ use Rattle.printing.specs.declared.outcome.Outcome.TheVariants as of
 use Rattle.printing.specs.Vocabulary.{word_of_took}
 use Rattle.printing.specs.Words.{in_words}
 
--- whether a check holds
+-- the word for the result of a check
 abbrev pub word_of_check : Bool → List ℕ
 word_of_check true = codes "true"
 word_of_check false = codes "false"

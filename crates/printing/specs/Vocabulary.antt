@@ -1,4 +1,4 @@
--- The words for what is shown of calls, messages and banks.
+-- The words for the parts of calls, messages and banks.
 use Rattle.std.specs.Prelude.{ℕ, List, codes}
 use Rattle.bank.specs.declared.kind.Kind.{Kind}
 use Rattle.bank.specs.declared.kind.Kind.TheVariants as kind
@@ -13,7 +13,7 @@ use Rattle.record.specs.declared.call.Operation.TheVariants as operation
 use Rattle.record.specs.declared.stage.Want.{Want}
 use Rattle.record.specs.declared.stage.Want.TheVariants as want
 
--- what a phase asks
+-- the word for what a phase asks
 abbrev pub word_of_kind : Kind → List ℕ
 word_of_kind kind.Next = codes "next"
 word_of_kind (kind.Spread s) = codes "spread"
@@ -22,13 +22,13 @@ word_of_kind (kind.PreWrite t) = codes "pre"
 word_of_kind (kind.Finalize t) = codes "fin"
 word_of_kind (kind.Fetch t) = codes "fetch"
 
--- what a call does
+-- the word for what a call does
 abbrev pub word_of_operation : Operation → List ℕ
 word_of_operation operation.Read = codes "read"
 word_of_operation operation.Write = codes "write"
 word_of_operation operation.Move = codes "move"
 
--- what a call wants next
+-- the word for what a call wants next
 abbrev pub word_of_want : Want → List ℕ
 word_of_want want.Replies = codes "replies"
 word_of_want want.Advance = codes "advance"
@@ -38,18 +38,18 @@ word_of_want want.Again = codes "again"
 word_of_want want.Answer = codes "answer"
 word_of_want want.Done = codes "done"
 
--- what a bank says of the next position
+-- the word for what a bank knows of the next position
 abbrev pub word_of_status : Status → List ℕ
 word_of_status status.Unset = codes "none"
 word_of_status status.Pending = codes "pending"
 word_of_status status.Final = codes "final"
 
--- how far a tag has come at a bank
+-- the word for the label that a bank gives a tag: it is pre-written or finalized
 abbrev pub word_of_label : Label → List ℕ
 word_of_label (label.PreWritten since) = codes "pre"
 word_of_label (label.Finalized since) = codes "fin"
 
--- what a take did
+-- the word for what a call did with a reply
 abbrev pub word_of_took : Took → List ℕ
 word_of_took took.Recorded = codes "recorded"
 word_of_took took.Complete = codes "complete"

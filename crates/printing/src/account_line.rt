@@ -1,4 +1,4 @@
-//! The accounts of a cluster.
+//! The line of the accounts.
 ghost use Rattle.std.specs.Prelude.{Some};
 ghost use Rattle.printing.specs.AccountLine.{account_text};
 
@@ -6,14 +6,14 @@ use arrayvec::ArrayVec;
 use std::fmt;
 use tag::MOST_SERVERS;
 
-/// How many bytes of fragments are stored, and how many wait in messages.
+/// The accounts of a cluster, in bytes of pieces: what is stored, and what waits in messages.
 #[derive(Debug, PartialEq, Eq, Drop)]
 pub struct Account {
-    /// What all servers store.
+    /// The bytes that all servers store.
     pub stored: u64,
-    /// What waits in the messages of all objects.
+    /// The bytes that wait in the messages of all objects.
     pub mailed: u64,
-    /// What each server stores, from server 0 on.
+    /// The bytes that each server stores, from server 0 on.
     pub servers: ArrayVec<u64, MOST_SERVERS>,
 }
 

@@ -1,4 +1,4 @@
-//! What an answered call tells.
+//! The line of an answered call.
 ghost use Rattle.std.specs.Prelude.{Some};
 ghost use Rattle.printing.specs.AnswerLine.{answer_text};
 
@@ -7,7 +7,7 @@ use register::Receipt;
 use std::fmt;
 use words::Hexadecimal;
 
-/// The line of an answered call: `call C value HEX` of a read, and else `call C answered`.
+/// The line of an answered call: `call C value HEX` for a read, and `call C answered` for any other call.
 #[derive(Clone, Copy)]
 pub struct AnswerLine<'a>(pub &'a Receipt);
 

@@ -1,4 +1,4 @@
-//! What a bank keeps.
+//! The line of a bank.
 ghost use Rattle.std.specs.Prelude.{Some};
 ghost use Rattle.printing.specs.BankLine.{bank_text, row_text};
 
@@ -8,8 +8,8 @@ use bank::{Bank, Row};
 use std::fmt;
 use tag::Tag;
 
-/// The line of a bank: `next S`, and then `; NUMBER.CALL LABEL LEN` for each tag in rising order, where LEN is the
-/// number of bytes of the piece, or `-` for none.
+/// The line of a bank: `next S`, and then `; NUMBER.CALL LABEL LEN` for each tag in rising order. LEN is the number of
+/// bytes of the piece, or `-` where there is no piece.
 #[derive(Clone, Copy)]
 pub struct BankLine<'a>(pub &'a Bank);
 
@@ -27,7 +27,7 @@ impl fmt::Display for BankLine<'_> {
     }
 }
 
-// What is kept for a tag.
+// What the bank keeps for a tag.
 #[derive(Clone, Copy)]
 struct RowText<'a> {
     tag: Tag,

@@ -1,4 +1,4 @@
-//! How far a call has come.
+//! The line that says how far a call has come.
 ghost use Rattle.std.specs.Prelude.{Some};
 ghost use Rattle.printing.specs.CallLine.{call_text};
 
@@ -12,6 +12,7 @@ use std::fmt;
 pub struct CallLine<'a> {
     /// The call's number in its object, from 1.
     pub call: u64,
+    /// How far the call has come.
     pub view: &'a CallView,
 }
 

@@ -1,4 +1,4 @@
-//! What may be missing: it prints as itself, or as `-` where it is not there.
+//! Values that may be absent: each prints as itself, or as `-` where it is absent.
 ghost use Rattle.std.specs.Prelude.{Some};
 ghost use Rattle.std.specs.Fmt.{decimal};
 ghost use Rattle.tag.specs.Tag.{tag_text};
@@ -10,7 +10,7 @@ use std::fmt;
 use tag::Tag;
 use words::Hexadecimal;
 
-/// A number, if there is one.
+/// A number, or `-`.
 #[derive(Clone, Copy)]
 pub struct NumberOrDash(pub Option<u64>);
 
@@ -25,7 +25,7 @@ impl fmt::Display for NumberOrDash {
     }
 }
 
-/// A tag, if there is one.
+/// A tag, or `-`.
 #[derive(Clone, Copy)]
 pub struct TagOrDash(pub Option<Tag>);
 
@@ -40,7 +40,7 @@ impl fmt::Display for TagOrDash {
     }
 }
 
-/// A value, if there is one.
+/// A value in hexadecimal, or `-`.
 #[derive(Clone, Copy)]
 pub struct ValueOrDash<'a>(pub &'a Option<Bytes>);
 

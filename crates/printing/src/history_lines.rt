@@ -1,4 +1,4 @@
-//! The history of an object.
+//! The lines of a history.
 ghost use Rattle.std.specs.Prelude.{Some};
 ghost use Rattle.printing.specs.HistoryLines.{entry_text, history_text};
 
@@ -7,8 +7,8 @@ use crate::vocabulary::operation_word;
 use record::Entry;
 use std::fmt;
 
-/// A line for each entry, in order: `C KIND CALLED ANSWERED VALUE`, where ANSWERED is `-` for an open call, and VALUE
-/// is `-` where there is none.
+/// A line for each entry, in order: `C KIND CALLED ANSWERED VALUE`. ANSWERED is `-` for an open call, and VALUE is `-`
+/// where there is none.
 #[derive(Clone, Copy)]
 pub struct HistoryLines<'a>(pub &'a [Entry]);
 
@@ -23,7 +23,7 @@ impl fmt::Display for HistoryLines<'_> {
     }
 }
 
-// The line of an entry.
+// The line of one entry.
 #[derive(Clone, Copy)]
 struct EntryLine<'a>(&'a Entry);
 

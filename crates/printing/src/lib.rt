@@ -1,5 +1,4 @@
-//! The lines that commands of a script print. Each type borrows what it prints, and printing takes no memory.
-//!
+//! The lines that commands of a script print. Each type borrows what it prints, and printing allocates no memory.
 //! A type named `..Line`, and `Outcome`, prints one line without its line feed. A type named `..Lines` prints several
 //! lines, each with its line feed.
 #![tactic(auto)]

@@ -1,4 +1,4 @@
-//! The messages of an object that wait.
+//! The lines of the waiting messages of an object.
 ghost use Rattle.std.specs.Prelude.{◌≡◌, Some};
 ghost use Rattle.printing.specs.MailLines.{mail_text, message_text, word_of_body};
 
@@ -6,7 +6,7 @@ use crate::vocabulary::kind_word;
 use mail::{Body, Mail, Message};
 use std::fmt;
 
-/// The line `mail N` and a line for each message, in the order of their places: `PLACE request C J PHASE P I`, or
+/// The line `mail N`, and then a line for each message in the order of places: `PLACE request C J PHASE P I`, or
 /// `reply` in place of `request`.
 #[derive(Clone, Copy)]
 pub struct MailLines<'a>(pub &'a Mail);
@@ -25,7 +25,7 @@ impl fmt::Display for MailLines<'_> {
     }
 }
 
-// The line of the message at a place.
+// The line of one message.
 #[derive(Clone, Copy)]
 struct MessageLine<'a> {
     place: usize,

@@ -1,4 +1,4 @@
-//! What a command did.
+//! The line that says what a command did.
 ghost use Rattle.std.specs.Prelude.{Some};
 ghost use Rattle.printing.specs.Outcome.{outcome_text};
 
@@ -7,7 +7,7 @@ use phase::Took;
 use std::fmt;
 use tag::Refusal;
 
-/// What a command that shows nothing tells of what it did. It prints as one line.
+/// What a command did, where it shows nothing. It prints as one line.
 #[derive(Clone, Copy, Debug, PartialEq, Eq)]
 pub enum Outcome {
     /// `ok`
@@ -18,13 +18,13 @@ pub enum Outcome {
     Called(u64),
     /// `recorded`, `complete`, `stale` or `doubled`
     Took(Took),
-    /// `handled N`, of the steps made
+    /// `handled N`, where N is the number of steps made
     Handled(u64),
     /// `freed BYTES`
     Freed(u64),
     /// `refused N Name`
     Refused(Refusal),
-    /// `call C refused N Name`, after the call's own step
+    /// `call C refused N Name`: the call began, and a later step was refused
     CallRefused { call: u64, refusal: Refusal },
     /// `check true` or `check false`
     Checked(bool),

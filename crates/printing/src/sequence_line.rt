@@ -1,10 +1,10 @@
-//! A sequence of calls.
+//! The line of a sequence of calls.
 ghost use Rattle.std.specs.Prelude.{Some};
 ghost use Rattle.printing.specs.SequenceLine.{sequence_text};
 
 use std::fmt;
 
-/// The line of a sequence: the calls parted by one space, or `-` for none.
+/// The line of a sequence: the numbers of the calls, separated by spaces, or `-` where there is none.
 #[derive(Clone, Copy)]
 pub struct SequenceLine<'a>(pub &'a [u64]);
 

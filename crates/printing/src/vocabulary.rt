@@ -1,4 +1,4 @@
-//! The words for what is shown of calls, messages and banks.
+//! The words for the parts of calls, messages and banks.
 ghost use Rattle.std.specs.Prelude.{◌≡◌};
 ghost use Rattle.printing.specs.Vocabulary.{word_of_kind, word_of_label, word_of_operation};
 ghost use Rattle.printing.specs.Vocabulary.{word_of_status, word_of_took, word_of_want};
@@ -47,7 +47,7 @@ pub fn want_word(want: Want) -> &'static str
     }
 }
 
-/// The word for what a bank says of the next position.
+/// The word for what a bank knows of the next position.
 pub fn status_word(status: Status) -> &'static str
     ensures { result.now ≡ word_of_status status }
 {
@@ -58,7 +58,7 @@ pub fn status_word(status: Status) -> &'static str
     }
 }
 
-/// The word for how far a tag has come at a bank.
+/// The word for the label that a bank gives a tag.
 pub fn label_word(label: Label) -> &'static str
     ensures { result.now ≡ word_of_label label }
 {
@@ -68,7 +68,7 @@ pub fn label_word(label: Label) -> &'static str
     }
 }
 
-/// The word for what a take did.
+/// The word for what a call did with a reply.
 pub fn took_word(took: Took) -> &'static str
     ensures { result.now ≡ word_of_took took }
 {
