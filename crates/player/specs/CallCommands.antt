@@ -12,24 +12,24 @@ use Rattle.player.specs.Report.{done, called}
 use Rattle.player.specs.ClusterCommands.{layout_number}
 use Rattle.player.specs.Steps.{IsGrowth}
 
--- the number of the next call of the object of this name, as it is told
+-- the report of the next call of the object of this name; none where no object has it
 abbrev pub next_call : Cluster → (name : List ℕ) → Option Report
 next_call cluster name = option_map called (if_named cluster name (λ object. Some (suc (length object.calls))))
 
--- a read begins
+-- the command begins a read
 abbrev pub CallsRead : Cluster → (name : List ℕ) → Cluster → Report → Type 0
 CallsRead old name new report =
     IsGrowth old (stepped old name Step.CallRead) (object_cause old name (λ object. read_cause (next old) object))
     (next_call old name) new report
 
--- a write of this value begins
+-- the command begins a write of this value
 abbrev pub CallsWrite : Cluster → (name value : List ℕ) → Cluster → Report → Type 0
 CallsWrite old name value new report =
     IsGrowth old (stepped old name (Step.CallWrite value))
     (object_cause old name (λ object. write_cause value (next old) object))
     (next_call old name) new report
 
--- a move to the layout of this number begins
+-- the command begins a move to the layout of this number
 abbrev pub CallsMove : Cluster → (name : List ℕ) → (layout : ℕ) → Cluster → Report → Type 0
 CallsMove old name layout new report =
     IsGrowth old (moved old name (layout_number layout))
@@ -42,21 +42,21 @@ Advances old name call new report =
     (object_cause old name (λ object. advance_cause (next old) object call))
     (Some done) new report
 
--- the call of this number, whose fetch lacks pieces, begins anew
+-- the call of this number, whose fetch lacks pieces, is restarted
 abbrev pub BeginsAnew : Cluster → (name : List ℕ) → (call : ℕ) → Cluster → Report → Type 0
 BeginsAnew old name call new report =
     IsGrowth old (stepped old name (Step.Again (pred call)))
     (object_cause old name (λ object. again_cause (next old) object call))
     (Some done) new report
 
--- the current phase of the call of this number asks again
+-- the call of this number resends the requests of its current phase
 abbrev pub Posts : Cluster → (name : List ℕ) → (call : ℕ) → Cluster → Report → Type 0
 Posts old name call new report =
     IsGrowth old (stepped old name (Step.Post (pred call)))
     (object_cause old name (λ object. post_cause (next old) object call))
     (Some done) new report
 
--- the receipt of the call of this number, were it answered now, as it is told
+-- the report of the receipt that the call of this number would get now; none where there is no such call
 abbrev pub next_receipt : Cluster → (name : List ℕ) → (call : ℕ) → Option Report
 next_receipt cluster name call =
     option_map of.Answered

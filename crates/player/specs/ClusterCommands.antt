@@ -13,17 +13,17 @@ use Rattle.player.specs.declared.report.Report.{Report}
 use Rattle.player.specs.Report.{done, added_layout}
 use Rattle.player.specs.Steps.{IsRefused, IsStep, IsGrowth, IsFreeing}
 
--- there are more members than a layout may have, or one is no server
+-- there are more members than a layout may have, or one of them is no server
 abbrev pub AreBadMembers : List ℕ → (servers : ℕ) → Type 0
 AreBadMembers members servers =
     (MOST_MEMBERS < length members) ⊎ (list_all (λ member. nat_lt member servers) members ≡ false)
 
--- the layout is not lawful, or a member is no server
+-- the layout is not lawful, or one of its members is no server
 abbrev pub IsBadLayout : Layout → (servers : ℕ) → Type 0
 IsBadLayout layout servers = (¬ (IsLawful layout)) ⊎ (list_all (λ member. nat_lt member servers) layout.members ≡ false)
 
--- the numbers as they stand are a threshold and members of a
--- lawful layout, which is added; or they are not, and are refused
+-- the numbers are the threshold and the members of a lawful layout, and it is added or refused; or they are not, and
+-- the command is refused with BadLayout
 abbrev pub AddsLayout : Cluster → (k : ℕ) → (members : List ℕ) → Cluster → Report → Type 0
 AddsLayout old k members new report =
     let layout : Layout = record { k = k; members = members } in
@@ -31,17 +31,17 @@ AddsLayout old k members new report =
     (Some (added_layout (length old.layouts))) new report)
     ⊎ (IsBadLayout layout (length old.servers) × IsRefused old BadLayout new report)
 
--- the number of a layout: one that 32 bits don't hold is taken for the greatest that they hold
+-- a number as that of a layout; one above 32 bits becomes the greatest number of 32 bits, which no layout has
 abbrev pub layout_number : (number : ℕ) → ℕ
 layout_number number = min number (2 ^ 32 - 1)
 
--- an object of this name is made, with the layout of this number, whose banks
--- keep `delta` finalized versions beside the newest
+-- an object of this name is created with the layout of this number; its banks keep `delta` finalized versions beside
+-- the newest
 abbrev pub MakesObject : Cluster → (name : List ℕ) → (layout : ℕ) → (delta : Option ℕ) → Cluster → Report → Type 0
 MakesObject old name layout delta new report = IsGrowth old (created old name (layout_number layout) delta)
     (create_cause old name (layout_number layout)) (Some done) new report
 
--- this position of an object, its base, is retired
+-- this position of the object of this name, which must be its base, is retired
 abbrev pub Retires : Cluster → (name : List ℕ) → (position : ℕ) → Cluster → Report → Type 0
 Retires old name position new report =
     IsFreeing old (stepped old name Step.Retire)

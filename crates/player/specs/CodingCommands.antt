@@ -1,4 +1,4 @@
--- The commands that supply a call with coded bytes, or settle a decoded value.
+-- The commands that supply a call with an encoded value, or settle a decoded value.
 use Rattle.std.specs.Prelude.{◌≡◌, ◌⊎◌, ℕ, pred, List, length, Option, Some, None}
 use Rattle.tag.specs.Cause.{IsRefusalBy}
 use Rattle.tag.specs.declared.refusal.Refusal.{Refusal}
@@ -19,36 +19,36 @@ use Rattle.player.specs.declared.report.Report.{Report}
 use Rattle.player.specs.Report.{done}
 use Rattle.player.specs.Steps.{IsRefused, IsGrowth}
 
--- this cause, or else that one
+-- the first cause, or the later one where the first is none
 abbrev pub first_of : Option Refusal → Option Refusal → Option Refusal
 first_of None later = later
 first_of (Some refusal) later = Some refusal
 
--- why the call that wants this gets no coded bytes: it is none, it wants none, or they can't be coded
+-- why a call that wants this gets no encoded bytes: there is no such call, it wants none, or they cannot be encoded
 abbrev pub coding_cause : (value : List ℕ) → Option Want → Option Refusal
 coding_cause value None = Some NoCall
 coding_cause value (Some (want.Supply k n)) = encode_cause k n (length value)
 coding_cause value (Some _) = Some NotNow
 
--- the bytes, coded as the call wants them
+-- the bytes encoded as the call wants its value
 abbrev pub coding_for : (value : List ℕ) → Option Want → Coding
 coding_for value (Some (want.Supply k n)) = record { k = k; n = n; value = value }
 coding_for value _ = record { k = 0; n = 0; value = value }
 
--- why the call of this number is not supplied with these bytes: they are not coded, or are not its own
+-- why the call of this number is not supplied with these bytes: they cannot be encoded, or the supply is refused
 abbrev pub supplying_as_cause : Cluster → (call : ℕ) → (value : List ℕ) → Object → Option Refusal
 supplying_as_cause cluster call value object =
     first_of (coding_cause value (want_at object call))
     (supply_cause (next cluster) object call (coding_for value (want_at object call)))
 
--- the call of this number is supplied with these bytes, coded as it wants them
+-- the call of this number is supplied with these bytes, encoded as it wants its value
 abbrev pub SuppliesAs : Cluster → (name : List ℕ) → (call : ℕ) → (value : List ℕ) → Cluster → Report → Type 0
 SuppliesAs old name call value new report =
     IsGrowth old (stepped old name (Step.Supply (pred call)))
     (object_cause old name (supplying_as_cause old call value))
     (Some done) new report
 
--- the call of this number is supplied with the pieces of its own value
+-- the call of this number is supplied with its own value
 abbrev pub Supplies : Cluster → (name : List ℕ) → (call : ℕ) → Cluster → Report → Type 0
 Supplies old name call new report =
     IsGrowth old (stepped old name (Step.Supply (pred call)))

@@ -10,32 +10,32 @@ use Rattle.player.specs.declared.report.Report.{Report}
 use Rattle.player.specs.Report.{done, took}
 use Rattle.player.specs.Steps.{IsStep, IsGrowth}
 
--- the server of the request at a place serves it
+-- the request at this place is served
 abbrev pub Serves : Cluster → (name : List ℕ) → (place : ℕ) → Cluster → Report → Type 0
 Serves old name place new report =
     IsGrowth old (stepped old name (Step.Serve place)) (object_cause old name (serving_cause old place))
     (Some done) new report
 
--- what the call of the reply at a place makes of it, as it is told
+-- the report of what the call would do with the reply at this place; none where no object has this name
 abbrev pub next_take : Cluster → (name : List ℕ) → (place : ℕ) → Option Report
 next_take cluster name place =
     option_map took (if_named cluster name (λ object. Some (took_at object place)))
 
--- the call of the reply at a place takes it
+-- the reply at this place is taken by its call
 abbrev pub Takes : Cluster → (name : List ℕ) → (place : ℕ) → Cluster → Report → Type 0
 Takes old name place new report =
     IsStep old (stepped old name (Step.Take place))
     (object_cause old name (λ object. take_cause (next old) object place))
     (next_take old name place) new report
 
--- the message at a place is lost
+-- the message at this place is lost
 abbrev pub Loses : Cluster → (name : List ℕ) → (place : ℕ) → Cluster → Report → Type 0
 Loses old name place new report =
     IsStep old (stepped old name (Step.Lose place))
     (object_cause old name (λ object. lose_cause (next old) object place))
     (Some done) new report
 
--- a copy of the message at a place is posted
+-- a copy of the message at this place is put at the end of the mail
 abbrev pub Repeats : Cluster → (name : List ℕ) → (place : ℕ) → Cluster → Report → Type 0
 Repeats old name place new report =
     IsGrowth old (stepped old name (Step.Repeat place))

@@ -1,4 +1,4 @@
--- What each command does to a cluster, and the text that it prints.
+-- What each command does to a cluster, and which text it prints.
 use Rattle.std.specs.Prelude.{◌≡◌, ℕ, true, false, List, [], ⊤, Option, Some, None, Result, Ok, Err}
 use Rattle.printing.specs.Outcome.{outcome_text}
 use Rattle.printing.specs.declared.outcome.Outcome.TheVariants as outcome
@@ -19,23 +19,23 @@ use Rattle.player.specs.WholeCalls.{Reads, Writes, Moves, Resumes}
 use Rattle.player.specs.Shown.{line_of, ShowsCall, ShowsMail, ShowsBank, HasNoBank}
 use Rattle.player.specs.Shown.{ShowsAccount, ShowsHistory, ShowsSequence, ShowsCheck, HasNoCall}
 
--- what a writer holds, where it is known
+-- the bytes that a writer holds; none where they are not known
 abbrev pub Contents : Type 0
 Contents = Option (List ℕ)
 
--- the command was carried out, and its text printed; or it made its line
--- bad, and nothing was; or it was carried out, and its text was lost
+-- the command was carried out and its text printed; or its line is bad, and nothing was printed; or it was carried out,
+-- and its text was lost
 abbrev pub Prints : (old new : Contents) → (Is : List ℕ → Type 0) → (Bad : Type 0) → Result Unit Stop → Type 0
 Prints old new Is Bad (Ok x) = (text : List ℕ) × Is text × Appends old new text
 Prints old new Is Bad (Err stop.Bad) = Bad × Keeps old new
 Prints old new Is Bad (Err stop.NoMemory) = (text : List ℕ) × Is text
 Prints old new Is Bad (Err stop.OutputLost) = (text : List ℕ) × Is text
 
--- the line of a report that is so
+-- the text is the line of a report of which `Is` holds
 abbrev pub Tells : (Report → Type 0) → (text : List ℕ) → Type 0
 Tells Is text = (report : Report) × Is report × (text ≡ line_of (report_text report))
 
--- a command makes this cluster of that one, and tells this
+-- a command that may change the cluster leads from the old one to the new one, and makes this report
 abbrev pub Changes : Cluster → Command → Cluster → Report → Type 0
 Changes old (of.Layout k members) new report = AddsLayout old k members.items new report
 Changes old (of.Object name layout delta) new report = MakesObject old name.now layout delta new report
@@ -63,7 +63,7 @@ Changes old (of.Move name layout turns) new report = Moves old name.now layout t
 Changes old (of.Resume name call turns) new report = Resumes old name.now call turns new report
 Changes old _ new report = ⊥
 
--- a command behind the first that may change the cluster
+-- a command after the first may change the cluster
 abbrev pub MayChange : Command → Type 0
 MayChange (of.Servers count) = ⊥
 MayChange (of.Show name call) = ⊥
@@ -75,7 +75,7 @@ MayChange (of.Sequence name) = ⊥
 MayChange (of.Check name calls) = ⊥
 MayChange _ = ⊤
 
--- a command behind the first makes this cluster of that one, and prints this text
+-- a command after the first leads from the old cluster to the new one, and prints this text
 abbrev pub IsPlayed : Cluster → Command → Cluster → (text : List ℕ) → Type 0
 IsPlayed old (of.Servers count) new text = ⊥
 IsPlayed old (of.Show name call) new text = (new ≡ old) × ShowsCall old name.now call text
@@ -87,27 +87,27 @@ IsPlayed old (of.Sequence name) new text = (new ≡ old) × ShowsSequence old na
 IsPlayed old (of.Check name calls) new text = (new ≡ old) × ShowsCheck old name.now calls.items text
 IsPlayed old command new text = Tells (Changes old command new) text
 
--- a command behind the first makes its line bad: it makes a cluster, or names what is not there
+-- a command after the first makes its line bad: it is a second `servers`, or it names something that is not there
 abbrev pub IsBad : Cluster → Command → Type 0
 IsBad cluster (of.Servers count) = ⊤
 IsBad cluster (of.Bank name position member) = HasNoBank cluster name.now position member
 IsBad cluster (of.Check name calls) = HasNoCall cluster name.now calls.items
 IsBad cluster _ = ⊥
 
--- the first command makes the cluster, with so many servers, all up
+-- the first command makes the cluster, with this many servers, all up, and prints this text
 abbrev pub IsBegun : Command → Cluster → (text : List ℕ) → Type 0
 IsBegun (of.Servers count) new text =
     (new ≡ record { servers = all_up count; layouts = []; objects = []; counter = 0 })
     × (text ≡ line_of (outcome_text outcome.Done))
 IsBegun _ new text = ⊥
 
--- a command, the first or a later one
+-- a command, the first or a later one, leads from the old cluster to the new one, and prints this text
 abbrev pub Plays : Option Cluster → Command → Option Cluster → (text : List ℕ) → Type 0
 Plays None command (Some new) text = IsBegun command new text
 Plays (Some old) command (Some new) text = IsPlayed old command new text
 Plays old command None text = ⊥
 
--- a first command that makes no cluster, or a later one that is bad
+-- a command makes its line bad: it comes first and is not `servers`, or it comes later and is bad there
 abbrev pub IsBadAt : Option Cluster → Command → Type 0
 IsBadAt None (of.Servers count) = ⊥
 IsBadAt None _ = ⊤

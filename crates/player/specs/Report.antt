@@ -1,4 +1,4 @@
--- What a command that may change the cluster comes to.
+-- What is reported of a command that may change the cluster.
 use Rattle.std.specs.Prelude.{ℕ, List, Result, Ok, Err}
 use Rattle.tag.specs.declared.refusal.Refusal.{Refusal}
 use Rattle.phase.specs.declared.phase.Took.{Took}
@@ -11,41 +11,41 @@ use Rattle.driver.specs.declared.whole_call.NotAnswered.TheVariants as unanswere
 use Rattle.player.specs.declared.report.Report.{Report}
 use Rattle.player.specs.declared.report.Report.TheVariants as of
 
--- the line, without its line feed
+-- the line of a report, without its line feed
 abbrev pub report_text : Report → List ℕ
 report_text (of.Did outcome) = outcome_text outcome
 report_text (of.Answered receipt) = answer_text receipt
 
--- a step that gives nothing was made
+-- the report of a step that returns nothing
 abbrev pub done : Report
 done = of.Did outcome.Done
 
--- a layout has this number
+-- the report of a layout that was added with this number
 abbrev pub added_layout : (id : ℕ) → Report
 added_layout id = of.Did (outcome.Layout id)
 
--- a call of this number began
+-- the report of a call that began with this number
 abbrev pub called : (call : ℕ) → Report
 called call = of.Did (outcome.Called call)
 
--- a reply was taken, and so it was
+-- the report of what a call did with a reply
 abbrev pub took : Took → Report
 took how = of.Did (outcome.Took how)
 
--- so many bytes were freed
+-- the report of how many bytes were freed
 abbrev pub freed : (bytes : ℕ) → Report
 freed bytes = of.Did (outcome.Freed bytes)
 
--- the command was refused
+-- the report of a command that was refused
 abbrev pub refused : Refusal → Report
 refused refusal = of.Did (outcome.Refused refusal)
 
--- what is told of what a step gives, or that it was refused
+-- the report of what a step returns, or of its refusal
 abbrev pub report_of : {T : Type 0} → (T → Report) → Result T Refusal → Report
 report_of tell (Ok given) = tell given
 report_of tell (Err refusal) = refused refusal
 
--- a whole call was answered, or its call step was refused, or its driver, which names the call
+-- the report of a whole call: its answer, the refusal of its first step, or that of the driver, which names the call
 abbrev pub whole : Result Receipt NotAnswered → Report
 whole (Ok receipt) = of.Answered receipt
 whole (Err (unanswered.NotCalled refusal)) = refused refusal

@@ -13,35 +13,35 @@ use Rattle.player.specs.declared.run.End.{End}
 use Rattle.player.specs.declared.run.End.TheVariants.{Unread, NoMemory, BadLine, OutputLost}
 use Rattle.player.specs.Play.{Contents, Plays, IsBadAt}
 
--- a line is skipped, or spells a command, which is played
+-- a line is skipped and changes nothing, or it spells a command, which is played and prints this text
 abbrev pub PlaysLine : Option Cluster → (line : List ℕ) → Option Cluster → (text : List ℕ) → Type 0
 PlaysLine old words new text =
     (IsLine words line.Skipped × (new ≡ old) × (text ≡ []))
     ⊎ ((command : Command) × IsLine words (line.Command command) × Plays old command new text)
 
--- a line is bad: it says nothing, or its command names what is not there or stands where it may not
+-- a line is bad: it gives no command, or its command comes at the wrong place or names something that is not there
 abbrev pub IsBadLine : Option Cluster → (line : List ℕ) → Type 0
 IsBadLine state words = IsErrorOfLine words line_error.Bad
     ⊎ ((command : Command) × IsLine words (line.Command command) × IsBadAt state command)
 
--- the lines are played one after another from the beginning, which leads to this cluster and prints this text
+-- playing these lines from the beginning leads to this cluster and prints this text
 pub data PlaysLines : List (List ℕ) → Option Cluster → (text : List ℕ) → Type 0 where
   none : PlaysLines [] None []
   then_plays : {front : List (List ℕ)} {old new : Option Cluster} {text more : List ℕ} (line : List ℕ)
       → PlaysLines front old text → PlaysLine old line new more → PlaysLines (front ++ line ∷ []) new (text ++ more)
 
--- the lines before this one are played, which leads to this cluster
+-- `front` is the lines before this one, and playing them leads to this cluster and prints this text
 pub record IsPlayedTo (all front : List (List ℕ)) (line : List ℕ) (state : Option Cluster)
     (text : List ℕ) : Type 0 where
   pub rest : List (List ℕ)
   pub parted : all ≡ front ++ line ∷ rest
   pub played : PlaysLines front state text
 
--- the script is what the reader has left, where that is known
+-- the script is all that the reader gives, where that is known
 abbrev pub IsScriptOf : (remaining : Contents) → (script : List ℕ) → Type 0
 IsScriptOf remaining script = IfSome remaining (λ known. script ≡ known)
 
--- the lines before a bad one are played, and their text printed
+-- the lines before a bad one are played and their text printed; the bad line has this number
 pub record StopsAt (script : List ℕ) (old new : Contents) (number : ℕ) : Type 0 where
   pub front : List (List ℕ)
   pub words : List ℕ
@@ -52,7 +52,7 @@ pub record StopsAt (script : List ℕ) (old new : Contents) (number : ℕ) : Typ
   pub bad : IsBadLine state words
   pub printed : Appends old new text
 
--- the lines before one are played, and its command too, whose text is lost
+-- the lines before one are played, and that line's command is carried out, but its text is lost
 pub record LosesOutput (script : List ℕ) : Type 0 where
   pub front : List (List ℕ)
   pub words : List ℕ
@@ -65,7 +65,7 @@ pub record LosesOutput (script : List ℕ) : Type 0 where
   pub spelled : IsLine words (line.Command command)
   pub carried_out : Plays state command after more
 
--- the lines before one are played, and their text printed; that line finds no memory
+-- the lines before one are played and their text printed, and memory is refused for that line
 pub record LacksMemory (script : List ℕ) (old new : Contents) : Type 0 where
   pub front : List (List ℕ)
   pub words : List ℕ
@@ -75,16 +75,16 @@ pub record LacksMemory (script : List ℕ) (old new : Contents) : Type 0 where
   pub lacks : IsErrorOfLine words line_error.NoMemory
   pub printed : Appends old new text
 
--- a line's command is carried out, and its text is lost
+-- the command of a line is carried out, and its text is lost
 abbrev pub LosesLine : Option Cluster → (line : List ℕ) → Type 0
 LosesLine state words = (command : Command) × (after : Option Cluster) × (more : List ℕ)
     × IsLine words (line.Command command) × Plays state command after more
 
--- a line is played from this cluster, which leads to that one, and its text printed
+-- playing this line leads from the old cluster to the new one, and its text is printed
 abbrev pub IsPlayedFrom : Option Cluster → (line : List ℕ) → Option Cluster → (before after : Contents) → Type 0
 IsPlayedFrom old words new before after = (text : List ℕ) × PlaysLine old words new text × Appends before after text
 
--- why the line of this number is the last one
+-- why the run ends at the line of this number, and what was done
 abbrev pub EndsLine : (number : ℕ) → Option Cluster → (line : List ℕ) → (before after : Contents) → End → Type 0
 EndsLine number state words before after Unread = ⊥
 EndsLine number state words before after NoMemory =
@@ -92,26 +92,26 @@ EndsLine number state words before after NoMemory =
 EndsLine number state words before after (BadLine at) = (at ≡ number) × IsBadLine state words × Keeps before after
 EndsLine number state words before after OutputLost = LosesLine state words
 
--- the lines of a script are played, and their text printed
+-- all lines of a script are played, and their text is printed
 abbrev pub IsPlayedThrough : (script : List ℕ) → (old new : Contents) → Type 0
 IsPlayedThrough script old new =
     (state : Option Cluster) × (text : List ℕ) × PlaysLines (lines script) state text × Appends old new text
 
--- why the run of a script ends before the script's last line, with what was done
+-- why the run of a script ends early at one of its lines, and what was done
 abbrev pub EndsAt : (script : List ℕ) → (old new : Contents) → End → Type 0
 EndsAt script old new Unread = ⊥
 EndsAt script old new NoMemory = LacksMemory script old new ⊎ LosesOutput script
 EndsAt script old new (BadLine number) = StopsAt script old new number
 EndsAt script old new OutputLost = LosesOutput script
 
--- no script is read
+-- these are the reasons why a script cannot be read
 abbrev pub IsUnread : End → Type 0
 IsUnread Unread = ⊤
 IsUnread NoMemory = ⊤
 IsUnread _ = ⊥
 
--- why the run of a script ends before the script's end, with what was done; where memory is wanting,
--- nothing was printed, or it was wanting for a line, or for the text of a command that was carried out
+-- why a run ends early, and what was done; where memory is refused, nothing was printed, or it was refused for a line
+-- or for the text of a command that was carried out
 abbrev pub EndsBy : (remaining old new : Contents) → End → Type 0
 EndsBy remaining old new Unread = Keeps old new
 EndsBy remaining old new NoMemory =
@@ -121,7 +121,7 @@ EndsBy remaining old new (BadLine number) =
     (script : List ℕ) × IsScriptOf remaining script × StopsAt script old new number
 EndsBy remaining old new OutputLost = (script : List ℕ) × IsScriptOf remaining script × LosesOutput script
 
--- the whole script is played, and its text printed
+-- the whole script that the reader gives is played, and its text is printed
 pub record PlaysScript (remaining old new : Contents) : Type 0 where
   pub script : List ℕ
   pub read : IsScriptOf remaining script
@@ -130,20 +130,20 @@ pub record PlaysScript (remaining old new : Contents) : Type 0 where
   pub played : PlaysLines (lines script) state text
   pub printed : Appends old new text
 
--- the exit status of an early end
+-- the exit status of a run that ends early
 abbrev pub status_of : End → ℕ
 status_of Unread = 2
 status_of NoMemory = 1
 status_of (BadLine number) = 2
 status_of OutputLost = 1
 
--- the exit status with what was done: 0 where the whole script is played, else that of why it is not
+-- the exit status, and what was done: 0 where the whole script is played, and otherwise that of the early end
 abbrev pub Runs : (remaining old new : Contents) → (status : ℕ) → Type 0
 Runs remaining old new status =
     ((status ≡ 0) × PlaysScript remaining old new)
     ⊎ ((end : End) × (status ≡ status_of end) × EndsBy remaining old new end)
 
--- the exit status where the script can't be read, for an error of this kind
+-- the exit status where the script cannot be read, for an error of this kind
 abbrev pub unread_status : ErrorKind → ℕ
 unread_status OutOfMemory = 1
 unread_status _ = 2

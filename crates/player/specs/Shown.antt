@@ -1,4 +1,4 @@
--- The commands that only show something.
+-- What the commands print that only show something.
 use Rattle.std.specs.Prelude.{◌≡◌, ◌⊎◌, ◌↔◌, ℕ, Bool, false, ◌++◌, List, [], ◌∷◌, map}
 use Rattle.std.specs.Prelude.{length, Option, Some, None, option_map, is_some, IsTrue}
 use Rattle.std.specs.List.{list_all, range_with_len}
@@ -24,7 +24,7 @@ use Rattle.cluster.specs.Cluster.{Cluster, named, if_named}
 use Rattle.cluster.specs.Causes.{object_cause}
 use Rattle.cluster.specs.Accounts as accounts
 
--- a line with its end
+-- a line with its line feed
 abbrev pub line_of : List ℕ → List ℕ
 line_of text = text ++ 10 ∷ []
 
@@ -32,83 +32,83 @@ line_of text = text ++ 10 ∷ []
 abbrev pub refusal_line : Refusal → List ℕ
 refusal_line refusal = line_of (outcome_text (outcome.Refused refusal))
 
--- there is no cause of refusal, and this is shown; or the command is refused by its cause
+-- there is no cause of refusal and the text is what is told, or the text is the refusal by its cause
 abbrev pub IsShown : (cause : Option Refusal) → (told : Option (List ℕ)) → (text : List ℕ) → Type 0
 IsShown cause told text =
     ((cause ≡ None) × (told ≡ Some text))
     ⊎ ((refusal : Refusal) × (cause ≡ Some refusal) × (text ≡ refusal_line refusal))
 
--- no cause but that there is no such object
+-- NoObject where no object has this name, and no other refusal
 abbrev pub unknown_object : Cluster → (name : List ℕ) → Option Refusal
 unknown_object cluster name = object_cause cluster name (λ object. None)
 
--- how far the call of this number has come
+-- the text says how far the call of this number has come, or why it is refused
 abbrev pub ShowsCall : Cluster → (name : List ℕ) → (call : ℕ) → (text : List ℕ) → Type 0
 ShowsCall cluster name call text =
     IsShown (object_cause cluster name (λ object. number_cause object call))
     (option_map (λ view. line_of (call_text call view)) (if_named cluster name (λ object. view_at object call))) text
 
--- the messages of an object
+-- the text is the mail of the object of this name, or its refusal
 abbrev pub ShowsMail : Cluster → (name : List ℕ) → (text : List ℕ) → Type 0
 ShowsMail cluster name text =
     IsShown (unknown_object cluster name) (if_named cluster name (λ object. Some (mail_text object.mail))) text
 
--- the bank of a member of a position
+-- the text is the bank of this member at this position, or the refusal of the object
 abbrev pub ShowsBank : Cluster → (name : List ℕ) → (position member : ℕ) → (text : List ℕ) → Type 0
 ShowsBank cluster name position member text =
     IsShown (unknown_object cluster name)
     (option_map (λ bank. line_of (bank_text bank))
     (if_named cluster name (λ object. bank_there object position member))) text
 
--- the object is there, and has no such bank
+-- an object has this name, and has no such bank
 abbrev pub HasNoBank : Cluster → (name : List ℕ) → (position member : ℕ) → Type 0
 HasNoBank cluster name position member =
     (state : State) × (named cluster.objects name ≡ Some state) × (bank_there state.object position member ≡ None)
 
--- the accounts say what the servers store, all and each, and what waits
+-- the account has the bytes that all servers store, that wait in messages, and that each server stores
 pub record IsAccount (cluster : Cluster) (account : Account) : Type 0 where
   pub stored : account.stored ≡ accounts.stored_all cluster
   pub mailed : account.mailed ≡ accounts.mailed cluster
   pub servers : account.servers.items ≡ map (accounts.stored cluster) (range_with_len 0 (length cluster.servers))
 
--- the accounts of the cluster
+-- the text is the account of the cluster
 abbrev pub ShowsAccount : Cluster → (text : List ℕ) → Type 0
 ShowsAccount cluster text =
     (account : Account) × IsAccount cluster account × (text ≡ line_of (account_text account))
 
--- the history of an object
+-- the text is the history of the object of this name, or its refusal
 abbrev pub ShowsHistory : Cluster → (name : List ℕ) → (text : List ℕ) → Type 0
 ShowsHistory cluster name text =
     ((unknown_object cluster name ≡ None)
     × (if_named cluster name (λ object. Some (history_text (entries object))) ≡ Some text))
     ⊎ ((refusal : Refusal) × IsRefusalBy (unknown_object cluster name) refusal × (text ≡ refusal_line refusal))
 
--- the sequence of the object's calls by their tags, which is one of its history
+-- these calls are the sequence that the tags give, which is a register sequence of the object's history
 pub record IsSequenceOf (cluster : Cluster) (name calls : List ℕ) : Type 0 where
   pub state : State
   pub there : named cluster.objects name ≡ Some state
   pub by_tags : IsTagSequence state.object calls
   pub sequence : IsSequence (entries state.object) calls
 
--- a sequence of the object's calls
+-- the text is a register sequence of the object's calls, or its refusal
 abbrev pub ShowsSequence : Cluster → (name : List ℕ) → (text : List ℕ) → Type 0
 ShowsSequence cluster name text =
     ((calls : List ℕ) × IsSequenceOf cluster name calls × (text ≡ line_of (sequence_text calls)))
     ⊎ ((refusal : Refusal) × IsRefusalBy (unknown_object cluster name) refusal × (text ≡ refusal_line refusal))
 
--- a call of the list is not there
+-- an object has this name, and one of these calls is not there
 abbrev pub HasNoCall : Cluster → (name calls : List ℕ) → Type 0
 HasNoCall cluster name calls =
     (state : State) × (named cluster.objects name ≡ Some state)
     × (list_all (λ call. is_some (call_at state.object call)) calls ≡ false)
 
--- the answer says whether the calls are a sequence of the object's history
+-- the answer says whether these calls are a register sequence of the object's history
 pub record IsChecked (cluster : Cluster) (name calls : List ℕ) (answer : Bool) : Type 0 where
   pub state : State
   pub there : named cluster.objects name ≡ Some state
   pub says : IsTrue answer ↔ (AreLawful (entries state.object) × IsSequence (entries state.object) calls)
 
--- whether the calls, of which none is missing, are a sequence
+-- no call is missing, and the text says whether these calls are a register sequence, or why that is refused
 abbrev pub ShowsCheck : Cluster → (name calls : List ℕ) → (text : List ℕ) → Type 0
 ShowsCheck cluster name calls text = (¬ (HasNoCall cluster name calls))
     × (((answer : Bool) × IsChecked cluster name calls answer

@@ -1,4 +1,4 @@
--- What a command that is one step does to a cluster, and what it reports.
+-- What a command of one step does to a cluster, and what it reports.
 use Rattle.std.specs.Prelude.{◌≡◌, ◌⊎◌, ℕ, ◌+◌, Option, Some, None}
 use Rattle.tag.specs.Cause.{IsRefusalBy}
 use Rattle.tag.specs.declared.refusal.Refusal.{Refusal}
@@ -7,25 +7,25 @@ use Rattle.cluster.specs.Cluster.{Cluster}
 use Rattle.player.specs.declared.report.Report.{Report}
 use Rattle.player.specs.Report.{freed, refused}
 
--- the command is refused, and the cluster is as it was
+-- the command is refused, and the cluster is unchanged
 abbrev pub IsRefused : (old : Cluster) → Refusal → (new : Cluster) → Report → Type 0
 IsRefused old refusal new report = (new ≡ old) × (report ≡ refused refusal)
 
--- the step has no cause of refusal, is made and tells this; or it is refused by its cause
+-- the step is made and this is reported, where there is no cause of refusal; otherwise the command is refused by it
 abbrev pub IsStep : (old made : Cluster) → (cause : Option Refusal) → (told : Option Report) →
     (new : Cluster) → Report → Type 0
 IsStep old made cause told new report =
     ((cause ≡ None) × (new ≡ made) × (told ≡ Some report))
     ⊎ ((refusal : Refusal) × (cause ≡ Some refusal) × IsRefused old refusal new report)
 
--- the step has no cause of refusal, is made and tells how many bytes all servers store less; or it is refused by its
+-- the step is made and this many bytes are reported, by which all servers store less; or the command is refused by its
 -- cause
 abbrev pub IsFreeing : (old made : Cluster) → (cause : Option Refusal) → (new : Cluster) → Report → Type 0
 IsFreeing old made cause new report =
     ((bytes : ℕ) × (cause ≡ None) × (new ≡ made) × (stored_all new + bytes ≡ stored_all old) × (report ≡ freed bytes))
     ⊎ ((refusal : Refusal) × (cause ≡ Some refusal) × IsRefused old refusal new report)
 
--- the step is made, or refused by its cause, or for want of memory
+-- the step is made and this is reported; or the command is refused, by its cause or for want of memory
 abbrev pub IsGrowth : (old made : Cluster) → (cause : Option Refusal) → (told : Option Report) →
     (new : Cluster) → Report → Type 0
 IsGrowth old made cause told new report =

@@ -1,4 +1,4 @@
--- Whole calls: the call step, and then the driver, who always handles the first message of the call.
+-- Whole calls: the step that begins a call, and then the driver, which always handles the call's first message.
 use Rattle.std.specs.Prelude.{◌≡◌, ◌⊎◌, ℕ, suc, Bool, true, false, List, length, Option, Some, None}
 use Rattle.tag.specs.Cause.{IsRefusalBy}
 use Rattle.tag.specs.declared.refusal.Refusal.{Refusal}
@@ -16,11 +16,11 @@ use Rattle.player.specs.declared.report.Report.TheVariants as of
 use Rattle.player.specs.ClusterCommands.{layout_number}
 use Rattle.player.specs.Steps.{IsRefused}
 
--- the first of what can be handled is chosen
+-- the first of the messages that can be handled is chosen
 abbrev pub chooses_first : First → (below answer : ℕ) → First → Type 0
 chooses_first before below answer after = answer ≡ 0
 
--- the driver is refused, and names the call
+-- the driver is refused, and the outcome names the call, which stays open
 abbrev pub LeavesOpen : (name : List ℕ) → (call : ℕ) → (resumed : Bool) → (turns : ℕ) →
     (begun new : Cluster) → Outcome → Type 0
 LeavesOpen name call resumed turns begun new (outcome.CallRefused number refusal) =
@@ -28,7 +28,7 @@ LeavesOpen name call resumed turns begun new (outcome.CallRefused number refusal
     × IsUnfinished chooses_first name call resumed turns begun before new after refusal)
 LeavesOpen name call resumed turns begun new _ = ⊥
 
--- the driver goes on with a call: it brings the call to its answer, or is refused
+-- the driver continues a call: it brings the call to its answer, or it is refused
 abbrev pub GoesOn : (name : List ℕ) → (call : ℕ) → (resumed : Bool) → (turns : ℕ) →
     (begun new : Cluster) → Report → Type 0
 GoesOn name call resumed turns begun new (of.Answered receipt) =
@@ -39,33 +39,33 @@ GoesOn name call resumed turns begun new (of.Did outcome) = LeavesOpen name call
 abbrev pub next_number : Cluster → (name : List ℕ) → Option ℕ
 next_number cluster name = if_named cluster name (λ object. Some (suc (length object.calls)))
 
--- the call step is made, which leads to this cluster, and the driver goes on; or the call step is refused
+-- the call begins, in the cluster `begun`, and the driver continues it; or the first step is refused
 abbrev pub IsWholeRun : (old begun : Cluster) → Option Refusal → (name : List ℕ) → (turns : ℕ) →
     (new : Cluster) → Report → Type 0
 IsWholeRun old begun cause name turns new report =
     ((call : ℕ) × (cause ≡ None) × (next_number old name ≡ Some call) × GoesOn name call false turns begun new report)
     ⊎ ((refusal : Refusal) × IsRefusalBy cause refusal × IsRefused old refusal new report)
 
--- a whole read
+-- the command makes a whole read
 abbrev pub Reads : Cluster → (name : List ℕ) → (turns : ℕ) → Cluster → Report → Type 0
 Reads old name turns new report =
     IsWholeRun old (stepped old name Step.CallRead)
     (object_cause old name (λ object. read_cause (next old) object)) name turns new report
 
--- a whole write of this value
+-- the command makes a whole write of this value
 abbrev pub Writes : Cluster → (name value : List ℕ) → (turns : ℕ) → Cluster → Report → Type 0
 Writes old name value turns new report =
     IsWholeRun old (stepped old name (Step.CallWrite value))
     (object_cause old name (λ object. write_cause value (next old) object))
     name turns new report
 
--- a whole move to the layout of this number
+-- the command makes a whole move to the layout of this number
 abbrev pub Moves : Cluster → (name : List ℕ) → (layout turns : ℕ) → Cluster → Report → Type 0
 Moves old name layout turns new report =
     IsWholeRun old (moved old name (layout_number layout))
     (object_cause old name (moving_cause old (layout_number layout))) name turns new report
 
--- the driver goes on with a call that is there, and asks again first
+-- the command continues a call that is there, whose first turn resends or restarts; or the command is refused
 abbrev pub Resumes : Cluster → (name : List ℕ) → (call turns : ℕ) → Cluster → Report → Type 0
 Resumes old name call turns new report =
     ((object_cause old name (λ object. number_cause object call) ≡ None) × GoesOn name call true turns old new report)

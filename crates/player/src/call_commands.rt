@@ -17,42 +17,42 @@ use record::Want;
 use std::alloc::Global;
 use tag::{LONGEST_VALUE, Refusal};
 
-/// The call step of a read.
+/// Makes the step that begins a read.
 pub(crate) fn call_read(cluster: &mut Cluster, name: &str) -> Report
     ensures { CallsRead cluster.old name.entry.now cluster.new result }
 {
     Report::of_call(cluster.call_read(name))
 }
 
-/// The call step of a write.
+/// Makes the step that begins a write.
 pub(crate) fn call_write(cluster: &mut Cluster, name: &str, value: Bytes) -> Report
     ensures { CallsWrite cluster.old name.entry.now value cluster.new result }
 {
     Report::of_call(cluster.call_write(name, value))
 }
 
-/// The call step of a move.
+/// Makes the step that begins a move.
 pub(crate) fn call_move(cluster: &mut Cluster, name: &str, layout: u64) -> Report
     ensures { CallsMove cluster.old name.entry.now layout cluster.new result }
 {
     Report::of_call(cluster.call_move(name, layout_id(layout)))
 }
 
-/// The next phase of a call.
+/// The call begins the phase that is due.
 pub(crate) fn advance(cluster: &mut Cluster, name: &str, call: u64) -> Report
     ensures { Advances cluster.old name.entry.now call cluster.new result }
 {
     Report::of_step(cluster.advance(name, call))
 }
 
-/// The pieces of the call's value.
+/// Supplies the call with its own value, which is encoded for it.
 pub(crate) fn supply(alloc: Global, cluster: &mut Cluster, name: &str, call: u64) -> Report
     ensures { Supplies cluster.old name.entry.now call cluster.new result }
 {
     Report::of_step(driver::supply(alloc, cluster, name, call))
 }
 
-/// The pieces of these bytes, where the call wants to send pieces.
+/// Supplies the call with these bytes, encoded as it wants its value.
 pub(crate) fn supply_as(
     alloc: Global,
     cluster: &mut Cluster,
@@ -81,7 +81,7 @@ fn supply_value(
     driver::supply(alloc, cluster, name, call)
 }
 
-// Whether a call that wants to be supplied sends these bytes. It takes no memory.
+// Refuses bytes that are not the value which the call is to send, where the call wants a value. It allocates no memory.
 fn expect_own(cluster: &Cluster, name: &str, call: u64, value: &Bytes) -> Result<(), Refusal>
     ensures own { OnOk result (object_cause cluster.now name.now (supplying_as_cause cluster.now call value.now)
         ≡ object_cause cluster.now name.now (λ object. supplying_cause (next cluster.now) object call)) }
@@ -102,7 +102,7 @@ fn expect_own(cluster: &Cluster, name: &str, call: u64, value: &Bytes) -> Result
     Ok(())
 }
 
-// Whether these bytes are the value, which is empty where there is none.
+// Whether these bytes are the value. An absent value counts as the empty one.
 fn is_value(value: Option<&Bytes>, bytes: &Bytes) -> bool
     ensures { IsTrue result ↔ (bytes.now ≡ value_or_empty (option_copied value.entry)) }
 {
@@ -112,28 +112,28 @@ fn is_value(value: Option<&Bytes>, bytes: &Bytes) -> bool
     }
 }
 
-/// The value of the pieces that the call has.
+/// Decodes the pieces of the call, and settles the value.
 pub(crate) fn settle(alloc: Global, cluster: &mut Cluster, name: &str, call: u64) -> Report
     ensures { SettlesValue cluster.old name.entry.now call cluster.new result }
 {
     Report::of_step(driver::settle(alloc, cluster, name, call))
 }
 
-/// The requests of the current phase once more.
+/// Resends the requests of the call's current phase.
 pub(crate) fn post(cluster: &mut Cluster, name: &str, call: u64) -> Report
     ensures { Posts cluster.old name.entry.now call cluster.new result }
 {
     Report::of_step(cluster.post(name, call))
 }
 
-/// The beginning of a call once more, where its fetch lacks pieces.
+/// Restarts a call whose fetch lacks pieces.
 pub(crate) fn again(cluster: &mut Cluster, name: &str, call: u64) -> Report
     ensures { BeginsAnew cluster.old name.entry.now call cluster.new result }
 {
     Report::of_step(cluster.again(name, call))
 }
 
-/// The answer of a call.
+/// Answers the call.
 pub(crate) fn answer(cluster: &mut Cluster, name: &str, call: u64) -> Report
     ensures { Answers cluster.old name.entry.now call cluster.new result }
 {

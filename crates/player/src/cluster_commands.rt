@@ -22,7 +22,7 @@ pub(crate) fn layout(cluster: &mut Cluster, k: u64, members: &[u64]) -> Report
     Report::of_layout(cluster.add_layout(layout))
 }
 
-// The layout of these servers, of which there are so many. It takes no memory.
+// The layout of these numbers, over this many servers. It allocates no memory.
 fn layout_of(k: u64, members: &[u64], servers: u8) -> Result<Layout, Refusal>
     ensures made { IfOk result (λ l. l ≡ record { k = k; members = members.now }) }
     ensures lawful { IfOk result IsLawful }
@@ -55,7 +55,7 @@ fn members_of(members: &[u64], servers: u8) -> Result<ArrayVec<u8, MOST_MEMBERS>
     Ok(servers_of)
 }
 
-/// Makes an object.
+/// Creates an object.
 pub(crate) fn object(cluster: &mut Cluster, name: &str, layout: u64, delta: Option<u32>) -> Report
     ensures { MakesObject cluster.old name.now layout delta cluster.new result }
 {
@@ -69,7 +69,7 @@ pub(crate) fn retire(cluster: &mut Cluster, name: &str, position: u64) -> Report
     Report::of_retire(cluster.retire(name, position))
 }
 
-/// A number that no layout can have is that of an unknown one.
+/// A number as that of a layout. One that no layout can have becomes the number of a layout that is not there.
 pub(crate) fn layout_id(number: u64) -> LayoutId
     ensures { result ≡ layout_number number }
 {
@@ -79,7 +79,7 @@ pub(crate) fn layout_id(number: u64) -> LayoutId
     }
 }
 
-/// Turns a server on or off.
+/// Takes a server up or down.
 pub(crate) fn server(cluster: &mut Cluster, server: u64, up: bool) -> Report
     ensures { SetsServer cluster.old server up cluster.new result }
 {

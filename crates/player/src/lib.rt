@@ -1,4 +1,4 @@
-//! Plays the commands of a script over a cluster, and prints what each prints.
+//! Plays a script over a cluster of its own, and prints what each command prints.
 #![tactic(auto)]
 
 pub use run::{End, play_line, read_script, report_end, report_unread, run_script};

@@ -10,35 +10,35 @@ use driver::{Among, choice_at, handle};
 use printing::Outcome;
 use tag::Refusal;
 
-/// Serves the request at a place.
+/// Serves the request at a place, from 0, of the object's mail.
 pub(crate) fn serve(cluster: &mut Cluster, name: &str, place: u64) -> Report
     ensures { Serves cluster.old name.entry.now place cluster.new result }
 {
     Report::of_step(cluster.serve(name, place as usize))
 }
 
-/// Takes the reply at a place.
+/// Takes the reply at a place, from 0, of the object's mail.
 pub(crate) fn take(cluster: &mut Cluster, name: &str, place: u64) -> Report
     ensures { Takes cluster.old name.entry.now place cluster.new result }
 {
     Report::of_take(cluster.take(name, place as usize))
 }
 
-/// Loses the message at a place.
+/// Loses the message at a place, from 0, of the object's mail.
 pub(crate) fn lose(cluster: &mut Cluster, name: &str, place: u64) -> Report
     ensures { Loses cluster.old name.entry.now place cluster.new result }
 {
     Report::of_step(cluster.lose(name, place as usize))
 }
 
-/// Repeats the message at a place.
+/// Puts a copy of the message at a place, from 0, at the end of the object's mail.
 pub(crate) fn repeat(cluster: &mut Cluster, name: &str, place: u64) -> Report
     ensures { Repeats cluster.old name.entry.now place cluster.new result }
 {
     Report::of_step(cluster.repeat(name, place as usize))
 }
 
-/// Handles the first message that can be handled, until none can.
+/// Handles the first message that can be handled, until none can be or one is refused.
 pub(crate) fn deliver(cluster: &mut Cluster, name: &str) -> Report
     ensures { DeliversAll cluster.old name.entry.now cluster.new result }
 {
@@ -48,7 +48,7 @@ pub(crate) fn deliver(cluster: &mut Cluster, name: &str) -> Report
     }
 }
 
-// What is done to a message leaves those before it as they are, so the search goes on from its place.
+// Handling a message leaves the messages before it unchanged, so the next search begins at its place.
 fn handle_all(cluster: &mut Cluster, name: &str) -> Result<u64, Refusal>
     ensures { MatchResult result (λ count. Delivers name.entry.now cluster.old count cluster.new
         × (object_cause cluster.new name.entry.now (λ object. None) ≡ None)
@@ -60,7 +60,7 @@ fn handle_all(cluster: &mut Cluster, name: &str) -> Result<u64, Refusal>
     let mut from = 0;
     while let Some(place) = first_handled(cluster, name, from)? {
         handle(cluster, name, place)?;
-        // Each message that is handled is a step, and of those there can be only so many.
+        // Each handled message is a step, and the number of steps is limited.
         let _ = cluster.counter();
         handled += 1;
         from = place;
@@ -68,7 +68,7 @@ fn handle_all(cluster: &mut Cluster, name: &str) -> Result<u64, Refusal>
     Ok(handled)
 }
 
-// The place of the first message that can be handled, which is this one or behind it.
+// The place of the first message that can be handled, at `from` or after it.
 fn first_handled(cluster: &Cluster, name: &str, from: usize) -> Result<Option<usize>, Refusal>
     requires { NoneBefore cluster.now name.now from }
     ensures first { IfOk result

@@ -17,18 +17,18 @@ use std::io;
 use std::io::{ErrorKind, Write};
 use tag::Refusal;
 
-/// Why a script stops at a command.
+/// Why a script ends at a command.
 #[derive(Clone, Copy, Debug, PartialEq, Eq)]
 pub enum Stop {
-    /// The command names what is not there, or stands where it may not. It was not carried out.
+    /// The command comes at the wrong place, or names something that is not there. It was not carried out.
     Bad,
-    /// There is no memory for what the command prints. It was carried out.
+    /// Memory is refused for the text that the command prints. The command was carried out.
     NoMemory,
-    /// What the command prints could not be written. It was carried out.
+    /// The text that the command prints could not be written. The command was carried out.
     OutputLost,
 }
 
-/// Carries out a command, and prints its lines. The first command makes the cluster, and no later one does.
+/// Carries out a command, and prints its lines. The first command must make the cluster, and no later one may.
 pub(crate) fn play<W: Write>(
     alloc: Global,
     cluster: &mut Option<Cluster>,
@@ -48,7 +48,7 @@ pub(crate) fn play<W: Write>(
     print_line(out, Outcome::Done)
 }
 
-// A command behind the first.
+// Carries out a command after the first.
 fn carry_out<W: Write>(
     alloc: Global,
     cluster: &mut Cluster,
@@ -75,7 +75,7 @@ fn carry_out<W: Write>(
     }
 }
 
-// A command that may change the cluster.
+// Carries out a command that may change the cluster.
 fn change(alloc: Global, cluster: &mut Cluster, command: Command) -> Report
     requires { MayChange command }
     ensures { Changes cluster.old command.entry cluster.new result }
@@ -126,7 +126,7 @@ pub(crate) fn refuse<W: Write>(out: &mut W, refusal: Refusal) -> Result<(), Stop
     print_line(out, Outcome::Refused(refusal))
 }
 
-/// Prints a line, with its end.
+/// Prints a line, and adds the line feed.
 pub(crate) fn print_line<W: Write, D: Display + Drop>(out: &mut W, line: D) -> Result<(), Stop>
     ensures { (text : List ℕ) → D.output line ≡ Some text
         → Prints (W.contents out.old) (W.contents out.new) (λ t. t ≡ line_of text) ⊥ result }
@@ -137,7 +137,7 @@ pub(crate) fn print_line<W: Write, D: Display + Drop>(out: &mut W, line: D) -> R
     }
 }
 
-/// Prints lines, which have their ends.
+/// Prints lines that have their line feeds.
 pub(crate) fn print<W: Write, D: Display + Drop>(out: &mut W, lines: D) -> Result<(), Stop>
     ensures { (text : List ℕ) → D.output lines ≡ Some text
         → Prints (W.contents out.old) (W.contents out.new) (λ t. t ≡ text) ⊥ result }

@@ -1,4 +1,4 @@
-//! What a command that may change the cluster comes to.
+//! What is reported of a command that may change the cluster.
 ghost use Rattle.std.specs.Prelude.{◌≡◌, Some};
 ghost use Rattle.player.specs.Report.{report_text};
 
@@ -9,12 +9,12 @@ use register::Receipt;
 use std::fmt;
 use tag::Refusal;
 
-/// What a command that may change the cluster comes to. It prints as its line, without the line feed.
+/// What is reported of a command that may change the cluster. It prints as one line, without its line feed.
 #[derive(Drop)]
 pub enum Report {
-    /// What it did, or why it was refused.
+    /// What the command did, or why it was refused.
     Did(Outcome),
-    /// The call that it answered.
+    /// The receipt of the call that it answered.
     Answered(Receipt),
 }
 
@@ -22,14 +22,14 @@ impl Report {
     ghost use Rattle.player.specs.Report.{report_of, done, added_layout, called, took, freed, refused, whole};
     ghost use Rattle.player.specs.declared.report.Report.TheVariants as report;
 
-    /// That of a refused command.
+    /// The report of a refused command.
     pub(crate) fn refused(refusal: Refusal) -> Report
         ensures { result ≡ refused refusal }
     {
         Report::Did(Outcome::Refused(refusal))
     }
 
-    /// That of a step that gives nothing.
+    /// The report of a step that returns nothing.
     pub(crate) fn of_step(made: Result<(), Refusal>) -> Report
         ensures { result ≡ report_of (λ _. done) made }
     {
@@ -39,7 +39,7 @@ impl Report {
         }
     }
 
-    /// That of a step that adds a layout.
+    /// The report of a step that adds a layout.
     pub(crate) fn of_layout(added: Result<u32, Refusal>) -> Report
         ensures { result ≡ report_of added_layout added }
     {
@@ -49,7 +49,7 @@ impl Report {
         }
     }
 
-    /// That of a call step.
+    /// The report of a step that begins a call.
     pub(crate) fn of_call(begun: Result<u64, Refusal>) -> Report
         ensures { result ≡ report_of called begun }
     {
@@ -59,7 +59,7 @@ impl Report {
         }
     }
 
-    /// That of a step that takes a reply.
+    /// The report of a step that takes a reply.
     pub(crate) fn of_take(taken: Result<Took, Refusal>) -> Report
         ensures { result ≡ report_of took taken }
     {
@@ -69,7 +69,7 @@ impl Report {
         }
     }
 
-    /// That of a step that frees bytes.
+    /// The report of a step that frees bytes.
     pub(crate) fn of_retire(retired: Result<u64, Refusal>) -> Report
         ensures { result ≡ report_of freed retired }
     {
@@ -79,7 +79,7 @@ impl Report {
         }
     }
 
-    /// That of an answer step.
+    /// The report of a step that answers a call.
     pub(crate) fn of_answer(answered: Result<Receipt, Refusal>) -> Report
         ensures { result ≡ report_of report.Answered answered }
     {
@@ -89,7 +89,7 @@ impl Report {
         }
     }
 
-    /// That of a whole call.
+    /// The report of a whole call.
     pub(crate) fn of_whole(answered: Result<Receipt, NotAnswered>) -> Report
         ensures { result ≡ whole answered }
     {

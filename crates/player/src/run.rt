@@ -1,4 +1,4 @@
-//! A whole script, over any reader and two writers.
+//! The run of a whole script, over any reader and two writers.
 ghost use Rattle.std.specs.Prelude.{◌≡◌, ℕ, List, map, IfErr, MatchResult};
 ghost use Rattle.std.specs.Str.Lines.{lines as lines_of};
 ghost use Rattle.std.specs.IoError.{error_kind};
@@ -13,12 +13,12 @@ use std::alloc::Global;
 use std::io::{ErrorKind, Read, Write};
 use std::{fmt, io};
 
-/// Why a run ends before the script's end.
+/// Why a run ends before the end of the script.
 #[derive(Clone, Copy, Debug, PartialEq, Eq)]
 pub enum End {
     /// The script cannot be read. No command was carried out.
     Unread,
-    /// There is no memory for the script, a line of it or a line of output.
+    /// Memory is refused for the script, for a line of it or for a line of output.
     NoMemory,
     /// The line of this number, from 1, is bad. The commands before it were carried out.
     BadLine(usize),
@@ -26,12 +26,12 @@ pub enum End {
     OutputLost,
 }
 
-/// Plays the script that the reader gives, and answers the exit status. The whole script is read before its first
-/// command is carried out, and what a command prints is written, and flushed, before the next one is carried out.
-///
-/// 0 at the script's end. 1 where output cannot be written or finds no memory, or the script finds none. 2 where the
-/// script cannot be read, or a line is bad, which stops it. A line on `err` says why: `cannot read NAME`, `line L: bad`
-/// with the lines counted from 1, `refused 1 NoMemory`, or `cannot write the output`.
+/// Plays the script that the reader gives, and returns the exit status. The whole script is read before its first
+/// command is carried out. What a command prints is written and flushed before the next command is carried out.
+/// The status is 0 at the end of the script. It is 1 where output cannot be written, and where memory is refused for
+/// the script or for output. It is 2 where the script cannot be read, and where a line is bad, which ends the run. A
+/// line on `err` says why: `cannot read NAME`, `line L: bad` with the lines counted from 1, `refused 1 NoMemory`, or
+/// `cannot write the output`.
 pub fn run_script<R: Read, O: Write, E: Write>(
     alloc: Global,
     name: &str,
@@ -47,8 +47,8 @@ pub fn run_script<R: Read, O: Write, E: Write>(
     }
 }
 
-/// Says on `err` why the script of this name cannot be read, and answers the exit status: 1 where memory is wanting,
-/// else 2.
+/// Prints on `err` why the script of this name cannot be read, and returns the exit status: 1 where memory is refused,
+/// and otherwise 2.
 pub fn report_unread<E: Write>(error: &io::Error, name: &str, err: &mut E) -> u8
     ensures { result ≡ unread_status (error_kind error.now) }
 {
@@ -58,8 +58,8 @@ pub fn report_unread<E: Write>(error: &io::Error, name: &str, err: &mut E) -> u8
     }
 }
 
-/// Says on `err` why the run of the script of this name ended, and answers the exit status: 2 where the script cannot
-/// be read or a line is bad, else 1. A failed write of the text is passed over.
+/// Prints on `err` why the run of the script of this name ended early, and returns the exit status: 2 where the script
+/// cannot be read or a line is bad, and otherwise 1. A write that fails is ignored.
 pub fn report_end<E: Write>(end: End, name: &str, err: &mut E) -> u8
     ensures { result ≡ status_of end }
 {
@@ -70,7 +70,7 @@ pub fn report_end<E: Write>(end: End, name: &str, err: &mut E) -> u8
     }
 }
 
-// Why the run of a script of this name ended.
+// The text that says why the run of a script of this name ended early.
 #[derive(Clone, Copy)]
 struct EndText<'a> {
     end: End,
@@ -102,7 +102,7 @@ fn play_script<R: Read, O: Write>(alloc: Global, reader: &mut R, out: &mut O) ->
     play_lines(alloc, &lines, out)
 }
 
-/// The bytes that the reader gives, up to its end. It fails with `NoMemory` where they find none, else with `Unread`.
+/// All bytes that the reader gives. `NoMemory` where memory is refused for them, and `Unread` for any other error.
 pub fn read_script<R: Read>(alloc: Global, reader: &mut R) -> Result<Vec<u8>, End>
     ensures { MatchResult result (λ text. IsScriptOf (R.remaining reader.old) text.items) IsUnread }
 {
@@ -126,8 +126,8 @@ fn play_lines<O: Write>(alloc: Global, lines: &[&[u8]], out: &mut O) -> Result<(
     Ok(())
 }
 
-/// Plays the line of this number, counted from 1, over the cluster that the lines before it made, of which there is
-/// none before the first command. So a caller sees the cluster between two lines. A bad line leaves it as it was.
+/// Plays the line of this number, counted from 1, over the cluster that the lines before it made; none before the first
+/// command. With it a caller sees the cluster between two lines. A bad line leaves the cluster unchanged.
 pub fn play_line<O: Write>(
     alloc: Global,
     cluster: &mut Option<Cluster>,

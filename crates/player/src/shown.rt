@@ -1,4 +1,4 @@
-//! The commands that only show something. They print what they read of the cluster at once.
+//! The commands that only show something. Each prints what it reads of the cluster at once.
 ghost use Rattle.std.specs.Prelude.{◌≡◌, Some, IfOk, is_some};
 ghost use Rattle.std.specs.List.{list_all};
 ghost use Rattle.tag.specs.Refusal.{IsExactlyByCause};
@@ -22,7 +22,7 @@ use std::alloc::Global;
 use std::io::Write;
 use tag::{MOST_MEMBERS, MOST_POSITIONS, Refusal};
 
-/// How far a call has come.
+/// Prints how far a call has come.
 pub(crate) fn call<W: Write>(
     cluster: &Cluster,
     name: &str,
@@ -47,7 +47,7 @@ fn view_of(cluster: &Cluster, name: &str, call: u64) -> Result<CallView, Refusal
     }
 }
 
-/// The waiting messages of an object.
+/// Prints the waiting messages of an object.
 pub(crate) fn mail<W: Write>(cluster: &Cluster, name: &str, out: &mut W) -> Result<(), Stop>
     ensures { Prints (W.contents out.old) (W.contents out.new) (ShowsMail cluster.now name.now) ⊥ result }
 {
@@ -57,7 +57,7 @@ pub(crate) fn mail<W: Write>(cluster: &Cluster, name: &str, out: &mut W) -> Resu
     }
 }
 
-/// A bank, which has to be there where the object is.
+/// Prints the bank of a member at a position. `Bad` where the object is there and has no such bank.
 pub(crate) fn bank<W: Write>(
     cluster: &Cluster,
     name: &str,
@@ -85,7 +85,7 @@ pub(crate) fn bank<W: Write>(
     }
 }
 
-/// The accounts.
+/// Prints the accounts.
 pub(crate) fn account<W: Write>(cluster: &Cluster, out: &mut W) -> Result<(), Stop>
     ensures { Prints (W.contents out.old) (W.contents out.new) (ShowsAccount cluster.now) ⊥ result }
 {
@@ -106,7 +106,7 @@ fn account_of(cluster: &Cluster) -> Account
     }
 }
 
-/// The entries of an object.
+/// Prints the history of an object.
 pub(crate) fn history<W: Write>(cluster: &Cluster, name: &str, out: &mut W) -> Result<(), Stop>
     ensures { Prints (W.contents out.old) (W.contents out.new) (ShowsHistory cluster.now name.now) ⊥ result }
 {
@@ -116,7 +116,7 @@ pub(crate) fn history<W: Write>(cluster: &Cluster, name: &str, out: &mut W) -> R
     }
 }
 
-/// A sequence of the object's calls.
+/// Prints a register sequence of an object's calls.
 pub(crate) fn sequence_of<W: Write>(
     alloc: Global,
     cluster: &Cluster,
@@ -135,7 +135,7 @@ pub(crate) fn sequence_of<W: Write>(
     }
 }
 
-/// Whether calls, which have to be there where the object is, are a sequence.
+/// Prints whether these calls are a register sequence. `Bad` where the object is there and one of the calls is not.
 pub(crate) fn check_of<W: Write>(
     cluster: &Cluster,
     name: &str,

@@ -10,21 +10,21 @@ use driver::{First, finish};
 use printing::Outcome;
 use std::alloc::Global;
 
-/// A whole read. A refusal after the call step names the call, which stays open.
+/// Makes a whole read. A refusal after its first step names the call, which stays open.
 pub fn read(alloc: Global, cluster: &mut Cluster, name: &str, turns: u64) -> Report
     ensures { Reads cluster.old name.entry.now turns cluster.new result }
 {
     Report::of_whole(driver::read(alloc, cluster, name, &mut First, turns))
 }
 
-/// A whole write.
+/// Makes a whole write. A refusal after its first step names the call, which stays open.
 pub fn write(alloc: Global, cluster: &mut Cluster, name: &str, value: Bytes, turns: u64) -> Report
     ensures { Writes cluster.old name.entry.now value turns cluster.new result }
 {
     Report::of_whole(driver::write(alloc, cluster, name, value, &mut First, turns))
 }
 
-/// A whole move.
+/// Makes a whole move. A refusal after its first step names the call, which stays open.
 pub fn move_to(alloc: Global, cluster: &mut Cluster, name: &str, layout: u64, turns: u64) -> Report
     ensures { Moves cluster.old name.entry.now layout turns cluster.new result }
 {
@@ -32,7 +32,7 @@ pub fn move_to(alloc: Global, cluster: &mut Cluster, name: &str, layout: u64, tu
     Report::of_whole(driver::move_to(alloc, cluster, name, id, &mut First, turns))
 }
 
-/// Goes on with a call that is there.
+/// Continues a call that is there.
 pub fn resume(alloc: Global, cluster: &mut Cluster, name: &str, call: u64, turns: u64) -> Report
     ensures { Resumes cluster.old name.entry.now call turns cluster.new result }
 {
@@ -42,7 +42,7 @@ pub fn resume(alloc: Global, cluster: &mut Cluster, name: &str, call: u64, turns
     }
 }
 
-// The call asks again first.
+// Continues the call. Its first turn resends or restarts, where the call wants that.
 fn carried_on(alloc: Global, cluster: &mut Cluster, name: &str, call: u64, turns: u64) -> Report
     ensures { GoesOn name.entry.now call true turns cluster.old cluster.new result }
 {
