@@ -1,4 +1,4 @@
--- What a request is answered.
+-- What answers a request, and why one is refused.
 use Rattle.std.specs.Prelude.{◌≡◌, ◌⊎◌, ℕ, List, None, Some, length}
 use Rattle.tag.specs.declared.refusal.Refusal.{Refusal}
 use Rattle.tag.specs.declared.refusal.Refusal.TheVariants.{BadPieces}
@@ -10,13 +10,13 @@ use Rattle.coding_commands.specs.declared.request.CodingRequest.TheVariants as r
 use Rattle.coding_commands.specs.declared.output.Output.{Output}
 use Rattle.coding_commands.specs.declared.output.Output.TheVariants as output
 
--- the pieces are lawful, and the value is the one that they interpolate
+-- the pieces are lawful, and this is the only value that they interpolate
 pub record IsValueOf (k len : ℕ) (pieces : List Piece) (value : List ℕ) : Type 0 where
   pub lawful : AreLawful k len pieces
   pub interpolated : IsInterpolated k len pieces value
   pub only : (v : List ℕ) → IsInterpolated k len pieces v → v ≡ value
 
--- the output that the request asks for: the fragments of its value, where they are lawful, or the value of its pieces
+-- the output answers the request: the fragments of its value, which can be encoded, or the value of its pieces
 abbrev pub IsAnswer : CodingRequest → Output → Type 0
 IsAnswer (request.Fragments k n value) (output.Fragments coded) =
     (encode_cause k n (length value) ≡ None) × (coded ≡ record { k = k; n = n; value = value })
@@ -24,7 +24,7 @@ IsAnswer (request.Fragments k n value) (output.Value decoded) = ⊥
 IsAnswer (request.Decode k len pieces) (output.Fragments coded) = ⊥
 IsAnswer (request.Decode k len pieces) (output.Value decoded) = IsValueOf k len pieces.items decoded.value
 
--- the request is refused for this cause
+-- this refusal applies to the request
 abbrev pub IsRefusedFor : CodingRequest → Refusal → Type 0
 IsRefusedFor (request.Fragments k n value) refusal = encode_cause k n (length value) ≡ Some refusal
 IsRefusedFor (request.Decode k len pieces) refusal =

@@ -1,9 +1,9 @@
--- The faults and their statuses.
+-- The exit statuses of the faults.
 use Rattle.std.specs.Prelude.{ℕ}
 use Rattle.coding_commands.specs.declared.fault.Fault.{Fault}
 use Rattle.coding_commands.specs.declared.fault.Fault.TheVariants.{NotText, Usage, BadArgument, Refused, OutputLost}
 
--- the exit status of a fault
+-- the exit status of each fault
 abbrev pub status_of : Fault → ℕ
 status_of NotText = 2
 status_of Usage = 2

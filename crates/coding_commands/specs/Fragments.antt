@@ -1,4 +1,4 @@
--- The line of a value's fragments.
+-- The line of the fragments of a value.
 use Rattle.std.specs.Prelude.{ℕ, List, ◌∷◌, ◌++◌, map}
 use Rattle.std.specs.Fmt.{decimal}
 use Rattle.std.specs.List.{join_with_byte, range_with_len}
@@ -7,14 +7,14 @@ use Rattle.encoder.specs.Fragment.{piece_of}
 use Rattle.encoder.specs.Coded.{Coding}
 use Rattle.words.specs.Hexadecimal.{hexadecimal_text}
 
--- the point, a colon and the bytes
+-- the point of a piece, a colon, and its bytes
 abbrev pub piece_text : Piece → List ℕ
 piece_text piece = decimal piece.point ++ 58 ∷ hexadecimal_text piece.bytes
 
--- the pieces at the points from 0 to n - 1
+-- the fragments of a value: the pieces at the points from 0 to n - 1
 abbrev pub pieces_of : Coding → List Piece
 pieces_of c = map (piece_of c.value c.k) (range_with_len 0 c.n)
 
--- the pieces, parted by one space
+-- the line: the fragments, separated by spaces
 abbrev pub fragments_text : Coding → List ℕ
 fragments_text c = join_with_byte 32 (map piece_text (pieces_of c))

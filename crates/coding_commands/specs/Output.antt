@@ -1,4 +1,4 @@
--- The lines that commands print.
+-- The line that a request prints.
 use Rattle.std.specs.Prelude.{ℕ, List}
 use Rattle.coding_commands.specs.declared.output.Output.{Output}
 use Rattle.coding_commands.specs.declared.output.Output.TheVariants as of

@@ -1,4 +1,4 @@
--- What a command line that codes does.
+-- What a command line that encodes or decodes does.
 use Rattle.std.specs.Prelude.{◌≡◌, ◌⊎◌, ℕ, List, [], ◌∷◌, ◌++◌, Option}
 use Rattle.std.specs.Io.KnownBytes.{Appends, Keeps}
 use Rattle.tag.specs.declared.refusal.Refusal.{Refusal}
@@ -11,21 +11,21 @@ use Rattle.coding_commands.specs.declared.request.CodingRequest.{CodingRequest}
 use Rattle.coding_commands.specs.declared.output.Output.{Output}
 use Rattle.coding_commands.specs.declared.fault.Fault.{Fault}
 
--- what a writer holds, where it is known
+-- the bytes that a writer holds; none where they are not known
 abbrev pub Contents : Type 0
 Contents = Option (List ℕ)
 
--- the writer has gained the line of the output, and the status is 0; or the line was lost
+-- the line of the output is written, and the status is 0; or the line is lost, and the status is 1
 abbrev pub IsPrinted : Output → Contents → Contents → ℕ → Type 0
 IsPrinted output old new status = ((status ≡ 0) × Appends old new (output_text output ++ 10 ∷ [])) ⊎ (status ≡ 1)
 
--- the line of the request's answer is written, or lost; or the request is refused by its cause or for want of memory,
--- the status is 1, and the writer is as it was
+-- the line of the request's answer is written or lost; or the request is refused, by its cause or for want of memory,
+-- with status 1 and nothing written
 abbrev pub Answers : CodingRequest → Contents → Contents → ℕ → Type 0
 Answers request old new status = ((output : Output) × IsAnswer request output × IsPrinted output old new status)
     ⊎ ((refusal : Refusal) × ((refusal ≡ NoMemory) ⊎ IsRefusedFor request refusal) × (status ≡ 1) × Keeps old new)
 
--- the words spell a request, and it is answered; or they spell none, the status says why, and the writer is as it was
+-- the words spell a request, and it is answered; or they spell none, the status says why, and nothing is written
 abbrev pub EndsBy : List Word → Contents → Contents → ℕ → Type 0
 EndsBy words old new status = ((request : CodingRequest) × Spells words request × Answers request old new status)
     ⊎ ((fault : Fault) × IsFaultOf words fault × (status ≡ status_of fault) × Keeps old new)

@@ -1,4 +1,4 @@
--- What the words of a command line ask of the coding.
+-- Which words of a command line spell which coding request.
 use Rattle.std.specs.Prelude.{◌≡◌, ◌<◌, ◌⊎◌, ◌==◌, ◌^◌, ◌-◌, min, ℕ, Bool, List, [], ◌∷◌, length, ⊤, codes, Result}
 use Rattle.std.specs.Prelude.{MatchResult}
 use Rattle.std.specs.List.{position_or_len, before_first, after_first}
@@ -11,16 +11,16 @@ use Rattle.coding_commands.specs.declared.request.CodingRequest.TheVariants as o
 use Rattle.coding_commands.specs.declared.fault.Fault.{Fault}
 use Rattle.coding_commands.specs.declared.fault.Fault.TheVariants.{NotText, Usage, BadArgument, Refused, OutputLost}
 
--- a word, by its bytes
+-- the bytes of a word
 abbrev pub Word : Type 0
 Word = List ℕ
 
--- the byte is a colon
+-- whether a byte is a colon
 abbrev pub is_colon : ℕ → Bool
 is_colon byte = byte == 58
 
--- the word is `POINT:HEX`, parted by its first colon, and the piece has this point, these bytes and the value's length,
--- or the greatest number of 32 bits where the length is above it
+-- the word is `POINT:HEX`, split at its first colon; the piece has this point and these bytes, and the length of the
+-- value, or the greatest number of 32 bits where the value is longer
 pub record IsPiece (value_len : ℕ) (word : Word) (piece : Piece) : Type 0 where
   pub parted : position_or_len is_colon word < length word
   pub point : IsNumber (before_first is_colon word) piece.point
@@ -28,26 +28,26 @@ pub record IsPiece (value_len : ℕ) (word : Word) (piece : Piece) : Type 0 wher
   pub len : piece.len ≡ min value_len (2 ^ 32 - 1)
   pub bytes : IsHexadecimal (after_first is_colon word) piece.bytes
 
--- each word is the piece at its place
+-- each word spells the piece at its index, and there are as many words as pieces
 abbrev pub ArePieces : ℕ → List Word → List Piece → Type 0
 ArePieces len [] [] = ⊤
 ArePieces len [] (p ∷ ps) = ⊥
 ArePieces len (w ∷ ws) [] = ⊥
 ArePieces len (w ∷ ws) (p ∷ ps) = IsPiece len w p × ArePieces len ws ps
 
--- the words after the program's name spell the request: `fragments K N HEX` or `decode K LEN POINT:HEX..`
+-- the words after the program's name spell this request: `fragments K N HEX` or `decode K LEN POINT:HEX..`
 abbrev pub Spells : List Word → CodingRequest → Type 0
 Spells words (of.Fragments k n value) = (a : Word) × (b : Word) × (c : Word)
     × (words ≡ codes "fragments" ∷ a ∷ b ∷ c ∷ []) × IsNumber a k × IsNumber b n × IsHexadecimal c value
 Spells words (of.Decode k len pieces) = (a : Word) × (b : Word) × (rest : List Word)
     × (words ≡ codes "decode" ∷ a ∷ b ∷ rest) × IsNumber a k × IsNumber b len × ArePieces len rest pieces.items
 
--- the words have the form of a request, whatever stands in the places of the numbers and bytes
+-- the words have the form of a request, whatever the words for its numbers and bytes are
 abbrev pub HasForm : List Word → Type 0
 HasForm words = ((a : Word) × (b : Word) × (c : Word) × (words ≡ codes "fragments" ∷ a ∷ b ∷ c ∷ []))
     ⊎ ((a : Word) × (b : Word) × (rest : List Word) × (words ≡ codes "decode" ∷ a ∷ b ∷ rest))
 
--- why the words give no request: they have another form, they have the form and spell none, or memory is wanting
+-- why the words give no request: they have another form, their form is right but a word is not, or memory is refused
 abbrev pub IsFaultOf : List Word → Fault → Type 0
 IsFaultOf words Usage = ¬ (HasForm words)
 IsFaultOf words BadArgument = HasForm words × ((r : CodingRequest) → ¬ (Spells words r))
@@ -55,6 +55,6 @@ IsFaultOf words (Refused refusal) = refusal ≡ NoMemory
 IsFaultOf words NotText = ⊥
 IsFaultOf words OutputLost = ⊥
 
--- the request that the words spell, or the fault of the words
+-- the result is the request that the words spell, or why they give none
 abbrev pub IsReading : List Word → Result CodingRequest Fault → Type 0
 IsReading words result = MatchResult result (Spells words) (IsFaultOf words)

@@ -1,4 +1,4 @@
-//! The words of a command line that codes.
+//! The words of a command line that encodes or decodes.
 ghost use Rattle.std.specs.Prelude.{◌∷◌, codes, map};
 ghost use Rattle.coding_commands.specs.Request.{IsReading};
 
@@ -6,7 +6,7 @@ use crate::fault::Fault;
 use crate::request::{CodingRequest, decode_request, fragments_request};
 use std::alloc::Global;
 
-/// What the words after the program's name ask for.
+/// The request that the words after the program's name spell.
 pub(crate) fn parse_request(alloc: Global, words: &[&str]) -> Result<CodingRequest, Fault>
     ensures { IsReading (map (λ w. w.now) words.now) result }
 {

@@ -5,25 +5,25 @@ use std::io::{ErrorKind, Write};
 use tag::Refusal;
 use thiserror::Error;
 
-/// Why the program ended early, with the text that goes to standard error.
+/// Why the program ended early. It prints as the text for standard error.
 #[derive(Debug, Drop, Error)]
 pub enum Fault {
-    /// A word of the command line is not UTF-8. Nothing is printed.
+    /// A word of the command line is not UTF-8. Its text is empty.
     #[error("")]
     NotText,
-    /// The command line has another form.
+    /// The words of the command line have the form of no request.
     #[error("usage: cas fragments K N HEX\n       \
         cas decode K LEN POINT:HEX..\n       \
         cas run FILE\n       \
         cas soak CLIENTS CALLS MOVES CHOICES")]
     Usage,
-    /// A word is not the number or the bytes that its place takes.
+    /// A word is not a number or bytes as its place requires.
     #[error("bad argument")]
     BadArgument,
     /// The request was refused.
     #[error("refused {0}")]
     Refused(Refusal),
-    /// A write of output failed, and not for want of memory.
+    /// A write of output failed for another reason than a lack of memory.
     #[error("cannot write the output")]
     OutputLost,
 }
@@ -35,7 +35,7 @@ impl Fault {
     ghost use Rattle.coding_commands.specs.Fault.{status_of};
     ghost use Rattle.coding_commands.specs.declared.fault.Fault.TheVariants.{NotText, OutputLost, Refused};
 
-    /// Why the program's arguments cannot be had: they are not text, or find no memory.
+    /// Why the program's arguments could not be read: one is not UTF-8, or memory is refused.
     pub fn from_arguments(error: io::Error) -> Fault
         ensures memory { error_kind error ≡ ErrorKind.OutOfMemory → result ≡ Refused NoMemory }
         ensures text { error_kind error ≢ ErrorKind.OutOfMemory → result ≡ NotText }
@@ -46,7 +46,7 @@ impl Fault {
         }
     }
 
-    /// Why a line of output is lost: its write found no memory, or failed otherwise.
+    /// Why a line of output is lost: memory was refused to its write, or the write failed for another reason.
     pub fn from_output(error: io::Error) -> Fault
         ensures memory { error_kind error ≡ ErrorKind.OutOfMemory → result ≡ Refused NoMemory }
         ensures other { error_kind error ≢ ErrorKind.OutOfMemory → result ≡ OutputLost }
@@ -57,7 +57,7 @@ impl Fault {
         }
     }
 
-    /// The exit status: 1 for a refusal or lost output, 2 for the command line itself.
+    /// The exit status: 1 for a refusal or lost output, and 2 for a fault of the command line.
     fn status(&self) -> u8
         ensures { result ≡ status_of self.now }
     {
@@ -67,7 +67,7 @@ impl Fault {
         }
     }
 
-    /// Prints the text, if there is one, and answers the exit status. A failed write is passed over.
+    /// Prints the text on `err`, if there is one, and returns the exit status. A write that fails is ignored.
     pub fn report<W: Write>(&self, err: &mut W) -> u8
         ensures { result ≡ status_of self.now }
     {

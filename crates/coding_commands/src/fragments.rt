@@ -1,4 +1,4 @@
-//! The fragments of a value, and their line.
+//! Encoding a value, and the line of its fragments.
 ghost use Rattle.std.specs.Prelude.{◌≡◌, IfOk, length, Some};
 ghost use Rattle.tag.specs.Refusal.{IsByCause};
 ghost use Rattle.encoder.specs.Coded.{encode_cause};
@@ -11,8 +11,8 @@ use std::fmt;
 use tag::Refusal;
 use words::Hexadecimal;
 
-/// The fragments of `value` at the points from 0 to `n - 1`, cut into `k` blocks. A `k` or `n` above its limit is
-/// refused as a bad layout, however large it is.
+/// The `n` fragments of `value`, at the points from 0 to `n - 1`, any `k` of which give it back. `BadLayout` also where
+/// `k` or `n` is above its limit, however large it is.
 pub(crate) fn fragments_of(alloc: Global, k: u64, n: u64, value: Bytes) -> Result<Coded, Refusal>
     ensures coded { IfOk result (λ c. c ≡ record { k = k; n = n; value = value }) }
     ensures refused { IsByCause (encode_cause k n (length value)) result }
@@ -23,7 +23,7 @@ pub(crate) fn fragments_of(alloc: Global, k: u64, n: u64, value: Bytes) -> Resul
     encode(alloc, k, n, value)
 }
 
-/// The line of a value's fragments: `POINT:HEX` for each, parted by one space.
+/// The line of the fragments of a value: `POINT:HEX` for each, separated by spaces.
 #[derive(Clone, Copy)]
 pub(crate) struct FragmentsLine<'a>(pub(crate) &'a Coded);
 

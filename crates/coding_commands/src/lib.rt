@@ -1,4 +1,4 @@
-//! The command lines that code: the fragments of a value, and the value of fragments.
+//! The command lines that encode and decode: the fragments of a value, and the value of fragments.
 #![tactic(auto)]
 
 pub use fault::Fault;

@@ -1,4 +1,4 @@
-//! What a command prints.
+//! The line that a request prints.
 ghost use Rattle.std.specs.Prelude.{Some};
 ghost use Rattle.coding_commands.specs.Output.{output_text};
 
@@ -8,7 +8,7 @@ use encoder::Coded;
 use std::fmt;
 use words::Hexadecimal;
 
-/// The output of a command. It prints as its line, without the line feed.
+/// The output of a request. It prints as one line, without its line feed.
 #[derive(Drop)]
 pub(crate) enum Output {
     /// The fragments of a value.

@@ -1,4 +1,4 @@
-//! Command lines that code, over any writer.
+//! Command lines that encode and decode, over any writer.
 ghost use Rattle.std.specs.Prelude.{◌≡◌, ◌⊎◌, ◌++◌, [], ◌∷◌, IfErr, IfOk, MatchResult, OnOk, map};
 ghost use Rattle.std.specs.Io.KnownBytes.{Appends, Keeps};
 ghost use Rattle.tag.specs.declared.refusal.Refusal.{Refusal};
@@ -21,8 +21,9 @@ use std::alloc::Global;
 use std::io::Write;
 use tag::Refusal;
 
-/// Carries out the words after the program's name, and answers the exit status: 0 where the line of the answer is
-/// written, 1 for a refusal or lost output, 2 for words that spell no request. A text on `err` says why.
+/// Carries out the words after the program's name, and returns the exit status: 0 where the line of the answer is
+/// written, 1 for a refusal or lost output, 2 for words that spell no request. Where the status is not 0, a text on
+/// `err` says why.
 pub fn run_words<O: Write, E: Write>(alloc: Global, words: &[&str], out: &mut O, err: &mut E) -> u8
     ensures { EndsBy (map (λ w. w.now) words.now) (O.contents out.old) (O.contents out.new) result }
 {
@@ -32,8 +33,8 @@ pub fn run_words<O: Write, E: Write>(alloc: Global, words: &[&str], out: &mut O,
     }
 }
 
-/// Prints the line of the request's answer and answers the exit status 0. For a refusal or lost output it is 1, and a
-/// text on `err` says which.
+/// Prints the line of the request's answer, and returns the exit status 0. It is 1 for a refusal or lost output, and a
+/// text on `err` then says which.
 pub fn answer_request<O: Write, E: Write>(
     alloc: Global,
     request: CodingRequest,
@@ -70,7 +71,7 @@ fn answer_decode(alloc: Global, k: u64, len: u64, pieces: Vec<Piece>) -> Result<
     Ok(Output::Value(decoded))
 }
 
-/// Prints the line of an answer, or says why there is none, and answers the exit status.
+/// Prints the line of an answer, or on `err` why there is none, and returns the exit status.
 fn print_answer<O: Write, E: Write>(answer: Result<Output, Refusal>, out: &mut O, err: &mut E) -> u8
     ensures { MatchResult answer (λ output. IsPrinted output (O.contents out.old) (O.contents out.new) result)
         (λ _. (result ≡ 1) × Keeps (O.contents out.old) (O.contents out.new)) }

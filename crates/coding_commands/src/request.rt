@@ -1,4 +1,4 @@
-//! What a command line asks of the coding, read from its words.
+//! The requests that encode and decode, read from the words of a command line.
 ghost use Rattle.std.specs.Prelude.{◌≡◌, ◌⊎◌, [], ◌∷◌, ℕ, List, MatchResult, codes, map};
 ghost use Rattle.encoder.specs.declared.fragment.Piece.{Piece};
 ghost use Rattle.tag.specs.declared.refusal.Refusal.TheVariants.{NoMemory};
@@ -13,17 +13,18 @@ use encoder::Piece;
 use std::alloc::Global;
 use words::{parse_bytes, parse_number};
 
-/// What a command line asks of the coding. The numbers are as they were written, also above their limits.
+/// A request to encode or decode. Its numbers are those on the command line, even above their limits.
 #[derive(Drop)]
 pub enum CodingRequest {
-    /// `fragments K N HEX`: the fragments of `value` at the points from 0 to `n - 1`, cut into `k` blocks.
+    /// `fragments K N HEX`: the `n` fragments of `value`, at the points from 0 to `n - 1`, any `k` of which give it
+    /// back.
     Fragments {
         k: u64,
         n: u64,
         value: Bytes,
     },
-    /// `decode K LEN POINT:HEX..`: the value of `len` bytes, cut into `k` blocks, that has these pieces. Each piece
-    /// names `len`, or the greatest `u32` where `len` is above it.
+    /// `decode K LEN POINT:HEX..`: the value of `len` bytes that has these pieces, any `k` of which give it back. Each
+    /// piece has `len` as the length of its value, or the greatest `u32` where `len` is above it.
     Decode {
         k: u64,
         len: u64,
@@ -31,7 +32,7 @@ pub enum CodingRequest {
     },
 }
 
-/// The request `fragments K N HEX`. It fails with `BadArgument` where a word is not what its place takes.
+/// The request `fragments K N HEX`. `BadArgument` where a word is not a number or bytes as its place requires.
 pub fn fragments_request(
     alloc: Global,
     k: &str,
@@ -46,8 +47,8 @@ pub fn fragments_request(
     Ok(CodingRequest::Fragments { k, n, value })
 }
 
-/// The request `decode K LEN POINT:HEX..`, where `words` are those from the first `POINT:HEX` on. It fails with
-/// `BadArgument` where a word is not what its place takes.
+/// The request `decode K LEN POINT:HEX..`, where `words` are those from the first `POINT:HEX` on. `BadArgument` where a
+/// word is not a number or a piece as its place requires.
 pub fn decode_request(
     alloc: Global,
     k: &str,

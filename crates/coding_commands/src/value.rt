@@ -1,4 +1,4 @@
-//! The value of pieces.
+//! Decoding the value of pieces.
 ghost use Rattle.std.specs.Prelude.{◌≡◌, ◌↔◌, ◌⊎◌, IfErr, IfOk};
 ghost use Rattle.decoder.specs.Pieces.{AreLawful, HaveNoValue};
 ghost use Rattle.coding_commands.specs.Answer.{IsValueOf};
@@ -8,8 +8,8 @@ use encoder::Piece;
 use std::alloc::Global;
 use tag::Refusal;
 
-/// The value of `len` bytes, cut into `k` blocks, that has these pieces. A `k` or `len` above its limit is refused as
-/// bad pieces, however large it is.
+/// The value of `len` bytes that has these pieces, any `k` of which give it back. `BadPieces` also where `k` or `len`
+/// is above its limit, however large it is.
 pub(crate) fn value_of(
     alloc: Global,
     k: u64,
