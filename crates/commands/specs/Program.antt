@@ -1,4 +1,4 @@
--- What a run of the program does.
+-- What a run of the program writes, and with which exit status it ends.
 use Rattle.std.specs.Prelude.{◌≡◌, ◌⊎◌, ℕ, List, [], ◌∷◌, ◌++◌, Option, codes}
 use Rattle.std.specs.Io.KnownBytes.{Appends, Keeps}
 use Rattle.std.specs.declared.io.ErrorKind.{ErrorKind}
@@ -17,18 +17,17 @@ use Rattle.coding_commands.specs.declared.request.CodingRequest.{CodingRequest}
 use Rattle.commands.specs.Request.{IsFaultOf, Spells}
 use Rattle.commands.specs.declared.request.Request.TheVariants as request
 
--- the file could not be opened, by an error of this kind: the status says so, and the writer is as it was
+-- the file could not be opened, with an error of this kind: the status says so, and nothing is written
 abbrev pub IsUnopened : ErrorKind → Contents → Contents → ℕ → Type 0
 IsUnopened kind old new status = (status ≡ unread_status kind) × Keeps old new
 
--- a file could not be opened, or what it gave was played. What a file holds, no clause can say: it is some text, or
--- fails
+-- a file could not be opened, or what it gave was played: some text, or a failure. No clause can say what a file holds
 abbrev pub RunsFile : Contents → Contents → ℕ → Type 0
 RunsFile old new status = ((kind : ErrorKind) × IsUnopened kind old new status)
     ⊎ ((given : Option (List ℕ)) × Runs given old new status)
 
--- the lines are written of what a store comes to that was closed with as many seats as the plan has clients, and the
--- status is as they say; or the soak was refused, and the writer is as it was; or such lines were lost
+-- a soak is run: the lines of its summary are written, and the status is the summary's; or it is refused, and nothing
+-- is written; or such lines are lost. A summary is of a closed store with as many seats as the plan has clients
 abbrev pub Soaks : Plan → Contents → Contents → ℕ → Type 0
 Soaks plan old new status =
     ((summary : Summary) × IsOfClosed plan.clients plan.calls summary × (status ≡ status_of_summary summary)
@@ -36,9 +35,9 @@ Soaks plan old new status =
     ⊎ (((status ≡ 1) × Keeps old new)
     ⊎ ((status ≡ 1) × ((summary : Summary) × IsOfClosed plan.clients plan.calls summary)))
 
--- the words spell a request of the coding, and it is answered; or they spell none at all, the status says why, and the
--- writer is as it was; or they are `run FILE`, and the status is that of the file's run; or they spell a soak, and the
--- status is that of the soak
+-- one of four: the words spell a coding request, and it is answered; they spell no request, the status says why, and
+-- nothing is written; they are `run FILE`, and the status is that of the run; they spell a soak, and the status is that
+-- of the soak
 abbrev pub EndsBy : List Word → Contents → Contents → ℕ → Type 0
 EndsBy words old new status =
     ((asked : CodingRequest) × SpellsCoding words asked × Answers asked old new status)

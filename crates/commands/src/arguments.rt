@@ -1,4 +1,4 @@
-//! The command line, read by `clap` as texts.
+//! Reading the words of the command line with `clap`.
 ghost use Rattle.std.specs.Prelude.{◌≡◌, ◌≢◌, ◌⊎◌, [], ◌∷◌, List, IfErr, IfOk, MatchResult, codes, false, map};
 ghost use Rattle.std.specs.Prelude.{option_map, string_bytes, unwrap_or};
 ghost use Rattle.clap.specs.Words.{fault_of, first_value, found_of, kind_of, matched_of, raw_values, rule_of};
@@ -17,7 +17,7 @@ use coding_commands::Fault;
 use std::alloc::{AllocError, Global};
 use tag::Refusal;
 
-/// What the words after the program's name ask for.
+/// The request that the words after the program's name spell.
 pub(crate) fn parse_request(alloc: Global, words: &[String]) -> Result<Request, Fault>
     ensures { IsReading (map string_bytes words.now) result }
 {
@@ -35,7 +35,7 @@ pub(crate) fn parse_request(alloc: Global, words: &[String]) -> Result<Request, 
     }
 }
 
-/// The words as `clap` is given them: behind the command stands `--`, so that no later word is read as an option.
+/// The words that are given to `clap`: `--` is put after the command, so that no later word is read as an option.
 fn marked(alloc: Global, words: &[String]) -> Result<Vec<&str>, AllocError>
     ensures { IfOk result (λ all. map (λ w. w.now) all.items ≡ marked_words (map string_bytes words.now)) }
 {
@@ -51,7 +51,7 @@ fn marked(alloc: Global, words: &[String]) -> Result<Vec<&str>, AllocError>
     Ok(all)
 }
 
-/// What `clap` finds. It fails with `Usage` where the words have another form.
+/// What `clap` finds in the words. `Usage` where they have the form of no request.
 fn read_words<'a>(alloc: Global, words: &'a [&'a str]) -> Result<ArgMatches<'a>, Fault>
     ensures found { IfOk result (λ m. subcommand_rows_of m
         ≡ subcommand_of cas_form (map (λ w. w.now) words.entry.now)) }

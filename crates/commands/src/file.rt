@@ -1,4 +1,4 @@
-//! The script that a file holds.
+//! Running the script of a file.
 ghost use Rattle.std.specs.Prelude.{MatchResult};
 ghost use Rattle.std.specs.IoError.{error_kind};
 ghost use Rattle.player.specs.Script.{Runs};
@@ -10,8 +10,8 @@ use std::io::{Read, Write};
 use std::rt::Files;
 use std::{fs, io};
 
-/// Plays the script that the file of this name holds, and answers the exit status. A name that is no whole path is one
-/// in the folder that the program runs in.
+/// Plays the script in the file of this name, and returns the exit status. A relative path is looked up in the folder
+/// that the program runs in.
 pub(crate) fn run_file<R: Files + AllocGlobal, O: Write, E: Write>(
     rt: &R,
     name: &str,
@@ -23,7 +23,7 @@ pub(crate) fn run_file<R: Files + AllocGlobal, O: Write, E: Write>(
     run_opened(rt.alloc(), name, fs::open(rt, name), out, err)
 }
 
-/// Plays the script that a file of this name gives once it is opened, and answers the exit status. Where it could not
+/// Plays the script that a file of this name gives once it is opened, and returns the exit status. Where it could not
 /// be opened, a text on `err` says so.
 pub fn run_opened<F: Read + Drop, O: Write, E: Write>(
     alloc: Global,

@@ -1,4 +1,4 @@
-//! The command lines of the program `cas`: those that code, the run of a script, and a soak of the store.
+//! The command lines of the program `cas`: encode and decode, run a script, and soak the store.
 #![tactic(auto)]
 
 pub use file::run_opened;

@@ -1,4 +1,4 @@
-//! The program over any writer.
+//! The program, generic over its writers.
 ghost use Rattle.std.specs.Prelude.{List, map, string_bytes};
 ghost use Rattle.coding_commands.specs.Request.{Word};
 ghost use Rattle.commands.specs.Program.{EndsBy};
@@ -15,10 +15,11 @@ use std::sync::Wait;
 use std::thread::Threads;
 use std::time::Clock;
 
-/// Carries out the words after the program's name, and answers the exit status: 0 where the line of the answer is
-/// written, or the script of the file played to its end, 1 for a refusal or lost output, 2 for words that spell no
-/// request or a script that cannot be read or is bad. A text on `err` says why; where that is a terminal, a line there
-/// tells how far a long soak has come.
+/// Carries out the words after the program's name, and returns the exit status: 0 where the line of the answer is
+/// written or the script of the file is played to its end, 1 for a refusal or lost output, 2 for words that spell no
+/// request and for a script that is bad or cannot be read. A soak ends with the status of its summary. Where the
+/// program ends early, a text on `err` says why. Where `err` is a terminal, a line there shows how far a long soak has
+/// come.
 pub fn run_words<R: Files + AllocGlobal + Threads + Wait + Clock + Sync, O: Write, E: Write>(
     rt: &R,
     words: &[String],
@@ -34,7 +35,7 @@ pub fn run_words<R: Files + AllocGlobal + Threads + Wait + Clock + Sync, O: Writ
     }
 }
 
-/// Carries out the request, and answers the exit status.
+/// Carries out the request, and returns the exit status.
 fn carry_out<R: Files + AllocGlobal + Threads + Wait + Clock + Sync, O: Write, E: Write>(
     rt: &R,
     request: Request,

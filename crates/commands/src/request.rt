@@ -1,4 +1,4 @@
-//! What a command line asks for, read from its words.
+//! The requests of the program, read from the words of a command line.
 ghost use Rattle.std.specs.Prelude.{◌≡◌, ◌∷◌, [], ℕ, List, MatchResult, codes, map};
 ghost use Rattle.words.specs.Number.{IsNumber};
 ghost use Rattle.coding_commands.specs.Request.{Word};
@@ -11,14 +11,14 @@ use soak::Plan;
 use std::alloc::Global;
 use words::parse_number;
 
-/// What a command line asks for.
+/// A request of the program.
 #[derive(Drop)]
 pub(crate) enum Request {
     /// `fragments K N HEX` or `decode K LEN POINT:HEX..`.
     Coding { request: CodingRequest },
-    /// `run FILE`: the script that the file of this name holds.
+    /// `run FILE`: runs the script in the file of this name.
     Run { file: String },
-    /// `soak CLIENTS CALLS MOVES CHOICES`: what a store comes to once so many clients have worked through it.
+    /// `soak CLIENTS CALLS MOVES CHOICES`: runs a soak by this plan.
     Soak { plan: Plan },
 }
 
@@ -73,7 +73,7 @@ pub(crate) fn soak_request(
     Ok(Request::Soak { plan })
 }
 
-/// A request of the coding as one of the program.
+/// A coding request as a request of the program.
 fn coding(read: Result<CodingRequest, Fault>) -> Result<Request, Fault>
     ensures { (words : List Word) → HasCodingForm words → IsCodingReading words read → IsReading words result }
 {

@@ -1,4 +1,4 @@
-//! A soak of the store.
+//! Running a soak of the store.
 ghost use Rattle.std.specs.Prelude.{◌≡◌, ◌⊎◌, ◌++◌, ◌∷◌, [], IfErr, OnOk};
 ghost use Rattle.tag.specs.declared.refusal.Refusal.TheVariants.{NoMemory};
 ghost use Rattle.std.specs.Io.KnownBytes.{Appends};
@@ -13,9 +13,9 @@ use std::sync::Wait;
 use std::thread::Threads;
 use std::time::Clock;
 
-/// Lets clients work through a store as the plan says, prints what it comes to, and answers the exit status. Where a
-/// call is refused or a thread cannot be started, a text on `err` says so; where that is a terminal, a line there tells
-/// how far a long soak has come.
+/// Runs a soak by this plan, prints its summary, and returns the exit status. Where a call is refused or a thread
+/// cannot be started, a text on `err` says so. Where `err` is a terminal, a line there shows how far a long soak has
+/// come.
 pub(crate) fn run_soak<R: AllocGlobal + Threads + Wait + Clock + Sync, O: Write, E: Write>(
     rt: &R,
     plan: Plan,
