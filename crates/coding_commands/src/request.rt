@@ -16,14 +16,13 @@ use words::{parse_bytes, parse_number};
 /// A request to encode or decode. Its numbers are those on the command line, even above their limits.
 #[derive(Drop)]
 pub enum CodingRequest {
-    /// `fragments K N HEX`: the `n` fragments of `value`, at the points from 0 to `n - 1`, any `k` of which give it
-    /// back.
+    /// `fragments K N HEX`: the fragments of `value`, which is cut into `k` blocks, at the points from 0 to `n - 1`.
     Fragments {
         k: u64,
         n: u64,
         value: Bytes,
     },
-    /// `decode K LEN POINT:HEX..`: the value of `len` bytes that has these pieces, any `k` of which give it back. Each
+    /// `decode K LEN POINT:HEX..`: the value of `len` bytes, which is cut into `k` blocks, that has these pieces. Each
     /// piece has `len` as the length of its value, or the greatest `u32` where `len` is above it.
     Decode {
         k: u64,
