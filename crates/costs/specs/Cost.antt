@@ -1,4 +1,4 @@
--- What calls cost, as sums over the record.
+-- What calls cost, as sums over the record of an object.
 use Rattle.std.specs.Prelude.{ℕ, ◌+◌, ◌-◌, ◌^◌, ◌&&◌, min, List, length, sum_by, is_some, if◌then◌else◌, Option, Some}
 use Rattle.std.specs.Prelude.{None, slice_get}
 use Rattle.std.specs.FinMap as map
@@ -18,34 +18,34 @@ use Rattle.record.specs.Records.{Object}
 use Rattle.register.specs.View.{bank_there, phases_at, value_at}
 use Rattle.costs.specs.declared.cost.Cost.{Cost}
 
--- a number, or the greatest of 64 bits where it is more
+-- a number, or the greatest number of 64 bits where it is above that
 abbrev pub capped : ℕ → ℕ
 capped n = min n (2 ^ 64 - 1)
 
--- the bytes of a fragment of a value under a layout, where there are both
+-- how many bytes a fragment of the value has under this layout; 0 where the value or the layout is absent
 abbrev pub fragment_of : Option (List ℕ) → Option Layout → ℕ
 fragment_of None layout = 0
 fragment_of (Some value) None = 0
 fragment_of (Some value) (Some layout) = fragment_len layout.k (length value)
 
--- the bytes of a fragment of what the call of this number wrote or settled, under the layout of a position
+-- how many bytes a fragment of the value of this call has, under the layout of this position
 abbrev pub fragment_at : Object → (call position : ℕ) → ℕ
 fragment_at object call position = fragment_of (value_at object call) (slice_get object.layouts position)
 
--- the bytes of a fragment, where one came for this tag
+-- the bytes of a fragment, where this row of a bank is for this tag and a fragment came for it; otherwise 0
 abbrev pub bytes_for : (fragment : ℕ) → Tag → Tag × Row → ℕ
 bytes_for fragment tag entry = if tag_eq entry.0 tag && is_some entry.1.arrival then fragment else 0
 
--- the bytes of a fragment, where one came to a bank for this tag, though it may have dropped it since
+-- the bytes of a fragment, where one came to this bank for this tag, even if the bank dropped it since; otherwise 0
 abbrev pub came_bytes : (fragment : ℕ) → Tag → Option Bank → ℕ
 came_bytes fragment tag None = 0
 came_bytes fragment tag (Some bank) = sum_by (bytes_for fragment tag) (map.entries bank.rows)
 
--- the bytes of a fragment, where one came to a member of a position for this tag
+-- the bytes of a fragment, where one came to this member of this position for this tag; otherwise 0
 abbrev pub came_at : Object → (fragment : ℕ) → Tag → (position member : ℕ) → ℕ
 came_at object fragment tag position member = came_bytes fragment tag (bank_there object position member)
 
--- what a phase of this kind of a call sends: a pre-write its tag's fragments, by those that came, and the others none
+-- how many bytes a phase sends: a pre-write the fragments of its tag that came to the members, any other phase none
 abbrev pub sent_by : Object → (call : ℕ) → Kind → (position members : ℕ) → ℕ
 sent_by object call (PreWrite tag) position members =
     member_sum (came_at object (fragment_at object call position) tag position) 0 members
@@ -55,19 +55,19 @@ sent_by object call Query position members = 0
 sent_by object call (Finalize tag) position members = 0
 sent_by object call (Fetch tag) position members = 0
 
--- what a phase of the call of this number sends
+-- how many bytes this phase of the call of this number sends
 abbrev pub sent_in : Object → (call : ℕ) → Phase → ℕ
 sent_in object call phase = sent_by object call phase.kind phase.position phase.members
 
--- the bytes in a reply
+-- how many bytes of a fragment a reply has
 abbrev pub taken_bytes : Taken → ℕ
 taken_bytes taken = answer_bytes taken.reply.answer
 
--- the bytes in the replies that a phase took
+-- how many bytes of fragments the replies have that a phase took
 abbrev pub returned_in : Phase → ℕ
 returned_in phase = sum_by taken_bytes phase.replies
 
--- the sums over the phases of the call of this number
+-- the cost of the call of this number: sums over its phases
 abbrev pub cost_of : Object → (call : ℕ) → Cost
 cost_of object call = record {
   phases = length (phases_at object call);
@@ -81,7 +81,7 @@ cost_of object call = record {
 abbrev pub no_cost : Cost
 no_cost = record { phases = 0; requests = 0; replies = 0; sent = 0; returned = 0 }
 
--- the costs of both
+-- the sum of two costs
 abbrev pub plus : Cost → Cost → Cost
 plus one other = record {
   phases = capped (one.phases + other.phases);

@@ -15,41 +15,41 @@ word_of_operation operation.Read = codes "read"
 word_of_operation operation.Write = codes "write"
 word_of_operation operation.Move = codes "move"
 
--- words, parted by one space
+-- the words, separated by spaces
 abbrev pub in_words : List (List ℕ) → List ℕ
 in_words words = join_with_byte 32 words
 
--- the sums
+-- the text of a cost: each number after its name
 abbrev pub cost_text : Cost → List ℕ
 cost_text cost = in_words (
     codes "phases" ∷ decimal cost.phases ∷ codes "requests" ∷ decimal cost.requests
     ∷ codes "replies" ∷ decimal cost.replies ∷ codes "sent" ∷ decimal cost.sent
     ∷ codes "returned" ∷ decimal cost.returned ∷ [])
 
--- the steps from a call to its answer, or a dash where it has none
+-- the number of steps from a call to its answer, or a dash where it has none
 abbrev pub steps_text : (called : ℕ) → (answered : Option ℕ) → List ℕ
 steps_text called None = codes "-"
 steps_text called (Some answered) = decimal (answered - called)
 
--- the line of a call
+-- the text of what one call cost
 abbrev pub line_text : Entry → Cost → List ℕ
 line_text entry cost = in_words (
     codes "call" ∷ decimal entry.call ∷ word_of_operation entry.operation ∷ cost_text cost
     ∷ codes "steps" ∷ steps_text entry.called entry.answered ∷ [])
 
--- the line of all calls
+-- the text of what all calls cost together
 abbrev pub total_text : (calls : ℕ) → Cost → List ℕ
 total_text calls cost = in_words (codes "calls" ∷ decimal calls ∷ cost_text cost ∷ [])
 
--- the line of a call of an object, with its end
+-- the text of what a call of an object cost, with its line feed
 abbrev pub cost_line : Object → Entry → List ℕ
 cost_line object entry = line_text entry (cost_of object entry.call) ++ codes "\n"
 
--- what all these calls cost
+-- what all these calls cost together
 abbrev pub total_of : Object → List Entry → Cost
 total_of object entries = fold (λ total entry. plus total (cost_of object entry.call)) no_cost entries
 
--- a line for each call, and one for all
+-- the lines: one for each call, and one for all of them together
 abbrev pub costs_text : Object → List Entry → List ℕ
 costs_text object entries =
     flat_map (cost_line object) entries ++ (total_text (length entries) (total_of object entries) ++ codes "\n")

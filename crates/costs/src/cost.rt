@@ -1,23 +1,24 @@
-//! The cost of a call.
+//! The cost of a call, as sums over its phases.
 ghost use Rattle.std.specs.Prelude.{◌≡◌};
 ghost use Rattle.costs.specs.Cost.{capped, cost_of, plus};
 
 use crate::sums;
 use register::Register;
 
-/// What calls cost. A sum that is past 64 bits is the greatest number of 64 bits.
+/// What calls cost. A sum that does not fit 64 bits is replaced by the greatest number of 64 bits.
 #[derive(Clone, Copy, Debug, PartialEq, Eq)]
 pub struct Cost {
-    /// The phases that were begun.
+    /// How many phases were begun.
     pub phases: u64,
-    /// The requests of these phases: one to each member that a phase asks, and none that went out again.
+    /// How many requests these phases sent: one to each member that a phase asks. Requests that are resent do not
+    /// count.
     pub requests: u64,
-    /// The replies that these phases took.
+    /// How many replies these phases took.
     pub replies: u64,
-    /// The bytes of the fragments that pre-writes send: of the phase's tag, those that came to the members of its
-    /// position, whether they keep them or not.
+    /// The bytes of the fragments that pre-writes sent: those of the phase's tag that came to the members of its
+    /// position, whether a member keeps its fragment or not.
     pub sent: u64,
-    /// The bytes of the fragments in the replies that were taken.
+    /// The bytes of the fragments in the replies that these phases took.
     pub returned: u64,
 }
 
@@ -31,7 +32,7 @@ impl Cost {
         returned: 0,
     };
 
-    /// The cost of these calls and those.
+    /// The sum of two costs.
     pub fn plus(self, other: Cost) -> Cost
         ensures { result ≡ plus self other }
     {
@@ -45,7 +46,7 @@ impl Cost {
     }
 }
 
-/// What the call of this number cost so far. Where there is no such call, nothing.
+/// What the call of this number cost so far; `Cost::NONE` where there is no such call.
 pub fn cost_of(register: &Register, call: u64) -> Cost
     ensures { result ≡ cost_of register.now.object call }
 {

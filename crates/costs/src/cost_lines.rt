@@ -8,12 +8,14 @@ use register::Register;
 use std::fmt;
 use tag::Stamp;
 
-/// A line for each of these calls of an object, and one for all of them: `call C KIND phases P requests Q replies R
-/// sent B returned B steps S`, where S is the number of steps from the call to its answer, or `-` for an open call, and
+/// A line for each of these calls of an object: `call C KIND phases P requests Q replies R sent B returned B steps S`.
+/// S is the number of steps from the call to its answer, or `-` for an open call. Then a line for all of them together:
 /// `calls N phases P requests Q replies R sent B returned B`.
 #[derive(Clone, Copy)]
 pub struct CostLines<'a> {
+    /// The object.
     pub register: &'a Register,
+    /// The entries of the calls.
     pub entries: &'a [Entry],
 }
 
@@ -32,7 +34,7 @@ impl fmt::Display for CostLines<'_> {
     }
 }
 
-// The line of a call.
+// The line of one call.
 #[derive(Clone, Copy)]
 struct CostLine<'a> {
     entry: &'a Entry,
@@ -57,7 +59,7 @@ impl fmt::Display for CostLine<'_> {
     }
 }
 
-// The line of all calls.
+// The line of all calls together.
 #[derive(Clone, Copy)]
 struct TotalLine {
     calls: usize,
@@ -88,7 +90,7 @@ impl fmt::Display for CostText {
     }
 }
 
-// The steps from a call to its answer.
+// The number of steps from a call to its answer, or `-` where it has none.
 #[derive(Clone, Copy)]
 struct Steps {
     called: Stamp,

@@ -9,7 +9,7 @@ use phase::{Phase, Taken};
 use register::Register;
 use tag::Tag;
 
-/// One request to each member that a phase asks.
+/// The number of requests of these phases: one to each member that a phase asks.
 pub fn requests(phases: &[Phase]) -> u64
     ensures { result ≡ capped (sum_by (λ p. p.members) phases.now) }
 {
@@ -20,7 +20,7 @@ pub fn requests(phases: &[Phase]) -> u64
     total
 }
 
-/// The replies that were taken.
+/// The number of replies that these phases took.
 pub fn replies(phases: &[Phase]) -> u64
     ensures { result ≡ capped (sum_by (λ p. length p.replies) phases.now) }
 {
@@ -31,7 +31,7 @@ pub fn replies(phases: &[Phase]) -> u64
     total
 }
 
-/// The bytes in the replies that were taken.
+/// The bytes of the fragments in the replies that these phases took.
 pub fn returned(phases: &[Phase]) -> u64
     ensures { result ≡ capped (sum_by returned_in phases.now) }
 {
@@ -52,7 +52,7 @@ fn returned_in(replies: &[Taken]) -> u64
     total
 }
 
-/// The bytes that the pre-writes among the phases of the call of this number send.
+/// The bytes of the fragments that the pre-writes among these phases of the call send.
 pub fn sent(register: &Register, call: u64, phases: &[Phase]) -> u64
     ensures { result ≡ capped (sum_by (sent_in register.now.object call) phases.now) }
 {
@@ -105,7 +105,7 @@ fn came_at(register: &Register, fragment: u64, tag: Tag, position: u32, member: 
     }
 }
 
-// The bytes of a fragment where one came to a bank for the tag, though it may have dropped it since.
+// The bytes of a fragment where one came to a bank for the tag, even if the bank dropped it since; otherwise 0.
 fn came_bytes(bank: &Bank, fragment: u64, tag: Tag) -> u64
     ensures { result ≡ capped (sum_by (bytes_for fragment tag) (map.entries bank.now.rows)) }
 {
