@@ -1,4 +1,4 @@
--- The lines of a history as maps of EDN.
+-- The lines of a history as EDN maps.
 use Rattle.std.specs.Prelude.{ℕ, List, [], ◌∷◌, ◌++◌, codes}
 use Rattle.std.specs.Fmt.{decimal}
 use Rattle.std.specs.List.{enumerate_from, flat_map}
@@ -7,7 +7,7 @@ use Rattle.exports.specs.declared.event.Process.{Process}
 use Rattle.exports.specs.declared.event.Process.TheVariants as process
 use Rattle.exports.specs.Words.{quoted_or, texts, word_of_operation, word_of_stage}
 
--- who makes a call
+-- the process that makes a call, in EDN
 abbrev pub process_text : Process → List ℕ
 process_text (process.Client client) = decimal client
 process_text process.Nemesis = codes ":nemesis"
@@ -20,10 +20,10 @@ map_text index event = texts (
     ∷ codes ", :f :" ∷ word_of_operation event.operation
     ∷ codes ", :value " ∷ quoted_or event.value (codes "nil") ∷ codes "}" ∷ [])
 
--- the line of an event with its number
+-- the map of an event, with its line feed
 abbrev pub edn_line : ℕ × Event → List ℕ
 edn_line numbered = map_text numbered.0 numbered.1 ++ codes "\n"
 
--- the lines of the events
+-- the lines of a history: a map for each event, numbered from 0
 abbrev pub edn_text : List Event → List ℕ
 edn_text events = flat_map edn_line (enumerate_from 0 events)

@@ -11,35 +11,35 @@ use Rattle.exports.specs.declared.event.Stage.{Stage}
 use Rattle.exports.specs.declared.event.Stage.TheVariants as stage
 use Rattle.exports.specs.Clients.{AreProcesses}
 
--- what the begin of a call is
+-- the stage of the event that begins a call
 abbrev pub stage_of_begin : Operation → Stage
 stage_of_begin operation.Read = stage.Invoke
 stage_of_begin operation.Write = stage.Invoke
 stage_of_begin operation.Move = stage.Info
 
--- the value that a call has as it begins
+-- the value of the event that begins a call; none for a read
 abbrev pub value_of_begin : Operation → Option (List ℕ) → Option (List ℕ)
 value_of_begin operation.Read value = None
 value_of_begin operation.Write value = value
 value_of_begin operation.Move value = value
 
--- an answered call completes, and of an open one nothing more is known
+-- the stage of a read or a write at its end: complete where it was answered, and open otherwise
 abbrev pub stage_of_answer : Option ℕ → Stage
 stage_of_answer None = stage.Info
 stage_of_answer (Some step) = stage.Complete
 
--- what the end of a call is
+-- the stage of the event that ends a call
 abbrev pub stage_of_end : Operation → Option ℕ → Stage
 stage_of_end operation.Read answered = stage_of_answer answered
 stage_of_end operation.Write answered = stage_of_answer answered
 stage_of_end operation.Move answered = stage.Info
 
--- the step of an answer, or this one where there is none
+-- the step of the event that ends a call: that of its answer, or `end` where it has none
 abbrev pub step_of_end : (end : ℕ) → Option ℕ → ℕ
 step_of_end end None = end
 step_of_end end (Some step) = step
 
--- the call of this entry begins
+-- the event that begins the call of this entry
 abbrev pub begin_of : Entry → Process → Event
 begin_of entry process = record {
   step = entry.called;
@@ -50,7 +50,7 @@ begin_of entry process = record {
   value = value_of_begin entry.operation entry.value;
 }
 
--- the call of this entry is answered, or stays open, which shows at the step `end`
+-- the event that ends the call of this entry: at its answer, or at the step `end` where it is open
 abbrev pub end_of : (end : ℕ) → Entry → Process → Event
 end_of end entry process = record {
   step = step_of_end end entry.answered;
@@ -61,12 +61,12 @@ end_of end entry process = record {
   value = entry.value;
 }
 
--- both events of an entry
+-- the two events of the call of this entry
 abbrev pub ends_of : (end : ℕ) → Entry × Process → List Event
 ends_of end made = begin_of made.0 made.1 ∷ end_of end made.0 made.1 ∷ []
 
--- the events are those of the entries, two of each, with its own value, in the order of their steps, and no process
--- has two calls at once
+-- the events are two for each entry, with the entry's own value, in the order of their steps; no process has two calls
+-- at once
 pub record IsHistory (entries : List Entry) (end : ℕ) (events : List Event) : Type 0 where
   pub processes : List Process
   pub apart : AreProcesses entries processes

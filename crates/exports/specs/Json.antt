@@ -1,4 +1,4 @@
--- The lines of a history as objects of JSON.
+-- The lines of a history as JSON objects.
 use Rattle.std.specs.Prelude.{ℕ, List, [], ◌∷◌, ◌++◌, codes}
 use Rattle.std.specs.Fmt.{decimal}
 use Rattle.std.specs.List.{enumerate_from, flat_map}
@@ -7,7 +7,7 @@ use Rattle.exports.specs.declared.event.Process.{Process}
 use Rattle.exports.specs.declared.event.Process.TheVariants as process
 use Rattle.exports.specs.Words.{quoted_or, texts, word_of_operation, word_of_stage}
 
--- who makes a call
+-- the process that makes a call, in JSON
 abbrev pub process_text : Process → List ℕ
 process_text (process.Client client) = decimal client
 process_text process.Nemesis = codes "\"nemesis\""
@@ -20,10 +20,10 @@ object_text index event = texts (
     ∷ codes ",\"f\":\"" ∷ word_of_operation event.operation
     ∷ codes "\",\"value\":" ∷ quoted_or event.value (codes "null") ∷ codes "}" ∷ [])
 
--- the line of an event with its number
+-- the object of an event, with its line feed
 abbrev pub json_line : ℕ × Event → List ℕ
 json_line numbered = object_text numbered.0 numbered.1 ++ codes "\n"
 
--- the lines of the events
+-- the lines of a history: an object for each event, numbered from 0
 abbrev pub json_text : List Event → List ℕ
 json_text events = flat_map json_line (enumerate_from 0 events)

@@ -1,4 +1,4 @@
--- The words of the lines.
+-- The words that both forms of a history share.
 use Rattle.std.specs.Prelude.{ℕ, List, [], ◌∷◌, ◌++◌, Option, Some, None, codes}
 use Rattle.words.specs.Hexadecimal.{hexadecimal_text}
 use Rattle.record.specs.declared.call.Operation.{Operation}
@@ -6,23 +6,23 @@ use Rattle.record.specs.declared.call.Operation.TheVariants as operation
 use Rattle.exports.specs.declared.event.Stage.{Stage}
 use Rattle.exports.specs.declared.event.Stage.TheVariants as stage
 
--- the texts one behind another
+-- the texts joined into one
 abbrev pub texts : List (List ℕ) → List ℕ
 texts [] = []
 texts (text ∷ more) = text ++ texts more
 
--- a value as its word between quotes, or this word for none
+-- a value in hexadecimal between quotes, or this word where there is none
 abbrev pub quoted_or : Option (List ℕ) → (none : List ℕ) → List ℕ
 quoted_or None none = none
 quoted_or (Some value) none = codes "\"" ++ hexadecimal_text value ++ codes "\""
 
--- the word of a stage
+-- the word for a stage
 abbrev pub word_of_stage : Stage → List ℕ
 word_of_stage stage.Invoke = codes "invoke"
 word_of_stage stage.Complete = codes "ok"
 word_of_stage stage.Info = codes "info"
 
--- the word of a kind of call
+-- the word for what a call does
 abbrev pub word_of_operation : Operation → List ℕ
 word_of_operation operation.Read = codes "read"
 word_of_operation operation.Write = codes "write"

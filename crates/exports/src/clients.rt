@@ -7,12 +7,12 @@ use record::{Entry, Operation};
 use std::alloc::{AllocError, Global};
 use tag::Stamp;
 
-/// A process for each entry: a read or a write goes to the first client that has no call open, and a move to the
+/// A process for each entry: a read or a write gets the first client that has no open call, and a move gets the
 /// nemesis.
 pub(crate) fn assign(alloc: Global, entries: &[Entry]) -> Result<Vec<Process>, AllocError>
     ensures { IfOk result (λ processes. AreProcesses entries.now processes.items) }
 {
-    // For each client the step by which all its calls are answered, or none.
+    // For each client the step by which all its calls are answered, or none where one is open.
     let mut clients = Vec::new(alloc);
     let mut processes = Vec::new(alloc);
     for entry in entries {
@@ -47,7 +47,7 @@ fn take_client(clients: &mut Vec<Option<Stamp>>, entry: &Entry) -> Result<u64, A
     }
 }
 
-// The first client whose calls are all answered before a step, and the step by which they are.
+// The first client whose calls are all answered before a step, and the step by which they are answered.
 fn first_free(clients: &[Option<Stamp>], called: Stamp) -> Option<(usize, Stamp)>
     ensures { IfSome result (λ free. (slice_get clients.now free.0 ≡ Some (Some free.1)) × (free.1 < called)) }
 {

@@ -1,4 +1,4 @@
-//! A history as Jepsen and Knossos have it.
+//! A history as EDN maps, as Jepsen and Knossos read it.
 ghost use Rattle.std.specs.Prelude.{Some};
 ghost use Rattle.exports.specs.Edn.{edn_text, map_text, process_text};
 
@@ -6,8 +6,8 @@ use crate::event::{Event, Process};
 use crate::value::{QuotedOr, operation_word, stage_word};
 use std::fmt;
 
-/// A line for each event, in order, which is a map of EDN: `{:index 0, :time 3, :type :invoke, :process 0, :f :write,
-/// :value "68"}`. The time is the step, a value its hexadecimal word, as in scripts.
+/// A line for each event, in order. It is an EDN map: `{:index 0, :time 3, :type :invoke, :process 0, :f :write, :value
+/// "68"}`. The time is the step, and the value is in hexadecimal, as in scripts.
 #[derive(Clone, Copy)]
 pub struct EdnLines<'a>(pub &'a [Event]);
 

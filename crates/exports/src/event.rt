@@ -9,41 +9,44 @@ use record::{Entry, Operation};
 use std::alloc::{AllocError, Global};
 use tag::Stamp;
 
-/// Who makes a call. No process has two calls at once.
+/// The process that makes a call, as a history names it. No process has two calls at once.
 #[derive(Clone, Copy, Debug, PartialEq, Eq)]
 pub enum Process {
-    /// A client that reads and writes, from 0.
+    /// A client, which reads and writes. Clients are numbered from 0.
     Client(u64),
-    /// Who moves the object.
+    /// The process that moves the object.
     Nemesis,
 }
 
-/// What an event is.
+/// What an event says of its call.
 #[derive(Clone, Copy, Debug, PartialEq, Eq)]
 pub enum Stage {
     /// A read or a write begins.
     Invoke,
-    /// It is answered.
+    /// A read or a write is answered.
     Complete,
-    /// It stays open, or a move begins or ends.
+    /// A read or a write stays open, or a move begins or ends.
     Info,
 }
 
-/// A call begins or ends.
+/// An event of a history: a call begins or ends.
 #[derive(Debug, PartialEq, Eq, Drop)]
 pub struct Event {
-    /// The step at which it does.
+    /// The number of the step at which the call begins or ends.
     pub step: Stamp,
+    /// The process that makes the call.
     pub process: Process,
     /// The call's number in its object, from 1.
     pub call: u64,
+    /// What the call does.
     pub operation: Operation,
+    /// What the event says of the call.
     pub stage: Stage,
-    /// What the call writes, or an answered read returned.
+    /// The value that the call writes, or that an answered read returned; none where a read begins.
     pub value: Option<Bytes>,
 }
 
-/// The two events of each entry, in the order of their steps. A call that stays open ends at the step `end`.
+/// The two events of each entry, in the order of their steps. A call that is open ends at the step `end`.
 pub fn events(alloc: Global, entries: &[Entry], end: Stamp) -> Result<Vec<Event>, AllocError>
     ensures { IfOk result (λ events. IsHistory entries.now end events.items) }
 {

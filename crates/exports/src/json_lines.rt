@@ -6,9 +6,9 @@ use crate::event::{Event, Process};
 use crate::value::{QuotedOr, operation_word, stage_word};
 use std::fmt;
 
-/// A line for each event, in order, which is an object of JSON with the same names:
-/// `{"index":0,"time":3,"type":"invoke","process":0,"f":"write","value":"68"}`. The time is the step, a value its
-/// hexadecimal word, as in scripts.
+/// A line for each event, in order. It is a JSON object with the names of `EdnLines`:
+/// `{"index":0,"time":3,"type":"invoke","process":0,"f":"write","value":"68"}`. The time is the step, and the value is
+/// in hexadecimal, as in scripts.
 #[derive(Clone, Copy)]
 pub struct JsonLines<'a>(pub &'a [Event]);
 

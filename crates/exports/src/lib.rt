@@ -1,4 +1,4 @@
-//! The history of an object as other checkers read it: Jepsen's and Knossos' maps, and the same as lines of JSON.
+//! The history of an object for other checkers: as the EDN maps of Jepsen and Knossos, and as lines of JSON.
 #![tactic(auto)]
 
 pub use edn_lines::EdnLines;

@@ -1,4 +1,4 @@
-//! What a line has for a value and for its words.
+//! The values and words in the lines of a history.
 ghost use Rattle.std.specs.Prelude.{◌≡◌, Some};
 ghost use Rattle.exports.specs.Words.{quoted_or, word_of_operation, word_of_stage};
 
@@ -8,7 +8,7 @@ use record::Operation;
 use std::fmt;
 use words::Hexadecimal;
 
-/// A value as its hexadecimal word between quotes, or a word for none.
+/// A value in hexadecimal between quotes, or the word `none` where there is none.
 #[derive(Clone, Copy)]
 pub(crate) struct QuotedOr<'a> {
     pub(crate) value: &'a Option<Bytes>,
