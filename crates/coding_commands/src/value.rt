@@ -8,8 +8,8 @@ use encoder::Piece;
 use std::alloc::Global;
 use tag::Refusal;
 
-/// The value of `len` bytes, which is cut into `k` blocks, that has these pieces. `BadPieces` also where `k` or `len` is
-/// above its limit, however large it is.
+/// The value of `len` bytes, which is cut into `k` blocks, that has these pieces. `BadPieces` also where `k` or `len`
+/// is above its limit, however large it is.
 pub(crate) fn value_of(
     alloc: Global,
     k: u64,
