@@ -1,4 +1,4 @@
--- The names and bars of the calls.
+-- The names and bars of the calls in a picture, as SVG.
 use Rattle.std.specs.Prelude.{ℕ, List, [], ◌∷◌, ◌++◌, Option, Some, None, codes}
 use Rattle.std.specs.Fmt.{decimal}
 use Rattle.std.specs.List.{flat_map}
@@ -17,48 +17,48 @@ word_of_operation operation.Read = codes "read"
 word_of_operation operation.Write = codes "write"
 word_of_operation operation.Move = codes "move"
 
--- the texts one behind another
+-- the texts joined into one
 abbrev pub texts : List (List ℕ) → List ℕ
 texts [] = []
 texts (text ∷ more) = text ++ texts more
 
--- how a bar looks
+-- the class of a bar, by which it is styled: an open call has a class of its own
 abbrev pub class_of : (answered : Option ℕ) → List ℕ
 class_of None = codes "bar open"
 class_of (Some step) = codes "bar"
 
--- the steps of a call
+-- the text that gives the steps of a call
 abbrev pub course_text : (called : ℕ) → (answered : Option ℕ) → List ℕ
 course_text called None = texts (codes "from step " ∷ decimal called ∷ codes ", open" ∷ [])
 course_text called (Some step) = codes "steps " ++ decimal called ++ (codes " to " ++ decimal step)
 
--- the name of a call
+-- the name of a call, at the left of its lane
 abbrev pub name_text : Lane → List ℕ
 name_text lane = texts (
     codes "<text x='8' y='" ∷ px_text (base_of lane) ∷ codes "'>call " ∷ decimal lane.entry.call
     ∷ codes " " ∷ word_of_operation lane.entry.operation ∷ codes "</text>\n" ∷ [])
 
--- a mark down at the call step, and a line to the answer, or to the right edge of time
+-- the path of a bar: a mark at the step of the call, and a line to the answer, or to the right edge where it is open
 abbrev pub path_text : Plan → Lane → List ℕ
 path_text plan lane = codes "M" ++ (px_text (x_of plan lane.entry.called)
     ++ (codes " " ++ (px_text (bar_top_of lane)
     ++ (codes "v10m0 -5H" ++ px_text (end_of plan lane.entry.answered)))))
 
--- what a bar stands for
+-- the title of a bar: the call, what it does, and its steps
 abbrev pub title_text : Entry → List ℕ
 title_text entry = codes "call " ++ (decimal entry.call ++ (codes " " ++ (word_of_operation entry.operation
     ++ (codes ", " ++ course_text entry.called entry.answered))))
 
--- the bar of a call
+-- the bar of a call, with its title
 abbrev pub bar_text : Plan → Lane → List ℕ
 bar_text plan lane = texts (
     codes "<path class='" ∷ class_of lane.entry.answered ∷ codes "' d='" ∷ path_text plan lane
     ∷ codes "'><title>" ∷ title_text lane.entry ∷ codes "</title></path>\n" ∷ [])
 
--- the lane of a call
+-- the name and the bar of a call
 abbrev pub lane_text : Plan → Lane → List ℕ
 lane_text plan lane = name_text lane ++ bar_text plan lane
 
--- a name and a bar for each call
+-- the names and bars of all calls
 abbrev pub call_lanes_text : Plan → List ℕ
 call_lanes_text plan = flat_map (lane_text plan) plan.lanes.items

@@ -1,12 +1,12 @@
--- Where things stand in the lane of a call.
+-- Heights in the lane of a call, in tenths of a pixel.
 use Rattle.std.specs.Prelude.{ℕ, ◌+◌}
 use Rattle.picture.specs.declared.lane.Lane.{Lane}
 use Rattle.picture.specs.Px.{saturated}
 
--- the line of a lane's texts
+-- the baseline of the texts in a lane
 abbrev pub base_of : Lane → ℕ
 base_of lane = saturated (lane.top + 120)
 
--- the upper end of the mark at which a bar begins
+-- the upper end of the mark with which a bar begins
 abbrev pub bar_top_of : Lane → ℕ
 bar_top_of lane = saturated (lane.top + 30)

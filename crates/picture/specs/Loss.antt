@@ -5,12 +5,12 @@ use Rattle.mail.specs.declared.message.Body.TheVariants as body
 use Rattle.mail.specs.declared.message.Message.{Message}
 use Rattle.picture.specs.declared.loss.Loss.{Loss}
 
--- the step at which a request was served, where this is its reply
+-- the step at which the request was served, where the message is its reply; none where it is the request
 abbrev pub served_at : Body → Option ℕ
 served_at (body.Request asked) = None
 served_at (body.Reply kind reply) = Some reply.step
 
--- this message is lost at a step
+-- the loss of this message at this step
 abbrev pub loss_of : Message → (step : ℕ) → Loss
 loss_of message step = record {
   call = message.call;

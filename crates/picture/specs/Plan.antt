@@ -1,19 +1,19 @@
--- Where things stand in a picture.
+-- Where steps are drawn, in tenths of a pixel from the left.
 use Rattle.std.specs.Prelude.{ℕ, ◌+◌, ◌-◌, ◌*◌, ◌/◌, max, Option, Some, None}
 use Rattle.picture.specs.declared.plan.Plan.{Plan}
 use Rattle.picture.specs.declared.plan.TheConstants.{LEFT}
 use Rattle.picture.specs.Px.{saturated}
 
--- the steps between the first and the last, over the width of time
+-- where a step is drawn: the steps from the first to the last share the width of the time axis evenly
 abbrev pub x_of : Plan → (step : ℕ) → ℕ
 x_of plan step =
     saturated (LEFT + saturated ((step - plan.first) * plan.width) / max (plan.last - plan.first) 1)
 
--- the right edge of time
+-- the right edge of the time axis
 abbrev pub right_of : Plan → ℕ
 right_of plan = saturated (LEFT + plan.width)
 
--- where a call ends that is answered at this step, or open
+-- where the bar of a call ends: at the step of its answer, or at the right edge where the call is open
 abbrev pub end_of : Plan → Option ℕ → ℕ
 end_of plan None = right_of plan
 end_of plan (Some step) = x_of plan step

@@ -1,12 +1,12 @@
--- Lengths on the page.
+-- Lengths on the page, in tenths of a pixel.
 use Rattle.std.specs.Prelude.{ℕ, ◌-◌, ◌/◌, ◌%◌, ◌^◌, ◌==◌, min, List, ◌++◌, codes, if◌then◌else◌}
 use Rattle.std.specs.Fmt.{decimal}
 
--- a number, or the greatest of 64 bits where it is more
+-- a number, or the greatest number of 64 bits where it is above that
 abbrev pub saturated : ℕ → ℕ
 saturated n = min n (2 ^ 64 - 1)
 
--- tenths of a pixel, in pixels
+-- a length in pixels, with one decimal where it is not whole
 abbrev pub px_text : (tenths : ℕ) → List ℕ
 px_text tenths =
     if tenths % 10 == 0 then decimal (tenths / 10)

@@ -10,7 +10,8 @@ use record::Entry;
 use std::fmt;
 use tag::Stamp;
 
-/// A name and a bar for each call: from its call step to its answer, or to the right edge of time where it is open.
+/// A name and a bar for each call. The bar goes from the call's step to its answer, or to the right edge where it is
+/// open.
 #[derive(Clone, Copy)]
 pub(crate) struct CallLanes<'a>(pub(crate) &'a Plan);
 
@@ -26,7 +27,7 @@ impl fmt::Display for CallLanes<'_> {
     }
 }
 
-// The name of a call, at the left.
+// The name of a call, at the left of its lane.
 #[derive(Clone, Copy)]
 struct CallName<'a>(&'a Lane);
 
@@ -45,7 +46,7 @@ impl fmt::Display for CallName<'_> {
     }
 }
 
-// The bar of a call.
+// The bar of a call, with its title.
 #[derive(Clone, Copy)]
 struct CallBar<'a> {
     plan: &'a Plan,
@@ -67,7 +68,7 @@ impl fmt::Display for CallBar<'_> {
     }
 }
 
-// Where the bar of a call goes: a mark down, and a line to the right.
+// The path of a bar: a mark at the step of the call, and a line to the right.
 #[derive(Clone, Copy)]
 struct BarPath<'a> {
     plan: &'a Plan,
@@ -85,7 +86,7 @@ impl fmt::Display for BarPath<'_> {
     }
 }
 
-// What the bar of a call stands for.
+// The title of a bar: the call, what it does, and its steps.
 #[derive(Clone, Copy)]
 struct BarTitle<'a>(&'a Entry);
 
@@ -107,7 +108,7 @@ fn bar_class(answered: Option<Stamp>) -> &'static str
     }
 }
 
-// The steps of a call.
+// The text that gives the steps of a call.
 #[derive(Clone, Copy)]
 struct Course<'a>(&'a Entry);
 

@@ -4,12 +4,14 @@ use std::alloc::{AllocError, Global};
 use std::collections::BTreeSet;
 use tag::Stamp;
 
-/// For each tag of a bank, from the greatest down, the step at which its piece was dropped, if it was once kept.
+/// For each tag of a bank, from the greatest down, the step at which its piece was dropped; none where it was not, or
+/// was never kept.
 #[derive(Debug, Drop)]
 pub(crate) struct Drops(Vec<Option<Stamp>>);
 
 impl Drops {
-    /// No piece is kept once a bank is retired, and none of a finalized tag once `delta` + 1 greater ones are final.
+    /// When the pieces of this bank were dropped. A retired bank keeps no piece, and a bank with `delta` keeps none of
+    /// a finalized tag once `delta` + 1 greater tags are finalized.
     pub(crate) fn of(alloc: Global, bank: &Bank) -> Result<Drops, AllocError> {
         let mut steps = Vec::new(alloc);
         if bank.delta().is_none() && bank.retired().is_none() {
@@ -26,12 +28,12 @@ impl Drops {
         Ok(Drops(steps))
     }
 
-    /// The step for the tag that has `i` others below it.
+    /// The step for a tag, where `i` tags of the bank are below it.
     pub(crate) fn step(&self, i: usize) -> Option<Stamp> {
         *self.0.get(self.0.len().checked_sub(i)?.checked_sub(1)?)?
     }
 
-    /// Whether there is a step for a tag that is not the opening tag.
+    /// Whether a piece was dropped, other than that of the opening tag.
     pub(crate) fn any(&self) -> bool {
         for i in 1..self.0.len() {
             if self.step(i).is_some() {
@@ -42,7 +44,7 @@ impl Drops {
     }
 }
 
-// The first steps at which greater tags were finalized, `delta` + 1 of them at most; none where there is no `delta`.
+// The first steps at which greater tags were finalized, at most `delta` + 1 of them. It stays empty without `delta`.
 #[derive(Drop)]
 struct FinalsAbove {
     steps: BTreeSet<Stamp>,
@@ -61,7 +63,7 @@ impl FinalsAbove {
         }
     }
 
-    // The step from which on `delta` + 1 of them were final, if they were.
+    // The step by which `delta` + 1 greater tags were finalized; none where fewer are.
     fn full(&self) -> Option<Stamp> {
         if self.most > 0 && self.steps.len() == self.most {
             self.steps.last().copied()
@@ -81,7 +83,7 @@ impl FinalsAbove {
     }
 }
 
-// The step, where the piece came before it.
+// The step, where the piece came before it; none where it never came, or came later.
 fn kept_until(row: &Row, step: Option<Stamp>) -> Option<Stamp> {
     let arrival = row.arrival.as_ref()?;
     if arrival.step < step? { step } else { None }
@@ -94,7 +96,7 @@ fn finalized_at(row: &Row) -> Option<Stamp> {
     }
 }
 
-// The later of two steps, where both are there.
+// The later of two steps; none unless both are there.
 fn later(a: Option<Stamp>, b: Option<Stamp>) -> Option<Stamp> {
     Some(a?.max(b?))
 }

@@ -1,4 +1,4 @@
-//! What stands round the lanes: the steps, the moves and the order of the calls.
+//! What surrounds the lanes: the numbers of the steps, the bands of the moves, and the order of the calls.
 ghost use Rattle.std.specs.Prelude.{◌<◌};
 
 use crate::plan::{ORDERED, Plan, ROW};
@@ -7,7 +7,7 @@ use crate::text::{Front, operation_word};
 use record::{Entry, Operation};
 use std::fmt;
 
-/// The numbers of steps, with a thin line down from each.
+/// The numbers of some steps, with a thin vertical line at each.
 #[derive(Clone, Copy)]
 pub(crate) struct Steps<'a>(pub(crate) &'a Plan);
 
@@ -34,7 +34,7 @@ impl fmt::Display for Steps<'_> {
     }
 }
 
-// How many steps lie between two that are named: 1, 2 or 5 times a power of ten, so that some ten to thirty are.
+// The distance between two numbered steps: 1, 2 or 5 times a power of ten, so that some ten to thirty are numbered.
 fn tick(span: u64) -> u64
     ensures { 0 < result }
 {
@@ -51,7 +51,7 @@ fn tick(span: u64) -> u64
     every.max(1)
 }
 
-/// A band from the call of each move to its answer.
+/// A band for each move, from the step of its call to that of its answer.
 #[derive(Clone, Copy)]
 pub(crate) struct Bands<'a>(pub(crate) &'a Plan);
 
@@ -80,12 +80,12 @@ impl fmt::Display for Bands<'_> {
     }
 }
 
-/// The order of the calls as one register, in rows.
+/// The calls in an order in which they follow one register, in rows.
 #[derive(Clone, Copy)]
 pub(crate) struct Order<'a> {
     pub(crate) plan: &'a Plan,
     pub(crate) order: &'a [u64],
-    /// The line of the first row.
+    /// The baseline of the first row.
     pub(crate) y: Px,
 }
 
@@ -115,7 +115,7 @@ impl fmt::Display for Order<'_> {
     }
 }
 
-// A call in the order.
+// One call of the order.
 #[derive(Clone, Copy)]
 struct Ordered<'a>(&'a Entry);
 

@@ -5,23 +5,24 @@ ghost use Rattle.picture.specs.Lane.{bar_top_of, base_of};
 use crate::px::Px;
 use record::Entry;
 
-/// Where a call stands.
+/// The lane of a call.
 #[derive(Debug, Drop)]
 pub struct Lane {
+    /// The entry of the call.
     pub entry: Entry,
     /// The upper edge of the lane.
     pub(crate) top: u64,
 }
 
 impl Lane {
-    /// The line of the lane's texts.
+    /// The baseline of the texts in the lane.
     pub(crate) fn base(&self) -> Px
         ensures { result.0 ≡ base_of self.now }
     {
         Px(self.top).plus(120)
     }
 
-    /// The upper end of the mark at which the bar begins.
+    /// The upper end of the mark with which the bar begins.
     pub(crate) fn bar_top(&self) -> Px
         ensures { result.0 ≡ bar_top_of self.now }
     {

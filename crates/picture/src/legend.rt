@@ -1,11 +1,11 @@
-//! What the signs of a picture mean, and how they look.
+//! The legend, and the styles of a picture.
 use crate::plan::Plan;
 use crate::px::Px;
 use crate::retired::{HATCHED, has_retired};
 use crate::tag_marks::SQUARE;
 use std::fmt;
 
-/// The styles of all things. Each kind of phase has a shade of its own, and each text can be selected.
+/// The styles of all elements. Each kind of phase has its own shade, and each text can be selected.
 pub(crate) const STYLE: &str = "<style>\
 text{font:11px sans-serif}.in{font-size:9px;text-anchor:middle}.head{font-weight:bold}\
 .tick{font-size:9px;text-anchor:middle;fill:#555}.grid{stroke:#e4e4e4;fill:none}\
@@ -17,11 +17,11 @@ rect{stroke:#000;stroke-width:.7}.next{fill:#fff}.spread{fill:#f6e6c4}.query{fil
 path.fin{stroke:#000;stroke-width:.7}.pending{fill:#fff;stroke:#000}.final{fill:#000;stroke:#000}\
 </style>";
 
-/// What the signs mean, in two lines; the square and the hatching only where there are some.
+/// The legend, in two lines. It explains the square and the hatching only where there are some.
 #[derive(Clone, Copy)]
 pub(crate) struct Legend<'a> {
     pub(crate) plan: &'a Plan,
-    /// The first line.
+    /// The baseline of the first line.
     pub(crate) y: Px,
 }
 
@@ -65,7 +65,7 @@ fn has_dropped(plan: &Plan) -> bool {
     false
 }
 
-// The kinds of phases, with the letter that stands where a word has no room.
+// The kinds of phases, each with the letter that is drawn where its word has no room.
 #[derive(Clone, Copy)]
 struct KindSigns(Px);
 
@@ -95,7 +95,7 @@ impl fmt::Display for KindSigns {
     }
 }
 
-// The marks of servers, and a move.
+// The marks in the lanes of servers, and the band of a move.
 #[derive(Clone, Copy)]
 struct MarkSigns(Px);
 
@@ -124,7 +124,7 @@ impl fmt::Display for MarkSigns {
     }
 }
 
-// The signs of pointers, and the lines.
+// The marks of pointers to the next position, and the lines of messages.
 #[derive(Clone, Copy)]
 struct LineSigns(Px);
 

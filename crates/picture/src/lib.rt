@@ -1,5 +1,5 @@
 //! A picture of what happened to an object, as SVG: its calls with their phases, its servers, and the messages between
-//! them, with time in steps from left to right.
+//! them. Time goes in steps from left to right.
 #![tactic(auto)]
 
 pub use lane::Lane;

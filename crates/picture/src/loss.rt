@@ -5,24 +5,25 @@ ghost use Rattle.picture.specs.Loss.{loss_of};
 use mail::{Body, Message};
 use tag::Stamp;
 
-/// A message of an object that was lost.
+/// A message of an object, a request or a reply, that was lost.
 #[derive(Clone, Copy, Debug, PartialEq, Eq)]
 pub struct Loss {
     /// The call's number in its object, from 1.
     pub call: u64,
     /// The phase's number in its call, from 1.
     pub phase: u32,
-    /// The position that the phase asks, and the member's place in its layout.
+    /// The position that the phase asks, from 0.
     pub position: u32,
+    /// The member's place in the layout of that position, from 0.
     pub member: u8,
-    /// The step at which the request was served, if it was: then its reply is what was lost.
+    /// The step at which the request was served, where the lost message is its reply; none where it is the request.
     pub served: Option<Stamp>,
     /// The step at which the message was lost.
     pub step: Stamp,
 }
 
 impl Loss {
-    /// That of a message at a step.
+    /// The loss of this message at this step.
     pub fn of(message: &Message, step: Stamp) -> Loss
         ensures { result ≡ loss_of message.now step }
     {

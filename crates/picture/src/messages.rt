@@ -7,10 +7,11 @@ use register::Register;
 use std::fmt;
 use tag::Stamp;
 
-/// How many replies are shown.
+/// How many replies are drawn at most.
 pub(crate) const MOST_REPLIES: usize = 4000;
 
-/// A thin line for each reply that was taken, from where its request was served, and one for each lost message.
+/// A thin line for each reply that was taken, from the step at which its request was served, and one for each lost
+/// message.
 #[derive(Clone, Copy)]
 pub(crate) struct Messages<'a> {
     pub(crate) plan: &'a Plan,
@@ -19,7 +20,7 @@ pub(crate) struct Messages<'a> {
 }
 
 impl Messages<'_> {
-    /// How many calls come first in whose phases so many replies were taken as can be shown.
+    /// How many calls, from the first on, have no more replies together than can be drawn.
     pub(crate) fn shown(&self) -> usize {
         let mut replies: usize = 0;
         for (index, lane) in self.plan.lanes.iter().enumerate() {
@@ -64,7 +65,7 @@ impl fmt::Display for Messages<'_> {
     }
 }
 
-// The replies that a phase took.
+// The replies that one phase took.
 #[derive(Clone, Copy)]
 struct PhaseReplies<'a> {
     plan: &'a Plan,
@@ -93,7 +94,7 @@ impl fmt::Display for PhaseReplies<'_> {
     }
 }
 
-// A lost message.
+// One lost message.
 #[derive(Clone, Copy)]
 struct Lost<'a> {
     messages: Messages<'a>,

@@ -5,7 +5,7 @@ use crate::px::Px;
 use crate::server_lanes::MOST_TAGS;
 use std::fmt;
 
-/// A line that says what is not drawn, if anything is not.
+/// A line that says what is not drawn. It is empty where all is drawn.
 #[derive(Clone, Copy)]
 pub(crate) struct Omitted<'a> {
     pub(crate) messages: Messages<'a>,
@@ -46,7 +46,7 @@ impl fmt::Display for Omitted<'_> {
 }
 
 impl Omitted<'_> {
-    // How many phases have no room for a letter.
+    // How many phases have no room for their letter.
     fn narrow(&self) -> usize {
         let plan = self.messages.plan;
         let mut count: usize = 0;

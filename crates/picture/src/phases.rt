@@ -1,4 +1,4 @@
-//! The phases in the bars of the calls, and the values at their ends.
+//! The phases in the bars of the calls, and the values beside their ends.
 use crate::lane::Lane;
 use crate::plan::{LETTER, Plan, WORD};
 use crate::px::Px;
@@ -8,7 +8,7 @@ use record::Entry;
 use register::Register;
 use std::fmt;
 
-/// The phases of each call, by their kinds and positions, and the call's value at its end.
+/// The phases of each call, with their kinds and positions, and the value of each call beside its end.
 #[derive(Clone, Copy)]
 pub(crate) struct Phases<'a> {
     pub(crate) plan: &'a Plan,
@@ -30,7 +30,7 @@ impl fmt::Display for Phases<'_> {
     }
 }
 
-// What stands at the end of a call.
+// The text beside the end of a call: its value, and whether it is open.
 #[derive(Clone, Copy)]
 struct EndText<'a>(&'a Entry);
 
@@ -46,7 +46,7 @@ impl fmt::Display for EndText<'_> {
     }
 }
 
-// A phase in the bar of its call.
+// One phase in the bar of its call.
 #[derive(Clone, Copy)]
 struct Segment<'a> {
     plan: &'a Plan,
@@ -91,7 +91,7 @@ impl fmt::Display for Segment<'_> {
     }
 }
 
-// The steps of a phase, and how many replied.
+// The steps of a phase, and how many members replied.
 #[derive(Clone, Copy)]
 struct Replies<'a>(&'a Phase);
 

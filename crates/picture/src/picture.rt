@@ -13,17 +13,19 @@ use crate::text::Escaped;
 use register::Register;
 use std::fmt;
 
-/// A picture of an object, which prints as SVG. A run of 40 calls fits a screen. Of a long one the words of narrow
-/// phases are left out, and what else is, a line at the foot says.
+/// A picture of an object. It prints as SVG. A run of 40 calls fits a screen. In the picture of a long run narrow
+/// phases have no words, and a line at the foot says what else is left out.
 #[derive(Clone, Copy)]
 pub struct Picture<'a> {
     /// The object's name.
     pub name: &'a str,
+    /// Where lanes and steps are drawn.
     pub plan: &'a Plan,
+    /// The object.
     pub register: &'a Register,
-    /// The calls in the order in which they follow one register.
+    /// The numbers of the calls, in an order in which they follow one register.
     pub order: &'a [u64],
-    /// The messages that were lost.
+    /// The messages of the object that were lost.
     pub losses: &'a [Loss],
 }
 
@@ -45,7 +47,7 @@ impl fmt::Display for Picture<'_> {
     }
 }
 
-// The size of the page, its styles, and its first line.
+// The size of the page, its styles, and the heading.
 #[derive(Clone, Copy)]
 struct Head<'a> {
     name: &'a str,
@@ -77,7 +79,7 @@ impl fmt::Display for Head<'_> {
     }
 }
 
-// The order of the calls, what the signs mean, and what is left out.
+// The order of the calls, the legend, and what is left out.
 #[derive(Clone, Copy)]
 struct Foot<'a> {
     messages: Messages<'a>,

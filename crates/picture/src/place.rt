@@ -1,27 +1,27 @@
-//! Where the servers of a position stand.
+//! Where the servers of a position are drawn.
 use crate::drops::Drops;
 use bank::{Bank, Label};
 use register::Register;
 use std::alloc::{AllocError, Global};
 use tag::Stamp;
 
-/// The lanes of the servers of a position.
+/// The lanes of the servers of a position, and what happened to their banks.
 #[derive(Debug, Drop)]
 pub(crate) struct Place {
     pub(crate) position: u32,
     /// The upper edge of the first lane.
     pub(crate) top: u64,
     pub(crate) members: u8,
-    /// The step at which the banks were opened.
+    /// The step at which the banks of the position were opened.
     pub(crate) opened: Stamp,
-    /// The step at which they were retired, if they were.
+    /// The step at which the position was retired; none where it was not.
     pub(crate) retired: Option<Stamp>,
-    /// When the pieces of each were dropped.
+    /// For each member, when its pieces were dropped.
     pub(crate) drops: Vec<Drops>,
 }
 
 impl Place {
-    /// The place of a position below the line `top`, if the position is there.
+    /// The lanes of a position from the line `top` down; none where there is no such position.
     pub(crate) fn of(
         alloc: Global,
         register: &Register,
@@ -52,7 +52,7 @@ impl Place {
     }
 }
 
-// The step of the opening tag, which is the least one.
+// The step at which a bank was opened. It is known from the opening tag, which is the least one.
 fn opened_at(bank: &Bank) -> Stamp {
     if bank.count() == 0 {
         return 0;

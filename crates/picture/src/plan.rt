@@ -1,4 +1,4 @@
-//! Where things stand in a picture.
+//! Where lanes and steps are drawn. All lengths are in tenths of a pixel.
 ghost use Rattle.std.specs.Prelude.{◌≡◌, ◌<◌, IfOk, map};
 ghost use Rattle.picture.specs.Plan.{end_of, right_of, x_of};
 
@@ -11,47 +11,52 @@ use register::Register;
 use std::alloc::{AllocError, Global};
 use tag::{MOST_POSITIONS, Stamp};
 
-/// The left edge of time, behind the names of the lanes.
+/// The left edge of the time axis. The names of the lanes are left of it.
 pub(crate) const LEFT: u64 = 1500;
 
-/// What stands to the right of time, for the values at the ends of calls.
+/// The room to the right of the time axis, for the values at the ends of calls.
 const RIGHT: u64 = 1700;
 
-/// The widest that time gets, and the least.
+/// The greatest width of the time axis.
 const WIDEST: u64 = 11_000;
 
+/// The least width of the time axis.
 const NARROWEST: u64 = 6_000;
 
-/// The width of a step where there is room.
+/// The width of one step, where there is room for it.
 const STEP: u64 = 90;
 
-/// The heights of a call's lane, of a server's, and of the line above a position's servers.
+/// The height of a call's lane.
 pub(crate) const CALL: u64 = 160;
 
+/// The height of a server's lane.
 pub(crate) const SERVER: u64 = 140;
 
+/// The height of the line above the servers of a position.
 const HEAD: u64 = 200;
 
 /// The upper edge of the calls' lanes.
 const CALLS_TOP: u64 = 520;
 
-/// How wide a phase has to be for its word, and for its letter.
+/// How wide a phase must be to show its word.
 pub(crate) const WORD: u64 = 380;
 
+/// How wide a phase must be to show its letter.
 pub(crate) const LETTER: u64 = 70;
 
-/// The width of a call in the order, and how many rows of them are shown.
+/// The width of one call in the order.
 pub(crate) const ORDERED: u64 = 1250;
 
+/// How many rows of the order are drawn at most.
 const MOST_ROWS: u64 = 6;
 
-/// The height of such a row.
+/// The height of one row of the order.
 pub(crate) const ROW: u64 = 150;
 
-/// Where the lanes of an object's calls and servers stand, and its steps.
+/// Where the lanes of an object's calls and servers are drawn, and its first and last step.
 #[derive(Debug, Drop)]
 pub struct Plan {
-    /// The lanes of the calls, from above.
+    /// The lanes of the calls, from top to bottom.
     pub lanes: Vec<Lane>,
     pub(crate) first: Stamp,
     pub(crate) last: Stamp,
@@ -62,7 +67,7 @@ pub struct Plan {
 }
 
 impl Plan {
-    /// The plan of an object with these entries, each of which has a lane. Want of memory is the only failure.
+    /// The plan for an object with these entries, each of which gets a lane. The only error is that memory is refused.
     pub fn new(alloc: Global, register: &Register, entries: &[Entry]) -> Result<Plan, AllocError>
         ensures { IfOk result (λ plan. map (λ lane. lane.entry) plan.lanes.items ≡ entries.now) }
     {
@@ -93,12 +98,12 @@ impl Plan {
         })
     }
 
-    /// How many steps there are from the first to the last, and one at least.
+    /// The number of steps from the first to the last, and at least 1.
     pub(crate) fn span(&self) -> u64 {
         self.last.saturating_sub(self.first).max(1)
     }
 
-    /// Where a step stands.
+    /// Where a step is drawn.
     pub(crate) fn x(&self, step: Stamp) -> Px
         ensures { result.0 ≡ x_of self.now step }
     {
@@ -107,14 +112,14 @@ impl Plan {
         Px(LEFT.saturating_add(offset.saturating_mul(self.width) / span))
     }
 
-    /// The right edge of time.
+    /// The right edge of the time axis.
     pub(crate) fn right(&self) -> Px
         ensures { result.0 ≡ right_of self.now }
     {
         Px(LEFT.saturating_add(self.width))
     }
 
-    /// Where a call ends that is answered at this step, or open.
+    /// Where the bar of a call ends: at the step of its answer, or at the right edge where the call is open.
     pub(crate) fn end_x(&self, answered: Option<Stamp>) -> Px
         ensures { result.0 ≡ end_of self.now answered }
     {
@@ -124,7 +129,7 @@ impl Plan {
         }
     }
 
-    /// How wide so many steps are.
+    /// The width between two steps.
     pub(crate) fn wide(&self, from: Stamp, to: Stamp) -> Px {
         Px(self.x(to).0.saturating_sub(self.x(from).0))
     }
@@ -137,7 +142,7 @@ impl Plan {
         }
     }
 
-    /// The middle of the lane of a server.
+    /// The middle of the lane of a server, from top to bottom.
     pub(crate) fn server_y(&self, position: u32, member: u8) -> Px {
         match self.positions.get(position as usize) {
             Some(place) => Px(down(place.top, u64::from(member), SERVER)).plus(SERVER / 2),
@@ -150,24 +155,24 @@ impl Plan {
         self.right().plus(RIGHT)
     }
 
-    /// The line of the first row of the order.
+    /// The baseline of the first row of the order.
     pub(crate) fn order_y(&self) -> Px {
         Px(self.bottom).plus(200)
     }
 
-    /// How many calls of so many are shown in the order.
+    /// How many of `calls` calls are shown in the order.
     pub(crate) fn ordered(&self, calls: usize) -> usize {
         calls.min(self.columns().saturating_mul(MOST_ROWS) as usize)
     }
 
-    /// The first line of what the signs mean, below the order of so many calls.
+    /// The baseline of the legend's first line, below the order of `calls` calls.
     pub(crate) fn legend_y(&self, calls: usize) -> Px {
         let rows = (self.ordered(calls) as u64).div_ceil(self.columns()).max(1);
         self.order_y()
             .plus(rows.saturating_mul(ROW).saturating_add(60))
     }
 
-    /// How wide a phase is: to the right edge of time where it is open.
+    /// The width of a phase, which goes to the right edge of the time axis where it is open.
     pub(crate) fn phase_width(&self, phase: &Phase) -> Px {
         match phase.steps() {
             (start, Some(end)) => self.wide(start, end),
@@ -175,7 +180,7 @@ impl Plan {
         }
     }
 
-    /// How many calls of the order have room beside one another.
+    /// How many calls of the order fit into one row.
     pub(crate) fn columns(&self) -> u64
         ensures { 0 < result }
     {
@@ -183,7 +188,7 @@ impl Plan {
     }
 }
 
-// A lane for each entry.
+// One lane for each entry.
 fn lanes_of(alloc: Global, entries: &[Entry]) -> Result<Vec<Lane>, AllocError>
     ensures { IfOk result (λ lanes. map (λ lane. lane.entry) lanes.items ≡ entries.now) }
 {
@@ -197,7 +202,7 @@ fn lanes_of(alloc: Global, entries: &[Entry]) -> Result<Vec<Lane>, AllocError>
     Ok(lanes)
 }
 
-// An entry that shares its value's bytes.
+// A copy of an entry, which shares the bytes of its value.
 fn copy_of(entry: &Entry) -> Result<Entry, AllocError>
     ensures { IfOk result (λ copy. copy ≡ entry.now) }
 {
@@ -214,7 +219,7 @@ fn copy_of(entry: &Entry) -> Result<Entry, AllocError>
     })
 }
 
-// The upper edge behind so many lanes.
+// The upper edge of what follows `count` lanes.
 fn down(top: u64, count: u64, height: u64) -> u64 {
     top.saturating_add(count.saturating_mul(height))
 }

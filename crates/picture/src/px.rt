@@ -4,7 +4,7 @@ ghost use Rattle.picture.specs.Px.{px_text, saturated};
 
 use std::fmt;
 
-/// A length in tenths of a pixel.
+/// A length in tenths of a pixel. It prints in pixels.
 #[derive(Clone, Copy, Debug, PartialEq, Eq)]
 pub(crate) struct Px(pub(crate) u64);
 

@@ -1,20 +1,20 @@
-//! The positions that were retired.
+//! The bands over positions that were retired.
 use crate::place::Place;
 use crate::plan::{Plan, SERVER};
 use crate::px::Px;
 use std::fmt;
 
-/// The lines of the hatching, one beside the other.
+/// The pattern of the hatching.
 const HATCH: &str = "<pattern id='retired' width='5' height='5' patternUnits='userSpaceOnUse' \
 patternTransform='rotate(45)'><path d='M2.5 0v5' stroke='#aaa' stroke-width='.8'/></pattern>";
 
-/// How a hatched area looks.
+/// The style of a hatched area.
 pub(crate) const HATCHED: &str = "fill='url(#retired)' stroke='#777' stroke-width='.7'";
 
-/// How far a band goes on behind the last step.
+/// How far a band goes beyond the last step, in tenths of a pixel.
 const BEHIND: u64 = 80;
 
-/// A hatched band over the lanes of the servers of each retired position, from the step of its retiring on.
+/// A hatched band over the servers' lanes of each retired position, from the step at which it was retired.
 #[derive(Clone, Copy)]
 pub(crate) struct RetiredBands<'a>(pub(crate) &'a Plan);
 
@@ -41,7 +41,7 @@ impl fmt::Display for RetiredBands<'_> {
     }
 }
 
-/// Whether a position was retired. The first one is, where any is.
+/// Whether a position was retired. Positions are retired in order, so it looks at the first.
 pub(crate) fn has_retired(plan: &Plan) -> bool {
     match plan.positions.first() {
         Some(place) => place.retired.is_some(),
@@ -49,7 +49,7 @@ pub(crate) fn has_retired(plan: &Plan) -> bool {
     }
 }
 
-// The height of the lanes of a position's servers.
+// The height of the servers' lanes of a position.
 fn height_of(place: &Place) -> Px {
     Px(u64::from(place.members).saturating_mul(SERVER))
 }

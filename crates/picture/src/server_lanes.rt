@@ -9,7 +9,7 @@ use register::Register;
 use std::fmt;
 use tag::Stamp;
 
-/// How many tags are shown of one server.
+/// How many tags of one server are drawn at most.
 pub(crate) const MOST_TAGS: usize = 400;
 
 /// A lane for each server of each position: when each tag came and was finalized, and when the pointer changed.
@@ -41,7 +41,7 @@ impl fmt::Display for ServerLanes<'_> {
     }
 }
 
-// The lane of a member of a position.
+// The lane of one member of a position.
 #[derive(Clone, Copy)]
 struct ServerLane<'a> {
     plan: &'a Plan,
@@ -80,7 +80,7 @@ impl fmt::Display for ServerLane<'_> {
     }
 }
 
-// What happened to a bank.
+// The marks of what happened to a bank.
 #[derive(Clone, Copy)]
 struct Marks<'a> {
     plan: &'a Plan,
@@ -119,12 +119,12 @@ impl fmt::Display for Marks<'_> {
 }
 
 impl Marks<'_> {
-    // The step at which the piece of the tag with `i` others below it was dropped.
+    // The step at which the piece of a tag was dropped, where `i` tags of the bank are below that tag.
     fn dropped(&self, i: usize) -> Option<Stamp> {
         self.drops?.step(i)
     }
 
-    // The pointer says this from a step on.
+    // The mark of the step from which on the pointer to the next position has the status `word`.
     fn pointer<W: fmt::Write>(
         &self,
         f: &mut fmt::Formatter<W>,

@@ -1,21 +1,21 @@
-//! The marks of a tag in the lane of a server.
+//! The marks of one tag in the lane of a server.
 use crate::plan::Plan;
 use crate::px::Px;
 use bank::{Arrival, Label, Row};
 use std::fmt;
 use tag::{Stamp, Tag};
 
-/// How the mark looks of a piece that is dropped, behind its middle.
+/// The mark of a dropped piece: a square around the current point.
 pub(crate) const SQUARE: &str = "m-2 -2h4v4h-4z' fill='#fff' stroke='#000' stroke-width='.7'";
 
-/// When a tag came to a bank, whether its piece is there still, when it was dropped, and when the tag was finalized.
+/// When a tag came to a bank, whether its piece is still there, when that was dropped, and when the tag was finalized.
 #[derive(Clone, Copy)]
 pub(crate) struct TagMarks<'a> {
     pub(crate) plan: &'a Plan,
     pub(crate) y: Px,
     pub(crate) tag: Tag,
     pub(crate) row: &'a Row,
-    /// The step at which its piece was dropped.
+    /// The step at which its piece was dropped; none where it was not, or was never kept.
     pub(crate) dropped: Option<Stamp>,
 }
 
@@ -39,7 +39,7 @@ impl fmt::Display for TagMarks<'_> {
 }
 
 impl TagMarks<'_> {
-    // A circle where the piece came, and a square above the lane where it was dropped.
+    // A circle at the step at which the piece came, and a square above the lane at the step at which it was dropped.
     fn piece<W: fmt::Write>(&self, f: &mut fmt::Formatter<W>, arrival: &Arrival) -> fmt::Result {
         let (y, tag, came) = (self.y, self.tag, arrival.step);
         let x = self.plan.x(came);

@@ -7,7 +7,7 @@ use record::Operation;
 use std::fmt;
 use words::Hexadecimal;
 
-/// A text in which nothing is read as markup.
+/// A text in which `<` and `&` are escaped, and anything but printable ASCII prints as `?`.
 #[derive(Clone, Copy)]
 pub(crate) struct Escaped<'a>(pub(crate) &'a str);
 
@@ -25,7 +25,7 @@ impl fmt::Display for Escaped<'_> {
     }
 }
 
-/// A value, of which at most so many bytes are shown, from the first on.
+/// The first bytes of a value in hexadecimal, at most `most` of them.
 #[derive(Clone, Copy)]
 pub(crate) struct Front<'a> {
     pub(crate) bytes: &'a [u8],
@@ -43,7 +43,7 @@ impl fmt::Display for Front<'_> {
     }
 }
 
-/// A value of few bytes whole, and of another the first bytes and the length.
+/// A short value whole, and of a longer one the first bytes and the length.
 #[derive(Clone, Copy)]
 pub(crate) struct Short<'a>(pub(crate) &'a [u8]);
 
@@ -57,7 +57,7 @@ impl fmt::Display for Short<'_> {
     }
 }
 
-/// What a phase asks.
+/// The word for what a phase asks.
 #[derive(Clone, Copy)]
 pub(crate) struct KindText(pub(crate) Kind);
 
@@ -89,7 +89,7 @@ pub(crate) fn kind_word(kind: Kind) -> &'static str {
     }
 }
 
-/// One letter for each kind, where there is no room for its word.
+/// The letter for what a phase asks, which is drawn where its word has no room.
 pub(crate) fn kind_letter(kind: Kind) -> &'static str {
     match kind {
         Kind::Next => "n",
