@@ -1,4 +1,4 @@
-//! One server's bank: the table of requests and replies, and the tags in rising order.
+//! One server's bank: its answer to each request, the tags that it keeps in rising order, and the pieces that it drops.
 use bank::{Answer, Bank, HeldPiece, Label, Pointer, Reply, Request, Status};
 use bytes::Bytes;
 use encoder::Piece;
@@ -11,7 +11,7 @@ const FIRST: Tag = Tag { number: 1, call: 1 };
 
 const SECOND: Tag = Tag { number: 2, call: 2 };
 
-// The fragment of `hello` at point 1 for two blocks, 68656c and 6c6f00: their sum.
+// The fragment of `hello` at point 1. The value has two blocks, 68656c and 6c6f00, and this is their sum.
 fn piece(alloc: Global) -> Result<Piece, AllocError> {
     Ok(Piece {
         point: 1,
@@ -24,7 +24,7 @@ fn held(alloc: Global) -> Result<HeldPiece, Fail> {
     Ok(HeldPiece::new(alloc, piece(alloc)?)?)
 }
 
-// The tags that a bank keeps in rising order, each with its label and the step at which its piece came.
+// Checks that the bank keeps these tags, each with its label and the step at which its piece came.
 fn assert_keeps(rt: &impl Abort, bank: &Bank, rows: [(Tag, Label, Option<Stamp>); 3]) {
     assert_eq!(rt; bank.count(), 3);
     for (i, (tag, label, came)) in rows.into_iter().enumerate() {
@@ -99,7 +99,7 @@ fn keeps_tags_in_rising_order(rt: HostRuntime) -> Result<(), Fail> {
     Ok(())
 }
 
-// What a bank keeps for a tag that it knows: whether a piece came, and whether it is there.
+// Checks that the bank knows the tag, whether a piece came for it, and whether the piece is there.
 fn assert_piece(rt: &impl Abort, bank: &Bank, tag: Tag, came: bool, there: bool) {
     let mut known = false;
     for i in 0..bank.count() {
@@ -113,7 +113,7 @@ fn assert_piece(rt: &impl Abort, bank: &Bank, tag: Tag, came: bool, there: bool)
     assert!(rt; known, "{tag}");
 }
 
-// With delta 0 only the newest final tag keeps its piece. Each piece has 3 bytes, that of the opening tag none.
+// With delta 0 only the newest finalized tag keeps its piece. Each piece has 3 bytes, and that of the opening tag none.
 #[test]
 fn drops_what_is_older(rt: HostRuntime) -> Result<(), Fail> {
     let alloc = rt.alloc();
@@ -131,7 +131,8 @@ fn drops_what_is_older(rt: HostRuntime) -> Result<(), Fail> {
     Ok(())
 }
 
-// A piece that comes for an older final tag is not kept, one that is fetched there is dropped first.
+// A piece that comes for an older finalized tag is not kept. A fetch of an older tag finalizes it, so its piece is
+// dropped before the answer.
 #[test]
 fn keeps_nothing_that_comes_late(rt: HostRuntime) -> Result<(), Fail> {
     let alloc = rt.alloc();
@@ -152,7 +153,7 @@ fn keeps_nothing_that_comes_late(rt: HostRuntime) -> Result<(), Fail> {
     Ok(())
 }
 
-// With delta 1 the two newest final tags keep theirs; a retired bank keeps none.
+// With delta 1 the two newest finalized tags keep their pieces. A retired bank keeps none.
 #[test]
 fn keeps_two_and_then_none(rt: HostRuntime) -> Result<(), Fail> {
     let alloc = rt.alloc();

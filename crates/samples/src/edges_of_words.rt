@@ -1,4 +1,4 @@
-//! Words that are on the edge of being numbers or bytes.
+//! Words that are just inside or outside the form of numbers or bytes.
 use std::test::Fail;
 use words::{Hexadecimal, parse_bytes, parse_number};
 

@@ -1,9 +1,9 @@
-//! Layouts, with quorums counted by hand, and members of layouts.
+//! Layouts, their quorums and their members.
 use layout::{Layout, MemberSet};
 use std::test::Fail;
 use tag::Refusal;
 
-// The sizes are half of n + k, rounded up, counted by hand.
+// A quorum is half of n + k members, rounded up. The sizes were counted by hand.
 #[test]
 fn gives_quorums(rt: HostRuntime) -> Result<(), Fail> {
     let mut servers = Vec::new(rt.alloc());

@@ -1,5 +1,5 @@
-//! The small crates below an object, each called once with values that were worked out by hand: tests alone. They
-//! stand in a crate of their own, so that the crates which they call are proved once less.
+//! Tests of the small crates that an object is built from, each called once with values that were worked out by hand.
+//! The tests stand in a crate of their own, since a crate with tests is proved twice.
 #![tactic(auto)]
 
 #[cfg(test)]

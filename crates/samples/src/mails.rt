@@ -1,4 +1,4 @@
-//! Messages that wait, in their places, and the bytes that they carry.
+//! The messages that wait in a mail, their places, and the bytes that they carry.
 use bank::{Answer, HeldPiece, Reply, Request, Status};
 use bytes::Bytes;
 use encoder::Piece;

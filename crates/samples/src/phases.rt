@@ -1,4 +1,4 @@
-//! A phase that records each member until a quorum.
+//! A phase, which records one reply of each member until it has a quorum.
 use bank::{Answer, Kind, Reply, Request, Status};
 use mail::{Body, Message};
 use phase::{Ask, Phase, Took};
@@ -6,7 +6,7 @@ use std::alloc::Global;
 use std::test::Fail;
 use tag::Refusal;
 
-// Phase 2 of call 5 in a layout of n 4 and k 2, whose quorum is 3, begun at step 9.
+// Phase 2 of call 5, in a layout with n 4 and k 2, whose quorum is 3. It began at step 9.
 fn begin(alloc: Global) -> Result<Phase, Refusal> {
     let ask = Ask {
         call: 5,

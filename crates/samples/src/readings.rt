@@ -1,4 +1,4 @@
-//! A reading over three positions, and what replies show.
+//! A reading over three positions, and the greatest status and tag that replies show.
 use bank::{Answer, Kind, Reply, Status};
 use phase::Taken;
 use std::test::Fail;

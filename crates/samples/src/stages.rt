@@ -1,4 +1,4 @@
-//! The phases of a move, of a write with the next tag, and of a read that goes on.
+//! The phases of a move, of a write with the next tag, of a read that goes on to another position, and of a restart.
 use bank::{Answer, Kind, Reply, Status};
 use bytes::Bytes;
 use mail::{Body, Message};
@@ -12,7 +12,7 @@ use transfer::{begun_at, due, first_stage, next_phase, passed, stage_tag};
 
 const FIRST: Tag = Tag { number: 1, call: 1 };
 
-// A phase that one member's reply completes; a fetch needs so many pieces.
+// A phase that one member's reply completes. A fetch needs `k` pieces.
 fn complete_with(
     alloc: Global,
     kind: Kind,
@@ -41,7 +41,7 @@ fn complete_with(
     Ok(phase)
 }
 
-// A phase that needs no pieces.
+// A phase that needs no pieces, and that one member's reply completes.
 fn complete(alloc: Global, kind: Kind, position: u32, answer: Answer) -> Result<Phase, Refusal> {
     complete_with(alloc, kind, position, answer, 0)
 }

@@ -1,4 +1,4 @@
-//! Tags in their order, and refusals as they are printed.
+//! The order of tags, and refusals as they are printed.
 use std::test::Fail;
 use tag::{Refusal, Tag};
 
