@@ -1,4 +1,4 @@
-//! Values that fragments give back, and fragments that give none.
+//! Values that fragments give back, and fragments that no value has.
 use bytes::Bytes;
 use decoder::decode;
 use encoder::Piece;
@@ -8,7 +8,7 @@ use tag::Refusal;
 
 pub(crate) type Fragment = (u8, &'static [u8]);
 
-/// The pieces with these points and fragments, of a value of `len` bytes.
+/// Pieces with these points and fragments, of a value of `len` bytes.
 fn pieces_of(alloc: Global, len: u32, fragments: &[Fragment]) -> Result<Vec<Piece>, AllocError> {
     let mut pieces = Vec::new(alloc);
     for &(point, bytes) in fragments {
@@ -21,7 +21,7 @@ fn pieces_of(alloc: Global, len: u32, fragments: &[Fragment]) -> Result<Vec<Piec
     Ok(pieces)
 }
 
-// The fragments of `hello` in two blocks.
+// The fragments of `hello`, which is cut into two blocks.
 pub(crate) const ZERO: Fragment = (0, b"\x68\x65\x6c");
 
 pub(crate) const ONE: Fragment = (1, b"\x04\x0a\x6c");
@@ -30,7 +30,7 @@ pub(crate) const TWO: Fragment = (2, b"\xb0\xbb\x6c");
 
 const THREE: Fragment = (3, b"\xdc\xd4\x6c");
 
-/// Worked out by hand from the definition of a fragment.
+/// Values with their fragments, worked out by hand from the definition of a fragment.
 pub(crate) const SMALL: [(u8, &[Fragment], &[u8]); 10] = [
     (2, &[ZERO, ONE], b"hello"),
     (2, &[TWO, ZERO], b"hello"),

@@ -1,4 +1,4 @@
-//! The same, into the caller's bytes.
+//! Values decoded into the caller's bytes.
 use crate::decoded::{Fragment, ISA_L, ONE, SMALL, TWO, ZERO};
 use bytes::Bytes;
 use decoder::{Decoded, decode, decode_into};
@@ -7,7 +7,7 @@ use std::alloc::{AllocError, Global};
 use std::test::Fail;
 use tag::Refusal;
 
-/// What `decode_into` answers for these fragments, and what it leaves in `len` bytes that were all AA.
+/// What `decode_into` returns for these fragments, and what it leaves in `len` bytes that were all 0xAA.
 fn decoded_into(
     alloc: Global,
     k: u8,
@@ -76,7 +76,7 @@ fn refuses_more_fragments_than_points(rt: HostRuntime) {
     assert_eq!(rt; out, [0xAA; 5]);
 }
 
-/// A value of `len` bytes, in which each value of a byte comes up where it is long enough.
+/// A value of `len` bytes, in which each value of a byte occurs where the length allows it.
 fn value_of_len(alloc: Global, len: usize) -> Result<Bytes, AllocError> {
     let mut value = vec![in alloc; 0u8; len]?;
     let mut next = 1u8;
@@ -87,7 +87,7 @@ fn value_of_len(alloc: Global, len: usize) -> Result<Bytes, AllocError> {
     Ok(Bytes::from_vec(value)?)
 }
 
-/// What both calls make of the last `k` of the 255 pieces of `value`, the last one first.
+/// What `decode` and `decode_into` make of the last `k` of the 255 pieces of `value`, from the last one on.
 fn from_the_last(alloc: Global, k: u8, value: &Bytes) -> Result<(Decoded, Vec<u8>), Fail> {
     let len = value.len();
     let coded = encode(alloc, k, 255, value.clone()?)?;
@@ -105,8 +105,8 @@ fn from_the_last(alloc: Global, k: u8, value: &Bytes) -> Result<(Decoded, Vec<u8
     Ok((decode(alloc, k, len as u32, pieces)?, out))
 }
 
-// Lengths that loops over lanes, passes of six blocks and a last block that is not whole could get wrong, in each room,
-// and values that go in stripes of each width.
+// These lengths are those that loops over lanes, passes of six blocks and a short last block could get wrong, with each
+// size of the decoder's room on the stack. The longest values are decoded in stripes of each width.
 #[test]
 fn gives_back_what_the_encoder_made(rt: HostRuntime) -> Result<(), Fail> {
     for (k, len) in [

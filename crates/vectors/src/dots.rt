@@ -1,10 +1,10 @@
-//! Sums of rows, by hand and beside the same byte by byte.
+//! Sums of rows: worked out by hand, and compared with the same computed byte by byte.
 use dot_kernel::{Tables, differences_of, dot, dots_of, powers_of};
 use gf256::mul;
 
 const LENGTHS: [usize; 8] = [0, 1, 31, 32, 33, 64, 65, 100];
 
-/// Bytes of which each value of a byte comes up, from another one on at another `seed`.
+/// Bytes among which each value of a byte occurs. The first is `seed`.
 fn bytes(seed: u8) -> [u8; 300] {
     let mut bytes = [0; 300];
     let mut byte = seed;
@@ -27,7 +27,7 @@ fn sums_by_hand(rt: HostRuntime) {
     assert_eq!(rt; out, [0x1E]);
 }
 
-// By hand: 3 times 0x80 is 0x9D, 2 times 0x01 is 0x02, and the sum of both is 0x9F, as that of 0x80 and 2 times 0x81.
+// By hand: 3 times 0x80 is 0x9D, 2 times 0x01 is 0x02, and their sum is 0x9F, which is also 0x80 plus 2 times 0x81.
 #[test]
 fn sums_differences_by_hand(rt: HostRuntime) {
     let mut out = [0xFF; 100];
@@ -66,7 +66,7 @@ fn multiplies_coefficients(rt: HostRuntime) {
     }
 }
 
-// The sums are computed byte by byte with the field's product. The second source ends early.
+// The expected sums are computed byte by byte, with the product of the field. The second source ends early.
 #[test]
 fn sums_rows_as_the_byte_loop_does(rt: HostRuntime) {
     let (first, second) = (bytes(3), bytes(7));
@@ -100,7 +100,7 @@ fn sums_rows_as_the_byte_loop_does(rt: HostRuntime) {
     }
 }
 
-/// The sum of the bytes b of the sources by the powers of `point`, with the field's product.
+/// The sum of the bytes at `b` of the sources, times the powers of `point`, with the product of the field.
 fn power_sum(sources: &[&[u8]], point: u8, b: usize) -> u8 {
     let mut sum = 0;
     let mut power = 1;

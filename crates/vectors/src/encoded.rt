@@ -1,4 +1,4 @@
-//! Fragments of values, by hand, beside Intel's ISA-L, and as they are defined.
+//! Fragments of values: worked out by hand, as Intel's ISA-L gives them, and by their definition.
 
 ghost use Rattle.std.specs.Prelude.{◌≤◌, length};
 
@@ -87,7 +87,7 @@ fn codes_as_isa_l_does(rt: HostRuntime) -> Result<(), Fail> {
     Ok(())
 }
 
-/// Byte `b` of the fragment of `value` at the point `x`, as it is defined: the sum of `x^j` times byte `b` of block j.
+/// Byte `b` of the fragment of `value` at the point `x`, by definition: the sum of `x^j` times byte `b` of block j.
 fn fragment_byte(k: u8, x: u8, value: &[u8], b: usize) -> u8 {
     let block_len = value.len().div_ceil(k.max(1) as usize);
     let mut sum = 0;
@@ -123,10 +123,10 @@ fn meets_the_definition_at_each_length(rt: HostRuntime) -> Result<(), Fail> {
     Ok(())
 }
 
-/// The most bytes of a value, and of all fragments of one, in the test below.
+/// The greatest length of a value, and of all fragments of one together, in the test below.
 const MOST_BYTES: usize = 255 * 65;
 
-/// Whether each byte of the first seven fragments, and of the last one, is as it is defined.
+/// Whether each byte of the first seven fragments, and of the last one, is as the definition says.
 fn are_fragments(k: u8, n: u8, value: &[u8]) -> bool
     requires threshold { 1 ≤ k }
     requires most { length value.now ≤ MOST_BYTES }
@@ -160,7 +160,7 @@ fn meets_the_definition_at_each_shape(rt: HostRuntime) -> Result<(), Fail> {
     }
     for k in [1, 2, 3, 255] {
         for block_len in [1, 31, 32, 33, 63, 64, 65] {
-            // The last block is one byte short, where it has 64 or more.
+            // The last block is one byte short where blocks have 64 bytes or more.
             let Some(value) = bytes.get(..k as usize * block_len - block_len / 64) else {
                 return Err(Fail::from("the bytes are too few"));
             };
@@ -172,7 +172,7 @@ fn meets_the_definition_at_each_shape(rt: HostRuntime) -> Result<(), Fail> {
     Ok(())
 }
 
-// By `cuts_small_values`.
+// The fragments are those of `cuts_small_values`.
 #[test]
 fn encodes_into_the_caller_s_bytes(rt: HostRuntime) {
     let mut out = [0xAA; 12];
@@ -180,7 +180,7 @@ fn encodes_into_the_caller_s_bytes(rt: HostRuntime) {
     assert_eq!(rt; out, *b"hel\x04\x0a\x6c\xb0\xbb\x6c\xdc\xd4\x6c");
 }
 
-// By `cuts_small_values`.
+// The fragment is that of `cuts_small_values`.
 #[test]
 fn writes_one_fragment(rt: HostRuntime) {
     let mut out = [0xAA; 3];

@@ -1,10 +1,10 @@
-//! What loops over lanes make, beside the same byte by byte.
+//! What loops over lanes compute, compared with the same computed byte by byte.
 use gf256::mul;
 use lane_kernel::{add_scaled, same, scale_add};
 
 const LENGTHS: [usize; 6] = [0, 1, 31, 32, 33, 64];
 
-/// Bytes of which each value of a byte comes up, from another one on at another `seed`.
+/// Different bytes, the first of which is `seed`.
 fn bytes(seed: u8) -> [u8; 64] {
     let mut bytes = [0; 64];
     let mut byte = seed;
@@ -15,7 +15,7 @@ fn bytes(seed: u8) -> [u8; 64] {
     bytes
 }
 
-// By hand: 2 times 0x80 is 0x1D, and 0x1D and 0x01 are 0x1C.
+// By hand: 2 times 0x80 is 0x1D, and the sum of 0x1D and 0x01 is 0x1C.
 #[test]
 fn doubles_past_the_last_block(rt: HostRuntime) {
     let mut acc = [0x80; 33];
@@ -23,7 +23,7 @@ fn doubles_past_the_last_block(rt: HostRuntime) {
     assert_eq!(rt; acc, [0x1C; 33]);
 }
 
-// The sums are computed byte by byte with the field's product.
+// The expected sums are computed byte by byte, with the product of the field.
 #[test]
 fn scales_and_adds_as_the_byte_loop_does(rt: HostRuntime) {
     for len in LENGTHS {

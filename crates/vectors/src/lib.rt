@@ -1,5 +1,5 @@
-//! The coding crates, each called with values that were worked out by hand or by Intel's ISA-L: tests alone. They stand
-//! in a crate of their own, so that the crates which they call are proved once less.
+//! Tests of the coding crates, each called with values that were worked out by hand or by Intel's ISA-L. The tests
+//! stand in a crate of their own, since a crate with tests is proved twice.
 #![tactic(auto)]
 
 #[cfg(test)]

@@ -1,7 +1,7 @@
-//! Products, inverses and powers of the field.
+//! Products, inverses and powers in the field.
 use gf256::{div, inv, mul, pow};
 
-// The values are printed by `gf_mul` of Intel's library ISA-L 2.30, which multiplies modulo the same polynomial.
+// The values were printed by `gf_mul` of Intel's ISA-L 2.30, which multiplies modulo the same polynomial.
 #[test]
 fn products(rt: HostRuntime) {
     let table = [
@@ -30,7 +30,7 @@ fn products(rt: HostRuntime) {
     }
 }
 
-// The values are printed by `gf_inv` of the same library.
+// The values were printed by `gf_inv` of Intel's ISA-L 2.30.
 #[test]
 fn inverses(rt: HostRuntime) {
     let table = [
@@ -51,7 +51,7 @@ fn inverses(rt: HostRuntime) {
     }
 }
 
-// By hand: x^8 is x^4 + x^3 + x^2 + 1; the empty product is 1; the 255 elements that are not zero form a group.
+// By hand: x^8 is x^4 + x^3 + x^2 + 1, the empty product is 1, and the 255 nonzero elements form a group.
 #[test]
 fn powers(rt: HostRuntime) {
     for (a, exponent, power) in [

@@ -1,9 +1,9 @@
-//! The rows of interpolation.
+//! Rows of interpolation.
 use poly::Rows;
 
 #[test]
 fn gives_the_rows_of_lagrange(rt: HostRuntime) {
-    // By hand, with a product at a time: each row is 1 at its own point and 0 at the others.
+    // Worked out by hand, one product at a time. Each row is 1 at its own point and 0 at the others.
     let rows: [(&[u8], usize, &[u8]); 8] = [
         (&[0x05], 0, &[0x01]),
         (&[0x00, 0x01], 0, &[0x01, 0x01]),
