@@ -9,7 +9,7 @@ abbrev pub LeavesBy : {S : Type 0} → (S → Receipt → S → Type 0) → S �
 LeavesBy ends s (round.Answered receipt) t = ends s receipt t
 LeavesBy ends s _ t = t ≡ s
 
--- the state after a call stays open: the same, but a resume may have counted the round that resent or restarted
+-- the state after a call stays open: the same, or, for a resume, with one more round counted that asked again
 abbrev pub StaysOpen : {S : Type 0} → (S → S) → (resumed : Bool) → S → S → Type 0
 StaysOpen asks true s t = (t ≡ s) ⊎ (t ≡ asks s)
 StaysOpen asks false s t = t ≡ s

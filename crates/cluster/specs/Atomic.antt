@@ -81,7 +81,7 @@ AreJournaled cluster = AllByRecursion (λ o. ReadsJournaled o.state.object) clus
 abbrev pub HaveOneValue : Cluster → Type 0
 HaveOneValue cluster = AllByRecursion (λ o. HasOneValue o.state.object) cluster.objects
 
--- what is told of each server, of all and of the mail are the sums of the pieces' bytes
+-- these accounts are the sums of the pieces' bytes: in the banks of each server, in all banks, and in all messages
 pub record AreSums (cluster : Cluster) (told : Accounts) : Type 0 where
   pub servers : told.servers.items ≡ map (of.stored cluster) (range_with_len 0 (length cluster.servers))
   pub all : told.stored ≡ of.banks_all cluster.objects

@@ -54,12 +54,12 @@ due_cause cluster number _ object = None
 abbrev pub turn_cause : Cluster → (name : List ℕ) → (call : ℕ) → Step → Option Refusal
 turn_cause cluster name call step = object_cause cluster name (due_cause cluster call step)
 
--- whether the turn after `count` others resends: only the first turn of a resume does
+-- whether the turn after `count` others asks again, so that it may resend or restart: only the first of a resume does
 abbrev pub asks_again : (resumed : Bool) → (count : ℕ) → Bool
 asks_again resumed count = resumed && count == 0
 
 module _ {C : Type 0} (chooses : C → ℕ → ℕ → C → Type 0) (name : List ℕ) (call : ℕ) where
-  -- the turn of a call that wants replies: it resends, or it handles the chosen one of the call's messages
+  -- the turn of a call that wants replies: with `again` it resends, otherwise the chosen one of its messages is handled
   abbrev pub IsWaitingStep : Cluster → Object → (again : Bool) → (before after : C) → Step → Type 0
   IsWaitingStep cluster object true before after step = (after ≡ before) × IsAsking object call step
   IsWaitingStep cluster object false before after step =
@@ -101,7 +101,7 @@ module _ {C : Type 0} (chooses : C → ℕ → ℕ → C → Type 0) (name : Lis
     pub handed : if_named old name
         (λ object. receipt_at object (place_of old.objects name) call (next old)) ≡ Some receipt
 
-  -- the call wants replies, the turn does not resend, and none of the call's messages can be handled
+  -- the call wants replies, the turn may not resend, and none of the call's messages can be handled
   pub record IsStuck (cluster : Cluster) (again : Bool) : Type 0 where
     pub no_asking : again ≡ false
     pub wants : wanted cluster name call ≡ Some want.Replies

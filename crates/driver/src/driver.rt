@@ -54,7 +54,7 @@ pub fn finish<C: Chooser>(
     }
 }
 
-// Whether the turn after `count` others resends: only the first turn of a resume does.
+// Whether the turn after `count` others asks again, so that it may resend or restart: only the first of a resume does.
 fn asks_again(resumed: bool, count: u64) -> bool
     ensures { result ≡ asks_again resumed count }
 {

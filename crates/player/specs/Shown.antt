@@ -32,7 +32,7 @@ line_of text = text ++ 10 ∷ []
 abbrev pub refusal_line : Refusal → List ℕ
 refusal_line refusal = line_of (outcome_text (outcome.Refused refusal))
 
--- there is no cause of refusal and the text is what is told, or the text is the refusal by its cause
+-- there is no cause of refusal and the text is the one to show, or the text is the refusal by its cause
 abbrev pub IsShown : (cause : Option Refusal) → (told : Option (List ℕ)) → (text : List ℕ) → Type 0
 IsShown cause told text =
     ((cause ≡ None) × (told ≡ Some text))

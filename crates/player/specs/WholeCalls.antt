@@ -65,7 +65,7 @@ Moves old name layout turns new report =
     IsWholeRun old (moved old name (layout_number layout))
     (object_cause old name (moving_cause old (layout_number layout))) name turns new report
 
--- the command continues a call that is there, whose first turn resends or restarts; or the command is refused
+-- the command continues a call that is there, whose first turn may resend or restart; or the command is refused
 abbrev pub Resumes : Cluster → (name : List ℕ) → (call turns : ℕ) → Cluster → Report → Type 0
 Resumes old name call turns new report =
     ((object_cause old name (λ object. number_cause object call) ≡ None) × GoesOn name call true turns old new report)

@@ -42,7 +42,8 @@ pub fn resume(alloc: Global, cluster: &mut Cluster, name: &str, call: u64, turns
     }
 }
 
-// Continues the call. Its first turn resends or restarts, where the call wants that.
+// Continues the call. Its first turn resends the requests that the call waits for, or restarts a call that lacks
+// pieces.
 fn carried_on(alloc: Global, cluster: &mut Cluster, name: &str, call: u64, turns: u64) -> Report
     ensures { GoesOn name.entry.now call true turns cluster.old cluster.new result }
 {

@@ -10,7 +10,7 @@ pub record Moving : Type 0 where
   pub call : ℕ
 
 -- an administrator: its pending move, how many orders it carried out, moves that it began among them, how many rounds
--- of its moves resent or restarted, and the cluster as the last order left it
+-- of its moves asked again, and the cluster as the last order left it
 pub record AdminState : Type 0 where
   pub moving : Option Moving
   pub orders : ℕ
@@ -48,11 +48,11 @@ one_more n = (n + 1) % 2 ^ 64
 abbrev pub ordered_by : AdminState → Cluster → AdminState
 ordered_by a cluster = record a { orders = one_more a.orders; left = cluster }
 
--- the administrator after one more round in which its move resent or was restarted
+-- the administrator after one more round of a move that asked again
 abbrev pub has_asked : AdminState → AdminState
 has_asked a = record a { asked = one_more a.asked }
 
--- the state after a round: changed where the round resends or restarts, and otherwise the same
+-- the state after a round: one that asks again, so that it may resend or restart, is counted; any other changes nothing
 abbrev pub asked_if : {S : Type 0} → (S → S) → (again : Bool) → S → S
 asked_if asks true s = asks s
 asked_if asks false s = s

@@ -78,6 +78,6 @@ abbrev pub RoundLeaves : AdminState → Round → AdminState → Type 0
 RoundLeaves a (round.Answered receipt) new = Ends a receipt new
 RoundLeaves a _ new = new ≡ a
 
--- the administrator after a round; a round in which its move resends or is restarted is counted
+-- the administrator after a round; a round that asks again is counted
 abbrev pub MoveLeaves : (again : Bool) → AdminState → Round → AdminState → Type 0
 MoveLeaves again a r new = RoundLeaves (asked_if has_asked again a) r new

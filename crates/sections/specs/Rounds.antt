@@ -96,7 +96,7 @@ abbrev pub SeatKeeps : SeatState → Round → SeatState → Type 0
 SeatKeeps s (round.Answered receipt) t = Settles s.pending s receipt t
 SeatKeeps s _ t = t ≡ s
 
--- the seat after a round; a round in which its call resends or is restarted is counted
+-- the seat after a round; a round that asks again is counted
 abbrev pub SeatLeaves : (again : Bool) → SeatState → Round → SeatState → Type 0
 SeatLeaves again s r t = SeatKeeps (asked_if asked_once again s) r t
 

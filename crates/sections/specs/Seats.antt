@@ -25,8 +25,8 @@ pub record Pending : Type 0 where
   pub name : List ℕ
   pub kept : CallRecord
 
--- a seat: its number, the greatest answer step that it has seen, how many rounds of its calls resent or restarted, its
--- answered and abandoned calls, and its pending call
+-- a seat: its number, the greatest answer step that it has seen, how many rounds of its calls asked again, its answered
+-- and abandoned calls, and its pending call
 pub record SeatState : Type 0 where
   pub number : ℕ
   pub floor : ℕ
@@ -139,7 +139,7 @@ Settles (Some p) s receipt t =
     (receipt.call ≡ p.kept.call) × (receipt.called < receipt.answered) × (s.floor < receipt.answered)
     × (t ≡ settled s p.kept receipt)
 
--- the seat after one more round in which its call resent or was restarted
+-- the seat after one more round of a call that asked again
 abbrev pub asked_once : SeatState → SeatState
 asked_once s = record s { asked = one_more s.asked }
 

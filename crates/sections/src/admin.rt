@@ -23,7 +23,7 @@ pub struct Admin<L: StoreName> {
     pub(crate) name: String,
     // How many orders were carried out. It never wraps, since a store has fewer steps.
     pub(crate) orders: u64,
-    // How many rounds of its moves resent or restarted.
+    // How many rounds of its moves were made with `asks_again`.
     pub(crate) asked: u64,
     // The cluster as the last order left it. Only contracts see it.
     pub(crate) left: Snapshot<Cluster>,
@@ -96,7 +96,7 @@ impl<L: StoreName> Admin<L> {
         self.orders
     }
 
-    /// How many rounds of its moves have asked again.
+    /// How many rounds of its moves were made with `asks_again`.
     pub fn asked(&self) -> u64
         ensures { result ≡ self.now.asked }
     {
@@ -132,7 +132,7 @@ impl<L: StoreName> Admin<L> {
         self.pending = None;
     }
 
-    /// Counts a round in which its move resent or was restarted.
+    /// Counts a round that was made with `asks_again`.
     pub(crate) fn note_asked(&mut self)
         ensures { self.new ≡ has_asked self.old }
     {

@@ -65,7 +65,7 @@ fn call_move(cluster: &mut Cluster, name: &str, layout: LayoutId) -> Result<u64,
 }
 
 /// Makes one round of the administrator's pending move, as `round_in` makes one of a seat's call. It counts a round
-/// that asks again. Where the round answers the move, none is pending any more.
+/// that is made with `asks_again`. Where the round answers the move, none is pending any more.
 ///
 /// `NoCall` where no move is pending, and else refused as `round_in`, but never as `Stranger`.
 pub fn move_round_in<L: StoreName, C: Chooser>(

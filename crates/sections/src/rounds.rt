@@ -52,7 +52,7 @@ impl Hand {
 /// Makes one round of the seat's pending call. With an empty `hand` it is the round of `driver::make_round`: one step,
 /// or no step and a copy of what is to be encoded or decoded before the next round. With an encoded value in `hand` it
 /// supplies the call, and with a decoded value it settles it; where an encoded value comes too late, it makes no step
-/// and returns `Round::Late`. The seat counts each round that asks again, and keeps the receipt of the answer.
+/// and returns `Round::Late`. The seat counts each round made with `asks_again`, and keeps the receipt of the answer.
 ///
 /// `turns` is how many turns the call has left; a round needs one.
 ///

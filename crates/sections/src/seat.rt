@@ -20,7 +20,7 @@ use tag::{Refusal, Stamp};
 pub struct Seat<L: StoreName> {
     pub(crate) number: u32,
     pub(crate) floor: Stamp,
-    // How many rounds of its calls resent or restarted. It never wraps, since a store has fewer steps.
+    // How many rounds of its calls were made with `asks_again`. It never wraps, since a store has fewer steps.
     pub(crate) asked: u64,
     // The calls that are answered or abandoned. Where a call is pending, there is room for its record.
     pub(crate) records: Vec<CallRecord>,
@@ -75,14 +75,14 @@ impl<L: StoreName> Seat<L> {
         self.floor
     }
 
-    /// How many rounds of its calls have asked again.
+    /// How many rounds of its calls were made with `asks_again`.
     pub fn asked(&self) -> u64
         ensures { result ≡ self.now.asked }
     {
         self.asked
     }
 
-    /// Counts a round in which its call resent or was restarted.
+    /// Counts a round that was made with `asks_again`.
     pub(crate) fn note_asked(&mut self)
         ensures { self.new ≡ asked_once self.old }
     {

@@ -1,4 +1,4 @@
--- The accounts of a cluster, added anew over banks and mail.
+-- The accounts of a cluster, added up again from its banks and mail.
 use Rattle.std.specs.Prelude.{◌≡◌, ℕ, ◌+◌, ◌<◌, ◌==◌, ◌-◌, ◌^◌, min, if◌then◌else◌, length, Option, Some, None}
 use Rattle.std.specs.Prelude.{slice_get, codes}
 use Rattle.bank.specs.Bank.{Bank}

@@ -17,7 +17,7 @@ pub(crate) trait Caller<L: StoreName> {
     /// Relates the caller before the answer, the receipt, and the caller after it.
     ghost ends: { Self → ReceiptOf → Self → Type 0 };
 
-    /// The caller after a round that resends or restarts its call, apart from an answer.
+    /// The caller after a round made with `asks_again`, apart from an answer.
     ghost asks: { Self → Self };
 
     /// The caller has no pending call.
