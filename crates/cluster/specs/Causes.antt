@@ -55,7 +55,7 @@ create_cause cluster name id =
     unless (nat_le (length name) LONGEST_NAME) TooLong
     (if_step (next cluster) (unless (nat_lt (length cluster.objects) MOST_OBJECTS) Full None))))
 
--- why a server is not set up or down: there is no such server, or the limit of steps is met
+-- why a server is not taken up or down: there is no such server, or the limit of steps is met
 abbrev pub server_cause : Cluster → (server : ℕ) → Option Refusal
 server_cause cluster server = unless (nat_lt server (length cluster.servers)) BadLayout (if_step (next cluster) None)
 

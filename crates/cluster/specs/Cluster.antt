@@ -20,12 +20,12 @@ pub record Cluster : Type 0 where
   pub objects : List Named
   pub counter : ℕ
 
--- the code of an object with its name, as their pair
+-- how an object with its name is encoded: as the pair of both
 abbrev pub named_code : Coded State → Coded Named
 named_code state = code_by (List ℕ × State) (coded× (coded_list coded_ℕ) state)
     (λ o. (o.name, o.state)) (λ p. record { name = p.0; state = p.1 }) (λ _. refl)
 
--- the code of a cluster, as the tuple of its parts
+-- how a cluster is encoded: as the tuple of its parts
 abbrev pub cluster_code : Coded Layout → Coded State → Coded Cluster
 cluster_code layout state =
     code_by (List Bool × (List Layout × (List Named × ℕ)))

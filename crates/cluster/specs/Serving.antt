@@ -11,7 +11,7 @@ pub record IsOf (cluster : Cluster) (up : List Bool) (last stored : ℕ) : Type 
   pub counter : cluster.counter ≡ last
   pub bytes : banks_all cluster.objects ≡ stored
 
--- the server that the message at this place names is this one
+-- the message at this place, if there is one, goes to this server
 abbrev pub GoesTo : Object → (place server : ℕ) → Type 0
 GoesTo object place server =
     (message : Message) → slice_get object.mail place ≡ Some message →

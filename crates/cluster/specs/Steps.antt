@@ -38,6 +38,6 @@ with_server cluster server up =
 abbrev pub moved : Cluster → (name : List ℕ) → (id : ℕ) → Cluster
 moved cluster name id = stepped cluster name (Step.CallMove (layout_of cluster id))
 
--- the cluster after an object of this name is created with the layout of this number
+-- the cluster after an object of this name is created with the layout of this number and this `delta`
 abbrev pub created : Cluster → (name : List ℕ) → (id : ℕ) → (delta : Option ℕ) → Cluster
 created cluster name id delta = with_object cluster name (layout_of cluster id) delta

@@ -8,7 +8,7 @@ use thiserror::Error;
 /// Why the program ended early. It prints as the text for standard error.
 #[derive(Debug, Drop, Error)]
 pub enum Fault {
-    /// A word of the command line is not UTF-8. Its text is empty.
+    /// A word of the command line is not UTF-8. The text is empty, and nothing is printed.
     #[error("")]
     NotText,
     /// The words of the command line have the form of no request.

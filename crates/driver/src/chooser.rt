@@ -3,8 +3,7 @@ ghost use Rattle.std.specs.Prelude.{◌≡◌, ◌<◌, ℕ};
 
 /// Chooses which message is handled next.
 pub trait Chooser {
-    /// What it may choose: the chooser before, how many things there are, the number that it returns, the chooser
-    /// after.
+    /// Relates the chooser before a choice, how many things there are, the number returned, and the chooser after.
     ghost chooses: { Self → ℕ → ℕ → Self → Type 0 } = { λ _ _ _ _. Unit {0} };
 
     /// A number for a choice among `below` things, of which there is at least one. The driver takes it modulo `below`,

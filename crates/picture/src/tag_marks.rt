@@ -5,7 +5,7 @@ use bank::{Arrival, Label, Row};
 use std::fmt;
 use tag::{Stamp, Tag};
 
-/// The mark of a dropped piece: a square around the current point.
+/// The mark of a dropped piece, a square: the end of its SVG path, which follows the middle of the mark.
 pub(crate) const SQUARE: &str = "m-2 -2h4v4h-4z' fill='#fff' stroke='#000' stroke-width='.7'";
 
 /// When a tag came to a bank, whether its piece is still there, when that was dropped, and when the tag was finalized.

@@ -99,7 +99,7 @@ shown_record r = record {
   told = value_of r.receipt;
 }
 
--- the reads and writes of the history are the seats' records, each once, and each seat's calls are in its own order
+-- the reads and writes of the history are the seats' records, each once; each seat's calls are in the records' order
 pub record IsAccounted (cluster : Cluster) (seats : List SeatState) : Type 0 where
   pub same : IsPermutation (map shown_record (all_records seats)) (history cluster)
   pub order : AllByRecursion (λ s. IsInOrder 0 (records_of s) s.floor) seats

@@ -17,13 +17,13 @@ pub record AdminState : Type 0 where
   pub asked : ℕ
   pub left : Cluster
 
--- the code of a pending move, as the pair of its parts
+-- how a pending move is encoded: as the pair of its parts
 abbrev pub moving_code : Coded Moving
 moving_code =
     code_by (List ℕ × ℕ) (coded× (coded_list coded_ℕ) coded_ℕ) (λ m. (m.name, m.call))
     (λ p. record { name = p.0; call = p.1 }) (λ _. refl)
 
--- the code of an administrator, as the tuple of its parts
+-- how an administrator is encoded: as the tuple of its parts
 abbrev pub admin_code : Coded Cluster → Coded AdminState
 admin_code cluster =
     code_by (Option Moving × (ℕ × (ℕ × Cluster)))

@@ -1,7 +1,7 @@
 //! What the threads of a soak have done so far.
 use std::sync::atomic::{AtomicU64, Ordering};
 
-/// Counts that the threads of a soak share. They are only shown to whoever watches, and no contract rests on them.
+/// Counts that the threads of a soak share. They serve whoever watches the soak, and no contract rests on them.
 #[derive(Drop)]
 pub(crate) struct Counts {
     calls: AtomicU64,
