@@ -10,8 +10,8 @@ use Rattle.coding_commands.specs.declared.fault.Fault.TheVariants.{NotText, Usag
 use Rattle.commands.specs.declared.request.Request.{Request}
 use Rattle.commands.specs.declared.request.Request.TheVariants as of
 
--- the words after the program's name spell this request: a coding request, `run FILE` with any word as FILE, or `soak
--- CLIENTS CALLS MOVES CHOICES`
+-- the words after the program's name spell this request: a coding request, `run FILE` with any word as FILE, or
+-- `soak CLIENTS CALLS MOVES CHOICES`
 abbrev pub Spells : List Word → Request → Type 0
 Spells words (of.Coding request) = SpellsCoding words request
 Spells words (of.Run file) = words ≡ codes "run" ∷ string_bytes file ∷ []

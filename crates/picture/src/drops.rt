@@ -83,7 +83,7 @@ impl FinalsAbove {
     }
 }
 
-// The step, where the piece came before it; none where it never came, or came later.
+// The step, where the piece came before it; otherwise none.
 fn kept_until(row: &Row, step: Option<Stamp>) -> Option<Stamp> {
     let arrival = row.arrival.as_ref()?;
     if arrival.step < step? { step } else { None }
