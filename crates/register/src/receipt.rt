@@ -9,6 +9,7 @@ use tag::{Stamp, Tag};
 pub struct Receipt {
     /// The object's place in the order of creation, from 0.
     pub object: u32,
+    /// What the call does: it reads, writes or moves.
     pub operation: Operation,
     /// The call's number in its object, from 1.
     pub call: u64,
@@ -23,6 +24,7 @@ pub struct Receipt {
 /// How far a call has come.
 #[derive(Clone, Copy, Debug, PartialEq, Eq)]
 pub struct CallView {
+    /// What the call does: it reads, writes or moves.
     pub kind: Operation,
     /// The number of its current phase in the call, from 1.
     pub number: u32,
@@ -36,5 +38,6 @@ pub struct CallView {
     pub quorum: u8,
     /// The tag that the current phase fetches, or else the call's tag, once its queries are complete.
     pub tag: Option<Tag>,
+    /// What the call wants next.
     pub want: Want,
 }
