@@ -11,7 +11,7 @@ use Rattle.player.specs.Report.{freed, refused}
 abbrev pub IsRefused : (old : Cluster) → Refusal → (new : Cluster) → Report → Type 0
 IsRefused old refusal new report = (new ≡ old) × (report ≡ refused refusal)
 
--- the step is made and this is reported, where there is no cause of refusal; otherwise the command is refused by it
+-- there is no cause of refusal, the step is made and this is reported; or the command is refused by its cause
 abbrev pub IsStep : (old made : Cluster) → (cause : Option Refusal) → (told : Option Report) →
     (new : Cluster) → Report → Type 0
 IsStep old made cause told new report =

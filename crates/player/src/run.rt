@@ -28,10 +28,11 @@ pub enum End {
 
 /// Plays the script that the reader gives, and returns the exit status. The whole script is read before its first
 /// command is carried out. What a command prints is written and flushed before the next command is carried out.
+///
 /// The status is 0 at the end of the script. It is 1 where output cannot be written, and where memory is refused for
-/// the script or for output. It is 2 where the script cannot be read, and where a line is bad, which ends the run. A
-/// line on `err` says why: `cannot read NAME`, `line L: bad` with the lines counted from 1, `refused 1 NoMemory`, or
-/// `cannot write the output`.
+/// the script, for a line of it or for output. It is 2 where the script cannot be read, and where a line is bad, which
+/// ends the run. A line on `err` says why: `cannot read NAME`, `line L: bad` with the lines counted from 1,
+/// `refused 1 NoMemory`, or `cannot write the output`.
 pub fn run_script<R: Read, O: Write, E: Write>(
     alloc: Global,
     name: &str,

@@ -1,4 +1,5 @@
 //! The lines that commands of a script print. Each type borrows what it prints, and printing allocates no memory.
+//!
 //! A type named `..Line`, and `Outcome`, prints one line without its line feed. A type named `..Lines` prints several
 //! lines, each with its line feed.
 #![tactic(auto)]

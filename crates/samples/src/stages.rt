@@ -12,7 +12,7 @@ use transfer::{begun_at, due, first_stage, next_phase, passed, stage_tag};
 
 const FIRST: Tag = Tag { number: 1, call: 1 };
 
-// A phase that one member's reply completes. A fetch needs `k` pieces.
+// A phase that one member's reply completes. A fetch needs `needed` pieces.
 fn complete_with(
     alloc: Global,
     kind: Kind,

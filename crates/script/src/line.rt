@@ -17,6 +17,7 @@ pub enum Line<'a> {
 
 /// What a line says. The line is given without its end. Only spaces separate words. A skipped line may have any bytes
 /// and needs no memory.
+///
 /// Any other line fails with `Bad` where it has a byte above 0x7f or its words spell no command, and with `NoMemory`
 /// where memory is refused for its words or for the lists of the command.
 pub fn parse_line(alloc: Global, line: &[u8]) -> Result<Line<'_>, LineError>

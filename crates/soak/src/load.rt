@@ -45,6 +45,7 @@ pub struct Cost {
 
 /// Opens a store of five servers, any three of which give a value back, without workers, and measures the calls of a
 /// load. It returns a cost only where the closed store has a receipt for each call.
+///
 /// `Full` above `MOST_SEATS` clients, `NotNow` where there are fewer receipts, `NoMemory` also where a thread cannot be
 /// started, and else the refusal of a call.
 pub fn run_load<R: Threads + Wait + Clock + CpuClock + Sync>(

@@ -23,8 +23,10 @@ const WORKERS: usize = 2;
 /// Lets the clients and the administrator of a plan work through one store at once, closes the store once all have
 /// ended, and sums it up. Each client has then made all its calls, each with a receipt, and the summary is of a cluster
 /// whose reads and writes are those that the clients' seats recorded, each once.
+///
 /// Where there is a screen, a line there shows how far a soak of two seconds or more has come. It is cleared at the
 /// end.
+///
 /// Where a call, a move or the close is refused, that refusal is returned. `NoMemory` also where a thread cannot be
 /// started.
 pub fn run_plan<R: Threads + Wait + Clock + Sync, E: Write>(
