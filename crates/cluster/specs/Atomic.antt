@@ -65,11 +65,11 @@ LacksWhereOvertaken object =
 abbrev pub HaveEnough : Cluster → Type 0
 HaveEnough cluster = AllByRecursion (λ o. FetchesHaveEnough o.state.object) cluster.objects
 
--- the banks of each object with delta hold few pieces of finalized tags
+-- each bank of each object with delta holds at most delta + 1 pieces of finalized tags
 abbrev pub KeepFew : Cluster → Type 0
 KeepFew cluster = AllByRecursion (λ o. KeepsFew o.state.object) cluster.objects
 
--- a read of any object lacks pieces only where its position was retired, or newer writes overtook it
+-- a read of any object lacks pieces only where its position was retired, or at least delta + 1 newer writes overlap it
 abbrev pub LackWhereOvertaken : Cluster → Type 0
 LackWhereOvertaken cluster = AllByRecursion (λ o. LacksWhereOvertaken o.state.object) cluster.objects
 
