@@ -1,3 +1,4 @@
+-- The contracts that docs/trusted.md lists do not depend on this file; other contracts and proofs do.
 -- Why a store is not opened.
 use Rattle.std.specs.Prelude.{ℕ, ◌==◌, nat_le, Option, None}
 use Rattle.tag.specs.declared.limits.TheConstants.{MOST_SEATS, MOST_WORKERS}

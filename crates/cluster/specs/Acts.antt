@@ -1,3 +1,4 @@
+-- The contracts that docs/trusted.md lists do not depend on this file; other contracts and proofs do.
 -- What an act requires of a cluster, beyond what its object's step requires.
 use Rattle.std.specs.Prelude.{ℕ}
 use Rattle.register.specs.declared.act.Act.{Act}

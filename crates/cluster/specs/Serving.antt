@@ -1,3 +1,4 @@
+-- The contracts that docs/trusted.md lists do not depend on this file; other contracts and proofs do.
 -- What a cluster and a message must be like for a request to be served.
 use Rattle.std.specs.Prelude.{◌≡◌, ℕ, Bool, List, Some, slice_get}
 use Rattle.mail.specs.declared.message.Message.{Message}

@@ -1,3 +1,4 @@
+-- The contracts that docs/trusted.md lists do not depend on this file; other contracts and proofs do.
 -- What answers a request, and why one is refused.
 use Rattle.std.specs.Prelude.{◌≡◌, ◌⊎◌, ℕ, List, None, Some, length}
 use Rattle.tag.specs.declared.refusal.Refusal.{Refusal}

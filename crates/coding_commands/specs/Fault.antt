@@ -1,3 +1,4 @@
+-- The contracts that docs/trusted.md lists do not depend on this file; other contracts and proofs do.
 -- The exit statuses of the faults.
 use Rattle.std.specs.Prelude.{ℕ}
 use Rattle.coding_commands.specs.declared.fault.Fault.{Fault}

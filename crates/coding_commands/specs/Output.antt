@@ -1,3 +1,4 @@
+-- The contracts that docs/trusted.md lists do not depend on this file; other contracts and proofs do.
 -- The line that a request prints.
 use Rattle.std.specs.Prelude.{ℕ, List}
 use Rattle.coding_commands.specs.declared.output.Output.{Output}

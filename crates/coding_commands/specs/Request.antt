@@ -1,3 +1,4 @@
+-- The contracts that docs/trusted.md lists do not depend on this file; other contracts and proofs do.
 -- Which words of a command line spell which coding request.
 use Rattle.std.specs.Prelude.{◌≡◌, ◌<◌, ◌⊎◌, ◌==◌, ◌^◌, ◌-◌, min, ℕ, Bool, List, [], ◌∷◌, length, ⊤, codes, Result}
 use Rattle.std.specs.Prelude.{MatchResult}

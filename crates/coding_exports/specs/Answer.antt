@@ -1,3 +1,4 @@
+-- The contracts that docs/trusted.md lists do not depend on this file; other contracts and proofs do.
 -- What an export answers and writes.
 use Rattle.std.specs.Prelude.{◌≡◌, ℕ, List, length, Option, Some, None, ◌==◌, nat_lt, if◌then◌else◌}
 use Rattle.tag.specs.declared.limits.TheConstants.{LONGEST_VALUE}

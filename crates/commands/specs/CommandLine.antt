@@ -1,3 +1,4 @@
+-- The contracts that docs/trusted.md lists do not depend on this file; other contracts and proofs do.
 -- The forms of the command line, as they are given to `clap`.
 use Rattle.std.specs.Prelude.{◌≡◌, false, true, Some, codes, List, [], ◌∷◌}
 use Rattle.clap.specs.Lexer.{usize_max}

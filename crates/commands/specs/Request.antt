@@ -1,3 +1,4 @@
+-- The contracts that docs/trusted.md lists do not depend on this file; other contracts and proofs do.
 -- Which words of a command line spell which request.
 use Rattle.std.specs.Prelude.{◌≡◌, ◌⊎◌, List, [], ◌∷◌, codes, Result, MatchResult, string_bytes}
 use Rattle.tag.specs.declared.refusal.Refusal.TheVariants.{NoMemory}

@@ -1,3 +1,4 @@
+-- The contracts that docs/trusted.md lists do not depend on this file; other contracts and proofs do.
 -- What calls cost, as sums over the record of an object.
 use Rattle.std.specs.Prelude.{ℕ, ◌+◌, ◌-◌, ◌^◌, ◌&&◌, min, List, length, sum_by, is_some, if◌then◌else◌, Option, Some}
 use Rattle.std.specs.Prelude.{None, slice_get}

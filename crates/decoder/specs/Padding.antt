@@ -1,3 +1,4 @@
+-- The contracts that docs/trusted.md lists do not depend on this file; other contracts and proofs do.
 -- Pieces whose whole blocks have a byte past the value's end that is not 0.
 use Rattle.std.specs.Prelude.{◌≡◌, ◌≢◌, ℕ, ◌*◌, ◌≤◌, ◌<◌, List, length, slice_index}
 use Rattle.encoder.specs.Fragment.{fragment_len}

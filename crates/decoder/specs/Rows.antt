@@ -1,3 +1,4 @@
+-- The contracts that docs/trusted.md lists do not depend on this file; other contracts and proofs do.
 -- Tables of Lagrange's rows, and the sums of fragments by their columns.
 use Rattle.std.specs.Prelude.{◌≡◌, ℕ, ◌+◌, ◌*◌, ◌<◌, List, length, slice_index, map, take, drop, true}
 use Rattle.std.specs.List.{range_with_len}

@@ -1,3 +1,4 @@
+-- The contracts that docs/trusted.md lists do not depend on this file; other contracts and proofs do.
 -- Sums of products of several sources, byte by byte.
 use Rattle.std.specs.Prelude.{◌≡◌, ◌<◌, ℕ, ◌+◌, ◌*◌, List, [], length, map, slice_index, slice_index_or}
 use Rattle.std.specs.Borrow.{Bor}

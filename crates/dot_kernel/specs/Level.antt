@@ -1,3 +1,4 @@
+-- The contracts that docs/trusted.md lists do not depend on this file; other contracts and proofs do.
 -- Rows of coefficients that sum up to 0 or to 1.
 use Rattle.std.specs.Prelude.{◌≡◌, ◌<◌, ◌&&◌, ◌==◌, if◌then◌else◌, ℕ, Bool, List}
 use Rattle.gf256.specs.Field.{field_sum}

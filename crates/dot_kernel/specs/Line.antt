@@ -1,3 +1,4 @@
+-- The contracts that docs/trusted.md lists do not depend on this file; other contracts and proofs do.
 -- Lines, lane by lane, and the polynomials that they stand for at two points.
 use Rattle.std.specs.Prelude.{◌≡◌, ℕ, ◌<◌, ◌≤◌, ◌+◌, ◌*◌, ◌%◌}
 use Rattle.std.specs.Prelude.{List, [], length, bit_xor, drop, map, slice_index, slice_index_or}

@@ -1,3 +1,4 @@
+-- The contracts that docs/trusted.md lists do not depend on this file; other contracts and proofs do.
 -- Values that are decoded for a call: why a settle is refused, and which value it settles.
 use Rattle.std.specs.Prelude.{◌≡◌, ℕ, pred, List, length, Option, None}
 use Rattle.tag.specs.declared.refusal.Refusal.{Refusal}

@@ -1,3 +1,4 @@
+-- The contracts that docs/trusted.md lists do not depend on this file; other contracts and proofs do.
 -- What a round of the driver does.
 use Rattle.std.specs.Prelude.{◌≡◌, ◌≢◌, ℕ, pred, Bool, List, Some, None}
 use Rattle.encoder.specs.Coded.{IsLawful}

@@ -1,3 +1,4 @@
+-- The contracts that docs/trusted.md lists do not depend on this file; other contracts and proofs do.
 -- Whole calls: the step that begins a call, and then the driver.
 use Rattle.std.specs.Prelude.{◌≡◌, ◌⊎◌, ℕ, suc, false, List, length, Option, Some, None, Result, Ok, Err}
 use Rattle.tag.specs.declared.refusal.Refusal.{Refusal}

@@ -1,3 +1,4 @@
+-- The contracts that docs/trusted.md lists do not depend on this file; other contracts and proofs do.
 -- The events of a history.
 use Rattle.std.specs.Prelude.{ℕ, List, [], ◌∷◌, Option, Some, None}
 use Rattle.std.specs.List.{flat_map, zip}

@@ -1,3 +1,4 @@
+-- The contracts that docs/trusted.md lists do not depend on this file; other contracts and proofs do.
 -- Heights in the lane of a call, in tenths of a pixel.
 use Rattle.std.specs.Prelude.{ℕ, ◌+◌}
 use Rattle.picture.specs.declared.lane.Lane.{Lane}

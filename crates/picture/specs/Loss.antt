@@ -1,3 +1,4 @@
+-- The contracts that docs/trusted.md lists do not depend on this file; other contracts and proofs do.
 -- A message that a script loses.
 use Rattle.std.specs.Prelude.{ℕ, Option, Some, None}
 use Rattle.mail.specs.declared.message.Body.{Body}

@@ -1,3 +1,4 @@
+-- The contracts that docs/trusted.md lists do not depend on this file; other contracts and proofs do.
 -- The commands that make one step of a call.
 use Rattle.std.specs.Prelude.{ℕ, suc, pred, List, length, Option, Some, option_map}
 use Rattle.record.specs.Steps.{Step}

@@ -1,3 +1,4 @@
+-- The contracts that docs/trusted.md lists do not depend on this file; other contracts and proofs do.
 -- The commands on layouts, objects and servers.
 use Rattle.std.specs.Prelude.{◌≡◌, ◌⊎◌, ℕ, ◌-◌, ◌^◌, ◌<◌, min, nat_lt, Bool, false, List, length, Option, Some}
 use Rattle.std.specs.List.{list_all}

@@ -1,3 +1,4 @@
+-- The contracts that docs/trusted.md lists do not depend on this file; other contracts and proofs do.
 -- The commands that supply a call with an encoded value, or settle a decoded value.
 use Rattle.std.specs.Prelude.{◌≡◌, ◌⊎◌, ℕ, pred, List, length, Option, Some, None}
 use Rattle.tag.specs.Cause.{IsRefusalBy}

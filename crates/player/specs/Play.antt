@@ -1,3 +1,4 @@
+-- The contracts that docs/trusted.md lists do not depend on this file; other contracts and proofs do.
 -- What each command does to a cluster, and which text it prints.
 use Rattle.std.specs.Prelude.{◌≡◌, ℕ, true, false, List, [], ⊤, Option, Some, None, Result, Ok, Err}
 use Rattle.printing.specs.Outcome.{outcome_text}

@@ -1,3 +1,4 @@
+-- The contracts that docs/trusted.md lists do not depend on this file; other contracts and proofs do.
 -- What the commands print that only show something.
 use Rattle.std.specs.Prelude.{◌≡◌, ◌⊎◌, ◌↔◌, ℕ, Bool, false, ◌++◌, List, [], ◌∷◌, map}
 use Rattle.std.specs.Prelude.{length, Option, Some, None, option_map, is_some, IsTrue}

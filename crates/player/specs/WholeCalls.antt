@@ -1,3 +1,4 @@
+-- The contracts that docs/trusted.md lists do not depend on this file; other contracts and proofs do.
 -- Whole calls: the step that begins a call, and then the driver, which always handles the call's first message.
 use Rattle.std.specs.Prelude.{◌≡◌, ◌⊎◌, ℕ, suc, Bool, true, false, List, length, Option, Some, None}
 use Rattle.tag.specs.Cause.{IsRefusalBy}

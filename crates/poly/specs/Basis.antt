@@ -1,3 +1,4 @@
+-- The contracts that docs/trusted.md lists do not depend on this file; other contracts and proofs do.
 -- The points of Lagrange's rows, and the polynomial that all rows are made from.
 use Rattle.std.specs.Prelude.{◌≡◌, ℕ, ◌+◌, ◌<◌, List, length, slice_index}
 use Rattle.gf256.specs.Polynomial.{AreBytes, AreDistinct, evaluate}

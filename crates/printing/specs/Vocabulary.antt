@@ -1,3 +1,4 @@
+-- The contracts that docs/trusted.md lists do not depend on this file; other contracts and proofs do.
 -- The words for the parts of calls, messages and banks.
 use Rattle.std.specs.Prelude.{ℕ, List, codes}
 use Rattle.bank.specs.declared.kind.Kind.{Kind}

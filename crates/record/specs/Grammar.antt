@@ -1,3 +1,4 @@
+-- The contracts that docs/trusted.md lists do not depend on this file; other contracts and proofs do.
 -- The phases of a call in whole. Of a read or a write: a reading of the sequence,
 -- the queries, a read's fetch, and puts with later readings. Of a move: six phases.
 -- Attempts that were given up for want of pieces stand before: each ends with a fetch.

@@ -1,3 +1,4 @@
+-- The contracts that docs/trusted.md lists do not depend on this file; other contracts and proofs do.
 -- The table of stages and the shape of whole calls: they say the same.
 use Rattle.std.specs.Prelude.{◌≡◌, ◌↔◌, ℕ, suc, List, [], ◌∷◌, Some, None, IsSome, slice_get}
 use Rattle.tag.specs.declared.tag.Tag.{Tag}

@@ -1,3 +1,4 @@
+-- The contracts that docs/trusted.md lists do not depend on this file; other contracts and proofs do.
 -- A step that a caller asks for, as one value: the step that it is, why it is refused, and what it answers.
 use Rattle.std.specs.Prelude.{ℕ, suc, pred, Bool, true, false, length, Option, Some, option_map, Result}
 use Rattle.tag.specs.Refusal.{IsByCause, IsExactlyByCause}

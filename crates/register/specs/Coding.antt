@@ -1,3 +1,4 @@
+-- The contracts that docs/trusted.md lists do not depend on this file; other contracts and proofs do.
 -- Pieces that a call sends, takes in and settles.
 use Rattle.std.specs.Prelude.{◌≡◌, ◌<◌, ℕ, suc, zero, nat_eq, Bool, true, false, ◌==◌, ◌&&◌, if◌then◌else◌, List, []}
 use Rattle.std.specs.Prelude.{◌∷◌, ◌++◌, length, take, Option, Some, None, option_map}

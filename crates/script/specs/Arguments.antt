@@ -1,3 +1,4 @@
+-- The contracts that docs/trusted.md lists do not depend on this file; other contracts and proofs do.
 -- The words of a command after those that name it. `IsNumber` and `IsHexadecimal` say what one word spells.
 use Rattle.std.specs.Prelude.{◌≡◌, ◌<◌, ◌^◌, ℕ, List, [], ◌∷◌, ⊤, Option, Some, None}
 use Rattle.words.specs.Number.{IsNumber}

@@ -1,3 +1,4 @@
+-- The contracts that docs/trusted.md lists do not depend on this file; other contracts and proofs do.
 -- Which words spell which command.
 use Rattle.std.specs.Prelude.{◌≡◌, List, [], ◌∷◌, ⊤, codes, Result, MatchResult}
 use Rattle.script.specs.Arguments.{Word, AreNone, AreNumber, AreServers, AreNumberAndMembers, AreName, AreNameAndNumber}

@@ -1,3 +1,4 @@
+-- The contracts that docs/trusted.md lists do not depend on this file; other contracts and proofs do.
 -- The words of a line, and the command that they spell.
 use Rattle.std.specs.Prelude.{◌≡◌, ◌==◌, ℕ, List, [], ◌∷◌, ⊤, Bool, filter, length, nat_lt, slice_index, Result}
 use Rattle.std.specs.Prelude.{MatchResult}

@@ -1,3 +1,4 @@
+-- The contracts that docs/trusted.md lists do not depend on this file; other contracts and proofs do.
 -- What the administrator does in one section.
 use Rattle.std.specs.Prelude.{◌≡◌, ℕ, suc, not, Bool, is_some, List, length, Option, Some, None}
 use Rattle.tag.specs.declared.refusal.Refusal.{Refusal}

@@ -1,3 +1,4 @@
+-- The contracts that docs/trusted.md lists do not depend on this file; other contracts and proofs do.
 -- The accounts of a cluster, added up again from its banks and mail.
 use Rattle.std.specs.Prelude.{◌≡◌, ℕ, ◌+◌, ◌<◌, ◌==◌, ◌-◌, ◌^◌, min, if◌then◌else◌, length, Option, Some, None}
 use Rattle.std.specs.Prelude.{slice_get, codes}

@@ -1,3 +1,4 @@
+-- The contracts that docs/trusted.md lists do not depend on this file; other contracts and proofs do.
 -- Which object a call of a client is for, and which value it writes.
 use Rattle.std.specs.Prelude.{ℕ, ◌%◌, nat_lt, List, ◌∷◌, ◌++◌, codes, if◌then◌else◌}
 use Rattle.std.specs.Fmt.{decimal}

@@ -1,3 +1,4 @@
+-- The contracts that docs/trusted.md lists do not depend on this file; other contracts and proofs do.
 -- The limits of a plan.
 use Rattle.std.specs.Prelude.{ℕ, ◌≤◌}
 

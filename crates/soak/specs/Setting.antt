@@ -1,3 +1,4 @@
+-- The contracts that docs/trusted.md lists do not depend on this file; other contracts and proofs do.
 -- The cluster with which a soak begins.
 use Rattle.std.specs.Prelude.{[], ◌∷◌, None, codes}
 use Rattle.cluster.specs.Cluster.{Cluster, all_up}

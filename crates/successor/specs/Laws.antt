@@ -1,3 +1,4 @@
+-- The contracts that docs/trusted.md lists do not depend on this file; other contracts and proofs do.
 -- Readings of the sequence driven by phases, and the record's words for the same.
 use Rattle.std.specs.Prelude.{◌≡◌, ℕ, ◌↔◌, List, [], ◌∷◌, Some, IsSome}
 use Rattle.std.specs.List.{AllByRecursion}

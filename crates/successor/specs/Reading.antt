@@ -1,3 +1,4 @@
+-- The contracts that docs/trusted.md lists do not depend on this file; other contracts and proofs do.
 -- Readings of the sequence of layouts, and where a call stands whose reading has come so far.
 use Rattle.std.specs.Prelude.{ℕ, suc, Bool, true, false, Option, Some, None}
 use Rattle.tag.specs.declared.tag.Tag.{Tag}

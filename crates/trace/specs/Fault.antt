@@ -1,3 +1,4 @@
+-- The contracts that docs/trusted.md lists do not depend on this file; other contracts and proofs do.
 -- Why the program ends early, and with which exit status.
 use Rattle.std.specs.Prelude.{ℕ}
 use Rattle.player.specs.Script.{status_of as status_of_end}

@@ -1,3 +1,4 @@
+-- The contracts that docs/trusted.md lists do not depend on this file; other contracts and proofs do.
 -- What playing a script leads to: a cluster, or an early end.
 use Rattle.std.specs.Prelude.{◌≡◌, ◌⊎◌, ℕ, List, Option, None}
 use Rattle.std.specs.Str.Lines.{lines}

@@ -1,3 +1,4 @@
+-- The contracts that docs/trusted.md lists do not depend on this file; other contracts and proofs do.
 -- Which positions and tags have a next one that the numbers of the machine hold.
 use Rattle.std.specs.Prelude.{◌+◌, ◌<◌, ◌^◌, List, IfSome}
 use Rattle.tag.specs.declared.tag.Tag.{Tag}
