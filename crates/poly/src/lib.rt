@@ -1,6 +1,7 @@
-//! Lagrange's rows of interpolation over the field of 256 elements.
+//! Lagrange's rows of interpolation over the field of 256 elements, and the value of a polynomial.
 #![tactic(auto)]
 
+pub use quotient::value_at;
 pub use rows::Rows;
 
 mod product;

@@ -27,8 +27,8 @@ fn divide_in_place(row: &mut [u8], root: u8)
     }
 }
 
-/// The value of the polynomial at `x`.
-pub(crate) fn value_at(polynomial: &[u8], x: u8) -> u8
+/// The value at `x` of the polynomial with these coefficients, the constant one first.
+pub fn value_at(polynomial: &[u8], x: u8) -> u8
     ensures { result ≡ evaluate polynomial.now x }
 {
     let mut value = 0;
