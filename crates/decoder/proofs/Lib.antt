@@ -7,4 +7,5 @@ pub mod Parts
 mod Striped
 pub mod Summed
 pub mod Table
+mod Weighted
 pub mod Whole

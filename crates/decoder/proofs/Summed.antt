@@ -11,7 +11,7 @@ use Rattle.dot_kernel.specs.Dot.{dot_byte, row, term}
 use Rattle.encoder.specs.Fragment.{fragment_len}
 use Rattle.encoder.specs.declared.fragment.Piece.{Piece}
 use Rattle.decoder.specs.Parts.{piece_at, pieces_at, AreLawfulParts}
-use Rattle.decoder.specs.Pieces.{points_of, AreOfBytes, HaveNoValue, IsInterpolated}
+use Rattle.decoder.specs.Pieces.{points_of, AreOfBytes, HaveNoValue, HaveValue, IsInterpolated}
 use Rattle.decoder.specs.Rows.{HasRows, AreBlockBytes, block_byte}
 use Rattle.decoder.proofs.Whole.{no_piece, part_of, part_of-at, byte_below-sum, blocks_of, length-blocks_of, get_or-blocks_of}
 use Rattle.decoder.proofs.Whole.{block_lt, place_lt, len_le_whole, whole_lt}
@@ -24,14 +24,14 @@ module _ (k len : ℕ) (points : List ℕ) (fragments : List (List ℕ)) (parts 
   abbrev pieces : List Piece
   pieces = pieces_at len points fragments
 
-  part-pieces_at : (i : ℕ) → i < k → part_of pieces i ≡ get_or fragments i []
+  pub part-pieces_at : (i : ℕ) → i < k → part_of pieces i ≡ get_or fragments i []
   unfolding piece_at
   part-pieces_at i hi =
       let inside : i < length points = omega (arith, count k len points fragments parts) in
       part_of-at pieces i no_piece (omega (arith, length-pieces_at len points fragments))
       ∙ ap (λ (p : Piece). p.bytes) (get_or-pieces_at len points fragments i no_piece inside)
 
-  fragment_byte_lt : (i b : ℕ) → i < k → b < fragment_len k len → get_or (get_or fragments i []) b 0 < 256
+  pub fragment_byte_lt : (i b : ℕ) → i < k → b < fragment_len k len → get_or (get_or fragments i []) b 0 < 256
   fragment_byte_lt i b hi hb =
       let within : i < length pieces = omega (arith, parts.lawful.count) in
       let long = fragment_at-len k len points fragments parts i (omega (arith, other_count k len points fragments parts)) in
@@ -118,9 +118,16 @@ module _ (k len : ℕ) (points : List ℕ) (fragments : List (List ℕ)) (parts 
       ∙ block_byte-blocks_of table rows n inside ∙ sym (get_or-take len blocks n 0 low)) in
       subst (IsInterpolated k len pieces) (sym same) (IsInterpolated-cut k len pieces parts.lawful bytes (zeros_past table rows zeros))
 
+  pub made_value : (table : List ℕ) → HasRows table points → ZerosPast table → HaveValue k len pieces
+  made_value table rows zeros = record {
+    value = take len (blocks_of k len pieces);
+    interpolated = IsInterpolated-cut k len pieces parts.lawful bytes (zeros_past table rows zeros);
+  }
+
   pub some_value : (table : List ℕ) → HasRows table points → ZerosPast table → ¬ HaveNoValue k len pieces
   some_value table rows zeros none =
-      none (take len (blocks_of k len pieces)) (IsInterpolated-cut k len pieces parts.lawful bytes (zeros_past table rows zeros))
+      let made = made_value table rows zeros in
+      none made.value made.interpolated
 
   -- where there is a value, all are zero
   pub zeros_of_value : (table value : List ℕ) → HasRows table points → IsInterpolated k len pieces value → ZerosPast table

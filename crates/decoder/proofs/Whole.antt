@@ -9,13 +9,14 @@ use Rattle.std.proofs.lemmas.List.{get_or-map, length-map}
 use Rattle.std.proofs.lemmas.List.FromFn.{length-map-range_with_len, get_or-map-range_with_len}
 use Rattle.std.proofs.lemmas.List.Elements.{All-from_get_or}
 use Rattle.std.proofs.lemmas.Grind.{same_number_lists, div_ceil_times}
-use Rattle.gf256.specs.Polynomial.{AreBytes}
+use Rattle.gf256.specs.Polynomial.{AreBytes, evaluate}
 use Rattle.gf256.specs.Field.{field_product, field_sum}
 use Rattle.gf256.proofs.Basis.{basis_row}
-use Rattle.encoder.specs.Fragment.{fragment_len, fragment}
+use Rattle.encoder.specs.Fragment.{fragment_len, fragment, fragment_byte}
 use Rattle.encoder.specs.declared.fragment.Piece.{Piece}
 use Rattle.decoder.specs.Pieces.{points_of, AreLawful, AreOfBytes, IsInterpolated}
 use Rattle.decoder.proofs.Interpolated.{partly_interpolated, interpolated_lt, value_interpolated, fragments_from_interpolated}
+use Rattle.decoder.proofs.Interpolated.{fragment_interpolated}
 
 -- ---- lengths
 
@@ -130,6 +131,21 @@ module _ (k len : ℕ) (pieces : List Piece) (lawful : AreLawful k len pieces) (
             ∙ part_of-at pieces i d hi;
       }
 
+  fragments_at : (size : ℕ) (value : List ℕ) → IsInterpolated k size pieces value
+      → (i : ℕ) → i < k → fragment value k (get_or (points_of pieces) i 0) ≡ part_of pieces i
+  fragments_at size value known i hi =
+      let within : i < length pieces = omega (arith, lawful.count) in
+      ap (fragment value k) (point-at pieces i no_piece within) ∙ known.fragments i no_piece within
+      ∙ sym (part_of-at pieces i no_piece within)
+
+  -- each fragment of a value with these fragments
+  pub byte_of_fragment : (value : List ℕ) → IsInterpolated k len pieces value → (x b : ℕ) → x < 256 → b < fragment_len k len
+      → fragment_byte value k x b
+      ≡ field_sum k (λ i. field_product (get_or (part_of pieces i) b 0) (evaluate (basis_row (points_of pieces) i) x))
+  byte_of_fragment value known x b hx hb =
+      fragment_interpolated k len (points_of pieces) (part_of pieces) count bytes.points lawful.distinct part_bytes part_len
+      value known.bytes (ap (fragment_len k) known.value_len) (fragments_at len value known) x b hx hb
+
   -- a value with these fragments and as many blocks has their bytes
   pub byte_in_blocks : (size : ℕ) (value : List ℕ) → IsInterpolated k size pieces value → fragment_len k size ≡ fragment_len k len
       → (n : ℕ) → n < k * fragment_len k len → get_or value n 0 ≡ get_or (blocks_of k len pieces) n 0
@@ -139,11 +155,7 @@ module _ (k len : ℕ) (pieces : List Piece) (lawful : AreLawful k len pieces) (
       let place : n / f * f + n % f ≡ n = div-add-mod' n f in
       ap (λ m. get_or value m 0) (sym place)
       ∙ value_interpolated k len (points_of pieces) (part_of pieces) count bytes.points lawful.distinct part_bytes part_len
-      value known.bytes (ap (fragment_len k) known.value_len ∙ same_len)
-      (λ i hi.
-      let within : i < length pieces = omega (arith, lawful.count) in
-      ap (fragment value k) (point-at pieces i no_piece within) ∙ known.fragments i no_piece within
-      ∙ sym (part_of-at pieces i no_piece within))
+      value known.bytes (ap (fragment_len k) known.value_len ∙ same_len) (fragments_at size value known)
       (n / f) (n % f) (block_lt k f n hn) (place_lt k f n hn)
       ∙ sym (get_or-blocks_of k len pieces n hn)
 

@@ -35,6 +35,11 @@ pub record IsInterpolated (k len : ℕ) (pieces : List Piece) (value : List ℕ)
 abbrev pub HaveNoValue : ℕ → ℕ → List Piece → Type 0
 HaveNoValue k len pieces = (value : List ℕ) → ¬ IsInterpolated k len pieces value
 
+-- a value of len bytes has these fragments
+pub record HaveValue (k len : ℕ) (pieces : List Piece) : Type 0 where
+  pub value : List ℕ
+  pub interpolated : IsInterpolated k len pieces value
+
 -- the pieces are k pieces of the value, at distinct points
 pub record ArePiecesOf (value : List ℕ) (k : ℕ) (pieces : List Piece) : Type 0 where
   pub some : 1 ≤ k

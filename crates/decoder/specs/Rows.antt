@@ -2,7 +2,7 @@
 -- Tables of Lagrange's rows, and the sums of fragments by their columns.
 use Rattle.std.specs.Prelude.{◌≡◌, ℕ, ◌+◌, ◌*◌, ◌<◌, List, length, slice_index, map, take, drop, true}
 use Rattle.std.specs.List.{range_with_len}
-use Rattle.gf256.specs.Polynomial.{IsBasisRow}
+use Rattle.gf256.specs.Polynomial.{IsBasisRow, evaluate}
 use Rattle.gf256.specs.Field.{field_sum}
 use Rattle.dot_kernel.specs.Dot.{dot_byte, row}
 use Rattle.dot_kernel.specs.Level.{level}
@@ -20,6 +20,10 @@ HasRows table points = (i : ℕ) → i < length points → HasRow table points i
 -- each of k columns of a table of k lines sums up to 0, and the first one to 1
 abbrev pub HaveColumnSums : List ℕ → ℕ → Type 0
 HaveColumnSums table k = (j : ℕ) → j < k → field_sum k (row table k j) ≡ level true j
+
+-- the value at x of the polynomial in line i of a table whose lines have k coefficients
+abbrev pub line_value : List ℕ → ℕ → ℕ → ℕ → ℕ
+line_value table k x i = evaluate (take k (drop (i * k) table)) x
 
 -- byte b of block j: the sum over the fragments of coefficient j of each one's row times its byte b
 abbrev pub block_byte : List ℕ → List (List ℕ) → ℕ → ℕ → ℕ

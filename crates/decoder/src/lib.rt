@@ -5,6 +5,7 @@ pub use code::{empty_values_have_empty_fragments, fragments_determine_values};
 pub use decoded::{Decoded, decode};
 pub use into::decode_into;
 pub use past::bad_pieces_give_a_byte_past_the_length;
+pub use repair::repair_into;
 
 mod code;
 mod decoded;
@@ -12,8 +13,10 @@ mod into;
 mod lawful;
 mod padding;
 mod past;
+mod repair;
 mod rooms;
 mod rows;
 mod stripes;
 mod sums;
 mod value;
+mod weights;

@@ -12,7 +12,7 @@ use std::alloc::Global;
 use tag::Refusal;
 
 /// The coefficients of 255 rows.
-const MOST_COEFFICIENTS: usize = 65_025;
+pub(crate) const MOST_COEFFICIENTS: usize = 65_025;
 
 /// The most tables of one pass: 8 KiB, of which those of 255 fragments for one block fill nearly all.
 const MOST_TABLES: usize = 256;

@@ -5,8 +5,8 @@ ghost use Rattle.std.specs.Prelude.{IfErr, IfOk, IsFalse, IsTrue, OnErr, OnOk};
 ghost use Rattle.dot_kernel.specs.Dot.{bytes_of};
 ghost use Rattle.encoder.specs.Fragment.{fragment_len};
 ghost use Rattle.decoder.specs.Parts.{AreLawfulParts, pieces_at};
-ghost use Rattle.decoder.specs.Pieces.{AreOfBytes, HaveNoValue, IsInterpolated};
-ghost use Rattle.decoder.specs.Rows.{AreBlockBytes, HaveColumnSums};
+ghost use Rattle.decoder.specs.Pieces.{AreOfBytes, HaveNoValue, HaveValue, IsInterpolated};
+ghost use Rattle.decoder.specs.Rows.{AreBlockBytes, HasRows, HaveColumnSums};
 
 use crate::padding::is_padding_zero;
 use crate::rows::fill_rows;
@@ -100,14 +100,22 @@ pub(crate) fn write_with(
 
 /// Whether a value of `len` bytes has these pieces, which are lawful. Fills in the table of their rows: where there is
 /// such a value, it is the first bytes of the blocks.
-fn have_value(table: &mut [u8], k: u8, len: usize, points: &[u8], fragments: &[&[u8]]) -> bool
+pub(crate) fn have_value(
+    table: &mut [u8],
+    k: u8,
+    len: usize,
+    points: &[u8],
+    fragments: &[&[u8]],
+) -> bool
     requires coefficients { length table.old ≡ k * k }
     requires lawful { AreLawfulParts k len points.now (bytes_of fragments.now) }
     requires bytes { AreOfBytes (pieces_at len points.now (bytes_of fragments.now)) }
+    ensures rows { HasRows table.new points.now }
     ensures sums { HaveColumnSums table.new k }
     ensures value { IsTrue result → (value : List ℕ) → length value ≡ len
         → AreBlockBytes value (fragment_len k len) table.new (bytes_of fragments.now)
         → IsInterpolated k len (pieces_at len points.now (bytes_of fragments.now)) value }
+    ensures made { IsTrue result → HaveValue k len (pieces_at len points.now (bytes_of fragments.now)) }
     ensures some { IsTrue result → ¬ HaveNoValue k len (pieces_at len points.now (bytes_of fragments.now)) }
     ensures none { IsFalse result → HaveNoValue k len (pieces_at len points.now (bytes_of fragments.now)) }
 {

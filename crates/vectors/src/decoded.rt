@@ -28,7 +28,7 @@ pub(crate) const ONE: Fragment = (1, b"\x04\x0a\x6c");
 
 pub(crate) const TWO: Fragment = (2, b"\xb0\xbb\x6c");
 
-const THREE: Fragment = (3, b"\xdc\xd4\x6c");
+pub(crate) const THREE: Fragment = (3, b"\xdc\xd4\x6c");
 
 /// Values with their fragments, worked out by hand from the definition of a fragment.
 pub(crate) const SMALL: [(u8, &[Fragment], &[u8]); 10] = [

@@ -77,7 +77,7 @@ fn refuses_more_fragments_than_points(rt: HostRuntime) {
 }
 
 /// A value of `len` bytes, in which each value of a byte occurs where the length allows it.
-fn value_of_len(alloc: Global, len: usize) -> Result<Bytes, AllocError> {
+pub(crate) fn value_of_len(alloc: Global, len: usize) -> Result<Bytes, AllocError> {
     let mut value = vec![in alloc; 0u8; len]?;
     let mut next = 1u8;
     for byte in value.iter_mut() {

@@ -15,4 +15,6 @@ mod lanes;
 #[cfg(test)]
 mod products;
 #[cfg(test)]
+mod repaired;
+#[cfg(test)]
 mod rows;

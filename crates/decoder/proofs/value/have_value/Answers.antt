@@ -4,7 +4,8 @@ use Rattle.dot_kernel.proofs.LaneSums.{length-bytes_of}
 use Rattle.decoder.specs.Rows.{HaveColumnSums}
 use Rattle.decoder.proofs.ColumnSums.{HaveColumnSums-rows}
 use Rattle.decoder.proofs.Parts.{count, other_count, distinct_points, fragment_at-len, points-pieces_at}
-use Rattle.decoder.proofs.Summed.{whole_fits, zeros_read, zeros_told, zeros_of_value, some_value, IsInterpolated-sums}
+use Rattle.decoder.proofs.Summed.{whole_fits, zeros_read, zeros_told, zeros_of_value, made_value, some_value}
+use Rattle.decoder.proofs.Summed.{IsInterpolated-sums}
 use Rattle.decoder.proofs.value.have_value.Goals as goal
 
 pub fill_rows-requires-clause-distinct : goal.fill_rows-requires-clause-distinct
@@ -67,6 +68,18 @@ returns-clause-value c all_zero value long sums =
     (zeros_read k len points bytes c.requires.lawful c.requires.bytes c.fill_rows.new.table (length fragments) c.div_ceil.result is_k
     c.div_ceil.ensures (c.is_padding_zero.ensures.0 all_zero))
     long sums
+
+pub returns-clause-made : goal.returns-clause-made
+returns-clause-made c all_zero =
+    let k = c.args.k in
+    let len = c.args.len in
+    let points = c.args.points.now in
+    let fragments = c.args.fragments.now in
+    let bytes = bytes_of fragments in
+    let is_k = sym (length-bytes_of fragments) ∙ other_count k len points bytes c.requires.lawful in
+    made_value k len points bytes c.requires.lawful c.requires.bytes c.fill_rows.new.table c.fill_rows.ensures
+    (zeros_read k len points bytes c.requires.lawful c.requires.bytes c.fill_rows.new.table (length fragments) c.div_ceil.result is_k
+    c.div_ceil.ensures (c.is_padding_zero.ensures.0 all_zero))
 
 pub returns-clause-some : goal.returns-clause-some
 returns-clause-some c all_zero =
