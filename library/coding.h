@@ -67,11 +67,18 @@ uint8_t coding_decode(uint8_t k, const uint8_t *points, size_t point_count, cons
 
 /* Decodes the value of `value_length` bytes that has these fragments to `value`, as coding_decode does, and writes the
    value's fragment at `point` to `fragment`.
+   If the value is not wanted, coding_repair_fragment is faster.
    Returns CODING_BAD_BUFFER if k is above 0 and `fragment_length` is not the length of a fragment, else
    CODING_BAD_PIECES as coding_decode does. */
 uint8_t coding_repair(uint8_t k, const uint8_t *points, size_t point_count, const struct coding_bytes *fragments,
                       size_t fragment_count, uint8_t point, uint8_t *value, size_t value_length, uint8_t *fragment,
                       size_t fragment_length);
+
+/* Writes the fragment at `point` to `fragment`, as coding_repair does, but does not compute the value: this takes about a
+   k-th of the work of coding_decode, and no buffer of the value's length. Returns what coding_repair returns. */
+uint8_t coding_repair_fragment(uint8_t k, const uint8_t *points, size_t point_count,
+                               const struct coding_bytes *fragments, size_t fragment_count, uint8_t point,
+                               size_t value_length, uint8_t *fragment, size_t fragment_length);
 
 /* Sets `text` to the text of an answer, which is its number and its name, such as "15 BadPieces". The text stays valid
    as long as the program runs. It ends with a zero byte, which `length` counts. */

@@ -51,6 +51,8 @@ extern "C" {
         fragment_count: usize, value: *mut u8, value_length: usize) -> u8;
     fn coding_repair(k: u8, points: *const u8, point_count: usize, fragments: *const Fragment<'_>,
         fragment_count: usize, point: u8, value: *mut u8, value_length: usize, out: *mut u8, out_length: usize) -> u8;
+    fn coding_repair_fragment(k: u8, points: *const u8, point_count: usize, fragments: *const Fragment<'_>,
+        fragment_count: usize, point: u8, value_length: usize, out: *mut u8, out_length: usize) -> u8;
     fn coding_text(answer: u8, text: &mut Fragment<'static>);
 }
 
@@ -90,5 +92,16 @@ pub fn repair(k: u8, points: &[u8], fragments: &[Fragment<'_>], point: u8, value
     result(unsafe {
         coding_repair(k, points.as_ptr(), points.len(), fragments.as_ptr(), fragments.len(), point,
             value.as_mut_ptr(), value.len(), out.as_mut_ptr(), out.len())
+    })
+}
+
+/// Writes the fragment at `point` to `out`, of the value of `value_length` bytes that has these fragments, without the
+/// value.
+pub fn repair_fragment(k: u8, points: &[u8], fragments: &[Fragment<'_>], point: u8, value_length: usize,
+    out: &mut [u8]) -> Result<(), Refused>
+{
+    result(unsafe {
+        coding_repair_fragment(k, points.as_ptr(), points.len(), fragments.as_ptr(), fragments.len(), point,
+            value_length, out.as_mut_ptr(), out.len())
     })
 }

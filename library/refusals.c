@@ -25,6 +25,8 @@ int main(void) {
   size_t length = 7;
   const uint8_t points[2] = {3, 1}, twice[2] = {1, 1};
   const struct coding_bytes pieces[2] = {{FRAGMENTS + 9, 3}, {FRAGMENTS + 3, 3}};
+  // With "abc" in place of the second one the value would have a byte past its end that is not 0.
+  const struct coding_bytes wrong[2] = {{FRAGMENTS + 9, 3}, {SAME, 3}};
   memcpy(room, SAME, 12), memcpy(other, SAME, 3);
 
   is_refused(coding_fragment_length(0, 5, &length), "2 BadLayout");
@@ -38,6 +40,10 @@ int main(void) {
   is_refused(coding_decode(2, points, 2, pieces, 1, room, 5), "15 BadPieces");
   is_refused(coding_repair(2, points, 2, pieces, 2, 0, room, 5, other, 2), "18 BadBuffer");
   is_refused(coding_repair(2, twice, 2, pieces, 2, 0, room, 5, other, 3), "15 BadPieces");
+  is_refused(coding_repair_fragment(2, points, 2, pieces, 2, 0, 5, other, 2), "18 BadBuffer");
+  is_refused(coding_repair_fragment(2, twice, 2, pieces, 2, 0, 5, other, 3), "15 BadPieces");
+  is_refused(coding_repair_fragment(2, points, 2, wrong, 2, 0, 5, other, 3), "15 BadPieces");
+  is_refused(coding_repair_fragment(0, points, 2, pieces, 2, 0, 5, other, 3), "15 BadPieces");
   expect(memcmp(room, SAME, 12) == 0 && memcmp(other, SAME, 3) == 0, "a refused call changes nothing");
   is_refused(0, "0 Done");
   is_refused(200, "Unknown");
@@ -49,5 +55,7 @@ int main(void) {
   memcpy(room, SAME, 12);
   is_done(coding_repair(2, points, 2, pieces, 2, 2, room, 5, other, 3), other, (const char *)FRAGMENTS + 6, 3);
   expect(memcmp(room, "hello", 5) == 0, "a repair leaves the value");
+  memcpy(other, SAME, 3);
+  is_done(coding_repair_fragment(2, points, 2, pieces, 2, 2, 5, other, 3), other, (const char *)FRAGMENTS + 6, 3);
   return 0;
 }

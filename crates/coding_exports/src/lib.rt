@@ -5,6 +5,7 @@
 pub use decode::coding_exports_decode;
 pub use encode::coding_exports_encode;
 pub use fragments::{coding_encode, coding_encode_one, coding_fragment_length};
+pub use lost::coding_repair_fragment;
 pub use repair::coding_repair;
 pub use text::coding_text;
 pub use value::coding_decode;
@@ -13,6 +14,7 @@ mod answer;
 mod decode;
 mod encode;
 mod fragments;
+mod lost;
 mod repair;
 mod room;
 #[cfg(test)]
