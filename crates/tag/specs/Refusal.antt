@@ -1,4 +1,4 @@
--- The table of refusals.
+-- The table of refusals, and how the result of a function follows from its cause of refusal.
 use Rattle.std.specs.Prelude.{◌≡◌, ◌⊎◌, ℕ, List, ◌∷◌, ◌++◌, Option, Some, None, Result, MatchResult, codes}
 use Rattle.std.specs.Fmt.{decimal}
 use Rattle.tag.specs.declared.refusal.Refusal.{Refusal}
@@ -46,16 +46,15 @@ name_of BadPieces = codes "BadPieces"
 name_of Collected = codes "Collected"
 name_of Stranger = codes "Stranger"
 
--- the number, a space and the name
+-- the text of a refusal: its number, a space and its name
 abbrev pub refusal_text : Refusal → List ℕ
 refusal_text r = decimal (number_of r) ++ 32 ∷ name_of r
 
--- the answer of a call whose cause of refusal is known: Ok where there is none, else that refusal; where there is none,
--- memory alone may be wanting
+-- the result is the given cause of refusal where there is one, and else Ok or NoMemory
 abbrev pub IsByCause : {T : Type 0} → Option Refusal → Result T Refusal → Type 0
 IsByCause cause answer =
     MatchResult answer (λ _. cause ≡ None) (λ r. (cause ≡ Some r) ⊎ ((cause ≡ None) × (r ≡ NoMemory)))
 
--- the answer of a call that takes no memory: Ok where there is no cause of refusal, else that refusal
+-- the result is the given cause of refusal where there is one, and else Ok: for a function that allocates no memory
 abbrev pub IsExactlyByCause : {T : Type 0} → Option Refusal → Result T Refusal → Type 0
 IsExactlyByCause cause answer = MatchResult answer (λ _. cause ≡ None) (λ r. cause ≡ Some r)

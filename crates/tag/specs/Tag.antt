@@ -1,4 +1,4 @@
--- Tags, by number and then by call.
+-- Tags, ordered by number and then by call.
 use Rattle.std.specs.Prelude.{◌≡◌, ◌+◌, ◌<◌, ℕ, List, ◌∷◌, ◌++◌, Bool, ◌&&◌, ◌||◌, ◌⊎◌, ◌==◌, nat_lt, if◌then◌else◌}
 use Rattle.std.specs.Fmt.{decimal}
 use Rattle.std.specs.Ordering.{nat_cmp, on, then_cmp}
@@ -9,15 +9,15 @@ use Rattle.tag.specs.declared.tag.Tag.{Tag}
 abbrev pub opening_tag : Tag
 opening_tag = record { number = 0; call = 0 }
 
--- s has a smaller number than t, or the same number and a smaller call
+-- s comes before t: its number is smaller, or the numbers are equal and its call is smaller
 abbrev pub IsBelow : Tag → Tag → Type 0
 IsBelow s t = (s.number < t.number) ⊎ ((s.number ≡ t.number) × (s.call < t.call))
 
--- whether s is below t
+-- whether s comes before t
 abbrev pub tag_lt : Tag → Tag → Bool
 tag_lt s t = nat_lt s.number t.number || (s.number == t.number && nat_lt s.call t.call)
 
--- whether s and t are one tag
+-- whether s and t are the same tag
 abbrev pub tag_eq : Tag → Tag → Bool
 tag_eq s t = s.number == t.number && s.call == t.call
 
@@ -29,10 +29,10 @@ later_tag s t = if tag_lt s t then t else s
 abbrev pub next_tag : Tag → ℕ → Tag
 next_tag greatest call = record { number = greatest.number + 1; call = call }
 
--- the number, a point and the call
+-- the text of a tag: its number, a point and its call
 abbrev pub tag_text : Tag → List ℕ
 tag_text t = decimal t.number ++ 46 ∷ decimal t.call
 
--- the order of tags, as maps take it
+-- the order of tags as a comparison function, which finite maps keyed by tags need
 abbrev pub tag_cmp : Tag → Tag → Ordering
 tag_cmp = then_cmp (on (λ t. t.number) nat_cmp) (on (λ t. t.call) nat_cmp)

@@ -1,4 +1,4 @@
-//! The words that every layer shares: tags of versions, numbers of steps, refusals, and written limits.
+//! The types that every layer shares: tags of versions, numbers of steps, refusals, and the limits on sizes and counts.
 #![tactic(auto)]
 
 pub use limits::{

@@ -9,51 +9,53 @@ use std::fmt;
 /// Why a call was refused.
 #[derive(Clone, Copy, Debug, PartialEq, Eq, Hash)]
 pub enum Refusal {
-    /// A growth was refused.
+    /// An allocation was refused.
     NoMemory = 1,
-    /// A threshold or members out of the rule, a member that is no server, or an unknown layout.
+    /// The layout breaks the rule `1 <= k <= n <= MOST_MEMBERS` or names a server twice, there is no server of this
+    /// number, or there is no layout of this number.
     BadLayout,
     /// No object has this name.
     NoObject,
-    /// An object has this name already.
+    /// An object with this name exists already.
     ObjectExists,
-    /// A value or a name above its limit.
+    /// The value is longer than `LONGEST_VALUE` bytes, or the name is longer than `LONGEST_NAME` bytes.
     TooLong,
-    /// There is no such call, or no open one.
+    /// There is no call of this number, or no pending call that could go on.
     NoCall,
-    /// The call, message or store does not take this step now.
+    /// The call, the message or the store is not in a state in which it can make this step.
     NotNow,
     /// There is no message at this place.
     NoMessage,
-    /// The request's server is down.
+    /// The server that the request is for is down.
     Down,
-    /// The coded value is another, or the decoded pieces are.
+    /// The encoded value is not the call's value for the layout that gets it, or the value was not decoded from pieces
+    /// that the call's current phase took.
     WrongCode,
-    /// The object has an open move.
+    /// The object, or the administrator, has a move that is not answered yet.
     MovePending,
-    /// A written limit is met.
+    /// A limit on a count or on bytes is reached, such as `MOST_CALLS` or `MOST_BYTES`.
     Full,
-    /// The phase lacks a quorum, and no message of the call can be handled.
+    /// The call's phase lacks a quorum of replies, and none of the call's messages can be handled.
     Stuck,
-    /// The turns are used up.
+    /// The call was not answered within the number of turns that the caller allowed.
     GaveUp,
-    /// The pieces are not those of one value.
+    /// The pieces to decode are not k lawful pieces of values of one length at distinct points, or no value has them.
     BadPieces,
-    /// A complete fetch has too few pieces, since the others were collected.
+    /// A complete fetch has fewer than k pieces, since other members had dropped theirs.
     Collected,
-    /// A seat or a receipt that does not fit this store.
+    /// A seat or a receipt does not fit this store, as when it comes from another store.
     Stranger,
 }
 
 impl Refusal {
-    /// The number that the program prints, from 1 to 17.
+    /// The number of the refusal, from 1 to 17, by which programs print it.
     pub fn number(self) -> u8
         ensures { result ≡ number_of self }
     {
         self as u8
     }
 
-    /// The name that the program prints.
+    /// The name of the refusal, by which programs print it.
     pub fn name(self) -> &'static str
         ensures { result.now ≡ name_of self }
     {
@@ -79,7 +81,7 @@ impl Refusal {
     }
 }
 
-/// The number and the name.
+/// A refusal is printed as its number, a space and its name.
 impl fmt::Display for Refusal {
     ghost output = { λ r. Some (refusal_text r) };
 

@@ -17,7 +17,7 @@ impl Tag {
     /// The tag of the empty value, with which every bank begins.
     pub const OPENING: Tag = Tag { number: 0, call: 0 };
 
-    /// Whether this tag comes before `other`.
+    /// Whether this tag comes before `other`: by number, and then by call.
     pub fn is_below(self, other: Tag) -> bool
         ensures order { IsTrue result ↔ IsBelow self other }
         ensures value { result ≡ tag_lt self other }
@@ -25,7 +25,7 @@ impl Tag {
         self < other
     }
 
-    /// Whether the two are one tag.
+    /// Whether the two tags are the same.
     pub fn is(self, other: Tag) -> bool
         ensures same { IsTrue result ↔ (self ≡ other) }
         ensures value { result ≡ tag_eq self other }
@@ -33,14 +33,14 @@ impl Tag {
         self == other
     }
 
-    /// The later of the two.
+    /// The later of the two tags.
     pub fn later(self, other: Tag) -> Tag
         ensures { result ≡ later_tag self other }
     {
         if self < other { other } else { self }
     }
 
-    /// The tag of a write by this call that found `self` as the greatest tag.
+    /// The tag of a write by the call of this number, where `self` is the greatest tag that its queries found.
     pub fn next(self, call: u64) -> Tag
         requires { self.number + 1 < 2 ^ 64 }
         ensures { result ≡ next_tag self call }
@@ -52,7 +52,7 @@ impl Tag {
     }
 }
 
-/// The number and the call, parted by a point.
+/// A tag is printed as its number, a point and its call, such as `3.7`.
 impl fmt::Display for Tag {
     ghost output = { λ t. Some (tag_text t) };
 
