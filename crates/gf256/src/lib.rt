@@ -10,7 +10,7 @@ pub use arithmetic::{REDUCED_X8, div, inv, mul, pow};
 mod arithmetic;
 mod logarithms;
 
-/// A product in the field is what is left of the polynomials' product when a multiple of the modulus is taken away.
+/// A law: the field product of two bytes is the remainder of their product as polynomials by the modulus.
 pub fn product_is_the_remainder()
     ensures { (a b : ℕ) → a < 256 → b < 256 → IsRemainder (polynomial_product 8 a b) (field_product a b) }
 {}

@@ -1,12 +1,12 @@
-//! Powers of `x` and logarithms to them, of which products and inverses are made.
+//! Tables of the powers of `x` and of logarithms to the base `x`, by which products and inverses are computed.
 
 ghost use Rattle.std.specs.Prelude.{◌≡◌, ◌<◌, length, slice_index};
 ghost use Rattle.gf256.specs.Field.{field_power};
 
-/// How many powers of `x` are different: each element that is not zero is one of them.
+/// The number of different powers of `x`. Each nonzero element is one of them.
 pub(crate) const ORDER: usize = 255;
 
-/// The power of `x` at each exponent up to the sum of two logarithms.
+/// The power of `x` at each exponent from 0 to 508, the greatest sum of two logarithms.
 const POWERS: [u8; 509] = [
     1, 2, 4, 8, 16, 32, 64, 128, 29, 58, 116, 232, 205, 135, 19, 38, 76, 152, 45, 90, 180, 117,
     234, 201, 143, 3, 6, 12, 24, 48, 96, 192, 157, 39, 78, 156, 37, 74, 148, 53, 106, 212, 181,
@@ -35,7 +35,7 @@ const POWERS: [u8; 509] = [
     11, 22, 44, 88, 176, 125, 250, 233, 207, 131, 27, 54, 108, 216, 173, 71,
 ];
 
-/// For each element the exponent of `x` that gives it, below `ORDER`; the one of 0 is never asked for.
+/// For each element the exponent below `ORDER` at which `x` gives it. Element 0 has none; its entry is never used.
 const LOGARITHMS: [u8; 256] = [
     0, 0, 1, 25, 2, 50, 26, 198, 3, 223, 51, 238, 27, 104, 199, 75, 4, 100, 224, 14, 52, 141, 239,
     129, 28, 193, 105, 248, 200, 8, 76, 113, 5, 138, 101, 47, 225, 36, 15, 33, 53, 147, 142, 218,
@@ -52,7 +52,7 @@ const LOGARITHMS: [u8; 256] = [
     214, 244, 234, 168, 80, 88, 175,
 ];
 
-/// The power of `x` at this exponent.
+/// `x` to the power `exponent`.
 #[inline(always)]
 pub(crate) fn power(exponent: usize) -> u8
     requires { exponent < 509 }
@@ -61,7 +61,7 @@ pub(crate) fn power(exponent: usize) -> u8
     at(&POWERS, exponent)
 }
 
-/// The exponent of `x` that gives `a`.
+/// The exponent at which `x` gives `a`. For 0 the result means nothing.
 #[inline(always)]
 pub(crate) fn logarithm(a: u8) -> usize
     ensures small { result < ORDER }
@@ -70,7 +70,7 @@ pub(crate) fn logarithm(a: u8) -> usize
     at(&LOGARITHMS, a as usize) as usize
 }
 
-/// The number at this place.
+/// The entry of the table at this index.
 #[inline(always)]
 fn at(table: &[u8], place: usize) -> u8
     requires { place < length table.now }
