@@ -1,4 +1,4 @@
-//! Sums of products, and equality, of slices of bytes in the field of 256 elements, 32 bytes at a time.
+//! Sums of products, and equality, of byte slices over the field of 256 elements, 32 bytes at a time in SIMD vectors.
 #![tactic(auto)]
 
 pub use equality::same;
@@ -7,5 +7,5 @@ pub use sums::{add_scaled, scale_add};
 mod equality;
 mod sums;
 
-/// Bytes in a block, which one vector holds.
+/// The number of bytes in a block, which fits one SIMD vector.
 const BLOCK: usize = 32;

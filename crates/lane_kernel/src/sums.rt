@@ -1,4 +1,4 @@
-//! Sums of products of slices by constants.
+//! Sums of byte slices that are multiplied by constants of the field.
 
 ghost use Rattle.std.specs.Prelude.{◌≡◌, ℕ, ◌+◌, ◌<◌, ◌≤◌, length, bit_xor, slice_index, EachIndex};
 ghost use Rattle.gf256.specs.Field.{field_product};
@@ -8,7 +8,7 @@ use crate::BLOCK;
 use gf256::{REDUCED_X8, mul};
 use std::simd::prelude::*;
 
-/// Makes each byte of `acc` be `c` times itself plus the byte of `src`.
+/// Multiplies each byte of `acc` by `c` and adds the byte of `src` at the same index. The slices have the same length.
 pub fn scale_add(acc: &mut [u8], c: u8, src: &[u8])
     requires { length acc.old ≡ length src.now }
     ensures { EachIndex acc.new (λ b. slice_index acc.new b
@@ -17,7 +17,8 @@ pub fn scale_add(acc: &mut [u8], c: u8, src: &[u8])
     combine(acc, c, 1, src);
 }
 
-/// Adds `c` times each byte of `src` to the byte of `dst`.
+/// Adds to each byte of `dst` the product of `c` and the byte of `src` at the same index. The slices have the same
+/// length.
 pub fn add_scaled(dst: &mut [u8], c: u8, src: &[u8])
     requires { length dst.old ≡ length src.now }
     ensures { EachIndex dst.new (λ b. slice_index dst.new b
@@ -26,8 +27,8 @@ pub fn add_scaled(dst: &mut [u8], c: u8, src: &[u8])
     combine(dst, 1, c, src);
 }
 
-/// Makes each byte of `target` be `own` times itself plus `other` times the byte of `src`. It is inlined, so that a
-/// constant 1 costs nothing.
+/// Replaces each byte of `target` by the sum of `own` times this byte and `other` times the byte of `src` at the same
+/// index. It is inlined, so that a constant factor 1 costs nothing.
 #[inline(always)]
 fn combine(target: &mut [u8], own: u8, other: u8, src: &[u8])
     requires { length target.old ≡ length src.now }
@@ -44,7 +45,7 @@ fn combine(target: &mut [u8], own: u8, other: u8, src: &[u8])
     }
 }
 
-/// `combine` on the block that begins at `start`.
+/// Does what `combine` does for the one block that begins at `start`.
 #[inline(always)]
 fn combine_block(target: &mut [u8], start: usize, own: u8, other: u8, src: &[u8])
     requires len { length target.old ≡ length src.now }
@@ -60,7 +61,8 @@ fn combine_block(target: &mut [u8], start: usize, own: u8, other: u8, src: &[u8]
     sum.copy_to_slice(&mut target[start..]);
 }
 
-/// `c` times each lane: the sum of the doublings that the bits of `c` name, with none above its highest bit.
+/// `c` times each lane: the sum of x^i times the lane, over the bits i that are set in `c`. It stops at the highest set
+/// bit.
 #[inline(always)]
 fn scaled(lanes: u8x32, c: u8) -> u8x32
     ensures { result ≡ scaled_by c lanes }
