@@ -1,21 +1,20 @@
 -- The contracts that docs/trusted.md lists do not depend on this file; other contracts and proofs do.
--- The points of Lagrange's rows, and the polynomial that all rows are made from.
+-- The points of Lagrange's rows, and the polynomial from which all rows are computed.
 use Rattle.std.specs.Prelude.{◌≡◌, ℕ, ◌+◌, ◌<◌, List, length, slice_index}
 use Rattle.gf256.specs.Polynomial.{AreBytes, AreDistinct, evaluate}
 
--- the points of which there are rows
+-- the points for which Lagrange's rows are computed
 pub record Basis : Type 0 where
   pub points : List ℕ
 
--- the product of `x + point` over the first n points: the polynomial of degree n, with the highest coefficient 1, that
--- is 0 at each of them
+-- cs is the product of `x + point` over the first n points: of degree n, leading coefficient 1, and 0 at these points
 pub record IsProduct (points : List ℕ) (n : ℕ) (cs : List ℕ) : Type 0 where
   pub len : length cs ≡ n + 1
   pub bytes : AreBytes cs
   pub highest : slice_index cs n ≡ 1
   pub zero : (j : ℕ) → j < n → evaluate cs (slice_index points j) ≡ 0
 
--- what is kept of the points: that they are distinct bytes, and the product over all of them
+-- the invariant of `Rows`: the points are distinct bytes, and `product` is the product over all of them
 pub record AreRows (points product : List ℕ) : Type 0 where
   pub bytes : AreBytes points
   pub distinct : AreDistinct points

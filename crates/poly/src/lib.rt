@@ -1,4 +1,4 @@
-//! Lagrange's rows of interpolation over the field of 256 elements, and the value of a polynomial.
+//! Lagrange's rows, for polynomial interpolation over the field of 256 elements, and the value of a polynomial.
 #![tactic(auto)]
 
 pub use quotient::value_at;

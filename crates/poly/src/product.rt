@@ -1,4 +1,4 @@
-//! The product of `x + point` over points.
+//! The product of the factors `x + point` over a list of points.
 ghost use Rattle.std.specs.Prelude.{◌≡◌, ℕ, ◌+◌, ◌<◌, ◌≤◌, length, bit_xor, slice_index};
 ghost use Rattle.gf256.specs.Field.{field_product};
 ghost use Rattle.gf256.specs.Polynomial.{AreBytes, evaluate};
@@ -9,10 +9,10 @@ use arrayvec::ArrayVec;
 use gf256::mul;
 use tag::MOST_MEMBERS;
 
-/// The most coefficients of a product over the points of a layout's members.
+/// The greatest number of coefficients of such a product: one more than there are points.
 pub(crate) const MOST_COEFFICIENTS: usize = MOST_MEMBERS + 1;
 
-/// The product of `x + point` over the points, the constant coefficient first.
+/// The product of `x + point` over the points. The constant coefficient comes first.
 pub(crate) fn product_over(points: &[u8]) -> ArrayVec<u8, MOST_COEFFICIENTS>
     requires { length points.now ≤ MOST_MEMBERS }
     ensures { IsProduct points.now (length points.now) result.items }
@@ -25,7 +25,7 @@ pub(crate) fn product_over(points: &[u8]) -> ArrayVec<u8, MOST_COEFFICIENTS>
     product
 }
 
-/// Makes the polynomial `row` be `x + root` times itself.
+/// Multiplies the polynomial `row` by `x + root`, which appends one coefficient.
 fn multiply_by_root(row: &mut ArrayVec<u8, MOST_COEFFICIENTS>, root: u8)
     requires { array_vec_len row.old < MOST_COEFFICIENTS }
     ensures len { array_vec_len row.new ≡ array_vec_len row.old + 1 }
@@ -40,10 +40,10 @@ fn multiply_by_root(row: &mut ArrayVec<u8, MOST_COEFFICIENTS>, root: u8)
     multiply_in_place(row.as_mut_slice(), root);
 }
 
-/// Makes the polynomial `row`, whose highest coefficient is 0, be `x + root` times itself.
+/// Multiplies the polynomial `row` by `x + root`. Its highest coefficient must be 0, to make room for the product's.
 fn multiply_in_place(row: &mut [u8], root: u8)
     requires { 0 < length row.old }
-    // What the type of `row` says, for a caller that holds no slice of it.
+    // The type of `row` implies this; it is stated for callers that hold no slice of it.
     ensures bytes { AreBytes row.old }
     ensures constant { slice_index row.new 0 ≡ field_product (slice_index row.old 0) root }
     ensures others { (m : ℕ) → m + 1 < length row.old → slice_index row.new (m + 1)

@@ -1,12 +1,12 @@
-//! A polynomial divided by `x + root`, where it is 0 at the root, and what is made of the quotient.
+//! Division of a polynomial by `x + root`, where it is 0 at the root, and what is computed from the quotient.
 ghost use Rattle.std.specs.Prelude.{◌≡◌, ℕ, ◌+◌, ◌<◌, length, drop, slice_index};
 ghost use Rattle.gf256.specs.Field.{field_product};
 ghost use Rattle.gf256.specs.Polynomial.{evaluate};
 
 use gf256::mul;
 
-/// Makes `row` be the polynomial divided by `x + root`: the coefficient `m` is the value at the root of what is left of
-/// the polynomial without its first `m + 1` coefficients.
+/// Sets `row` to the quotient of the polynomial by `x + root`. Its coefficient `m` is the value, at the root, of the
+/// polynomial whose coefficients are those after the first `m + 1`.
 pub(crate) fn quotient(row: &mut [u8], polynomial: &[u8], root: u8)
     requires { length row.old + 1 ≡ length polynomial.now }
     ensures { (m : ℕ) → m + 1 < length polynomial.now →
@@ -16,7 +16,7 @@ pub(crate) fn quotient(row: &mut [u8], polynomial: &[u8], root: u8)
     divide_in_place(row, root);
 }
 
-/// Makes each coefficient of `row` the value at `root` of the polynomial from there on.
+/// Replaces each coefficient of `row` by the value, at `root`, of the polynomial that begins with this coefficient.
 fn divide_in_place(row: &mut [u8], root: u8)
     ensures { (m : ℕ) → m < length row.old → slice_index row.new m ≡ evaluate (drop m row.old) root }
 {

@@ -8,12 +8,12 @@ use gf256::inv;
 use std::marker::Model;
 use tag::MOST_MEMBERS;
 
-/// Lagrange's rows for some points. For `k` points they take about `k * k / 2` products to make, and then `3 * k` for
-/// each row. They take no memory.
+/// Lagrange's rows for a list of points. For `k` points, `new` takes about `k * k / 2` field products and each row
+/// about `3 * k` more. They are kept in arrays of fixed size, and no memory is allocated.
 #[derive(Drop)]
 pub struct Rows {
     points: ArrayVec<u8, MOST_MEMBERS>,
-    // The product of `x + point` over the points, the constant coefficient first.
+    // The product of `x + point` over the points. The constant coefficient comes first.
     product: ArrayVec<u8, MOST_COEFFICIENTS>,
 }
 
@@ -28,7 +28,7 @@ impl Model for Rows {
 }
 
 impl Rows {
-    /// The rows for these points.
+    /// The rows for these points, of which there are at most `MOST_MEMBERS`, all distinct.
     pub fn new(points: &[u8]) -> Rows
         requires distinct { AreDistinct points.now }
         requires fits { length points.now ≤ MOST_MEMBERS }
@@ -41,8 +41,8 @@ impl Rows {
         Rows { points, product }
     }
 
-    /// Makes `row` be row `i`: the coefficients of the polynomial that is 1 at point `i` and 0 at the others, as many
-    /// as there are points, the constant one first.
+    /// Writes row `i` into `row`: the coefficients of the polynomial that is 1 at point `i` and 0 at the other points.
+    /// There are as many as points, and the constant one comes first.
     pub fn row(&self, i: usize, row: &mut [u8])
         requires place { i < length self.now.points }
         requires room { length row.old ≡ length self.now.points }
