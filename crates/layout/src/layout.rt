@@ -11,11 +11,12 @@ use std::alloc::AllocError;
 use std::marker::Model;
 use tag::{MOST_MEMBERS, Refusal};
 
-/// The servers that keep the fragments of a value, and how many fragments give the value back.
+/// A layout: which servers keep the fragments of a value, and `k`, the number of fragments that give the value back.
+/// Its n members are numbered from 0, and a member's number is the point of its fragments.
 #[derive(Debug, PartialEq, Eq, Drop)]
 pub struct Layout {
     k: u8,
-    // The servers, in the order of their points.
+    // The servers, by member number.
     members: ArrayVec<u8, MOST_MEMBERS>,
 }
 
@@ -32,9 +33,10 @@ impl Model for Layout {
 }
 
 impl Layout {
-    /// A layout of `n` members, the servers in the order of their points, of which any `k` give a value back.
+    /// A layout of the given servers, in the order of their points, where any `k` fragments give a value back.
     ///
-    /// It is refused as `BadLayout` unless `1 <= k <= n <= MOST_MEMBERS` and no server is named twice.
+    /// `BadLayout` unless `1 <= k <= n <= MOST_MEMBERS`, where `n` is the number of servers, and no server is named
+    /// twice.
     pub fn new(k: u8, members: &[u8]) -> Result<Layout, Refusal>
         ensures made { IfOk result (λ l. l ≡ record { k = k; members = members.now }) }
         ensures lawful { IsOk result ↔ IsLawful (record { k = k; members = members.now }) }
@@ -49,7 +51,7 @@ impl Layout {
         Ok(Layout { k, members: listed })
     }
 
-    /// How many fragments give a value back.
+    /// How many fragments give a value back: from 1 to n.
     pub fn k(&self) -> u8
         ensures value { result ≡ self.now.k }
         ensures lawful { IsLawful self.now }
@@ -57,7 +59,7 @@ impl Layout {
         self.k
     }
 
-    /// How many members there are.
+    /// How many members there are: from k to `MOST_MEMBERS`.
     pub fn n(&self) -> u8
         ensures value { result ≡ length self.now.members }
         ensures lawful { IsLawful self.now }
@@ -65,8 +67,8 @@ impl Layout {
         self.members.len() as u8
     }
 
-    /// The least size of a quorum, `n` and `k` together halved and rounded up, so that two quorums share `k` members
-    /// (Cadambe, Lynch, Médard and Musial, 2014).
+    /// The least size of a quorum: half of n + k, rounded up, so that any two quorums have at least `k` members in
+    /// common (Cadambe, Lynch, Médard and Musial, 2014).
     pub fn quorum(&self) -> u8
         ensures value { result ≡ quorum_of self.now }
         ensures some { 1 ≤ result }
@@ -75,7 +77,7 @@ impl Layout {
         (self.members.len() + usize::from(self.k)).div_ceil(2) as u8
     }
 
-    /// The server that is member `i`, counted from 0.
+    /// The server that is member `i`, from 0.
     pub fn member(&self, i: u8) -> u8
         requires { i < length self.now.members }
         ensures { result ≡ slice_index self.now.members i }
@@ -83,7 +85,7 @@ impl Layout {
         self.members[usize::from(i)]
     }
 
-    /// The point of the fragments that `server` keeps, which is its place among the members; none if it is no member.
+    /// The point of the fragments that `server` keeps, which is its member number, from 0. None if it is not a member.
     pub fn point_of(&self, server: u8) -> Option<u8>
         ensures { result ≡ position (λ m. m == server) self.now.members }
     {
@@ -92,7 +94,7 @@ impl Layout {
     }
 }
 
-/// The same layout. It takes no memory and is never refused.
+/// The same layout. It allocates no memory and is never refused.
 impl Clone for Layout {
     ghost use Rattle.std.specs.Prelude.{◌≡◌};
 
@@ -108,7 +110,8 @@ impl Clone for Layout {
     }
 }
 
-/// Any two quorums of a layout share `k` members, so what both know of a value gives it back.
+/// A law: any two quorums of a layout share `k` members. So if a quorum stored the fragments of a value, every other
+/// quorum has enough of them to give the value back.
 pub fn quorums_share()
     ensures { QuorumsShare }
 {}
@@ -120,7 +123,7 @@ fn place_of(members: &[u8], server: u8) -> Option<usize>
     members.iter().position(|m| *m == server)
 }
 
-// Whether no server is named twice.
+// Whether no server is named twice in the list.
 fn are_distinct(members: &[u8]) -> bool
     ensures { IsTrue result ↔ IsDistinct nat_eq members.now }
 {

@@ -3,13 +3,13 @@ ghost use Rattle.std.specs.FinSet as set;
 
 use std::marker::Model;
 
-// One place for each `u8`.
+// One entry for each value of a `u8`.
 const PLACES: usize = 256;
 
-/// A set of members.
+/// A set of numbers from 0 to 255, of members or servers, in an array of fixed size.
 #[derive(Debug, Drop)]
 pub struct MemberSet {
-    // Whether each was inserted.
+    // By member number, whether the member was inserted.
     present: [bool; PLACES],
     count: usize,
 }
@@ -42,7 +42,7 @@ impl MemberSet {
         }
     }
 
-    /// Inserts `member`, and answers whether it was new.
+    /// Inserts `member`. Returns whether it was not in the set before.
     pub fn insert(&mut self, member: u8) -> bool
         ensures inserted { self.new ≡ set.insert self.old member }
         ensures was_new { result ≡ not (set.contains self.old member) }
@@ -56,14 +56,14 @@ impl MemberSet {
         true
     }
 
-    /// Whether `member` was inserted.
+    /// Whether `member` is in the set.
     pub fn has(&self, member: u8) -> bool
         ensures { result ≡ set.contains self.now member }
     {
         self.present[usize::from(member)]
     }
 
-    /// How many members were inserted, each counted once.
+    /// The number of members in the set.
     pub fn count(&self) -> usize
         ensures { result ≡ set.len self.now }
     {
