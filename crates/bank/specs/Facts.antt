@@ -1,4 +1,4 @@
--- What a request keeps of what a member knew, and what it adds.
+-- What serving a request leaves of what a bank has recorded, and what it adds.
 use Rattle.std.specs.Prelude.{◌≡◌, ℕ, ◌<◌, false, Option, Some, IsSome}
 use Rattle.tag.specs.declared.tag.Tag.{Tag}
 use Rattle.tag.specs.Tag.{tag_lt}
@@ -9,11 +9,11 @@ use Rattle.bank.specs.Knowledge.{came_by, finalized_at, arrived_at, pending_sinc
 use Rattle.bank.specs.Knowledge.{is_dropped_at, IsTrueAnswer}
 use Rattle.bank.specs.Collect.{IsCollected}
 
--- if it came, it came before step `now`
+-- the event happened before step `now`, if it happened at all
 abbrev pub IsEarlier : Option ℕ → ℕ → Type 0
 IsEarlier came now = (step : ℕ) → came ≡ Some step → step < now
 
--- all that the member knows came before step `now`
+-- everything that the bank has recorded happened before step `now`
 pub record IsBefore (b : Bank) (now : ℕ) : Type 0 where
   pub finalized : (tag : Tag) → IsEarlier (finalized_at b tag) now
   pub arrived : (tag : Tag) → IsEarlier (arrived_at b tag) now
@@ -21,7 +21,7 @@ pub record IsBefore (b : Bank) (now : ℕ) : Type 0 where
   pub final : IsEarlier (final_since b.pointer) now
   pub retired : IsEarlier b.retired now
 
--- of each step before `now`, both banks say the same
+-- both banks say the same about each step before `now`
 pub record SameBefore (old new : Bank) (now : ℕ) : Type 0 where
   pub finalized : (tag : Tag) (step : ℕ) → step < now
       → came_by (finalized_at new tag) step ≡ came_by (finalized_at old tag) step
@@ -30,13 +30,12 @@ pub record SameBefore (old new : Bank) (now : ℕ) : Type 0 where
   pub pointer : (step : ℕ) → step < now → pointer_at new step ≡ pointer_at old step
   pub dropped : (tag : Tag) (step : ℕ) → step < now → is_dropped_at new tag step ≡ is_dropped_at old tag step
 
--- the tag is finalized, and no finalized tag is above it
+-- the tag is finalized, and no greater tag is
 pub record IsGreatest (b : Bank) (tag : Tag) : Type 0 where
   pub final : IsSome (finalized_at b tag)
   pub greatest : (other : Tag) → IsSome (finalized_at b other) → tag_lt tag other ≡ false
 
--- a request was served at step `now`: nothing of the past changed, all that is known came before any later step,
--- the answer is true, and just the pieces are there that are kept
+-- serving a request at `now` kept the past, recorded no later step, answered truly, and left exactly the pieces to keep
 pub record IsServed (old new : Bank) (now : ℕ) (kind : Kind) (answer : Answer) : Type 0 where
   pub past : SameBefore old new now
   pub order : (later : ℕ) → now < later → IsBefore new later

@@ -1,4 +1,4 @@
--- What a bank keeps beside its entries.
+-- The invariant of the type `Bank`.
 use Rattle.std.specs.Prelude.{◌≡◌, ℕ, ◌%◌, ◌^◌, List, Option, IsSome, option_map}
 use Rattle.std.specs.FinMap as map
 use Rattle.std.specs.Map.{keys_of}
@@ -15,7 +15,7 @@ use Rattle.bank.specs.Knowledge.{finalized_at}
 use Rattle.bank.specs.Serve.{greatest_final}
 use Rattle.bank.specs.Window.{IsWindowed}
 
--- the bank that entries in rising order stand for
+-- the bank that is represented by its entries in rising order of tags, with its pointer, window and retirement
 abbrev pub bank_of : List (Tag × Row) → Pointer → Option Window → Option ℕ → Bank
 bank_of entries pointer window retired = record {
   rows = map.from_sorted entries;
@@ -24,8 +24,7 @@ bank_of entries pointer window retired = record {
   retired = retired;
 }
 
--- the entries rise, the opening tag is finalized, `last` is the greatest finalized tag, `total` the number of bytes of
--- all pieces, as a word counts it, just the pieces are there that are kept, and the window is that of the entries
+-- the invariant of `Bank`: sorted entries, a final opening tag, exactly the pieces to keep; the other values match them
 pub record IsKeptBank (entries : List (Tag × Row)) (pointer : Pointer) (window : Option Window) (retired : Option ℕ)
     (last : Tag) (total : ℕ) : Type 0 where
   pub sorted : IsStrictlySortedBy tag_cmp (keys_of entries)

@@ -13,26 +13,27 @@ use tag::{Refusal, Stamp, Tag};
 
 mod reading;
 
-/// One server's bank for one position of an object.
+/// A bank: the state that one server keeps for one position of an object.
 ///
-/// Each request takes the number `now` of the step that serves it, and its reply keeps it. Where `now` is after all
-/// that the bank keeps, the clause `served` says that the past stays as it was and that the reply is true.
-/// A refusal is `NoMemory`: there was no room for a new tag, or for one more owner of a piece.
+/// Each request takes the number `now` of the step that serves it, and its reply records this number. If everything
+/// that the bank has recorded happened before `now`, the clause `served` says that the request changes nothing of what
+/// the bank says about earlier steps, and that the reply is true. `NoMemory` is the only refusal: an allocation for a
+/// new tag, or for one more owner of a piece, was refused.
 ///
-/// A request that names a tag takes time in the logarithm of their number, and each other one the same time always.
-/// With `delta`, one that makes a tag final may also pass pre-written tags that come to lie below all that is kept:
-/// all requests together pass a tag once.
+/// A request that names a tag takes time logarithmic in the number of tags, and any other request takes constant time.
+/// With `delta`, a request that finalizes a tag may also scan pre-written tags that come to lie below all tags whose
+/// pieces are kept. Amortised over all requests, each tag is scanned at most once.
 #[derive(Debug, Drop)]
 pub struct Bank {
     rows: BTreeMap<Tag, Row>,
     // The greatest finalized tag.
     greatest: Tag,
-    // How many bytes all the pieces have, as a word counts it.
+    // The number of bytes of all pieces, modulo 2^64.
     bytes: u64,
     pointer: Pointer,
-    // The finalized tags whose pieces are kept; none where all are.
+    // The finalized tags whose pieces are kept. None if there is no `delta`.
     window: Option<Window>,
-    // The step at which the bank was retired: no piece is kept from then on.
+    // The step at which the bank was retired. It keeps no piece from then on.
     retired: Option<Stamp>,
     alloc: Global,
 }
@@ -63,10 +64,11 @@ impl Bank {
     ghost use Rattle.bank.specs.declared.kind.Kind.TheVariants as kind;
     ghost use Rattle.bank.specs.declared.reply.Answer.TheVariants as answer;
 
-    /// A bank that keeps the opening tag, finalized, with the fragment of the empty value at `point`.
+    /// Opens a bank at step `now`. The opening tag is finalized, with the fragment of the empty value at `point`, and
+    /// the pointer is unset.
     ///
-    /// It keeps the pieces of its `delta` + 1 greatest finalized tags and of those that are not finalized; without
-    /// `delta` it keeps all.
+    /// The bank keeps the pieces of its `delta` + 1 greatest finalized tags, and those of all tags that are not
+    /// finalized. Without `delta` it keeps all pieces.
     pub fn new(alloc: Global, point: u8, delta: Option<u32>, now: Stamp) -> Result<Bank, Refusal>
         ensures bank { IfOk result (λ b. b ≡ opened_bank point delta now) }
         ensures order { (later : ℕ) → now < later → IfOk result (λ b. IsBefore b later) }
@@ -98,7 +100,7 @@ impl Bank {
         })
     }
 
-    /// Answers the status of the pointer.
+    /// Serves a request Next: returns the status of the pointer, and changes nothing.
     pub fn ask_next(&self, now: Stamp) -> Reply
         ensures reply { result ≡ record { step = now; answer = answer.Pointer (status_of self.now.pointer) } }
         ensures served { IsBefore self.now now → IsServed self.now self.now now kind.Next result.answer }
@@ -109,7 +111,7 @@ impl Bank {
         }
     }
 
-    /// Raises the pointer to `status`, where that is greater.
+    /// Serves a request Spread: raises the pointer to `status` if that is greater.
     pub fn put_next(&mut self, status: Status, now: Stamp) -> Reply
         ensures bank { self.new ≡ with_pointer self.old (raised self.old.pointer status now) }
         ensures reply { result ≡ record { step = now; answer = answer.Done } }
@@ -122,7 +124,7 @@ impl Bank {
         }
     }
 
-    /// Answers the greatest finalized tag.
+    /// Serves a request Query: returns the greatest finalized tag, and changes nothing.
     pub fn query(&self, now: Stamp) -> Reply
         ensures reply { result ≡ record { step = now; answer = answer.Greatest (greatest_final self.now) } }
         ensures greatest { IsGreatest self.now (greatest_final self.now) }
@@ -134,8 +136,9 @@ impl Bank {
         }
     }
 
-    /// Keeps `piece` for `tag`, unless a piece came before. A new tag is pre-written; a known one keeps its label.
-    /// Where the piece is not kept, that it came is.
+    /// Serves a request PreWrite: keeps `piece` for `tag`, unless a piece arrived for it before. A new tag becomes
+    /// pre-written, and a known tag keeps its label. Where the piece is not to be kept it is dropped at once, but the
+    /// bank records that it arrived. `NoMemory` comes only where the tag is new.
     pub fn pre_write(&mut self, tag: Tag, piece: Piece, now: Stamp) -> Result<Reply, Refusal>
         ensures bank { OnOk result (self.new ≡ collected (pre_written self.old tag piece now)) }
         ensures reply { IfOk result (λ r. r ≡ record { step = now; answer = answer.Done }) }
@@ -156,7 +159,8 @@ impl Bank {
         })
     }
 
-    /// Makes `tag` final, and drops the piece that is no longer kept. A new tag is finalized without a piece.
+    /// Serves a request Finalize: the label of `tag` becomes finalized, and the piece that is then no longer to be kept
+    /// is dropped. A new tag becomes finalized without a piece. `NoMemory` comes only where the tag is new.
     pub fn finalize(&mut self, tag: Tag, now: Stamp) -> Result<Reply, Refusal>
         ensures bank { OnOk result (self.new ≡ collected (finalized self.old tag now)) }
         ensures reply { IfOk result (λ r. r ≡ record { step = now; answer = answer.Done }) }
@@ -178,8 +182,9 @@ impl Bank {
         })
     }
 
-    /// Makes `tag` final, as `finalize` does, and answers its piece if that is still there. The answer shares its bytes
-    /// with the piece that is kept.
+    /// Serves a request Fetch: finalizes `tag` as `finalize` does, and returns its piece if the bank still keeps it.
+    /// The returned piece shares its bytes with the kept one. `NoMemory` comes only where the tag is new or a piece is
+    /// returned.
     pub fn fetch(&mut self, tag: Tag, now: Stamp) -> Result<Reply, Refusal>
         ensures bank { OnOk result (self.new ≡ collected (finalized self.old tag now)) }
         ensures reply { IfOk result (λ r.
@@ -200,9 +205,9 @@ impl Bank {
         })
     }
 
-    /// Drops all pieces, and those that come from now on. Answers how many bytes that frees.
+    /// Retires the bank: drops all pieces, and from now on each piece that arrives. Returns how many bytes this frees.
     ///
-    /// It takes time in the number of tags.
+    /// It takes time linear in the number of tags.
     pub fn retire(&mut self, now: Stamp) -> u64
         ensures bank { self.new ≡ retired_bank self.old now }
         ensures freed { bank_bytes self.old < 2 ^ 64 → result ≡ bank_bytes self.old }
@@ -217,7 +222,7 @@ impl Bank {
         freed
     }
 
-    // A copy of the piece that a fetch of the tag answers.
+    // A copy of the piece that a fetch of the tag returns, if there is one.
     fn copy_to_answer(&self, tag: Tag) -> Result<Option<HeldPiece>, Refusal>
         ensures copy { IfOk result (λ p. p ≡ fetched_piece self.now tag) }
         ensures refused { IfErr result (λ e. e ≡ NoMemory) }
@@ -233,7 +238,7 @@ impl Bank {
         }
     }
 
-    // The tag's row.
+    // The row of the tag, if the bank knows the tag.
     fn row_of(&self, tag: Tag) -> Option<&Row>
         ensures { option_copied result ≡ map.get self.now.rows tag }
     {

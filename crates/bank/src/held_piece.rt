@@ -6,7 +6,7 @@ use std::alloc::{AllocError, Global};
 use std::marker::Model;
 use tag::Refusal;
 
-/// A piece behind a pointer, so that an answer which has none takes little room.
+/// A piece on the heap, so that an answer without a piece takes little room.
 #[derive(Debug, Drop)]
 pub struct HeldPiece {
     piece: Box<Piece>,
@@ -21,7 +21,7 @@ impl Model for HeldPiece {
 }
 
 impl HeldPiece {
-    /// The piece behind a pointer. `NoMemory` is the only refusal.
+    /// Moves a piece to the heap. `NoMemory` is the only refusal.
     pub fn new(alloc: Global, piece: Piece) -> Result<HeldPiece, Refusal>
         ensures piece { IfOk result (λ h. h ≡ piece) }
         ensures refused { IfErr result (λ e. e ≡ NoMemory) }

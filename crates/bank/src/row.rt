@@ -8,24 +8,30 @@ use encoder::Piece;
 use std::alloc::Global;
 use tag::{Refusal, Stamp};
 
-/// How far a tag has come at a bank, with the step at which it did.
+/// The label of a tag at a bank, with the number of the step at which the tag got it.
 #[derive(Clone, Copy, Debug, PartialEq, Eq, Hash)]
 pub enum Label {
+    /// The tag was pre-written at step `since`, and is not finalized.
     PreWritten { since: Stamp },
+    /// The tag was finalized at step `since`.
     Finalized { since: Stamp },
 }
 
-/// That a piece came, with the step at which it did, and the piece while it is kept.
+/// The arrival of a piece: the step at which it arrived, and the piece itself while the bank keeps it.
 #[derive(Clone, Debug, PartialEq, Eq, Drop)]
 pub struct Arrival {
+    /// The piece, while the bank keeps it.
     pub piece: Option<Piece>,
+    /// The number of the step at which the piece arrived.
     pub step: Stamp,
 }
 
 /// What a bank keeps for one tag.
 #[derive(Debug, Drop)]
 pub struct Row {
+    /// Whether the tag is pre-written or finalized.
     pub label: Label,
+    /// The first arrival of a piece for the tag, if one arrived.
     pub arrival: Option<Arrival>,
 }
 
@@ -35,7 +41,7 @@ impl Row {
     ghost use Rattle.bank.specs.Collect.{emptied_row};
     ghost use Rattle.bank.specs.Bytes.{row_bytes};
 
-    /// Whether the tag is final.
+    /// Whether the tag is finalized.
     pub fn is_finalized(&self) -> bool
         ensures { result ≡ is_finalized self.now.label }
     {
@@ -45,7 +51,7 @@ impl Row {
         }
     }
 
-    /// The piece, where one came and is kept.
+    /// The piece, if one arrived and the bank keeps it.
     pub fn piece(&self) -> Option<&Piece>
         ensures { option_copied result ≡ piece_of_row (Some self.now) }
     {
@@ -55,7 +61,7 @@ impl Row {
         }
     }
 
-    /// How many bytes the piece has, where there is one.
+    /// The number of bytes of the piece, or 0 where there is none.
     pub fn bytes(&self) -> u64
         ensures value { result ≡ row_bytes self.now }
         ensures bound { result < 2 ^ 63 }
@@ -66,7 +72,7 @@ impl Row {
         }
     }
 
-    /// A copy of the piece, where there is one.
+    /// A copy of the piece, if there is one, which shares its bytes. `NoMemory` is the only refusal.
     pub(crate) fn copy_of_piece(&self, alloc: Global) -> Result<Option<HeldPiece>, Refusal>
         ensures copy { IfOk result (λ p. p ≡ piece_of_row (Some self.now)) }
         ensures refused { IfErr result (λ e. e ≡ NoMemory) }
@@ -81,7 +87,7 @@ impl Row {
         }
     }
 
-    /// Makes the tag final at step `now`, where it is not yet. Answers whether it was not.
+    /// Finalizes the tag at step `now`, unless it is finalized already. Returns whether it was not.
     pub(crate) fn finalize(&mut self, now: Stamp) -> bool
         ensures row { self.new ≡ finalized_row self.old now }
         ensures anew { result ≡ not (is_finalized self.old.label) }
@@ -93,7 +99,7 @@ impl Row {
         true
     }
 
-    /// Keeps `piece`, which comes at step `now`, where no piece came before. Answers how many bytes it adds.
+    /// Keeps `piece`, which arrives at step `now`, unless a piece arrived before. Returns how many bytes this adds.
     pub(crate) fn fill(&mut self, piece: Piece, now: Stamp) -> u64
         ensures row { self.new ≡ filled_row self.old piece now }
         ensures added { result ≡ (if is_some (row_arrived (Some self.old)) then 0 else length piece.bytes) }
@@ -109,7 +115,7 @@ impl Row {
         added
     }
 
-    /// Drops the piece, where there is one; the step at which it came stays. Answers how many bytes that frees.
+    /// Drops the piece, if there is one. The step at which it arrived stays. Returns how many bytes this frees.
     pub(crate) fn empty(&mut self) -> u64
         ensures row { self.new ≡ emptied_row self.old }
         ensures freed { result ≡ row_bytes self.old }

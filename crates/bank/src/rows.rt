@@ -15,7 +15,7 @@ use encoder::Piece;
 use std::collections::BTreeMap;
 use tag::{Refusal, Stamp, Tag};
 
-// Keeps `row` for `tag`.
+// Sets the row of `tag`.
 pub fn put(rows: &mut BTreeMap<Tag, Row>, tag: Tag, row: Row) -> Result<(), Refusal>
     ensures rows { OnOk result (Updates tag_cmp rows.old rows.new tag (Some row)) }
     ensures refused { IfErr result (λ e. e ≡ NoMemory) }
@@ -27,7 +27,7 @@ pub fn put(rows: &mut BTreeMap<Tag, Row>, tag: Tag, row: Row) -> Result<(), Refu
     Ok(())
 }
 
-// Keeps `piece` for `tag`, unless a piece came before. Answers how many bytes that adds.
+// Keeps `piece` for `tag`, unless a piece arrived for it before. Returns how many bytes this adds.
 pub fn fill(
     rows: &mut BTreeMap<Tag, Row>,
     tag: Tag,
@@ -60,7 +60,7 @@ pub fn fill(
     Ok(added)
 }
 
-// Makes `tag` final. A new tag is finalized without a piece. Answers whether the tag was not final before.
+// Finalizes `tag`. A new tag is finalized without a piece. Returns whether the tag was not finalized before.
 pub fn finalize(rows: &mut BTreeMap<Tag, Row>, tag: Tag, now: Stamp) -> Result<bool, Refusal>
     ensures rows { OnOk result (Updates tag_cmp rows.old rows.new tag
         (Some (row_after_finalize (get tag_cmp rows.old tag) now))) }
@@ -82,7 +82,7 @@ pub fn finalize(rows: &mut BTreeMap<Tag, Row>, tag: Tag, now: Stamp) -> Result<b
     Ok(true)
 }
 
-// Whether `tag` is final.
+// Whether `tag` is finalized.
 pub fn is_final(rows: &BTreeMap<Tag, Row>, tag: Tag) -> bool
     ensures { result ≡ is_some (row_finalized (get tag_cmp rows.now tag)) }
 {
@@ -92,7 +92,8 @@ pub fn is_final(rows: &BTreeMap<Tag, Row>, tag: Tag) -> bool
     }
 }
 
-// The least final tag above `tag`. It is found by a search for `tag` and a walk over the pre-written tags behind it.
+// The least finalized tag above `tag`, if there is one. It is found by a search for `tag` and a walk over the
+// pre-written tags that follow it.
 pub fn next_final(rows: &BTreeMap<Tag, Row>, tag: Tag) -> Option<Tag>
     ensures next { result ≡ final_after tag rows.now.entries }
     ensures ordered { IsOrdered tag_cmp rows.now }
@@ -102,7 +103,7 @@ pub fn next_final(rows: &BTreeMap<Tag, Row>, tag: Tag) -> Option<Tag>
         .map(|(other, _)| *other)
 }
 
-// Drops the piece of `tag`, where there is one. Answers how many bytes that frees.
+// Drops the piece of `tag`, if there is one. Returns how many bytes this frees.
 pub fn empty(rows: &mut BTreeMap<Tag, Row>, tag: Option<Tag>) -> u64
     ensures rows { (q : Tag) → get tag_cmp rows.new q ≡ without_piece tag q (get tag_cmp rows.old q) }
     ensures freed { result ≡ freed_by tag rows.old.entries }
@@ -127,7 +128,7 @@ pub fn empty_all(rows: &mut BTreeMap<Tag, Row>)
     });
 }
 
-// How many bytes all the pieces have, or the greatest number where they have more.
+// The number of bytes of all pieces, or `u64::MAX` where it is greater.
 pub fn bytes(rows: &BTreeMap<Tag, Row>) -> u64
     ensures { result ≡ min (sum_by row_bytes (values rows.now)) (2 ^ 64 - 1) }
 {

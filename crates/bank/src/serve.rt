@@ -8,7 +8,8 @@ impl Bank {
     ghost use Rattle.bank.specs.Facts.{IsBefore, IsServed};
     ghost use Rattle.bank.specs.Serve.{served_bank, reply_to, kind_of, takes_memory};
 
-    /// Serves a request, as the method for it does. A piece that is kept shares its bytes with the request's.
+    /// Serves a request of any kind, as the method for that kind does. A piece that the bank keeps shares its bytes
+    /// with the one in the request. `NoMemory` is the only refusal.
     pub fn serve(&mut self, request: &Request, now: Stamp) -> Result<Reply, Refusal>
         ensures bank { OnOk result (self.new ≡ served_bank self.old request.now now) }
         ensures reply { IfOk result (λ r. r ≡ reply_to self.old request.now now) }

@@ -3,22 +3,25 @@ ghost use Rattle.bank.specs.Pointer.{status_of, raised};
 
 use tag::Stamp;
 
-/// What a bank says of the position after its own.
+/// The status of a bank's pointer: what the bank knows of the next position.
 #[derive(Clone, Copy, Debug, PartialEq, Eq, PartialOrd, Ord, Hash)]
 pub enum Status {
-    /// There is none yet.
+    /// The bank knows of no next position.
     Unset,
-    /// A move there has begun.
+    /// A move to the next position has begun.
     Pending,
-    /// The move there has finished its copy.
+    /// The move to the next position has finished copying the value there.
     Final,
 }
 
-/// A status, with the steps at which it was left unset and became final.
+/// The pointer of a bank: a status, with the steps at which it stopped being unset and became final.
 #[derive(Clone, Copy, Debug, PartialEq, Eq, Hash)]
 pub enum Pointer {
+    /// The pointer is unset.
     Unset,
+    /// The pointer has been pending since step `since`.
     Pending { since: Stamp },
+    /// The pointer stopped being unset at step `pending`, and became final at step `since`.
     Final { pending: Stamp, since: Stamp },
 }
 
@@ -37,7 +40,7 @@ impl Pointer {
         }
     }
 
-    /// The pointer raised to `status` at step `now`, where that is greater.
+    /// The pointer raised to `status` at step `now` if that is greater, and else the same pointer.
     pub(crate) fn raised(self, status: Status, now: Stamp) -> Pointer
         ensures { result ≡ raised self status now }
     {

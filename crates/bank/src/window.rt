@@ -6,19 +6,23 @@ use crate::{Row, rows};
 use std::collections::BTreeMap;
 use tag::{Stamp, Tag};
 
-/// The greatest finalized tags, whose pieces are kept: `delta` + 1 of them, or all while there are no more.
+/// The window of finalized tags whose pieces are kept: the `delta` + 1 greatest, or all while there are no more than
+/// that.
 ///
-/// It is known by the least of them and by how many are above it. Once it is full the least only rises, so that all
-/// searches for the next one pass a tag once.
+/// It is represented by its least tag and by the number of finalized tags above that. Once the window is full, its
+/// least tag only rises. So amortised over all searches for the next finalized tag, each tag is scanned at most once.
 #[derive(Clone, Copy, Debug)]
 pub struct Window {
+    /// How many finalized tags below the greatest keep their pieces.
     pub delta: u32,
+    /// The least tag of the window.
     pub least: Tag,
+    /// How many finalized tags are above it.
     pub above: u32,
 }
 
 impl Window {
-    // The window of a bank that is just opened.
+    // The window of a bank that was just opened.
     pub fn opened(delta: u32) -> Window
         ensures { result ≡ opened_window delta }
     {
@@ -29,14 +33,15 @@ impl Window {
         }
     }
 
-    // Whether the window is full and `tag` below it.
+    // Whether the window is full and `tag` is below it.
     pub fn excludes(self, tag: Tag) -> bool
         ensures { result ≡ excludes self tag }
     {
         self.above == self.delta && tag < self.least
     }
 
-    // Lets in `tag`, which has just become final, and answers the tag that falls out, maybe `tag` itself.
+    // Admits `tag`, which has just been finalized. Returns the tag that falls out, if one does, which may be `tag`
+    // itself.
     pub fn admit(&mut self, rows: &BTreeMap<Tag, Row>, tag: Tag) -> Option<Tag>
         ensures window { self.new ≡ (admitted self.old rows.now.entries tag).0 }
         ensures fallen { result ≡ (admitted self.old rows.now.entries tag).1 }
@@ -57,7 +62,7 @@ impl Window {
     }
 }
 
-// The window of a bank that is just opened, where there is `delta`.
+// The window of a bank that was just opened, where it has a `delta`.
 pub fn opened(delta: Option<u32>) -> Option<Window>
     ensures { result ≡ opened_windows delta }
 {
@@ -67,7 +72,7 @@ pub fn opened(delta: Option<u32>) -> Option<Window>
     }
 }
 
-// Whether there is a window that is full, and `tag` below it.
+// Whether there is a window, it is full, and `tag` is below it.
 pub fn is_excluded(window: Option<Window>, tag: Tag) -> bool
     ensures { result ≡ is_excluded window tag }
 {
@@ -77,7 +82,7 @@ pub fn is_excluded(window: Option<Window>, tag: Tag) -> bool
     }
 }
 
-// The tag, where a piece that comes for it is not kept.
+// The tag itself where the bank is to drop a piece that arrives for it, and else none.
 pub fn late(
     window: Option<Window>,
     retired: Option<Stamp>,
@@ -93,7 +98,8 @@ pub fn late(
     }
 }
 
-// Lets `tag` into the window, where there is one and `tag` has become final anew. Answers the tag that falls out.
+// Admits `tag` to the window, if there is one and `tag` was not finalized before (`anew`). Returns the tag that falls
+// out, if one does.
 pub fn admit(
     window: &mut Option<Window>,
     anew: bool,
