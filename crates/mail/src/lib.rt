@@ -1,4 +1,5 @@
-//! The messages of an object that wait to be handled.
+//! The mail of an object: its messages that wait to be handled. A message is a request to a member, or the reply of
+//! that member's bank.
 #![tactic(auto)]
 
 ghost use Rattle.std.specs.Prelude.{◌+◌, ◌≤◌, List, length};
@@ -14,7 +15,8 @@ pub use message::{Body, Message};
 mod mail;
 mod message;
 
-/// Where no piece is longer than a value, a mail has room for one more.
+/// A law: if at most `MOST_MESSAGES` messages wait, and none has a piece of more than `LONGEST_VALUE` bytes, then there
+/// is room for `LONGEST_VALUE` bytes more.
 pub fn pieces_have_room()
     ensures { (messages : List Sent) → length messages ≤ MOST_MESSAGES
         → AllByRecursion (λ m. message_bytes m ≤ LONGEST_VALUE) messages

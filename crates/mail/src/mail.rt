@@ -13,13 +13,15 @@ use std::marker::Model;
 use std::slice;
 use tag::{MOST_BYTES, MOST_MESSAGES, Refusal};
 
-/// The messages of an object that wait, in the order of their places, from 0.
+/// The mail of an object: its messages that wait to be handled. The place of a message is its index in the list, from
+/// 0.
 #[derive(Debug, Drop)]
 pub struct Mail {
     messages: Vec<Message>,
-    // Beside each message a bound of the calls up to it. It stays as it is where messages before it are removed.
+    // For each message an upper bound of the call numbers of all messages up to it. It does not change when earlier
+    // messages are removed.
     bounds: Vec<u64>,
-    // The bytes of the pieces in all messages.
+    // The number of bytes of the pieces in all messages.
     bytes: u64,
 }
 
@@ -36,7 +38,7 @@ impl Model for Mail {
 }
 
 impl Mail {
-    /// A mail with no message.
+    /// An empty mail. It allocates no memory.
     pub fn new(alloc: Global) -> Mail
         ensures { result ≡ [] }
     {
@@ -62,7 +64,7 @@ impl Mail {
         self.messages.is_empty()
     }
 
-    /// The message at a place.
+    /// The message at a place, from 0.
     pub fn at(&self, place: usize) -> &Message
         requires { place < length self.now }
         ensures { slice_get self.now place ≡ Some result.now }
@@ -70,15 +72,16 @@ impl Mail {
         &self.messages[place]
     }
 
-    /// A place before which no message of the call stands, found without a look at each message. Messages behind it may
-    /// be of other calls; none that was posted before the first of this call's number or of a greater one is.
+    /// A place before which there is no message of the call. It is found by binary search, without a look at each
+    /// message. From this place on there may be messages of other calls, but none that was posted before the first
+    /// message of this call or of a call with a greater number.
     pub fn first_place(&self, call: u64) -> usize
         ensures { AreOthers call result self.now }
     {
         first_at_least(&self.bounds, call)
     }
 
-    /// How many bytes the pieces in all messages have.
+    /// The number of bytes of the pieces in all messages. It is kept as a running total.
     pub fn bytes(&self) -> u64
         ensures value { result ≡ mail_bytes self.now }
         ensures within { result ≤ MOST_BYTES }
@@ -86,8 +89,8 @@ impl Mail {
         self.bytes
     }
 
-    /// Posts all messages behind those that wait, or none. `Full` where they would be more than `MOST_MESSAGES`,
-    /// or their pieces have more than `MOST_BYTES` bytes, and else `NoMemory` where the list can't grow.
+    /// Appends all messages, or none. `Full` where more than `MOST_MESSAGES` messages would then wait, or their pieces
+    /// would have more than `MOST_BYTES` bytes. Else `NoMemory` where the list cannot grow.
     pub fn post_all(&mut self, messages: Vec<Message>) -> Result<(), Refusal>
         ensures posted { OnOk result (self.new ≡ self.old ++ messages.items) }
         ensures unchanged { OnErr result (self.new ≡ self.old) }
@@ -113,8 +116,8 @@ impl Mail {
             && are_within(messages, MOST_BYTES - self.bytes)
     }
 
-    /// Puts the reply in the place of the request there. It takes no memory, and asks that there is room for the
-    /// bytes of the reply's piece: `bytes` and the bytes of the answer are at most `MOST_BYTES` together.
+    /// Replaces the request at a place by the reply, and allocates no memory. There must be room for the reply's piece:
+    /// the bytes of the mail and those of the answer are together at most `MOST_BYTES`.
     pub fn reply_in_place(&mut self, place: usize, reply: Reply)
         requires place { place < length self.old }
         requires room { mail_bytes self.old + answer_bytes reply.answer ≤ MOST_BYTES }
@@ -126,7 +129,7 @@ impl Mail {
         self.bytes += message.bytes();
     }
 
-    /// Removes the message at a place. Those behind it move down by one.
+    /// Removes the message at a place, and returns it. Those behind it move down by one place.
     pub fn take_out(&mut self, place: usize) -> Message
         requires { place < length self.old }
         ensures message { slice_get self.old place ≡ Some result }
@@ -138,7 +141,7 @@ impl Mail {
         message
     }
 
-    /// Loses the message at a place. Those behind it move down by one.
+    /// Removes the message at a place, so that it is lost. Those behind it move down by one place.
     pub fn lose(&mut self, place: usize)
         requires { place < length self.old }
         ensures { self.new ≡ remove self.old place }
@@ -146,8 +149,8 @@ impl Mail {
         self.take_out(place);
     }
 
-    /// Posts a copy of the message at a place behind those that wait; a piece shares its bytes with the copy.
-    /// `Full` and `NoMemory` as for `post_all`.
+    /// Appends a copy of the message at a place. A piece shares its bytes with the copy. `Full` and `NoMemory` as for
+    /// `post_all`.
     pub fn repeat(&mut self, place: usize) -> Result<(), Refusal>
         requires { place < length self.old }
         ensures posted { OnOk result (self.new ≡ repeated self.old place) }
@@ -168,7 +171,8 @@ impl Mail {
     }
 }
 
-// The bounds of more messages, posted behind those that have these, or none where they can't grow.
+// Appends the bounds of more messages, which come behind those that have the bounds given. It appends none where the
+// list cannot grow.
 fn add_bounds(bounds: &mut Vec<u64>, messages: &[Message]) -> Result<(), AllocError>
     ensures added { OnOk result (bounds.new.items
         ≡ bounds.old.items ++ bounds_from (last_bound 0 bounds.old.items) messages.now) }
@@ -183,7 +187,7 @@ fn add_bounds(bounds: &mut Vec<u64>, messages: &[Message]) -> Result<(), AllocEr
     Ok(())
 }
 
-// The last bound, 0 where there is none.
+// The last bound, or 0 where there is none.
 fn last_of(bounds: &[u64]) -> u64
     ensures { result ≡ last_bound 0 bounds.now }
 {
@@ -193,7 +197,8 @@ fn last_of(bounds: &[u64]) -> u64
     }
 }
 
-// The place of the first bound that is at least the call, or the count of the bounds where none is. They rise.
+// The place of the first bound that is at least `call`, or the number of bounds where there is none. The search is
+// binary, since the bounds rise.
 fn first_at_least(bounds: &[u64], call: u64) -> usize
     requires { AreRising bounds.now }
     ensures within { result ≤ length bounds.now }
@@ -212,7 +217,7 @@ fn first_at_least(bounds: &[u64], call: u64) -> usize
     low
 }
 
-// How many bytes the pieces in the messages have.
+// The number of bytes of the pieces in the messages.
 fn bytes_of(messages: &[Message]) -> u64
     requires { mail_bytes messages.now ≤ MOST_BYTES }
     ensures { result ≡ mail_bytes messages.now }

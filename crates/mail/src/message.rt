@@ -2,17 +2,19 @@ ghost use Rattle.std.specs.Prelude.{◌≡◌, ◌^◌, ◌<◌};
 
 use bank::{Kind, Reply, Request};
 
-/// A request to a member, or the reply of its bank, with what was asked.
+/// The body of a message: a request to a member, or the reply of its bank with the kind of the request.
 #[derive(Clone, Debug, PartialEq, Eq, Drop)]
 pub enum Body {
+    /// A request that waits to be served.
     Request(Request),
+    /// A reply that waits to be taken, with the kind of the request that it answers.
     Reply { kind: Kind, reply: Reply },
 }
 
 impl Body {
     ghost use Rattle.mail.specs.Message.{body_kind};
 
-    /// What the phase of the message asks.
+    /// The kind of the request that the message is, or is the reply to.
     pub fn kind(&self) -> Kind
         ensures { result ≡ body_kind self.now }
     {
@@ -30,17 +32,18 @@ pub struct Message {
     pub call: u64,
     /// The phase's number in its call, from 1.
     pub phase: u32,
-    /// The position that the phase asks, from 0.
+    /// The position whose members the phase asks, from 0.
     pub position: u32,
     /// The member's place in the position's layout, from 0.
     pub member: u8,
+    /// The request or the reply itself.
     pub body: Body,
 }
 
 impl Message {
     ghost use Rattle.mail.specs.Message.{message_bytes, answered};
 
-    /// How many bytes the piece in the message has, if there is one.
+    /// The number of bytes of the piece in the message, or 0 where it has none.
     pub fn bytes(&self) -> u64
         ensures value { result ≡ message_bytes self.now }
         ensures bound { result < 2 ^ 63 }
@@ -52,7 +55,7 @@ impl Message {
         }
     }
 
-    /// Puts the reply in the place of the request.
+    /// Replaces the request by the reply.
     pub(crate) fn answer(&mut self, reply: Reply)
         ensures { self.new ≡ answered self.old reply }
     {
