@@ -1,4 +1,4 @@
--- Phases, and what takes make of them.
+-- Phases, and what taking a message does to a phase.
 use Rattle.std.specs.Prelude.{◌≡◌, ℕ, ◌+◌, ◌≤◌, ◌==◌, ◌&&◌, Bool, true, false, not, if◌then◌else◌, nat_lt, nat_eq}
 use Rattle.std.specs.Prelude.{List, [], ◌∷◌, ◌++◌, length, map, count_by, Option, Some, None, is_some}
 use Rattle.std.specs.List.{list_any, IsDistinct}
@@ -13,8 +13,7 @@ use Rattle.phase.specs.declared.phase.Taken.{Taken}
 use Rattle.phase.specs.declared.phase.Took.{Took}
 use Rattle.phase.specs.declared.phase.Took.TheVariants as took
 
--- a phase: its call, its number there, what it asks of the members of a position, how many are to reply
--- and how many pieces a fetch needs, the steps at which it began and ended, and the replies that were taken
+-- a phase: its call and number, what it asks of a position's members, what it needs, its steps, and the replies it took
 pub record Phase : Type 0 where
   pub call : ℕ
   pub number : ℕ
@@ -27,17 +26,17 @@ pub record Phase : Type 0 where
   pub replies : List Taken
   pub end : Option ℕ
 
--- the step at which the last of these replies was taken
+-- the step at which the last of these replies was taken, if there is one
 abbrev pub last_step : List Taken → Option ℕ
 last_step [] = None
 last_step (taken ∷ []) = Some taken.step
 last_step (taken ∷ next ∷ replies) = last_step (next ∷ replies)
 
--- the step at which a phase with these replies ended: that of the take which made the quorum
+-- the step at which a phase with these replies ended, if it has: that of the take which completed the quorum
 abbrev pub end_of : (quorum : ℕ) → List Taken → Option ℕ
 end_of quorum replies = if nat_lt (length replies) quorum then None else last_step replies
 
--- a phase that has taken nothing yet
+-- a phase that begins at step `now` and has taken no reply yet
 abbrev pub begun : (call number : ℕ) → Kind → (position members quorum needed now : ℕ) → Phase
 begun call number kind position members quorum needed now = record {
   call = call;
@@ -60,16 +59,16 @@ members_of replies = map (λ t. t.member) replies
 abbrev pub has_taken : List Taken → ℕ → Bool
 has_taken replies member = list_any (λ t. t.member == member) replies
 
--- whether an answer brings a piece
+-- whether an answer carries a piece
 abbrev pub has_piece : Answer → Bool
 has_piece (answer.Piece (Some piece)) = true
 has_piece a = false
 
--- how many of the replies bring a piece
+-- how many of the replies carry a piece
 abbrev pub pieces_in : List Taken → ℕ
 pieces_in replies = count_by (λ t. has_piece t.reply.answer) replies
 
--- whether fewer replies than a fetch needs bring a piece
+-- whether fewer replies carry a piece than a fetch needs
 abbrev pub lacks_pieces : Phase → Bool
 lacks_pieces p = nat_lt (pieces_in p.replies) p.needed
 
@@ -77,11 +76,11 @@ lacks_pieces p = nat_lt (pieces_in p.replies) p.needed
 abbrev pub is_current : Phase → ℕ → ℕ → Bool
 is_current p call number = call == p.call && (number == p.number && not (is_some p.end))
 
--- whether one more reply makes the quorum
+-- whether one more reply completes the quorum
 abbrev pub makes_quorum : Phase → Bool
 makes_quorum p = not (nat_lt (length p.replies + 1) p.quorum)
 
--- what the take of a reply does
+-- the outcome of taking a reply of a member that names this call and phase number
 abbrev pub took_reply : Phase → (call number member : ℕ) → Took
 took_reply p call number member =
     if is_current p call number
@@ -90,35 +89,37 @@ took_reply p call number member =
     else (if makes_quorum p then took.Complete else took.Recorded))
     else took.Stale
 
+-- the outcome of taking a message with this body: a request is always stale
 abbrev pub took_body : Phase → (call number member : ℕ) → Body → Took
 took_body p call number member (body.Request q) = took.Stale
 took_body p call number member (body.Reply k r) = took_reply p call number member
 
--- what the take of a message does
+-- the outcome of taking a message
 abbrev pub took_by : Phase → Message → Took
 took_by p m = took_body p m.call m.phase m.member m.body
 
--- the phase with one more reply, taken at step `now`; it ends where that makes the quorum
+-- the phase with one more reply, taken at step `now`: it ends if this reply completes the quorum
 abbrev pub with_reply : Phase → (member : ℕ) → Reply → (now : ℕ) → Phase
 with_reply p member r now = record p {
   replies = p.replies ++ record { member = member; reply = r; step = now } ∷ [];
   end = if makes_quorum p then Some now else None;
 }
 
--- the phase after the take of a reply at step `now`
+-- the phase after it takes a reply of a member at step `now`: it records the reply, or does not change
 abbrev pub after_reply : Phase → (call number member : ℕ) → Reply → (now : ℕ) → Phase
 after_reply p call number member r now =
     if is_current p call number then (if has_taken p.replies member then p else with_reply p member r now) else p
 
+-- the phase after it takes a message with this body at step `now`: a request changes nothing
 abbrev pub after_body : Phase → (call number member : ℕ) → Body → (now : ℕ) → Phase
 after_body p call number member (body.Request q) now = p
 after_body p call number member (body.Reply k r) now = after_reply p call number member r now
 
--- the phase after the take of a message at step `now`
+-- the phase after it takes a message at step `now`
 abbrev pub after_take : Phase → Message → (now : ℕ) → Phase
 after_take p m now = after_body p m.call m.phase m.member m.body now
 
--- no member is recorded twice, and the phase has ended exactly where there are replies of a quorum
+-- the invariant of `Phase`: one reply of a member at most, a quorum of them at most, and ended exactly with a quorum
 pub record IsRecord (members quorum : ℕ) (replies : List Taken) (end : Option ℕ) : Type 0 where
   pub distinct : IsDistinct nat_eq (members_of replies)
   pub room : (1 ≤ quorum) × (quorum ≤ members)

@@ -18,7 +18,7 @@ pub struct Ask {
     pub call: u64,
     /// The phase's number in its call, from 1.
     pub number: u32,
-    /// The position that is asked, from 0.
+    /// The position whose members are asked, from 0.
     pub position: u32,
     /// What each member is asked.
     pub kind: Kind,
@@ -29,29 +29,32 @@ pub struct Ask {
 pub struct Taken {
     /// The member's place in the position's layout, from 0.
     pub member: u8,
+    /// The reply, which names the step at which it was made.
     pub reply: Reply,
+    /// The number of the step at which the reply was taken.
     pub step: Stamp,
 }
 
-/// What a take did.
+/// The outcome of taking a message.
 #[derive(Clone, Copy, Debug, PartialEq, Eq, Hash)]
 pub enum Took {
-    /// The reply was recorded, and a quorum is still missing.
+    /// The reply was recorded, and the phase still lacks a quorum.
     Recorded,
-    /// The reply was recorded, and makes the quorum.
+    /// The reply was recorded, and it completes the quorum.
     Complete,
-    /// The message is no reply to this phase, or came after the quorum.
+    /// The message is no reply to this phase, or the phase has a quorum already.
     Stale,
-    /// The member was recorded before.
+    /// A reply of this member was recorded before.
     Doubled,
 }
 
-/// A phase of a call.
+/// A phase of a call: what it asks of the members of a position, and the replies that it took.
 #[derive(Debug, Drop)]
 pub struct Phase {
     ask: Ask,
     start: Stamp,
-    // In the order of their takes, with room for a quorum's. The phase ended with the last of a quorum.
+    // The replies in the order in which they were taken, at most a quorum of them. Room for all is reserved. The phase
+    // ended when the last of a quorum was taken.
     replies: Vec<Taken>,
     members: u8,
     quorum: u8,
@@ -88,10 +91,10 @@ impl Phase {
     ghost use Rattle.phase.specs.Phase.{is_current, has_taken, makes_quorum, with_reply, lacks_pieces};
     ghost use Rattle.phase.specs.declared.phase.Took.TheVariants as took;
 
-    /// A phase that begins at step `now`, of which `quorum` of the position's `members` are to reply; a fetch needs
-    /// `needed` pieces.
+    /// A phase that begins at step `now`. It is complete once `quorum` of the position's `members` have replied. If it
+    /// is a fetch, it needs `needed` pieces.
     ///
-    /// Room for a quorum's replies is reserved, so that no take is refused; `NoMemory` where there is none.
+    /// Room for the replies of a quorum is reserved, so that no take is refused. `NoMemory` is the only refusal.
     pub fn new(
         alloc: Global,
         ask: Ask,
@@ -116,7 +119,7 @@ impl Phase {
         })
     }
 
-    /// Whether a quorum has replied.
+    /// Whether the phase has the replies of a quorum.
     pub fn complete(&self) -> bool
         ensures value { result ≡ is_some self.now.end }
         ensures kept { IsRecord self.now.members self.now.quorum self.now.replies self.now.end }
@@ -131,7 +134,7 @@ impl Phase {
         self.replies.iter().any(|taken| taken.member == member)
     }
 
-    /// Whether fewer replies than a fetch needs bring a piece.
+    /// Whether fewer replies carry a piece than a fetch needs.
     pub fn lacks_pieces(&self) -> bool
         ensures { result ≡ lacks_pieces self.now }
     {
@@ -142,8 +145,8 @@ impl Phase {
             < usize::from(self.needed)
     }
 
-    /// Takes a message at step `now`, and records it where it is the first reply of its member to this phase and a
-    /// quorum is missing. It takes no memory.
+    /// Takes a message at step `now`, and returns the outcome. The reply is recorded if it is the first of its member
+    /// to this phase and the phase lacks a quorum. It allocates no memory.
     pub fn take(&mut self, message: Message, now: Stamp) -> Took
         ensures phase { self.new ≡ after_take self.old message now }
         ensures took { result ≡ took_by self.old message }
@@ -171,7 +174,7 @@ impl Phase {
         })
     }
 
-    // Whether the phase lacks a quorum, and is named by its call and number.
+    // Whether the call and the number are those of this phase, and it lacks a quorum.
     fn is_current(&self, call: u64, number: u32) -> bool
         ensures { result ≡ is_current self.now call number }
     {
@@ -193,15 +196,16 @@ impl Phase {
     }
 }
 
-// Whether a reply brings a piece.
+// Whether a reply carries a piece.
 fn brings_piece(reply: &Reply) -> bool
     ensures { result ≡ has_piece reply.now.answer }
 {
     matches!(&reply.answer, Answer::Piece(Some(_)))
 }
 
-/// A complete phase has replies of a quorum of its position, one for a member. Each was taken as a reply to this call
-/// and phase, made after the phase's start, and taken by its end.
+/// A law: if all takes were lawful and came at rising steps, a complete phase has the replies of a quorum of its
+/// position, one for each member. Each was taken from a message that names this call and phase, was made after the
+/// phase began, and was taken by the step at which the phase ended.
 pub fn complete_means_quorum()
     ensures { CompleteMeansQuorum }
 {}

@@ -1,4 +1,4 @@
-//! What is read of a phase.
+//! Read access to a phase.
 
 ghost use Rattle.std.specs.Prelude.{◌≡◌};
 
@@ -7,7 +7,7 @@ use bank::Kind;
 use tag::Stamp;
 
 impl Phase {
-    /// The replies that were taken, in the order of their takes.
+    /// The replies in the order in which they were taken.
     pub fn replies(&self) -> &[Taken]
         ensures { result.now ≡ self.now.replies }
     {
@@ -28,21 +28,21 @@ impl Phase {
         self.ask.kind
     }
 
-    /// The position that is asked, from 0.
+    /// The position whose members are asked, from 0.
     pub fn position(&self) -> u32
         ensures { result ≡ self.now.position }
     {
         self.ask.position
     }
 
-    /// The step at which it began, and the one at which it had a quorum's replies.
+    /// The step at which the phase began, and the step at which it got the last reply of a quorum, if it did.
     pub fn steps(&self) -> (Stamp, Option<Stamp>)
         ensures { (result.0 ≡ self.now.start) × (result.1 ≡ self.now.end) }
     {
         (self.start, self.end())
     }
 
-    // The step at which it had a quorum's replies.
+    // The step at which the phase got the last reply of a quorum, if it did.
     fn end(&self) -> Option<Stamp>
         ensures { result ≡ self.now.end }
     {
@@ -62,7 +62,7 @@ impl Phase {
         self.members
     }
 
-    /// How many replies make the quorum.
+    /// How many replies make a quorum.
     pub fn quorum(&self) -> u8
         ensures { result ≡ self.now.quorum }
     {
