@@ -1,5 +1,4 @@
--- The order of a call's phases: which phase is due at each stage
--- of a read, a write or a move, and where its replies lead.
+-- The order of a call's phases: which phase is due at each stage of a read, write or move, and where its replies lead.
 use Rattle.std.specs.Prelude.{◌≡◌, ℕ, suc, ◌<◌, ◌==◌, Bool, if◌then◌else◌}
 use Rattle.std.specs.Prelude.{List, [], ◌∷◌, Option, Some, None}
 use Rattle.tag.specs.declared.tag.Tag.{Tag}
@@ -21,37 +20,36 @@ use Rattle.record.specs.declared.stage.Stage.TheVariants.{PreWriteAt, FinalizeAt
 use Rattle.record.specs.declared.stage.Stage.TheVariants.{MoveSpread, MoveQuery, MoveFetch, MovePreWrite}
 use Rattle.record.specs.declared.stage.Stage.TheVariants.{MoveFinalize, MoveFinal, Ended, Moved}
 
--- the pointer's status that an answer shows
+-- the status of a pointer that an answer shows, or unset where it shows none
 abbrev pub shown_status : Answer → Status
 shown_status (answer.Pointer status) = status
 shown_status _ = Unset
 
--- the tag that an answer shows
+-- the tag that an answer shows, or the opening tag where it shows none
 abbrev pub shown_tag : Answer → Tag
 shown_tag (answer.Greatest tag) = tag
 shown_tag _ = opening_tag
 
--- the later of two statuses: unset, pending, final
+-- the greater of two statuses, in the order unset, pending, final
 abbrev pub later_status : Status → Status → Status
 later_status s t = if status_le s t then t else s
 
--- the greatest status that the replies show
+-- the greatest status that the replies show, or unset where they show none
 abbrev pub greatest_status : List Taken → Status
 greatest_status [] = Unset
 greatest_status (taken ∷ replies) = later_status (shown_status taken.reply.answer) (greatest_status replies)
 
--- the greatest tag that the replies show
+-- the greatest tag that the replies show, or the opening tag where they show none
 abbrev pub greatest_tag : List Taken → Tag
 greatest_tag [] = opening_tag
 greatest_tag (taken ∷ replies) = later_tag (shown_tag taken.reply.answer) (greatest_tag replies)
 
--- the stage once its phase begins at a position: a first reading begins there
+-- the stage once its phase begins at a position: where a first reading is to begin, it begins there
 abbrev pub begun_at : Stage → (position : ℕ) → Stage
 begun_at ReadBegin position = ReadNext position position
 begun_at stage position = stage
 
--- the phase that is due, with its position; none where the call may be answered. A first reading that has not begun is
--- due at the base of the moment at which it begins, of which `begun_at` makes the stage
+-- the phase due at a stage, with its position (for ReadBegin see `begun_at`), or none where the call is finished
 abbrev pub due : Stage → Option (Kind × ℕ)
 due ReadBegin = Some (Next, 0)
 due (ReadNext position finalized) = Some (Next, position)
@@ -71,26 +69,25 @@ due (MoveFinal position tag) = Some (Spread Final, position)
 due (Ended last tag) = None
 due (Moved position tag) = None
 
--- a first reading ends where there is no pointer; else the status that was found is spread
+-- the stage after a first reading found this status: an unset pointer ends the reading, and any other status is spread
 abbrev pub after_next : Status → (position finalized : ℕ) → Stage
 after_next Unset position finalized = QueryFrom finalized position opening_tag finalized
 after_next Pending position finalized = ReadSpread position finalized Pending
 after_next Final position finalized = ReadSpread position finalized Final
 
--- a first reading goes on at the next position, which is the last known to be finalized where the status was final
+-- the stage after a first reading spread this status: it goes on at the next position, finalized if the status is final
 abbrev pub after_spread : Status → (position finalized : ℕ) → Stage
 after_spread Final position finalized = ReadNext (suc position) (suc position)
 after_spread Pending position finalized = ReadNext (suc position) finalized
 after_spread Unset position finalized = ReadNext (suc position) finalized
 
--- once the queries are complete: a read fetches the greatest tag, a write takes the next one
+-- the stage once all queries are complete: a read or move fetches the greatest tag, and a write pre-writes the next tag
 abbrev pub tagged : CallKind → (number : ℕ) → (shown_at last : ℕ) → Tag → Stage
 tagged Read number shown_at last greatest = FetchAt shown_at last greatest
 tagged (Write value) number shown_at last greatest = PreWriteAt last (next_tag greatest number)
 tagged Move number shown_at last greatest = FetchAt shown_at last greatest
 
--- a query that found a tag: it counts where it is not below the
--- greatest so far, and the next position follows up to the last
+-- the stage after a query found a tag: up to the last position the next one is queried; of equal tags the later counts
 abbrev pub after_query : CallKind → (number : ℕ) → Tag → (position last : ℕ) → Tag →
     (shown_at : ℕ) → Stage
 after_query kind number found position last greatest shown_at =
@@ -98,18 +95,17 @@ after_query kind number found position last greatest shown_at =
     let place = if tag_lt found greatest then shown_at else position in
     if position == last then tagged kind number place last later else QueryFrom (suc position) last later place
 
--- what the last position's own quorum finalized by its fetch need not be put there again
+-- the stage after a fetch: the tag is put into the last position, unless it was fetched, and so finalized, there
 abbrev pub after_fetch : (shown_at last : ℕ) → Tag → Stage
 after_fetch shown_at last tag = if shown_at == last then AgainNext last last tag else PreWriteAt last tag
 
--- a later reading that ends where it began ends the call; else the tag is put into the later last position too
+-- the stage after a later reading found this status: if unset, the call ends or puts the tag there; else it is spread
 abbrev pub after_again : Status → (last position : ℕ) → Tag → Stage
 after_again Unset last position tag = if position == last then Ended last tag else PreWriteAt position tag
 after_again Pending last position tag = AgainSpread last position tag Pending
 after_again Final last position tag = AgainSpread last position tag Final
 
--- where the replies of a complete phase lead call number `number`: a fetch that lacks pieces leads back, a read to a
--- new first reading and a move to its query
+-- the stage to which a complete phase leads; a fetch that lacks pieces leads a read to ReadBegin, a move to MoveQuery
 abbrev pub after : CallKind → (number : ℕ) → Stage → List Taken → (lacks : Bool) → Stage
 after kind number ReadBegin replies lacks = ReadBegin
 after kind number (ReadNext position finalized) replies lacks = after_next (greatest_status replies) position finalized
@@ -132,41 +128,41 @@ after kind number (MoveFinal position tag) replies lacks = Moved position tag
 after kind number (Ended last tag) replies lacks = Ended last tag
 after kind number (Moved position tag) replies lacks = Moved position tag
 
--- a phase that is not complete leaves the stage as it is
+-- the stage to which a phase leads: if it is not complete, the stage stays
 abbrev pub passed : CallKind → (number : ℕ) → Stage → Option ℕ → List Taken → (lacks : Bool) → Stage
 passed kind number stage None replies lacks = stage
 passed kind number stage (Some end) replies lacks = after kind number stage replies lacks
 
--- the stage after a phase
+-- the stage to which a phase leads; where a first reading is to begin, it begins at the phase's position
 abbrev pub stage_past : CallKind → (number : ℕ) → Stage → Phase → Stage
 stage_past kind number stage phase =
     passed kind number (begun_at stage phase.position) phase.end phase.replies (lacks_pieces phase)
 
--- the stage after these phases
+-- the stage to which these phases lead, one after another
 abbrev pub stage_after : CallKind → (number : ℕ) → Stage → List Phase → Stage
 stage_after kind number stage [] = stage
 stage_after kind number stage (phase ∷ phases) = stage_after kind number (stage_past kind number stage phase) phases
 
--- each phase but the current one is complete before the next begins
+-- the phase ended before the next one began, if there is a next one
 abbrev pub IsEndedBefore : Phase → List Phase → Type 0
 IsEndedBefore phase [] = Unit {0}
 IsEndedBefore phase (next ∷ later) = (end : ℕ) × (phase.end ≡ Some end) × (end < next.start)
 
--- from this stage on the phases are those that are due, one after another; first readings begin anywhere
+-- from this stage on each phase is the one that is due, and ended before the next began; first readings begin anywhere
 abbrev pub IsCourse : CallKind → (number : ℕ) → Stage → List Phase → Type 0
 IsCourse kind number stage [] = Unit {0}
 IsCourse kind number stage (phase ∷ phases) =
     (due (begun_at stage phase.position) ≡ Some (phase.kind, phase.position)) × IsEndedBefore phase phases
     × IsCourse kind number (stage_past kind number stage phase) phases
 
--- from this stage on each first reading begins at the base of its moment, as `base` tells it of each step
+-- from this stage on each first reading begins at the base of the step at which it begins, which `base` computes
 abbrev pub BeginAtBase : (base : ℕ → ℕ) → CallKind → (number : ℕ) → Stage → List Phase → Type 0
 BeginAtBase base kind number stage [] = Unit {0}
 BeginAtBase base kind number stage (phase ∷ phases) =
     (stage ≡ ReadBegin → phase.position ≡ base phase.start)
     × BeginAtBase base kind number (stage_past kind number stage phase) phases
 
--- the last phase ended before a step
+-- there is a phase, and the last one ended before this step
 abbrev pub EndsBefore : List Phase → ℕ → Type 0
 EndsBefore [] step = ⊥
 EndsBefore (phase ∷ []) step = (end : ℕ) × (phase.end ≡ Some end) × (end < step)

@@ -13,15 +13,15 @@ use Rattle.phase.specs.Phase.{Phase}
 use Rattle.record.specs.Records.{Call, Object}
 use Rattle.record.specs.Lacking.{AreOverlapping, AreNoMore, IsLackingFetch}
 
--- the code that keeps whole values
+-- a code by which each fragment is the whole value
 abbrev pub whole : Code
 whole value k point = value
 
--- a layout of one server
+-- a layout whose only member is server 0
 abbrev pub one_member : Layout
 one_member = record { k = 1; members = 0 ∷ [] }
 
--- a layout of one other server
+-- a layout whose only member is server 1
 abbrev pub other_member : Layout
 other_member = record { k = 1; members = 1 ∷ [] }
 
@@ -34,7 +34,7 @@ script =
     ∷ CallRead ∷ Serve 0 ∷ Take 0 ∷ Advance 1 ∷ Serve 0 ∷ Take 0 ∷ Advance 1 ∷ Serve 0 ∷ Take 0
     ∷ Settle 1 (65 ∷ []) ∷ Advance 1 ∷ Serve 0 ∷ Take 0 ∷ AnswerCall 1 ∷ []
 
--- the steps of both calls: 3 to 18, and 19 to 32
+-- the entries of both calls: the write has the steps 3 to 18, and the read has 19 to 32
 abbrev pub script_entries : List Entry
 script_entries =
     record { call = 1; operation = operation.Write; called = 3; answered = Some 18; value = Some (65 ∷ []) }
@@ -56,7 +56,7 @@ move_script =
     ∷ Advance 2 ∷ Serve 0 ∷ Take 0 ∷ Settle 2 (65 ∷ [])
     ∷ Advance 2 ∷ Serve 0 ∷ Take 0 ∷ AnswerCall 2 ∷ []
 
--- the steps of the three calls
+-- the entries of the write, the move and the read
 abbrev pub move_entries : List Entry
 move_entries =
     record { call = 1; operation = operation.Write; called = 3; answered = Some 18; value = Some (65 ∷ []) }
@@ -64,7 +64,7 @@ move_entries =
     ∷ record { call = 3; operation = operation.Read; called = 39; answered = Some 58; value = Some (65 ∷ []) }
     ∷ []
 
--- a write and a move to the other server, then the first position is retired, and a read begins at the second
+-- a write and a move to the other server; then the first position is retired, and a read begins at the second
 abbrev pub retire_script : List Step
 retire_script =
     CallWrite (65 ∷ []) ∷ Serve 0 ∷ Take 0 ∷ Advance 0 ∷ Serve 0 ∷ Take 0
@@ -77,7 +77,7 @@ retire_script =
     ∷ CallRead ∷ Serve 0 ∷ Take 0 ∷ Advance 2 ∷ Serve 0 ∷ Take 0 ∷ Advance 2 ∷ Serve 0 ∷ Take 0
     ∷ Settle 2 (65 ∷ []) ∷ Advance 2 ∷ Serve 0 ∷ Take 0 ∷ AnswerCall 2 ∷ []
 
--- the steps of the three calls; step 39 retires the first position
+-- the entries of the three calls: step 39, after the move and before the read, retires the first position
 abbrev pub retire_entries : List Entry
 retire_entries =
     record { call = 1; operation = operation.Write; called = 3; answered = Some 18; value = Some (65 ∷ []) }
@@ -85,14 +85,13 @@ retire_entries =
     ∷ record { call = 3; operation = operation.Read; called = 40; answered = Some 53; value = Some (65 ∷ []) }
     ∷ []
 
--- a read that was called after a write was answered, and missed it
+-- the entries of a write, and of a read that was called after the write was answered and missed its value
 abbrev pub stale_entries : List Entry
 stale_entries =
     record { call = 1; operation = operation.Write; called = 3; answered = Some 18; value = Some (65 ∷ []) }
     ∷ record { call = 2; operation = operation.Read; called = 19; answered = Some 32; value = Some [] } ∷ []
 
--- a read has found the opening tag when a write of the byte 65 is made and answered, then it fetches; the banks keep
--- the piece of the newest finalized tag alone
+-- a read finds the opening tag, a write of byte 65 is answered, and then the read's fetch lacks pieces, as delta is 0
 abbrev pub lacking_script : List Step
 lacking_script =
     CallRead ∷ Serve 0 ∷ Take 0 ∷ Advance 0 ∷ Serve 0 ∷ Take 0
@@ -101,20 +100,20 @@ lacking_script =
     ∷ Advance 1 ∷ Serve 0 ∷ Take 0 ∷ AnswerCall 1
     ∷ Advance 0 ∷ Serve 0 ∷ Take 0 ∷ []
 
--- the read begins anew, and finds the write's value
+-- the read restarts, and finds the value of the write
 abbrev pub anew_script : List Step
 anew_script =
     Again 0 ∷ Serve 0 ∷ Take 0 ∷ Advance 0 ∷ Serve 0 ∷ Take 0 ∷ Advance 0 ∷ Serve 0 ∷ Take 0
     ∷ Settle 0 (65 ∷ []) ∷ Advance 0 ∷ Serve 0 ∷ Take 0 ∷ AnswerCall 0 ∷ []
 
--- the steps of both calls: 3 to 41, and 9 to 24
+-- the entries of both calls: the read has the steps 3 to 41, and the write has 9 to 24
 abbrev pub anew_entries : List Entry
 anew_entries =
     record { call = 1; operation = operation.Read; called = 3; answered = Some 41; value = Some (65 ∷ []) }
     ∷ record { call = 2; operation = operation.Write; called = 9; answered = Some 24; value = Some (65 ∷ []) }
     ∷ []
 
--- the read's fetch, complete at step 27, lacks pieces, and delta + 1 = 1 write overlaps the read, no more
+-- the read's fetch, complete at step 27, lacks pieces, and exactly delta + 1 = 1 write overlaps the read
 pub record IsMetExactly (object : Object) : Type 0 where
   pub collects : object.delta ≡ Some 0
   pub call : Call

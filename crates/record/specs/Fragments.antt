@@ -1,4 +1,4 @@
--- Which pieces are fragments of the journal's values, and which values are settled.
+-- Which pieces are fragments of the journal's values, and which values are settled. The journal maps tags to values.
 use Rattle.std.specs.Prelude.{◌≡◌, ℕ, suc, ◌<◌, ◌≤◌, ◌⊎◌, nat_eq, true}
 use Rattle.std.specs.Prelude.{List, [], length, Option, Some, None, IsSome, slice_get}
 use Rattle.std.specs.List.{AllByRecursion, IsDistinct}
@@ -22,39 +22,38 @@ use Rattle.record.specs.declared.call.CallKind.TheVariants.{Read, Write}
 use Rattle.record.specs.Records.{Call, Object, layout_at, bank_at}
 use Rattle.record.specs.Journals.{IsJournaled}
 
--- a code: the bytes that a member keeps of a value, by the value, k and the member's point
+-- an erasure code: the bytes of a member's fragment, as a function of the value, k and the member's point
 abbrev pub Code : Type 0
 Code = List ℕ → ℕ → ℕ → List ℕ
 
--- each number is a byte
+-- each number of the list is a byte
 abbrev pub AreBytes : List ℕ → Type 0
 AreBytes value = AllByRecursion (λ b. b < 256) value
 
--- a value: bytes, no more than the limit
+-- the list is a value: its numbers are bytes, and there are at most LONGEST_VALUE of them
 abbrev pub IsValue : List ℕ → Type 0
 IsValue value = AreBytes value × (length value ≤ LONGEST_VALUE)
 
--- k fragments at distinct points determine a value of their
--- length, where k is no more than the members of a layout may be
+-- for k from 1 to MOST_MEMBERS, k fragments at distinct points determine a value of known length
 abbrev pub Determines : Code → Type 0
 Determines fragment = (k : ℕ) (points : List ℕ) (v w : List ℕ) → 1 ≤ k → k ≤ MOST_MEMBERS →
     k ≤ length points → IsDistinct nat_eq points → AreBytes points →
     IsValue v → IsValue w → length v ≡ length w →
     AllByRecursion (λ i. fragment v k i ≡ fragment w k i) points → v ≡ w
 
--- the code is a code: k fragments determine a value, and the empty value's fragments are empty
+-- the function is an erasure code: k fragments determine a value, and the fragments of the empty value are empty
 pub record IsCode (fragment : Code) : Type 0 where
   pub determines : Determines fragment
   pub empty : (k point : ℕ) → fragment [] k point ≡ []
 
--- a piece is the member's fragment of the value
+-- the piece is the member's fragment of the value, with the member's point and the value's length
 pub record IsFragment (fragment : Code) (layout : Layout) (member : ℕ) (value : List ℕ)
     (piece : Piece) : Type 0 where
   pub point : piece.point ≡ member
   pub len : piece.len ≡ length value
   pub bytes : piece.bytes ≡ fragment value layout.k member
 
--- the tag is in the journal, and a piece of it is the member's fragment of the journal's value
+-- the tag is in the journal, and its piece, if there is one, is the member's fragment of the journal's value
 pub record IsCoded (fragment : Code) (object : Object) (position member : ℕ) (tag : Tag)
     (piece : Option Piece) : Type 0 where
   pub value : List ℕ
@@ -62,51 +61,51 @@ pub record IsCoded (fragment : Code) (object : Object) (position member : ℕ) (
   pub fits : (kept : Piece) → piece ≡ Some kept →
       IsFragment fragment (layout_at object position) member value kept
 
--- a tag, where there is one, is in the journal, with its piece
+-- if there is a tag, it is in the journal, and its piece, if there is one, is the member's fragment of its value
 abbrev pub IfCoded : Code → Object → (position member : ℕ) → Option Tag → Option Piece → Type 0
 IfCoded fragment object position member None piece = Unit {0}
 IfCoded fragment object position member (Some tag) piece = IsCoded fragment object position member tag piece
 
--- the tag that a phase asks about
+-- the tag that a phase of this kind names, if it names one
 abbrev pub kind_tag : Kind → Option Tag
 kind_tag (PreWrite tag) = Some tag
 kind_tag (Finalize tag) = Some tag
 kind_tag (Fetch tag) = Some tag
 kind_tag _ = None
 
--- the tag that an answer speaks of
+-- the tag that an answer names, or else the tag that the request named
 abbrev pub answer_tag : Kind → Answer → Option Tag
 answer_tag kind (answer.Greatest tag) = Some tag
 answer_tag kind _ = kind_tag kind
 
--- the piece that an answer brings
+-- the piece that an answer carries, if it carries one
 abbrev pub answer_piece : Answer → Option Piece
 answer_piece (answer.Piece piece) = piece
 answer_piece _ = None
 
--- the tag that a request speaks of
+-- the tag that a request names, if it names one
 abbrev pub request_tag : Request → Option Tag
 request_tag (request.PreWrite tag piece) = Some tag
 request_tag (request.Finalize tag) = Some tag
 request_tag (request.Fetch tag) = Some tag
 request_tag _ = None
 
--- the piece that a request brings
+-- the piece that a request carries, if it carries one
 abbrev pub request_piece : Request → Option Piece
 request_piece (request.PreWrite tag piece) = Some piece
 request_piece _ = None
 
--- the tag that a message speaks of
+-- the tag that the body of a message names, if it names one
 abbrev pub body_tag : Body → Option Tag
 body_tag (body.Request asked) = request_tag asked
 body_tag (body.Reply kind made) = answer_tag kind made.answer
 
--- the piece that a message brings
+-- the piece that the body of a message carries, if it carries one
 abbrev pub body_piece : Body → Option Piece
 body_piece (body.Request asked) = request_piece asked
 body_piece (body.Reply kind made) = answer_piece made.answer
 
--- each tag in a bank, message or phase is in the journal, and each piece is its member's fragment
+-- each tag in a bank, message or phase is in the journal, and each piece is its member's fragment of the tag's value
 pub record AreCoded (fragment : Code) (object : Object) : Type 0 where
   pub banks : (position member : ℕ) (tag : Tag) → knows (bank_at object position member) tag ≡ true →
       IsCoded fragment object position member tag (piece_of (bank_at object position member) tag)
@@ -118,7 +117,7 @@ pub record AreCoded (fragment : Code) (object : Object) : Type 0 where
       (answer_tag phase.kind taken.reply.answer) (answer_piece taken.reply.answer))
       phase.replies
 
--- the phase took a piece from this member, and it is the member's fragment of the value
+-- the phase took a piece from this member, which is the member's fragment of the value
 pub record HasPiece (fragment : Code) (object : Object) (phase : Phase) (value : List ℕ) (member : ℕ) : Type 0 where
   pub place : ℕ
   pub reply : Taken
@@ -132,14 +131,14 @@ pub record HasPiece (fragment : Code) (object : Object) (phase : Phase) (value :
 abbrev pub IsFetch : Kind → Type 0
 IsFetch kind = (tag : Tag) × (kind ≡ Fetch tag)
 
--- the phase took pieces of k members, which are fragments of the value
+-- the phase took pieces from at least k distinct members, and each is its member's fragment of the value
 pub record HasPieces (fragment : Code) (object : Object) (phase : Phase) (value : List ℕ) : Type 0 where
   pub members : List ℕ
   pub distinct : IsDistinct nat_eq members
   pub enough : (layout_at object phase.position).k ≤ length members
   pub pieces : AllByRecursion (HasPiece fragment object phase value) members
 
--- the value has k pieces that the call's latest fetch took
+-- the value has k pieces that the latest fetch of the call took
 pub record IsSettled (fragment : Code) (object : Object) (call : Call) (value : List ℕ) : Type 0 where
   pub place : ℕ
   pub phase : Phase
@@ -149,8 +148,7 @@ pub record IsSettled (fragment : Code) (object : Object) (call : Call) (value : 
       IsFetch other.kind → ⊥
   pub pieces : HasPieces fragment object phase value
 
--- what a call settled; a phase after a fetch begins once it has, or where the fetch lacks pieces;
--- a read is answered once it has
+-- a value is settled from the latest fetch, before the next phase unless pieces are lacking, and before a read's answer
 pub record AreSettled (fragment : Code) (object : Object) : Type 0 where
   pub settled : (index : ℕ) (call : Call) (value : List ℕ) → slice_get object.calls index ≡ Some call →
       call.settled ≡ Some value → IsSettled fragment object call value
@@ -161,7 +159,7 @@ pub record AreSettled (fragment : Code) (object : Object) : Type 0 where
   pub before_answer : (index : ℕ) (call : Call) → slice_get object.calls index ≡ Some call →
       call.kind ≡ Read → IsSome call.answered → IsSome call.settled
 
--- what calls write and settle are values
+-- each value that a call writes or settles consists of bytes, and is within the limit
 pub record AreValues (object : Object) : Type 0 where
   pub written : (index : ℕ) (call : Call) (value : List ℕ) → slice_get object.calls index ≡ Some call →
       call.kind ≡ Write value → IsValue value
@@ -176,14 +174,14 @@ pub record TookPiece (phase : Phase) (member : ℕ) : Type 0 where
   pub same_member : reply.member ≡ member
   pub some_piece : IsSome (answer_piece reply.reply.answer)
 
--- a reply that the phase took was made when its member had dropped the pieces of the tag
+-- the phase took a reply that was made when its member had dropped the pieces of the tag
 pub record HasDropped (object : Object) (phase : Phase) (tag : Tag) : Type 0 where
   pub place : ℕ
   pub reply : Taken
   pub within : slice_get phase.replies place ≡ Some reply
   pub dropped : is_dropped_at (bank_at object phase.position reply.member) tag reply.reply.step ≡ true
 
--- a phase took pieces of at least k members
+-- the phase took pieces from at least k distinct members
 pub record HasEnough (object : Object) (phase : Phase) : Type 0 where
   pub members : List ℕ
   pub distinct : IsDistinct nat_eq members

@@ -1,4 +1,4 @@
--- The value of each tag, and the entries of an object's calls.
+-- The journal, which gives each tag its value, and the entries of an object's calls.
 use Rattle.std.specs.Prelude.{◌≡◌, ℕ, suc, ◌⊎◌, List, [], ◌∷◌, Option, Some, None, slice_get}
 use Rattle.tag.specs.declared.tag.Tag.{Tag}
 use Rattle.tag.specs.Tag.{opening_tag}
@@ -15,7 +15,7 @@ use Rattle.record.specs.declared.call.Operation.{Operation}
 use Rattle.record.specs.declared.call.Entry.{Entry}
 use Rattle.record.specs.declared.call.Operation.TheVariants as operation
 
--- the tag of a call at this stage
+-- the tag of a call at this stage, if it has one
 abbrev pub stage_tag : Stage → Option Tag
 stage_tag ReadBegin = None
 stage_tag (ReadNext position finalized) = None
@@ -35,7 +35,7 @@ stage_tag (MoveFinal position tag) = Some tag
 stage_tag (Ended last tag) = Some tag
 stage_tag (Moved position tag) = Some tag
 
--- the tag of the call at this place, once its queries are complete
+-- the tag of the call at this index, once its queries are complete
 abbrev pub tag_of : Object → (index : ℕ) → Call → Option Tag
 tag_of object index call = stage_tag (stage_of object index call)
 
@@ -47,7 +47,7 @@ pub record IsWritten (object : Object) (tag : Tag) (value : List ℕ) : Type 0 w
   pub kind : call.kind ≡ Write value
   pub tagged : tag_of object index call ≡ Some tag
 
--- the journal: the opening tag has the empty value, and each write's tag the value in its call
+-- the journal gives the tag this value: the opening tag has the empty value, and a write's tag the write's value
 abbrev pub IsJournaled : Object → Tag → List ℕ → Type 0
 IsJournaled object tag value = ((tag ≡ opening_tag) × (value ≡ [])) ⊎ IsWritten object tag value
 
@@ -58,12 +58,12 @@ ReadsJournaled object = (index : ℕ) (call : Call) (step : ℕ) → slice_get o
     (value : List ℕ) × (tag : Tag) × (call.settled ≡ Some value) × (tag_of object index call ≡ Some tag)
     × IsJournaled object tag value
 
--- what an answered call returned
+-- what a call returned: its settled value once it is answered, and nothing before
 abbrev pub returned : Option ℕ → Option (List ℕ) → Option (List ℕ)
 returned None settled = None
 returned (Some step) settled = settled
 
--- the kind of a call in its entry
+-- the kind of a call without its value, as an entry has it
 abbrev pub operation_of : CallKind → Operation
 operation_of Read = operation.Read
 operation_of (Write value) = operation.Write
@@ -75,7 +75,7 @@ entry_value Read answered settled = returned answered settled
 entry_value (Write value) answered settled = Some value
 entry_value Move answered settled = None
 
--- the entry of the call of this number
+-- the entry of a call with this number
 abbrev pub entry_of : (number : ℕ) → Call → Entry
 entry_of number call = record {
   call = number;
@@ -90,6 +90,6 @@ abbrev pub entries_from : (number : ℕ) → List Call → List Entry
 entries_from number [] = []
 entries_from number (call ∷ calls) = entry_of number call ∷ entries_from (suc number) calls
 
--- one entry for each call
+-- the history of the object: one entry for each call, in the order of their numbers
 abbrev pub entries : Object → List Entry
 entries object = entries_from 1 object.calls

@@ -1,4 +1,4 @@
--- Which records of an object are legal, as far as labels, pointers and steps go.
+-- Which records of an object are legal: the rules of layouts, calls, phases, moves and banks.
 use Rattle.std.specs.Prelude.{◌≡◌, ℕ, suc, ◌<◌, ◌≤◌, ◌⊎◌, Bool, true, false}
 use Rattle.std.specs.Prelude.{if◌then◌else◌, List, [], ◌∷◌, length, take, Option, Some, None, slice_get}
 use Rattle.std.specs.List.{AllByRecursion}
@@ -30,38 +30,37 @@ abbrev pub moves_in : List Call → ℕ
 moves_in [] = 0
 moves_in (call ∷ calls) = if is_move call.kind then suc (moves_in calls) else moves_in calls
 
--- reads and writes begin at the base; a move after `moves` others leads from the position of that number
+-- the stage at which a call begins; a move leads from the position whose number is the number of moves before it
 abbrev pub first_stage : CallKind → (moves : ℕ) → Stage
 first_stage Read moves = ReadBegin
 first_stage (Write value) moves = ReadBegin
 first_stage Move moves = MoveSpread moves
 
--- the position that a move at this place of the calls leads from
+-- the position that a move leads from if it is the call at this index
 abbrev pub source_of : Object → (index : ℕ) → ℕ
 source_of object index = moves_in (take index object.calls)
 
--- where the call at this place stands
+-- the stage of the call at this index
 abbrev pub stage_of : Object → (index : ℕ) → Call → Stage
 stage_of object index call =
     stage_after call.kind (suc index) (first_stage call.kind (source_of object index)) call.phases
 
--- the phase that is due for the call at this place; a first reading would begin at the base
+-- the phase that is due for the call at this index, with its position; a first reading would begin at the base
 abbrev pub due_of : Object → (index : ℕ) → Call → Option (Kind × ℕ)
 due_of object index call = due (begun_at (stage_of object index call) (base_of object))
 
--- phases are numbered from `number` on, and name their call
+-- the phases are numbered from `number` on, and name this call
 abbrev pub AreNumbered : (call number : ℕ) → List Phase → Type 0
 AreNumbered call number [] = Unit {0}
 AreNumbered call number (phase ∷ phases) =
     (phase.call ≡ call) × (phase.number ≡ number) × AreNumbered call (suc number) phases
 
--- the call step begins phase 1
+-- the first phase began at this step
 abbrev pub BeginsAt : List Phase → ℕ → Type 0
 BeginsAt [] step = ⊥
 BeginsAt (phase ∷ phases) step = phase.start ≡ step
 
--- a call's phases are true, and those of a read, a write or a move as far as it has come; each first reading began at
--- the base of its moment. It is answered after the last of all
+-- the call's phases are numbered, true and in order; first readings began at the base; any answer came after the last
 pub record IsLegalCall (object : Object) (index : ℕ) (call : Call) : Type 0 where
   pub numbered : AreNumbered (suc index) 1 call.phases
   pub begins : BeginsAt call.phases call.called
@@ -72,7 +71,7 @@ pub record IsLegalCall (object : Object) (index : ℕ) (call : Call) : Type 0 wh
   pub answer : (step : ℕ) → call.answered ≡ Some step →
       (due (stage_of object index call) ≡ None) × EndsBefore call.phases step
 
--- a phase of this kind began at the position before the step
+-- a phase of this kind began at this position before the step
 pub record HasBegun (object : Object) (kind : Kind) (position step : ℕ) : Type 0 where
   pub index : ℕ
   pub call : Call
@@ -84,7 +83,7 @@ pub record HasBegun (object : Object) (kind : Kind) (position step : ℕ) : Type
   pub same_position : phase.position ≡ position
   pub before : phase.start < step
 
--- the move out of a position was answered at a step
+-- the move out of this position was answered at this step
 pub record IsMovedOut (object : Object) (position answered : ℕ) : Type 0 where
   pub index : ℕ
   pub call : Call
@@ -93,8 +92,7 @@ pub record IsMovedOut (object : Object) (position answered : ℕ) : Type 0 where
   pub source : source_of object index ≡ position
   pub was : call.answered ≡ Some answered
 
--- what a bank knows beyond the opening tag, a phase has asked of it; it is retired only after the move out of its
--- position was answered
+-- what the bank knows but for the opening tag, a phase asked of it; it retired only after the move out was answered
 pub record IsCaused (object : Object) (position : ℕ) (bank : Bank) : Type 0 where
   pub finalized : (tag : Tag) (step : ℕ) → finalized_at bank tag ≡ Some step → (tag ≡ opening_tag)
       ⊎ (HasBegun object (Finalize tag) position step ⊎ HasBegun object (Fetch tag) position step)
@@ -106,28 +104,27 @@ pub record IsCaused (object : Object) (position : ℕ) (bank : Bank) : Type 0 wh
   pub retired : (step : ℕ) → bank.retired ≡ Some step →
       (answered : ℕ) × IsMovedOut object position answered × (answered < step)
 
--- a bank has the opening tag, finalized and with a piece, since a step
+-- the bank has had the opening tag, finalized and with a piece, since this step
 pub record IsOpenedAt (bank : Bank) (step : ℕ) : Type 0 where
   pub finalized : finalized_at bank opening_tag ≡ Some step
   pub arrived : arrived_at bank opening_tag ≡ Some step
 
--- a bank was opened at a step, no later than this one
+-- the bank was opened at this step or earlier
 abbrev pub IsOpenedBy : Bank → ℕ → Type 0
 IsOpenedBy bank step = (opened : ℕ) × IsOpenedAt bank opened × (opened ≤ step)
 
--- the members of a position opened their banks before a phase began there
+-- the members of the phase's position had opened their banks when the phase began
 abbrev pub AreOpened : Object → Phase → Type 0
 AreOpened object phase = (member : ℕ) → member < length (layout_at object phase.position).members →
     IsOpenedBy (bank_at object phase.position member) phase.start
 
--- every phase began in open banks
+-- every phase began when the banks of its position were open
 abbrev pub BeginInOpen : Object → Type 0
 BeginInOpen object =
     (index place : ℕ) (call : Call) (phase : Phase) → slice_get object.calls index ≡ Some call →
     slice_get call.phases place ≡ Some phase → AreOpened object phase
 
--- layouts are lawful, and calls; calls are numbered as they came; a move is
--- called after the one before it was answered; what banks know, phases have asked
+-- the record is legal: its layouts, its calls in the order of their steps, its moves one at a time, and its banks
 pub record IsLegal (object : Object) : Type 0 where
   pub layouts : AllByRecursion IsLawful object.layouts
   pub calls : (index : ℕ) (call : Call) → slice_get object.calls index ≡ Some call →

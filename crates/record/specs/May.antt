@@ -1,5 +1,5 @@
 -- The contracts that docs/trusted.md lists do not depend on this file; other contracts and proofs do.
--- When each step may be made, by the record alone.
+-- When each step may be made, as far as the record says.
 use Rattle.std.specs.Prelude.{◌≡◌, ◌⊎◌, ℕ, suc, List, [], ◌∷◌, Some, IsSome, slice_get}
 use Rattle.tag.specs.declared.tag.Tag.{Tag}
 use Rattle.layout.specs.Layout.{IsLawful}
@@ -22,32 +22,32 @@ use Rattle.record.specs.Steps.{Step, stepped}
 abbrev pub IsPreWrite : Kind → Type 0
 IsPreWrite kind = (tag : Tag) × (kind ≡ PreWrite tag)
 
--- the call has a current phase that lacks a quorum
+-- the call has this current phase, which lacks a quorum
 pub record IsWaiting (object : Object) (index : ℕ) (call : Call) (phase : Phase) : Type 0 where
   pub wants : Wants object index call want.Replies
   pub current : current_phase call.phases ≡ Some phase
 
--- the call wants its pieces
+-- the call wants the pieces of its value, to begin a phase that sends them
 abbrev pub WantsPieces : Object → (index : ℕ) → Call → Type 0
 WantsPieces object index call = (k : ℕ) × (n : ℕ) × Wants object index call (want.Supply k n)
 
--- the call has a phase that lacks a quorum and sends pieces
+-- the current phase of the call sends pieces and lacks a quorum
 abbrev pub AwaitsPieces : Object → (index : ℕ) → Call → Type 0
 AwaitsPieces object index call = (phase : Phase) × IsWaiting object index call phase × IsPreWrite phase.kind
 
--- the call wants its pieces, or its current phase sends them and lacks a quorum
+-- a supply may be made: the call wants its pieces, or its current phase sends pieces and lacks a quorum
 pub record MaySupply (object : Object) (index : ℕ) : Type 0 where
   pub call : Call
   pub takes : WantsPieces object index call ⊎ AwaitsPieces object index call
 
--- the current phase lacks a quorum, and sends no pieces
+-- a post may be made: the call's current phase lacks a quorum and sends no pieces
 pub record MayPost (object : Object) (index : ℕ) : Type 0 where
   pub call : Call
   pub phase : Phase
   pub waiting : IsWaiting object index call phase
   pub plain : ¬ (IsPreWrite phase.kind)
 
--- the call wants a value, and its current phase took k pieces of this one
+-- this value may be settled: the call wants a value, and its current phase took k pieces of this one
 pub record MaySettle (fragment : Code) (object : Object) (index : ℕ) (value : List ℕ) : Type 0 where
   pub call : Call
   pub k : ℕ
@@ -58,7 +58,7 @@ pub record MaySettle (fragment : Code) (object : Object) (index : ℕ) (value : 
   pub pieces : HasPieces fragment object phase value
   pub is_value : IsValue value
 
--- no move is open
+-- every move is answered
 abbrev pub NoOpenMove : Object → Type 0
 NoOpenMove object = (index : ℕ) (call : Call) → slice_get object.calls index ≡ Some call →
     call.kind ≡ Move → IsSome call.answered
@@ -74,7 +74,7 @@ IsReplyAt object place message =
     (slice_get object.mail place ≡ Some message)
     × ((kind : Kind) × (made : Reply) × (message.body ≡ body.Reply kind made))
 
--- the step may be made
+-- the step may be made, as far as the record says
 abbrev pub MayStep : Code → Object → Step → Type 0
 MayStep fragment object Step.CallRead = Unit {0}
 MayStep fragment object (Step.CallWrite value) = IsValue value
@@ -91,7 +91,7 @@ MayStep fragment object (Step.Lose place) = (message : Message) × (slice_get ob
 MayStep fragment object (Step.Repeat place) = (message : Message) × (slice_get object.mail place ≡ Some message)
 MayStep fragment object Step.Retire = (answered : ℕ) × IsMovedOut object (base_of object) answered
 
--- each of these steps may be made, the first one with number now
+-- these steps may be made one after another, the first with the number `now`
 abbrev pub MayRun : Code → List Step → (now : ℕ) → Object → Type 0
 MayRun fragment [] now object = Unit {0}
 MayRun fragment (step ∷ steps) now object =

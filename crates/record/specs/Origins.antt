@@ -23,13 +23,12 @@ use Rattle.record.specs.Steps.{Step, stepped}
 abbrev pub label_at : Bank → Tag → Option Label
 label_at bank tag = option_map (λ row. row.label) (map.get bank.rows tag)
 
--- what is asked gives the tag this label at step `now`: a pre-write that of a pre-written tag, a finalize
--- and a fetch that of a finalized one
+-- a request of this kind gives the tag this label at step `now`: a pre-write PreWritten, a finalize or fetch Finalized
 abbrev pub Gives : Kind → Tag → Label → (now : ℕ) → Type 0
 Gives kind tag label now = ((kind ≡ PreWrite tag) × (label ≡ PreWritten now))
     ⊎ (((kind ≡ Finalize tag) ⊎ (kind ≡ Fetch tag)) × (label ≡ Finalized now))
 
--- the step serves, at this bank, a request of a phase that began before it, and this gives the tag its label
+-- the step serves a request at this bank, whose phase began before the step, and the request gives the tag this label
 pub record ComesByRequest (object : Object) (step : Step) (now position member : ℕ) (tag : Tag)
     (label : Label) : Type 0 where
   pub place : ℕ
@@ -44,7 +43,7 @@ pub record ComesByRequest (object : Object) (step : Step) (now position member :
   pub posted : IsPosted object message
   pub begun : posted.phase.start < now
 
--- the step opens this bank, which begins with the opening tag finalized
+-- the step is a move that opens this bank, in which the opening tag is finalized
 pub record ComesByOpening (object : Object) (step : Step) (now position : ℕ) (tag : Tag) (label : Label) : Type 0 where
   pub layout : Layout
   pub moves : step ≡ Step.CallMove layout
@@ -52,7 +51,7 @@ pub record ComesByOpening (object : Object) (step : Step) (now position : ℕ) (
   pub opening : tag ≡ opening_tag
   pub finalized : label ≡ Finalized now
 
--- a label was there before a step, or comes by it
+-- if the tag has this label after the step, it had it before, or got it by a request or by the opening of the bank
 abbrev pub ComesWithIts : Code → Object → Step → (now position member : ℕ) → Tag → Label → Type 0
 ComesWithIts fragment object step now position member tag label =
     label_at (bank_at (stepped fragment step now object) position member) tag ≡ Some label →

@@ -9,8 +9,7 @@ use Rattle.mail.specs.declared.message.Message.{Message}
 use Rattle.phase.specs.Phase.{Phase}
 use Rattle.record.specs.declared.call.CallKind.{CallKind}
 
--- a call: what it does, the steps of its call and answer, the value that it settled, and its phases; its number is its
--- place in the object, counted from 1
+-- a call: its kind, the steps of its call and answer, its settled value, and its phases; its number is its index + 1
 pub record Call : Type 0 where
   pub kind : CallKind
   pub called : ℕ
@@ -18,8 +17,7 @@ pub record Call : Type 0 where
   pub settled : Option (List ℕ)
   pub phases : List Phase
 
--- an object: how many finalized versions beside the newest its banks keep (None: all), a layout and a bank for each
--- member at each position, the waiting messages, and the calls
+-- an object: versions kept beside the newest (None: all), layouts and banks by position, waiting messages, and calls
 pub record Object : Type 0 where
   pub delta : Option ℕ
   pub layouts : List Layout
@@ -27,11 +25,11 @@ pub record Object : Type 0 where
   pub mail : List Message
   pub calls : List Call
 
--- a bank that knows nothing, where there is none
+-- a bank that knows nothing, which stands for one that does not exist
 abbrev pub no_bank : Bank
 no_bank = record { rows = map.empty; pointer = pointer.Unset; delta = None; retired = None }
 
--- a layout without members, where there is none
+-- a layout without members, which stands for one that does not exist
 abbrev pub no_layout : Layout
 no_layout = record { k = 0; members = [] }
 
@@ -47,25 +45,25 @@ bank_at object position member = get_or (get_or object.banks position []) member
 abbrev pub retired_at : Object → (position : ℕ) → Option ℕ
 retired_at object position = (bank_at object position 0).retired
 
--- a position was retired by a step
+-- the position was retired at this step or earlier
 abbrev pub IsRetiredBy : Object → (position step : ℕ) → Type 0
 IsRetiredBy object position step = came_by (retired_at object position) step ≡ true
 
--- how many of these positions in a row, from the first on, were retired by a step
+-- how many positions in a row, from the first on, were retired at this step or earlier
 abbrev pub base_by : List (List Bank) → (step : ℕ) → ℕ
 base_by [] step = 0
 base_by (banks ∷ later) step =
     if came_by (get_or banks 0 no_bank).retired step then suc (base_by later step) else 0
 
--- the object's base after a step: the first position that was not retired by then
+-- the base just after a step: the first position that was not retired by then
 abbrev pub base_at : Object → (step : ℕ) → ℕ
 base_at object step = base_by object.banks step
 
--- how many of these positions in a row, from the first on, are retired
+-- how many positions in a row, from the first on, are retired
 abbrev pub retired_first : List (List Bank) → ℕ
 retired_first [] = 0
 retired_first (banks ∷ later) = if is_some (get_or banks 0 no_bank).retired then suc (retired_first later) else 0
 
--- the object's base: the first position that is not retired
+-- the base of the object: the first position that is not retired
 abbrev pub base_of : Object → ℕ
 base_of object = retired_first object.banks

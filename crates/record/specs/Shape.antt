@@ -1,5 +1,5 @@
 -- The contracts that docs/trusted.md lists do not depend on this file; other contracts and proofs do.
--- The table of stages and the shape of whole calls: they say the same.
+-- The table of stages and the shape of whole calls agree.
 use Rattle.std.specs.Prelude.{◌≡◌, ◌↔◌, ℕ, suc, List, [], ◌∷◌, Some, None, IsSome, slice_get}
 use Rattle.tag.specs.declared.tag.Tag.{Tag}
 use Rattle.phase.specs.Phase.{Phase}
@@ -11,26 +11,26 @@ use Rattle.record.specs.Legal.{first_stage, source_of, IsLegal}
 use Rattle.record.specs.Journals.{stage_tag, tag_of}
 use Rattle.record.specs.Grammar.{Asks, IsSentence}
 
--- each phase is complete, and was before the next one began
+-- each phase is complete, and ended before the next one began
 abbrev pub AreInTurn : List Phase → Type 0
 AreInTurn [] = Unit {0}
 AreInTurn (phase ∷ []) = IsSome phase.end
 AreInTurn (phase ∷ next ∷ later) = IsEndedBefore phase (next ∷ later) × AreInTurn (next ∷ later)
 
--- the phases are those that are due from this stage on, up to one where none is due and the call has this tag
+-- from this stage on the phases are those that were due, up to a stage where none is due and the call has this tag
 pub record IsFinished (kind : CallKind) (number : ℕ) (stage : Stage) (phases : List Phase) (tag : Tag) : Type 0 where
   pub course : IsCourse kind number stage phases
   pub none_due : due (stage_after kind number stage phases) ≡ None
   pub tagged : stage_tag (stage_after kind number stage phases) ≡ Some tag
 
--- the finished calls are those whose phases are complete, one after another, in the shape of a whole call
+-- a law: the finished calls are exactly those with the phases of a whole call, each ended before the next one began
 abbrev pub FinishedAreWhole : Type 0
 FinishedAreWhole =
     (kind : CallKind) (number from : ℕ) (phases : List Phase) (tag : Tag) →
     IsFinished kind number (first_stage kind from) phases tag
     ↔ (AreInTurn phases × IsSentence kind number from phases tag)
 
--- an answered call has a tag, and its phases are those of a whole call, whose first readings began at the base
+-- the answered call has a tag and the phases of a whole call, and its first readings began at the base
 pub record IsAnsweredWhole (object : Object) (index : ℕ) (call : Call) : Type 0 where
   pub tag : Tag
   pub tagged : tag_of object index call ≡ Some tag
@@ -39,30 +39,30 @@ pub record IsAnsweredWhole (object : Object) (index : ℕ) (call : Call) : Type 
   pub from_base : BeginAtBase (base_at object) call.kind (suc index) (first_stage call.kind (source_of object index))
       call.phases
 
--- each answered call of a legal record has the phases of a whole call
+-- a law: each answered call of a legal record has the phases of a whole call
 abbrev pub AnsweredAreWhole : Type 0
 AnsweredAreWhole =
     (object : Object) (index : ℕ) (call : Call) (step : ℕ) → IsLegal object →
     slice_get object.calls index ≡ Some call → call.answered ≡ Some step →
     IsAnsweredWhole object index call
 
--- each phase but the last is complete before the next one begins
+-- each phase but the last ended before the next one began
 abbrev pub AreBegun : List Phase → Type 0
 AreBegun [] = Unit {0}
 AreBegun (phase ∷ later) = IsEndedBefore phase later × AreBegun later
 
--- two phases need as many pieces and have the same replies
+-- the two phases need the same number of pieces and have the same replies
 abbrev pub SameReplies : Phase → Phase → Type 0
 SameReplies phase other = (other.replies ≡ phase.replies) × (other.needed ≡ phase.needed)
 
--- these phases begin those: each asks the same, and where it is complete needs as many pieces and has the same replies
+-- the others begin with these phases: each asks the same and, where it is complete, has the same need and replies
 abbrev pub Begin : List Phase → List Phase → Type 0
 Begin [] others = Unit {0}
 Begin (phase ∷ later) [] = ⊥
 Begin (phase ∷ later) (other ∷ others) =
     Asks other phase.kind phase.position × (IsSome phase.end → SameReplies phase other) × Begin later others
 
--- the phases begin those of a whole call
+-- the phases, each ended before the next began, are the beginning of the phases of a whole call
 pub record IsBeginning (kind : CallKind) (number from : ℕ) (phases : List Phase) : Type 0 where
   pub in_turn : AreBegun phases
   pub whole : List Phase
@@ -70,7 +70,7 @@ pub record IsBeginning (kind : CallKind) (number from : ℕ) (phases : List Phas
   pub is_whole : IsSentence kind number from whole tag
   pub begin : Begin phases whole
 
--- a call's phases are those that are due exactly where they are the beginning of a whole call's
+-- a law: the phases of a call are those that were due exactly where they are the beginning of a whole call's phases
 abbrev pub CoursesAreBeginnings : Type 0
 CoursesAreBeginnings =
     (kind : CallKind) (number from : ℕ) (phases : List Phase) →

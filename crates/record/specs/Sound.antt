@@ -1,5 +1,4 @@
--- What every step keeps of the record: it is legal, its messages
--- are true, its steps are past, and its pieces are fragments.
+-- The invariant of every step: the record is legal, its messages are true, its steps past, and its pieces fragments.
 use Rattle.std.specs.Prelude.{◌≡◌, ℕ, suc, ◌<◌, ◌≤◌, length, get_or, [], Option, Some, None, slice_get}
 use Rattle.std.specs.List.{AllByRecursion}
 use Rattle.tag.specs.declared.tag.Tag.{Tag}
@@ -18,7 +17,7 @@ use Rattle.record.specs.Legal.{moves_in, IsOpenedAt, BeginInOpen, IsLegal}
 use Rattle.record.specs.Journals.{tag_of}
 use Rattle.record.specs.Fragments.{Code, AreCoded, AreSettled, AreValues}
 
--- a message is a request of a phase that has begun, or a true reply to it
+-- the message is a request of a phase that has begun, or a true reply to one
 pub record IsPosted (object : Object) (message : Message) : Type 0 where
   pub index : ℕ
   pub call : Call
@@ -34,23 +33,23 @@ pub record IsPosted (object : Object) (message : Message) : Type 0 where
   pub reply : (kind : Kind) (made : Reply) → message.body ≡ body.Reply kind made → (phase.start < made.step)
       × IsTrueAnswer (bank_at object message.position message.member) made.step kind made.answer
 
--- it came by the step, if it came
+-- the event happened at this step or earlier, if it happened at all
 abbrev pub UpTo : ℕ → Option ℕ → Type 0
 UpTo step came = (at : ℕ) → came ≡ Some at → at ≤ step
 
--- a phase began, took replies and ended by the step
+-- the phase began, took its replies and ended at this step or earlier
 pub record IsPhasePast (step : ℕ) (phase : Phase) : Type 0 where
   pub start : phase.start ≤ step
   pub replies : AllByRecursion (λ taken. taken.step ≤ step) phase.replies
   pub end : UpTo step phase.end
 
--- a call was called and answered, and its phases are past, by the step
+-- the call was made and answered, and its phases happened, at this step or earlier
 pub record IsCallPast (step : ℕ) (call : Call) : Type 0 where
   pub called : call.called ≤ step
   pub answered : UpTo step call.answered
   pub phases : AllByRecursion (IsPhasePast step) call.phases
 
--- no step of the record is later than this one, and no tag has a greater number
+-- nothing in the record is later than this step, and no tag has a greater number
 pub record IsPast (step : ℕ) (object : Object) : Type 0 where
   pub banks : (position member : ℕ) → IsBefore (bank_at object position member) (suc step)
   pub mail : AllByRecursion (λ message. (kind : Kind) (made : Reply) → message.body ≡ body.Reply kind made →
@@ -59,14 +58,12 @@ pub record IsPast (step : ℕ) (object : Object) : Type 0 where
   pub tags : (index : ℕ) (call : Call) (tag : Tag) → slice_get object.calls index ≡ Some call →
       tag_of object index call ≡ Some tag → tag.number ≤ step
 
--- a pointer of a position names one of `count` positions
+-- if the bank's pointer is set, the next position is one of the `count` positions
 pub record HasNext (count position : ℕ) (bank : Bank) : Type 0 where
   pub pending : (step : ℕ) → pending_since bank.pointer ≡ Some step → suc position < count
   pub final : (step : ℕ) → final_since bank.pointer ≡ Some step → suc position < count
 
--- a position for the first layout and for each move, a bank for each member that begins with the opening tag,
--- with the object's delta, no pointer to a position that is not there, in each bank just the pieces that it keeps, and
--- the banks of a position retired at one step, where it is below the base
+-- the shape of the record: one position more than moves, and for each member a bank that fits object and position
 pub record HasShape (object : Object) : Type 0 where
   pub positions : length object.layouts ≡ suc (moves_in object.calls)
   pub banks : length object.banks ≡ length object.layouts
@@ -84,7 +81,7 @@ pub record HasShape (object : Object) : Type 0 where
       (bank_at object position member).retired ≡ retired_at object position
   pub leading : (position : ℕ) → base_of object ≤ position → retired_at object position ≡ None
 
--- the record after a step with this number
+-- the record is sound after the step with this number: the invariant that every step keeps
 pub record IsSound (fragment : Code) (object : Object) (step : ℕ) : Type 0 where
   pub legal : IsLegal object
   pub open_banks : BeginInOpen object

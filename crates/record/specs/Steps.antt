@@ -1,4 +1,4 @@
--- What each step leaves of the record. `now` is the step's number.
+-- The record after each kind of step. `now` is the number of the step.
 use Rattle.std.specs.Prelude.{ℕ, suc, pred, is_some, Option, Some, None}
 use Rattle.std.specs.Prelude.{if◌then◌else◌, List, [], ◌∷◌, ◌++◌, length, map, get_or, slice_get, slice_set}
 use Rattle.std.specs.List.{remove}
@@ -24,21 +24,21 @@ use Rattle.record.specs.Fragments.{Code}
 use Rattle.record.specs.Wants.{current_phase}
 use Rattle.record.specs.Sending.{sent_pieces, requests, missing_requests}
 
--- the record with another bank for a member of a position
+-- the record with the bank of a member of a position replaced
 abbrev pub with_bank : Object → (position member : ℕ) → Bank → Object
 with_bank object position member bank =
     record object { banks = slice_set object.banks position (slice_set (get_or object.banks position []) member bank) }
 
--- the record with another call at a place
+-- the record with the call at an index replaced
 abbrev pub with_call : Object → (index : ℕ) → Call → Object
 with_call object index call = record object { calls = slice_set object.calls index call }
 
--- a phase of this kind begins at a position with this layout
+-- a phase of this kind that begins at step `now`, at a position with this layout
 abbrev pub new_phase : (call number : ℕ) → Kind → (position : ℕ) → Layout → (now : ℕ) → Phase
 new_phase call number kind position layout now =
     begun call number kind position (length layout.members) (quorum_of layout) layout.k now
 
--- the call at this place begins a phase, whose requests go to the end of the mail
+-- the record after the call at this index begins a phase, whose requests go to the end of the mail
 abbrev pub with_phase : Object → (index : ℕ) → Call → Kind → (position now : ℕ) → (ℕ → Piece) → Object
 with_phase object index call kind position now piece =
     let number = suc (length call.phases) in
@@ -51,13 +51,13 @@ with_phase object index call kind position now piece =
       mail = object.mail ++ requests (suc index) number kind position (layout_at object position).members 0 piece;
     }
 
--- the banks of members `member`, `member` + 1, .., one for each server
+-- the new banks of the members `member`, `member` + 1 and so on, one for each server
 abbrev pub opened_banks : List ℕ → (member : ℕ) → (delta : Option ℕ) → (now : ℕ) → List Bank
 opened_banks [] member delta now = []
 opened_banks (server ∷ servers) member delta now =
     opened_bank member delta now ∷ opened_banks servers (suc member) delta now
 
--- an object that begins with this layout, and whose banks keep `delta` finalized versions beside the newest
+-- a new object with this layout, whose banks keep `delta` finalized versions beside the newest
 abbrev pub opened_object : Layout → (delta : Option ℕ) → (now : ℕ) → Object
 opened_object layout delta now = record {
   delta = delta;
@@ -69,18 +69,18 @@ opened_object layout delta now = record {
 
 -- Calls
 
--- a call that begins
+-- a call that begins at step `now`, before its first phase
 abbrev pub new_call : CallKind → ℕ → Call
 new_call kind now = record { kind = kind; called = now; answered = None; settled = None; phases = [] }
 
--- a read or a write begins with the first phase of its first reading, at the base
+-- the record after a read or a write begins, with the first phase of its first reading, at the base
 abbrev pub called_object : Object → CallKind → (now : ℕ) → Object
 called_object object kind now =
     let index = length object.calls in
     with_phase (record object { calls = object.calls ++ new_call kind now ∷ [] }) index
     (new_call kind now) Next (base_of object) now empty_piece
 
--- a move appends the next position with its banks, and begins with its first phase
+-- the record after a move begins: it appends the next position with its banks, and begins the move's first phase
 abbrev pub moving_object : Object → Layout → (now : ℕ) → Object
 moving_object object layout now =
     let index = length object.calls in
@@ -92,28 +92,28 @@ moving_object object layout now =
       calls = object.calls ++ new_call Move now ∷ [];
     }) index (new_call Move now) (Spread Pending) last now empty_piece
 
--- the phase that is due begins
+-- the record after the call begins the phase that is due, if there is one
 abbrev pub begun_object : Code → Object → (index : ℕ) → Call → Option (Kind × ℕ) → (now : ℕ) → Object
 begun_object fragment object index call None now = object
 begun_object fragment object index call (Some next) now =
     with_phase object index call next.0 next.1 now (sent_pieces fragment object call next.1)
 
--- the call at this place begins the phase that is due
+-- the record after the call at this index begins the phase that is due
 abbrev pub advanced_object : Code → Object → (index : ℕ) → Call → (now : ℕ) → Object
 advanced_object fragment object index call now =
     begun_object fragment object index call (due_of object index call) now
 
--- the call at this place settles a value
+-- the record after the call at this index settles a value
 abbrev pub settled_object : Object → (index : ℕ) → Call → List ℕ → Object
 settled_object object index call value = with_call object index (record call { settled = Some value })
 
--- the call at this place is answered
+-- the record after the call at this index is answered
 abbrev pub answered_object : Object → (index : ℕ) → Call → (now : ℕ) → Object
 answered_object object index call now = with_call object index (record call { answered = Some now })
 
 -- Messages
 
--- a server handles a request: its bank changes, and the reply stands in the request's place
+-- the record after a server serves a request: its bank changes, and the reply takes the place of the request
 abbrev pub handled_object : Object → (place : ℕ) → Message → Request → (now : ℕ) → Object
 handled_object object place message asked now =
     let bank = bank_at object message.position message.member in
@@ -121,27 +121,27 @@ handled_object object place message asked now =
       mail = slice_set object.mail place (answered message (reply_to bank asked now));
     }
 
--- a request is served; a reply stays as it is
+-- the record after a message is served if it is a request; a reply stays as it is
 abbrev pub served_by : Object → (place : ℕ) → Message → Body → (now : ℕ) → Object
 served_by object place message (body.Request asked) now = handled_object object place message asked now
 served_by object place message (body.Reply kind made) now = object
 
--- the last of the phases takes the message
+-- the phases after the last of them takes the message
 abbrev pub taking_phases : List Phase → Message → (now : ℕ) → List Phase
 taking_phases [] message now = []
 taking_phases (phase ∷ []) message now = after_take phase message now ∷ []
 taking_phases (phase ∷ next ∷ later) message now = phase ∷ taking_phases (next ∷ later) message now
 
--- the current phase of the call takes the message
+-- the call after its current phase takes the message
 abbrev pub taking_call : Message → (now : ℕ) → Call → Call
 taking_call message now call = record call { phases = taking_phases call.phases message now }
 
--- the calls once the one that a message names took it
+-- the calls after the one that the message names, if there is one, takes the message
 abbrev pub taken_calls : List Call → Message → (now : ℕ) → Option Call → List Call
 taken_calls calls message now None = calls
 taken_calls calls message now (Some call) = slice_set calls (pred message.call) (taking_call message now call)
 
--- the call that a message names takes it, and it leaves the mail
+-- the record after the call that the message names takes it, and it leaves the mail
 abbrev pub taken_object : Object → (place : ℕ) → Message → (now : ℕ) → Object
 taken_object object place message now =
     record object {
@@ -149,20 +149,20 @@ taken_object object place message now =
       mail = remove object.mail place;
     }
 
--- a reply is taken; a request stays as it is
+-- the record after a message is taken if it is a reply; a request stays as it is
 abbrev pub taken_by : Object → (place : ℕ) → Message → Body → (now : ℕ) → Object
 taken_by object place message (body.Request asked) now = object
 taken_by object place message (body.Reply kind made) now = taken_object object place message now
 
--- the message at this place is lost
+-- the record after the message at this place is lost
 abbrev pub lost_object : Object → (place : ℕ) → Object
 lost_object object place = record object { mail = remove object.mail place }
 
--- one more copy of a message waits
+-- the record with one more copy of a message, at the end of the mail
 abbrev pub repeated_object : Object → Message → Object
 repeated_object object message = record object { mail = object.mail ++ message ∷ [] }
 
--- the call's current phase asks again
+-- the record after the call's current phase resends its missing requests
 abbrev pub asked_again : Code → Object → Call → Option Phase → Object
 asked_again fragment object call None = object
 asked_again fragment object call (Some phase) =
@@ -170,18 +170,18 @@ asked_again fragment object call (Some phase) =
       mail = object.mail ++ missing_requests object phase (sent_pieces fragment object call phase.position);
     }
 
--- the pieces of a call begin the phase that is due, or go out again where that phase has begun
+-- the record after a supply: it begins the phase that is due, or resends the requests of the phase if that has begun
 abbrev pub supplied_by : Code → Object → (index : ℕ) → Call → (now : ℕ) → Option Phase → Object
 supplied_by fragment object index call now None = object
 supplied_by fragment object index call now (Some phase) =
     if is_some phase.end then advanced_object fragment object index call now
     else asked_again fragment object call (Some phase)
 
--- the call at this place is supplied with the pieces of its value
+-- the record after the call at this index is supplied with the pieces of its value
 abbrev pub supplied_object : Code → Object → (index : ℕ) → Call → (now : ℕ) → Object
 supplied_object fragment object index call now = supplied_by fragment object index call now (current_phase call.phases)
 
--- the banks of the base drop all pieces, and the base goes up by one
+-- the record after the base is retired: its banks drop all pieces, and the next position becomes the base
 abbrev pub retired_object : Object → (now : ℕ) → Object
 retired_object object now =
     let base = base_of object in
@@ -191,7 +191,7 @@ retired_object object now =
 
 -- Steps
 
--- what may happen to an object; a call is named by its place, a message by its place in the mail
+-- the steps of an object; a call is named by its index, and a message by its place in the mail, both from 0
 pub data Step : Type 0 where
   CallRead : Step
   CallWrite : List ℕ → Step
@@ -208,17 +208,17 @@ pub data Step : Type 0 where
   Repeat : (place : ℕ) → Step
   Retire : Step
 
--- a change by a call, where it is there
+-- the record after a change that needs the call, if the call exists
 abbrev pub on_call : Object → Option Call → (Call → Object) → Object
 on_call object None change = object
 on_call object (Some call) change = change call
 
--- a change by a message, where it is there
+-- the record after a change that needs the message, if the message exists
 abbrev pub on_message : Object → Option Message → (Message → Object) → Object
 on_message object None change = object
 on_message object (Some message) change = change message
 
--- the record after a step
+-- the record after a step with this number
 abbrev pub stepped : Code → Step → ℕ → Object → Object
 stepped fragment Step.CallRead now object = called_object object Read now
 stepped fragment (Step.CallWrite value) now object = called_object object (Write value) now
@@ -244,7 +244,7 @@ stepped fragment (Step.Repeat place) now object =
     on_message object (slice_get object.mail place) (λ message. repeated_object object message)
 stepped fragment Step.Retire now object = retired_object object now
 
--- the record after these steps, the first one with number now
+-- the record after these steps, the first with the number `now`
 abbrev pub run : Code → List Step → (now : ℕ) → Object → Object
 run fragment [] now object = object
 run fragment (step ∷ steps) now object = run fragment steps (suc now) (stepped fragment step now object)

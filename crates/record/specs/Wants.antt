@@ -1,4 +1,4 @@
--- What a call wants next.
+-- What a call wants next, which says what its caller is to do.
 use Rattle.std.specs.Prelude.{◌≡◌, ℕ, Bool, true, false, is_some, if◌then◌else◌}
 use Rattle.std.specs.Prelude.{List, [], ◌∷◌, length, Option, Some, None, slice_get}
 use Rattle.tag.specs.declared.tag.Tag.{Tag}
@@ -15,7 +15,7 @@ use Rattle.record.specs.Legal.{due_of}
 use Rattle.record.specs.Journals.{tag_of}
 use Rattle.record.specs.Fragments.{answer_piece}
 
--- the last phase that began
+-- the current phase: the last one that began, if one has
 abbrev pub current_phase : List Phase → Option Phase
 current_phase [] = None
 current_phase (phase ∷ []) = Some phase
@@ -26,33 +26,33 @@ abbrev pub is_fetch : Kind → Bool
 is_fetch (Fetch tag) = true
 is_fetch _ = false
 
--- the value's length that a piece names, or else this one
+-- the length of the value that a piece states, or the other length where there is no piece
 abbrev pub len_or : Option Piece → ℕ → ℕ
 len_or None other = other
 len_or (Some piece) other = piece.len
 
--- the value's length that the first piece of these replies names; 0 where there is no piece
+-- the length of the value that the first piece of these replies states, or 0 where there is no piece
 abbrev pub value_len : List Taken → ℕ
 value_len [] = 0
 value_len (taken ∷ replies) = len_or (answer_piece taken.reply.answer) (value_len replies)
 
--- to begin a phase of this kind takes the pieces of the value, where it sends them
+-- what is wanted to begin a phase of this kind: the pieces of the value if it sends them, and else only to advance
 abbrev pub want_to_begin : Kind → Layout → Want
 want_to_begin (PreWrite tag) layout = want.Supply layout.k (length layout.members)
 want_to_begin _ layout = want.Advance
 
--- what is wanted where the current phase is done: to begin the phase that is due, or to be answered
+-- what is wanted once the current phase is done: to begin the phase that is due, or to be answered
 abbrev pub want_for : Object → Option (Kind × ℕ) → Want
 want_for object None = want.Answer
 want_for object (Some next) = want_to_begin next.0 (layout_at object next.1)
 
--- what is wanted after a complete fetch of which nothing is settled: the value, or a new beginning where pieces lack
+-- what is wanted after a complete fetch with no settled value: to settle one, or to restart where pieces are lacking
 abbrev pub want_of_fetch : Object → Phase → Want
 want_of_fetch object phase =
     if lacks_pieces phase then want.Again
     else want.Settle (layout_at object phase.position).k (value_len phase.replies)
 
--- what is wanted by the current phase: replies until it is complete, and after a fetch the value, or to begin anew
+-- what a call that is not answered wants: replies, after a fetch a value or a restart, and else what comes next
 abbrev pub want_after : Object → Option (Kind × ℕ) → (settled : Option (List ℕ)) → Option Phase → Want
 want_after object next settled None = want.Replies
 want_after object next settled (Some phase) =
@@ -62,26 +62,26 @@ want_after object next settled (Some phase) =
     else want_for object next)
     else want.Replies
 
--- what the call at this place wants
+-- what the call at this index wants
 abbrev pub want_of : Object → (index : ℕ) → Call → Want
 want_of object index call =
     if is_some call.answered then want.Done
     else want_after object (due_of object index call) call.settled (current_phase call.phases)
 
--- the tag that a phase of this kind fetches, or else this one
+-- the tag that a phase of this kind fetches, or the other tag if it is no fetch
 abbrev pub fetched_or : Kind → Option Tag → Option Tag
 fetched_or (Fetch tag) other = Some tag
 fetched_or _ other = other
 
--- the tag that the current phase fetches, or else this one
+-- the tag that the current phase fetches, or the other tag if it is no fetch
 abbrev pub phase_tag : Option Phase → Option Tag → Option Tag
 phase_tag None other = other
 phase_tag (Some phase) other = fetched_or phase.kind other
 
--- the tag that a view of the call shows: a fetch shows its own until the call has begun anew
+-- the tag that a view of the call shows: while its current phase is a fetch that phase's tag, and else the call's
 abbrev pub viewed_tag : Object → (index : ℕ) → Call → Option Tag
 viewed_tag object index call = phase_tag (current_phase call.phases) (tag_of object index call)
 
--- the call is there, and wants this
+-- the call is at this index, and this is what it wants
 abbrev pub Wants : Object → (index : ℕ) → Call → Want → Type 0
 Wants object index call wanted = (slice_get object.calls index ≡ Some call) × (want_of object index call ≡ wanted)

@@ -5,45 +5,51 @@ use tag::{Stamp, Tag};
 /// What a call does to its object.
 #[derive(Clone, Debug, PartialEq, Eq, Drop)]
 pub enum CallKind {
-    /// Answers the object's value.
+    /// Returns the object's value.
     Read,
-    /// Gives the object this value.
+    /// Sets the object's value to this one.
     Write(Bytes),
-    /// Appends a position, and brings the value there.
+    /// Appends a position, and copies the value there.
     Move,
 }
 
 /// The kind of a call without the value.
 #[derive(Clone, Copy, Debug, PartialEq, Eq, Hash)]
 pub enum Operation {
+    /// A read.
     Read,
+    /// A write.
     Write,
+    /// A move.
     Move,
 }
 
-/// What a client saw of a call.
+/// The entry of a call in the history of its object: what the client saw of the call.
 #[derive(Clone, Debug, PartialEq, Eq, Drop)]
 pub struct Entry {
     /// The call's number in its object, from 1.
     pub call: u64,
+    /// What the call does: it reads, writes or moves.
     pub operation: Operation,
-    /// The step of the call.
+    /// The number of the step that began the call.
     pub called: Stamp,
-    /// The step of the answer.
+    /// The number of the step that answered the call. None while it is not answered.
     pub answered: Option<Stamp>,
-    /// The value written, or returned by an answered read.
+    /// The value that a write writes, or that an answered read returned. None for any other call.
     pub value: Option<Bytes>,
 }
 
-/// What places a call in the order of the tags.
+/// What the order by tags needs to know of a call.
 #[derive(Clone, Copy, Debug, PartialEq, Eq)]
 pub struct TaggedCall {
     /// The call's number in its object, from 1.
     pub call: u64,
+    /// What the call does: it reads, writes or moves.
     pub operation: Operation,
-    /// The tag, once the call has one.
+    /// The call's tag, once it has one.
     pub tag: Option<Tag>,
-    /// The step of the call.
+    /// The number of the step that began the call.
     pub called: Stamp,
+    /// Whether the call is answered.
     pub is_answered: bool,
 }

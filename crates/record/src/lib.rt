@@ -1,9 +1,10 @@
-//! The record of a coded atomic object: what a reader has to believe, and the laws of it.
+//! The record of a coded atomic object: the object as plain data, the steps that change it, and the laws that hold of
+//! it.
 //!
-//! The definitions stand in `specs/`; each law is the contract of a function with an empty body. The protocol is Coded
-//! Atomic Storage (Cadambe, Lynch, Médard and Musial, 2014), its layouts change after ARES (Nicolaou, Cadambe,
-//! Prakash, Trigeorgi, Konwar, Médard and Lynch, 2019), and atomicity is that of Lynch's Distributed Algorithms
-//! (1996).
+//! The definitions, which a reader has to believe, are in `specs/`. Each law is the contract of a function with an
+//! empty body. The protocol is Coded Atomic Storage (Cadambe, Lynch, Médard and Musial, 2014). Layouts change after
+//! ARES (Nicolaou, Cadambe, Prakash, Trigeorgi, Konwar, Médard and Lynch, 2019). Atomicity is that of Lynch's
+//! Distributed Algorithms (1996).
 #![tactic(auto)]
 
 pub use accounts::{mailed_bytes_come_and_go, stored_bytes_come_and_go};

@@ -10,8 +10,8 @@ ghost use Rattle.record.specs.Records.{Call, Object};
 ghost use Rattle.record.specs.Sound.{IsSound};
 ghost use Rattle.record.specs.Steps.{Step};
 
-/// In a sound record each tag that a phase sends is in the journal, from the step at which the phase begins: nothing
-/// is asked of its replies.
+/// A law: in a sound record each tag that a phase names (in a pre-write, a finalize or a fetch) is in the journal, from
+/// the step at which the phase begins. This does not depend on the phase's replies.
 pub fn sent_tags_are_journaled()
     ensures { (fragment : Code) (object : Object) (last index place : ℕ) (call : Call) (phase : Phase) (tag : Tag)
         → IsSound fragment object last → slice_get object.calls index ≡ Some call
@@ -19,8 +19,9 @@ pub fn sent_tags_are_journaled()
         → (value : List ℕ) × IsJournaled object tag value }
 {}
 
-/// A tag has its label since before a step, or it comes by this step, which is then the label's own: the step serves
-/// a request for the tag, of a phase that began before it, or a move opens the bank with the opening tag.
+/// A law: if a tag has a label at a bank after a step, it had the label before, or got it by this step, whose number
+/// the label then carries. In the second case the step serves a request for the tag, of a phase that began before the
+/// step, or a move opens the bank with the opening tag.
 pub fn labels_come_with_their_requests()
     ensures { (fragment : Code) (object : Object) (last now position member : ℕ) (step : Step) (tag : Tag)
         (label : Label) → last < now → IsSound fragment object last

@@ -15,27 +15,27 @@ ghost use Rattle.record.specs.Sending.{sent_value};
 ghost use Rattle.record.specs.Wants.{want_of};
 ghost use Rattle.record.specs.declared.stage.Want.TheVariants as wants;
 
-/// An object that was just opened is sound.
+/// A law: an object that was just opened is sound.
 pub fn opened_objects_are_sound()
     ensures { (fragment : Code) (layout : Layout) (delta : Option ℕ) (now : ℕ) → IsCode fragment
         → IsLawful layout → IsSound fragment (opened_object layout delta now) now }
 {}
 
-/// Every step that may be made keeps a record sound.
+/// A law: every step that may be made keeps a record sound.
 pub fn steps_keep_soundness()
     ensures { (fragment : Code) (object : Object) (last now : ℕ) (step : Step) → IsCode fragment → last < now
         → IsSound fragment object last → MayStep fragment object step
         → IsSound fragment (stepped fragment step now object) now }
 {}
 
-/// Every list of steps that may be made, one after another, keeps a record sound.
+/// A law: every list of steps that may be made, one after another, keeps a record sound.
 pub fn runs_keep_soundness()
     ensures { (fragment : Code) (object : Object) (last : ℕ) (steps : List Step) → IsCode fragment
         → IsSound fragment object last → MayRun fragment steps (suc last) object
         → IsSound fragment (run fragment steps (suc last) object) (last + length steps) }
 {}
 
-/// So whatever steps are made, an object that began with a lawful layout is sound.
+/// A law: an object that began with a lawful layout is sound after any list of steps that may be made.
 pub fn runs_are_sound()
     ensures { (fragment : Code) (layout : Layout) (delta : Option ℕ) (start : ℕ) (steps : List Step)
         → IsCode fragment → IsLawful layout → MayRun fragment steps (suc start) (opened_object layout delta start)
@@ -43,14 +43,14 @@ pub fn runs_are_sound()
         (start + length steps) }
 {}
 
-/// In a sound record the number of a tag that a bank knows is at most that of the last step.
+/// A law: in a sound record the number of each tag that a bank knows is at most the number of the last step.
 pub fn tags_are_past()
     ensures { (fragment : Code) (object : Object) (last position member : ℕ) (tag : Tag)
         → IsSound fragment object last → knows (bank_at object position member) tag ≡ true
         → tag.number ≤ last }
 {}
 
-/// In a sound record a call that wants the pieces of its value, or sends them, has the value.
+/// A law: in a sound record a call that wants the pieces of its value, or sends them, has the value.
 pub fn sent_values_are_there()
     ensures { (fragment : Code) (object : Object) (last index : ℕ) (call : Call)
         → IsSound fragment object last → slice_get object.calls index ≡ Some call
@@ -58,7 +58,7 @@ pub fn sent_values_are_there()
         → IsSome (sent_value call.kind call.settled) }
 {}
 
-/// The pieces that a call wants are for the threshold and the members of the layout where they are due.
+/// A law: the pieces that a call wants are for the k and the n of the layout of the position where they are due.
 pub fn wanted_pieces_fit_the_layout()
     ensures { (object : Object) (index k n : ℕ) (call : Call) → want_of object index call ≡ wants.Supply k n
         → (tag : Tag) × (position : ℕ) × (due_of object index call ≡ Some (PreWrite tag, position))
