@@ -1,5 +1,5 @@
 -- The contracts that docs/trusted.md lists do not depend on this file; other contracts and proofs do.
--- Readings of the sequence driven by phases, and the record's words for the same.
+-- Readings of the sequence that phases drive, and how they agree with the record's definitions.
 use Rattle.std.specs.Prelude.{◌≡◌, ℕ, ◌↔◌, List, [], ◌∷◌, Some, IsSome}
 use Rattle.std.specs.List.{AllByRecursion}
 use Rattle.tag.specs.declared.tag.Tag.{Tag}
@@ -12,13 +12,13 @@ use Rattle.successor.specs.declared.reading.Reading.{Reading}
 use Rattle.successor.specs.declared.reading.Reading.TheVariants.{Next, Spread, Ended}
 use Rattle.successor.specs.Reading.{next_of, found_by, spread_by, first_of, again_of}
 
--- the reading after the phase that was next, whose replies show this greatest status
+-- the reading after its next phase is complete, where the replies show this greatest status
 abbrev pub led_on : Reading → Status → Reading
 led_on (Next position finalized) status = found_by (Next position finalized) status
 led_on (Spread position finalized found) status = spread_by (Spread position finalized found)
 led_on (Ended last finalized) status = Ended last finalized
 
--- each phase is the one that was next, and together they lead to this reading
+-- each phase is the one that was next, and together they lead the reading to `to`
 abbrev pub Leads : Reading → List Phase → (to : Reading) → Type 0
 Leads reading [] to = reading ≡ to
 Leads reading (phase ∷ phases) to =
@@ -29,13 +29,13 @@ Leads reading (phase ∷ phases) to =
 abbrev pub AreComplete : List Phase → Type 0
 AreComplete phases = AllByRecursion (λ (phase : Phase). IsSome phase.end) phases
 
--- the record's readings are the phases that lead a reading to its end
+-- a law: phases are a reading in the record's sense exactly where they lead a `Reading` to its end
 abbrev pub ReadingsLeadToTheEnd : Type 0
 ReadingsLeadToTheEnd =
     (position finalized last to : ℕ) (phases : List Phase)
     → IsReading position finalized phases last to ↔ Leads (Next position finalized) phases (Ended last to)
 
--- complete phases lead a call where they lead its reading, the first one or a later one
+-- a law: complete phases lead the stage of a call to where they lead its reading, be it the first or a later one
 abbrev pub ReadingsAreStages : Type 0
 ReadingsAreStages =
     (kind : CallKind) (number : ℕ) (reading to : Reading) (phases : List Phase)

@@ -10,13 +10,15 @@ pub use replies::{greatest_status, greatest_tag};
 mod reading;
 mod replies;
 
-/// Phases are a reading of the record from a position, up to a last one, exactly where each is the phase that was next
-/// in a `Reading` from there, and what was found ends it at that last position, with that last finalized one.
+/// A law: phases are a reading of the sequence, as `record` defines it, from a position up to a last one exactly where
+/// they lead a `Reading` from there to its end. Each is then the phase that was next, and the statuses that were found
+/// end the reading at that last position, with that last finalized one.
 pub fn readings_lead_to_the_end()
     ensures { ReadingsLeadToTheEnd }
 {}
 
-/// Where complete phases lead a `Reading`, they lead the call that made them: in its first reading, and in a later one.
+/// A law: complete phases lead the stage of the call that made them to where they lead its `Reading`, in its first
+/// reading and in a later one.
 pub fn readings_are_stages()
     ensures { ReadingsAreStages }
 {}

@@ -9,22 +9,22 @@ use bank::{Kind, Status};
 
 /// A reading of the sequence of layouts, from a position to the last one.
 ///
-/// The clauses `first` speak of it as a call's first reading, and the clauses `again` as a later one, which began at
-/// the position `last` with the tag `tag`.
+/// The clauses `first` describe it as a call's first reading. The clauses `again` describe it as a later one, which
+/// began at the position `last` with the tag `tag`.
 #[derive(Clone, Copy, Debug, PartialEq, Eq)]
 pub enum Reading {
-    /// The pointers of this position are asked for; the last position known to be finalized.
+    /// The pointers of this position are asked for. `finalized` is the last position known to be finalized.
     Next {
         position: u32,
         finalized: u32,
     },
-    /// The status found at this position is spread there, and then the reading goes on.
+    /// The status that was found at this position is spread there. Then the reading goes on at the next position.
     Spread {
         position: u32,
         finalized: u32,
         status: Status,
     },
-    /// A quorum of the last position had no pointer.
+    /// A quorum of the position `last` showed no pointer.
     Ended {
         last: u32,
         finalized: u32,
@@ -32,7 +32,7 @@ pub enum Reading {
 }
 
 impl Reading {
-    /// A reading that begins at a position.
+    /// A reading that begins at a position, from 0.
     pub fn start(position: u32) -> Reading
         ensures first { first_of result ≡ ReadNext position position }
         ensures begun { first_of result ≡ begun_at ReadBegin position }
@@ -44,7 +44,7 @@ impl Reading {
         }
     }
 
-    /// The reading once the replies to Next are of a quorum, and `status` is the greatest that they show.
+    /// The reading after a quorum replied to Next, where `status` is the greatest status that the replies show.
     pub fn found(self, status: Status) -> Reading
         requires { IsTrue (is_next self) }
         ensures value { result ≡ found_by self status }
@@ -72,7 +72,7 @@ impl Reading {
         }
     }
 
-    /// The reading once what was found is spread to a quorum.
+    /// The reading after the status that it found is spread to a quorum.
     pub fn spread(self) -> Reading
         requires due { IsTrue (is_spread self) }
         requires room { position_of self + 1 < 2 ^ 32 }
@@ -100,7 +100,7 @@ impl Reading {
         }
     }
 
-    /// The phase that is next, with its position; none where the reading has ended.
+    /// The phase that is next, with its position. None where the reading has ended.
     pub fn next_phase(self) -> Option<(Kind, u32)>
         ensures value { result ≡ next_of self }
         ensures first { IsSome result → result ≡ due (first_of self) }
@@ -117,7 +117,8 @@ impl Reading {
         }
     }
 
-    /// The last position known to be finalized: the greatest whose predecessor showed Final, or the start.
+    /// The last position known to be finalized: the greatest whose predecessor showed Final, or else the position where
+    /// the reading began.
     pub fn last_final(self) -> u32
         ensures { result ≡ finalized_of self }
     {
@@ -128,7 +129,7 @@ impl Reading {
         }
     }
 
-    /// The last position, once the reading has ended.
+    /// The last position. None while the reading has not ended.
     pub fn last(self) -> Option<u32>
         ensures { result ≡ last_of self }
     {

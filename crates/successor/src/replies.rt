@@ -5,7 +5,7 @@ use bank::{Answer, Status};
 use phase::Taken;
 use tag::Tag;
 
-/// The greatest status of a pointer that the replies show; unset where they show none.
+/// The greatest status of a pointer that the replies show, or unset where they show none.
 pub fn greatest_status(replies: &[Taken]) -> Status
     ensures { result ≡ greatest_status replies.now }
 {
@@ -16,7 +16,7 @@ pub fn greatest_status(replies: &[Taken]) -> Status
     greatest
 }
 
-/// The greatest tag that the replies show; the opening tag where they show none.
+/// The greatest tag that the replies show, or the opening tag where they show none.
 pub fn greatest_tag(replies: &[Taken]) -> Tag
     ensures { result ≡ greatest_tag replies.now }
 {
@@ -38,7 +38,7 @@ fn later_status(a: Status, b: Status) -> Status
     }
 }
 
-// The status that an answer shows.
+// The status that an answer shows, or unset where it shows none.
 fn shown_status(answer: &Answer) -> Status
     ensures { result ≡ shown_status answer.now }
 {
@@ -48,7 +48,7 @@ fn shown_status(answer: &Answer) -> Status
     }
 }
 
-// The tag that an answer shows.
+// The tag that an answer shows, or the opening tag where it shows none.
 fn shown_tag(answer: &Answer) -> Tag
     ensures { result ≡ shown_tag answer.now }
 {
