@@ -1,5 +1,5 @@
 -- The contracts that docs/trusted.md lists do not depend on this file; other contracts and proofs do.
--- Which positions and tags have a next one that the numbers of the machine hold.
+-- Which positions and tags have a successor that fits the machine's numbers.
 use Rattle.std.specs.Prelude.{◌+◌, ◌<◌, ◌^◌, List, IfSome}
 use Rattle.tag.specs.declared.tag.Tag.{Tag}
 use Rattle.tag.specs.Tag.{later_tag}
@@ -10,17 +10,17 @@ use Rattle.record.specs.declared.stage.Stage.{Stage}
 use Rattle.record.specs.declared.stage.Stage.TheVariants.{QueryFrom}
 use Rattle.record.specs.Courses.{due, greatest_tag}
 
--- the position of the phase that is due has a next one
+-- the position of the phase that is due, if one is, has a successor that fits 32 bits
 abbrev pub IsBelowLimit : Stage → Type 0
 IsBelowLimit stage = IfSome (due stage) (λ asked. asked.1 + 1 < 2 ^ 32)
 
--- a write that found this greatest tag has a next one
+-- if the call is a write, the greatest tag that it found has a next tag, whose number fits 64 bits
 abbrev pub IsTaggable : CallKind → (greatest : Tag) → Type 0
 IsTaggable Read greatest = Unit {0}
 IsTaggable (Write value) greatest = greatest.number + 1 < 2 ^ 64
 IsTaggable Move greatest = Unit {0}
 
--- with what its replies to a query show so far, a write has a next tag
+-- if the stage is a query, the greatest tag that it knows after these replies has a next tag, as `IsTaggable` says
 abbrev pub HasNextTag : CallKind → Stage → List Taken → Type 0
 HasNextTag kind (QueryFrom position last greatest shown_at) replies =
     IsTaggable kind (later_tag greatest (greatest_tag replies))

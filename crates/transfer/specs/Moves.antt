@@ -17,36 +17,34 @@ use Rattle.record.specs.Courses.{greatest_tag, due, stage_after, IsCourse}
 use Rattle.record.specs.Grammar.{IsMoveAttempt}
 use Rattle.successor.specs.Laws.{AreComplete}
 
--- the phases of a move from a position to the next one, with the positions that are asked. It says that the next
--- position is pending, brings the tag there, and only then says that it is final
+-- the six phases of a move, with their positions: the next position is pending, then gets the tag, and then is final
 abbrev pub move_phases : (from : ℕ) → Tag → List (Kind × ℕ)
 move_phases from tag =
     (Spread Pending, from) ∷ (Query, from) ∷ (Fetch tag, from)
     ∷ (PreWrite tag, suc from) ∷ (Finalize tag, suc from) ∷ (Spread Final, from) ∷ []
 
--- the tag that a move brings: the greatest that its second phase, the query, showed
+-- the tag that a move copies: the greatest that its second phase, the query, showed
 abbrev pub queried_tag : List Phase → Tag
 queried_tag [] = opening_tag
 queried_tag (spread ∷ []) = opening_tag
 queried_tag (spread ∷ query ∷ later) = greatest_tag query.replies
 
--- a move's phases from its last query on
+-- of a move's phases behind the first, those from the last query on
 abbrev pub last_attempt : List Phase → List Phase
 last_attempt (query ∷ fetch ∷ later) = if lacks_pieces fetch then last_attempt later else query ∷ fetch ∷ later
 last_attempt phases = phases
 
--- the attempts that a move gave up: queries, each with a fetch that lacks pieces
+-- the attempts that a move gave up: each is a query with a fetch that lacks pieces
 abbrev pub given_up : List Phase → List (Phase × Phase)
 given_up (query ∷ fetch ∷ later) = if lacks_pieces fetch then (query, fetch) ∷ given_up later else []
 given_up phases = []
 
--- a move's phases without those of the attempts that it gave up
+-- the phases of a move without those of the attempts that it gave up
 abbrev pub last_phases : List Phase → List Phase
 last_phases [] = []
 last_phases (spread ∷ later) = spread ∷ last_attempt later
 
--- a move that may be answered has completed its phases; but for the attempts that it gave up, they are these in this
--- order, and there are no others
+-- a law: a finished move completed its phases, which without given-up attempts are the phases `move_phases`, in order
 abbrev pub MovesAreInOrder : Type 0
 MovesAreInOrder =
     (number from : ℕ) (phases : List Phase)
@@ -55,7 +53,7 @@ MovesAreInOrder =
     × (map (λ (phase : Phase). (phase.kind, phase.position)) (last_phases phases)
     ≡ move_phases from (queried_tag (last_phases phases)))
 
--- where the replies of a move's phase lead; any other stage is left as it is
+-- the stage to which the replies of a move's phase lead; any other stage stays
 abbrev pub after_move : Stage → List Taken → (lacks : Bool) → Stage
 after_move (MoveSpread position) replies lacks = MoveQuery position
 after_move (MoveQuery position) replies lacks = MoveFetch position (greatest_tag replies)

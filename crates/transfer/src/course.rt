@@ -13,8 +13,8 @@ use record::{CallKind, Stage};
 use successor::Reading;
 use tag::Tag;
 
-/// Where a call stands that begins. A move leads from the position `from`; a read or a write begins where `begun_at`
-/// says.
+/// The stage at which a call begins. A move leads from the position `from`. A read or a write begins at the position
+/// that `begun_at` is given.
 pub fn first_stage(kind: &CallKind, from: u32) -> Stage
     ensures { result ≡ first_stage kind.now from }
 {
@@ -24,8 +24,8 @@ pub fn first_stage(kind: &CallKind, from: u32) -> Stage
     }
 }
 
-/// The stage once its phase begins at a position: a first reading begins there, which is to be the object's base. Any
-/// other stage stays.
+/// The stage once its phase begins at a position. If a first reading is to begin, it begins at this position, which is
+/// to be the object's base. Any other stage stays.
 pub fn begun_at(stage: Stage, position: u32) -> Stage
     ensures { result ≡ begun_at stage position }
 {
@@ -35,8 +35,8 @@ pub fn begun_at(stage: Stage, position: u32) -> Stage
     }
 }
 
-/// The phase that is due, with its position; none where the call may be answered. A first reading is due where
-/// `begun_at` has it begin.
+/// The phase that is due, with its position. None where the call may be answered. For a first reading that has not
+/// begun the position is 0, and means nothing: the reading begins at the position that `begun_at` is given.
 pub fn due(stage: Stage) -> Option<(Kind, u32)>
     requires { IsBelowLimit stage }
     ensures { result ≡ due stage }
@@ -69,7 +69,7 @@ pub fn due(stage: Stage) -> Option<(Kind, u32)>
     }
 }
 
-/// Where a phase leads call number `number`; a phase that is not complete only begins what was due.
+/// The stage to which a phase leads the call of this number. A phase that is not complete only begins what was due.
 pub fn passed(kind: &CallKind, number: u64, stage: Stage, phase: &Phase) -> Stage
     requires room { IsBelowLimit (begun_at stage phase.now.position) }
     requires tags { HasNextTag kind.now (begun_at stage phase.now.position) phase.now.replies }
@@ -84,7 +84,7 @@ pub fn passed(kind: &CallKind, number: u64, stage: Stage, phase: &Phase) -> Stag
     }
 }
 
-/// The tag of a call, once its queries are complete.
+/// The tag of a call at this stage. None before its queries are complete.
 pub fn stage_tag(stage: Stage) -> Option<Tag>
     ensures { result ≡ stage_tag stage }
 {

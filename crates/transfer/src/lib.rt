@@ -10,9 +10,9 @@ mod course;
 mod order;
 mod replies;
 
-/// A move that may be answered has made six phases: it spread that the next position is pending, asked for the greatest
-/// tag, fetched it, pre-wrote and finalized it at the next position, and spread that this is final. Any others are
-/// queries between these, each with a fetch that lacked pieces.
+/// A law: a move that may be answered has made six phases. It spread that the next position is pending, asked for the
+/// greatest tag, fetched it, pre-wrote and finalized it at the next position, and spread that this position is final.
+/// Any other phases of the move are queries between these, each with a fetch that lacked pieces.
 pub fn moves_are_in_order()
     ensures { MovesAreInOrder }
 {}

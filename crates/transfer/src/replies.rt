@@ -1,4 +1,4 @@
-//! Where the replies of a complete phase lead.
+//! The stages to which the replies of complete phases lead.
 
 ghost use Rattle.std.specs.Prelude.{◌≡◌, ◌+◌, ◌<◌, ◌^◌, if◌then◌else◌};
 ghost use Rattle.tag.specs.Tag.{later_tag};
@@ -16,7 +16,8 @@ use record::{CallKind, Stage};
 use successor::{Reading, greatest_status, greatest_tag};
 use tag::Tag;
 
-/// Where the replies of a complete phase lead call number `number`. A fetch that lacks pieces leads back.
+/// The stage to which the replies of a complete phase lead the call of this number. A fetch that lacks pieces leads a
+/// read back to its first reading, and a move back to its query.
 pub(crate) fn after(
     kind: &CallKind,
     number: u64,
@@ -66,7 +67,7 @@ pub(crate) fn after(
     }
 }
 
-// Where the replies of a move's phase lead. Any other stage is left as it is.
+// The stage to which the replies of a move's phase lead. Any other stage stays.
 fn after_move(stage: Stage, replies: &[Taken], lacks: bool) -> Stage
     ensures { result ≡ after_move stage replies.now lacks }
 {
@@ -90,7 +91,7 @@ fn after_move(stage: Stage, replies: &[Taken], lacks: bool) -> Stage
     }
 }
 
-// A first reading ends where there is no pointer; else the status that was found is spread.
+// A first reading ends at an unset pointer. Any other status that was found is spread.
 fn after_next(replies: &[Taken], position: u32, finalized: u32) -> Stage
     ensures { result ≡ after_next (greatest_status replies.now) position finalized }
 {
@@ -101,7 +102,7 @@ fn after_next(replies: &[Taken], position: u32, finalized: u32) -> Stage
     first(reading.found(greatest_status(replies)))
 }
 
-// The reading that has spread a status at a position, and goes on at the next one.
+// The reading after it spread this status at a position. It goes on at the next position.
 fn spread(position: u32, finalized: u32, status: Status) -> Reading
     requires { position + 1 < 2 ^ 32 }
     ensures { result ≡ spread_by (Spread position finalized status) }
@@ -114,7 +115,7 @@ fn spread(position: u32, finalized: u32, status: Status) -> Reading
     reading.spread()
 }
 
-// The next position is queried, up to the last one. Of the positions that showed the greatest tag, the last one counts.
+// Up to the last position, the next one is queried. Of the positions that showed the greatest tag, the last one counts.
 fn after_query(
     kind: &CallKind,
     number: u64,
@@ -147,8 +148,8 @@ fn after_query(
     }
 }
 
-// Where pieces are lacking, a first reading begins anew. What the last position's own quorum finalized by its fetch
-// need not be put there again.
+// If pieces are lacking, a new first reading is to begin. Else the tag is put into the last position, unless it was
+// fetched there, which finalized it at a quorum.
 fn after_fetch(shown_at: u32, last: u32, tag: Tag, lacks: bool) -> Stage
     ensures { result ≡ (if lacks then ReadBegin else after_fetch shown_at last tag) }
 {
@@ -161,7 +162,7 @@ fn after_fetch(shown_at: u32, last: u32, tag: Tag, lacks: bool) -> Stage
     }
 }
 
-// A later reading ends where there is no pointer; else the status that was found is spread.
+// A later reading ends at an unset pointer. Any other status that was found is spread.
 fn after_again(replies: &[Taken], last: u32, position: u32, tag: Tag) -> Stage
     ensures { result ≡ after_again (greatest_status replies.now) last position tag }
 {
@@ -169,7 +170,7 @@ fn after_again(replies: &[Taken], last: u32, position: u32, tag: Tag) -> Stage
     again(last, tag, reading.found(greatest_status(replies)))
 }
 
-/// Where a call stands in its first reading. The queries that follow begin at the last position known to be finalized.
+/// The stage of a call in its first reading. The queries that follow begin at the last position known to be finalized.
 pub(crate) fn first(reading: Reading) -> Stage
     ensures { result ≡ first_of reading }
 {
@@ -199,8 +200,8 @@ pub(crate) fn first(reading: Reading) -> Stage
     }
 }
 
-// Where a call stands in a later reading, which began at the position `last`. Where it found a later last position, the
-// tag is put there too.
+// The stage of a call in a later reading, which began at the position `last`. If the reading found a later last
+// position, the tag is put there too.
 fn again(last: u32, tag: Tag, reading: Reading) -> Stage
     ensures { result ≡ again_of last tag reading }
 {
@@ -230,7 +231,7 @@ fn again(last: u32, tag: Tag, reading: Reading) -> Stage
     }
 }
 
-// Once the queries are complete: a read fetches the greatest tag, and a write takes the next one.
+// The stage once the queries are complete: a read fetches the greatest tag, and a write pre-writes the next one.
 fn tagged(kind: &CallKind, number: u64, shown_at: u32, last: u32, greatest: Tag) -> Stage
     requires { IsTaggable kind.now greatest }
     ensures { result ≡ tagged kind.now number shown_at last greatest }
