@@ -10,11 +10,11 @@ ghost use Rattle.history.specs.Check.{AreLawful, MayAllStand, must_stand, named}
 use record::{Entry, Operation};
 use tag::Stamp;
 
-/// Whether the entries are lawful and `order` is a sequence of them. Nothing is assumed of either, and no memory is
-/// taken.
+/// Whether the entries are lawful and `order`, a list of call numbers, is a sequence of them. Nothing is assumed of
+/// either, and no memory is allocated.
 ///
-/// The work grows with the length of the list times the calls that overlap one call: beyond a few passes it is the
-/// search for repeats, which looks back from each call over those that it overlaps.
+/// The time grows with the length of the list times the number of calls that overlap one call. Apart from a few passes,
+/// it goes into the search for repeats, which looks back from each call over the calls that overlap it.
 pub fn check(entries: &[Entry], order: &[u64]) -> bool
     ensures { IsTrue result ↔ (AreLawful entries.now × IsSequence entries.now order.now) }
 {
@@ -32,7 +32,7 @@ fn is_sequence(entries: &[Entry], order: &[u64]) -> bool
         && is_register(entries, order)
 }
 
-/// Whether entry i, counted from 1, has call i, and no value is missing.
+/// Whether entry i, counted from 1, is that of call i, and each write and each answered read has a value.
 fn are_lawful(entries: &[Entry]) -> bool
     ensures { IsTrue result ↔ AreLawful entries.now }
 {
@@ -50,7 +50,7 @@ fn is_lawful_as(entry: &Entry, call: u64) -> bool
     entry.call == call && (!may_stand(entry) || entry.value.is_some())
 }
 
-/// Whether only answered reads, answered writes and unanswered writes are named.
+/// Whether the list names only writes and answered reads.
 fn may_all_stand(entries: &[Entry], order: &[u64]) -> bool
     ensures { IsTrue result ↔ MayAllStand entries.now order.now }
 {
@@ -63,8 +63,8 @@ fn may_stand_at(entries: &[Entry], call: u64) -> bool
     call > 0 && call <= entries.len() as u64 && may_stand(entry_at(entries, call))
 }
 
-/// Whether what was answered before another was called stands before it: no answer lies before the greatest step at
-/// which an earlier element was called.
+/// Whether each call stands behind all calls that were answered before it was called. That is so where no answer lies
+/// before the greatest step at which an earlier element was called.
 fn keeps_order(entries: &[Entry], order: &[u64]) -> bool
     requires { MayAllStand entries.now order.now }
     ensures { IsTrue result ↔ KeepsOrder (named entries.now order.now) }
@@ -93,8 +93,8 @@ fn has_no_repeat(entries: &[Entry], order: &[u64]) -> bool
     true
 }
 
-/// Whether the call at this place stands at no earlier one. The search goes back to the first element that was answered
-/// before this call: the same call before that element would break the order.
+/// Whether the call at this place stands at no earlier place. The search goes back to the first element that was
+/// answered before this call was made: if the same call stood before that element, it would break the order.
 fn is_new(entries: &[Entry], order: &[u64], place: usize) -> bool
     requires standing { MayAllStand entries.now order.now }
     requires in_order { KeepsOrder (named entries.now order.now) }
@@ -118,7 +118,8 @@ fn is_new(entries: &[Entry], order: &[u64], place: usize) -> bool
     true
 }
 
-/// Whether no answered read or write is left out: with no repeat, counting shows it.
+/// Whether the list has each answered read and each answered write. Since no call is repeated, it is enough to count
+/// them.
 fn holds_answered(entries: &[Entry], order: &[u64]) -> bool
     requires standing { MayAllStand entries.now order.now }
     requires distinct { IsDistinct nat_eq order.now }
@@ -128,14 +129,14 @@ fn holds_answered(entries: &[Entry], order: &[u64]) -> bool
     answered_among(entries) == answered_in(entries, order)
 }
 
-/// The number of answered reads and writes.
+/// The number of answered reads and writes among the entries.
 fn answered_among(entries: &[Entry]) -> usize
     ensures { result ≡ count_by must_stand entries.now }
 {
     entries.iter().filter(|entry| must_stand(entry)).count()
 }
 
-/// The number of answered reads and writes of the list.
+/// The number of answered reads and writes in the list.
 fn answered_in(entries: &[Entry], order: &[u64]) -> usize
     requires { MayAllStand entries.now order.now }
     ensures { result ≡ count_by must_stand (named entries.now order.now) }
@@ -149,7 +150,7 @@ fn answered_in(entries: &[Entry], order: &[u64]) -> usize
     count
 }
 
-/// Whether each read of the list has the value of the nearest write before it, or the empty value.
+/// Whether each read of the list has the value of the nearest write before it, or the empty value where there is none.
 fn is_register(entries: &[Entry], order: &[u64]) -> bool
     requires lawful { AreLawful entries.now }
     requires standing { MayAllStand entries.now order.now }
@@ -172,7 +173,7 @@ fn is_register(entries: &[Entry], order: &[u64]) -> bool
     true
 }
 
-/// The entry of a call.
+/// The entry of the call with this number, from 1.
 fn entry_at(entries: &[Entry], call: u64) -> &Entry
     requires some { 0 < call }
     requires within { call ≤ length entries.now }
@@ -192,7 +193,7 @@ fn may_stand(entry: &Entry) -> bool
     }
 }
 
-/// Whether no sequence may leave out the call: an answered read or write.
+/// Whether the call has to stand in each sequence: an answered read or write has to.
 fn must_stand(entry: &Entry) -> bool
     ensures { result ≡ must_stand entry.now }
 {
@@ -208,7 +209,7 @@ fn is_before(answered: Option<Stamp>, step: Stamp) -> bool
     }
 }
 
-/// The entry's value.
+/// The entry's value, which it must have.
 fn value_of(entry: &Entry) -> &[u8]
     requires { IsSome entry.now.value }
     ensures { entry.now.value ≡ Some result.now }

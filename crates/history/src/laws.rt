@@ -1,5 +1,4 @@
-//! What holds of the entries of a sound record: they are lawful, and the order that the tags give is a sequence of
-//! them.
+//! Laws of the entries of a sound record: they are lawful, and the order that the tags define is a sequence of them.
 ghost use Rattle.std.specs.Prelude.{ℕ, List};
 ghost use Rattle.record.specs.Atomic.{IsSequence};
 ghost use Rattle.record.specs.Fragments.{Code, IsCode};
@@ -11,19 +10,21 @@ ghost use Rattle.record.specs.declared.call.TaggedCall.{TaggedCall as Tagged};
 ghost use Rattle.history.specs.Calls.{AreCallsOf, AreInTurn};
 ghost use Rattle.history.specs.Check.{AreLawful};
 
-/// The calls of a sound record are in turn, as `order_by_tags` asks.
+/// A law: the calls of a sound record are in the order of their numbers and of their steps, as `order_by_tags`
+/// requires.
 pub fn calls_are_in_turn()
     ensures { (fragment : Code) (object : Object) (last : ℕ) (calls : List Tagged) → IsSound fragment object last
         → AreCallsOf object calls → AreInTurn calls }
 {}
 
-/// The entries of a sound record are lawful, as `check` asks.
+/// A law: the entries of a sound record are lawful, as `check` demands.
 pub fn entries_are_lawful()
     ensures { (fragment : Code) (object : Object) (last : ℕ) → IsCode fragment → IsSound fragment object last
         → AreLawful (entries object) }
 {}
 
-/// The order that the tags give of a sound record's calls is a sequence of its entries, so `check` accepts it.
+/// A law: the order that the tags define for the calls of a sound record is a sequence of its entries, so `check`
+/// accepts it.
 pub fn tag_orders_are_sequences()
     ensures { (fragment : Code) (object : Object) (last : ℕ) (calls : List Tagged) (order : List ℕ)
         → IsCode fragment → IsSound fragment object last → AreCallsOf object calls → IsTagOrder calls order

@@ -1,5 +1,5 @@
-//! Certificates of one object's history: whether a list of calls is a sequence of its entries, and the list that the
-//! tags of its calls give.
+//! Certificates of one object's history. They check whether a list of calls is a sequence of the object's entries, and
+//! compute the list that the tags of its calls define.
 #![tactic(auto)]
 
 pub use certificate::check;

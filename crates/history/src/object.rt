@@ -1,4 +1,4 @@
-//! What holds of each object: its history is atomic, and the tags of its calls give a sequence of it.
+//! What holds of each object: its history is atomic, and the tags of its calls define a sequence of it.
 //!
 //! Atomicity is that of Lynch's Distributed Algorithms (1996), chapter 13: the answered reads and writes, with some of
 //! the unanswered writes, follow one register in an order that keeps answer before call.
@@ -15,17 +15,18 @@ use register::Register;
 use std::alloc::{AllocError, Global};
 use tag::Refusal;
 
-/// The history of each object is atomic, whatever steps made the object. It does nothing, and takes no memory.
+/// A law: the history of each object is atomic, whatever steps were made. It does nothing and allocates no memory.
 pub fn atomic(register: &Register)
     ensures { IsAtomic (entries register.now.object) }
 {
     register.soundness();
 }
 
-/// The sequence that the tags give: the answered reads and writes, and the unanswered writes whose tag an answered read
-/// has, by tag, writes before reads, then by the step of the call. `check` accepts it.
+/// The sequence that the tags define, as call numbers. It has the answered reads and writes, and those unanswered
+/// writes whose tag an answered read has. It is ordered by tag, then writes before reads, then by the step of the call.
+/// `check` accepts it.
 ///
-/// `NoMemory` is the only refusal. Of n calls it takes some n log n comparisons, and room for n.
+/// `NoMemory` is the only refusal. For n calls it makes some n log n comparisons, and needs room for n.
 pub fn sequence(alloc: Global, register: &Register) -> Result<Vec<u64>, Refusal>
     ensures listed { IfOk result (λ order. IsTagSequence register.now.object order.items) }
     ensures sequence { IfOk result (λ order. IsSequence (entries register.now.object) order.items) }
@@ -36,7 +37,7 @@ pub fn sequence(alloc: Global, register: &Register) -> Result<Vec<u64>, Refusal>
     order_by_tags(alloc, &calls)
 }
 
-/// What the order needs of each call, in turn.
+/// What the order by tags needs to know of each call, in the order of their numbers.
 fn tagged_calls(alloc: Global, register: &Register) -> Result<Vec<TaggedCall>, Refusal>
     ensures calls { IfOk result (λ calls. AreCallsOf register.now.object calls.items) }
     ensures refused { IfErr result (λ e. e ≡ NoMemory) }
