@@ -4,14 +4,15 @@ use Rattle.std.specs.Prelude.{◌≡◌, ℕ, ◌+◌, ◌≤◌, ◌==◌, nat_
 use Rattle.std.specs.Prelude.{[], ◌∷◌, length, sum_by, count_by, if◌then◌else◌}
 use Rattle.coding_pool.specs.declared.jobs.Known.{Known}
 
+-- what the holder of a pass knows: its parts, the number of jobs that it pushed, and the jobs that it popped
 abbrev pub known : ℕ → ℕ → List ℕ → Known
 known parts pushed popped = record { parts = parts; pushed = pushed; popped = popped }
 
--- the parts of the right to know the whole: one for each worker, and one for the caller
+-- into how many parts the right to know the whole queue is divided: one for each worker, and one for the caller
 abbrev pub PARTS : ℕ
 PARTS = 65
 
--- how often the job stands in the list
+-- how often the job occurs in the list
 abbrev pub times : ℕ → List ℕ → ℕ
 times job jobs = count_by (λ j. j == job) jobs
 
@@ -19,16 +20,16 @@ times job jobs = count_by (λ j. j == job) jobs
 abbrev pub once_below : ℕ → ℕ → ℕ
 once_below n job = if nat_lt job n then 1 else 0
 
--- whoever has no part has pushed and popped nothing
+-- a holder without a part has pushed and popped nothing
 abbrev pub IsIdle : Known → Type 0
 IsIdle v = v.parts ≡ 0 → (v.pushed ≡ 0) × (v.popped ≡ [])
 
--- the same of each view
+-- each holder without a part has pushed and popped nothing
 abbrev pub AreIdle : List Known → Type 0
 AreIdle [] = Unit {0}
 AreIdle (v ∷ vs) = IsIdle v × AreIdle vs
 
--- the jobs in the queue and in all views together are those below the number pushed, each once
+-- the rule: the jobs in the queue and the popped jobs of all views are the jobs below the number pushed, each once
 pub record AreOnce (items : List ℕ) (views : List Known) : Type 0 where
   pub parts : sum_by (λ v. v.parts) views ≡ PARTS
   pub each : (job : ℕ) →
@@ -36,11 +37,10 @@ pub record AreOnce (items : List ℕ) (views : List Known) : Type 0 where
   pub count : length items + sum_by (λ v. length v.popped) views ≡ sum_by (λ v. v.pushed) views
   pub idle : AreIdle views
 
--- what a push learns: the queue has no more jobs than the pass with every part has pushed
+-- what a push teaches the holder of every part: the queue has no more jobs than it has pushed
 abbrev pub HasNoMore : Known → List ℕ → Type 0
 HasNoMore v items = v.parts ≡ PARTS → length items ≤ v.pushed
 
--- what a pop learns: with every part, the jobs popped and those
--- in the queue are those below the number pushed, each once
+-- what a pop teaches the holder of every part: popped and queued jobs are those below the number pushed, each once
 abbrev pub IsWhole : Known → List ℕ → Type 0
 IsWhole v items = v.parts ≡ PARTS → (job : ℕ) → times job v.popped + times job items ≡ once_below v.pushed job

@@ -1,5 +1,5 @@
 -- The contracts that docs/trusted.md lists do not depend on this file; other contracts and proofs do.
--- What a worker has done.
+-- What a worker has done, and what its thread hands back.
 use Rattle.std.specs.Prelude.{◌≡◌, ℕ, ◌≤◌, List, length, map, All, MatchResult}
 use Rattle.std.specs.Prelude.{Result}
 use Rattle.crossbeam_queue.specs.Passes.{view, IsPassOf}
@@ -16,28 +16,27 @@ use Rattle.coding_pool.specs.Jobs.{times, once_below}
 abbrev pub point_of : Piece → ℕ
 point_of p = p.point
 
--- the pieces are at the points below n, each once
+-- the pieces are at the points below n, one at each point
 abbrev pub IsEach : ℕ → List Piece → Type 0
 IsEach n pieces = (job : ℕ) → times job (map point_of pieces) ≡ once_below n job
 
--- a value that may be coded
+-- the value of the errand may be encoded: k is at least 1, and the value is within the limit
 pub record IsErrand (errand : Errand) : Type 0 where
   pub some : 1 ≤ errand.k
   pub longest : length errand.value.now ≤ LONGEST_VALUE
 
--- a worker of the errand: its pass is one of the queue's, the jobs that it popped
--- are those of its pieces, in that order, and each is the value's piece at its point
+-- a worker of the errand: its pass is of the errand's queue, and it has the value's pieces for the jobs that it popped
 pub record IsWorker (errand : Errand) (w : Worker) : Type 0 where
   pub pass : IsPassOf errand.jobs.now w.pass
   pub popped : (view w.pass).popped ≡ map point_of w.pieces.items
   pub made : All (λ p. p ≡ piece_of errand.value.now errand.k p.point) w.pieces.items
 
--- a worker with one part, which pushed no job
+-- a worker of the errand that has one part, and pushed no job
 pub record IsHand (errand : Errand) (w : Worker) : Type 0 where
   pub worker : IsWorker errand w
   pub parts : (view w.pass).parts ≡ 1
   pub pushed : (view w.pass).pushed ≡ 0
 
--- what a thread may hand back
+-- what a thread may hand back: a worker with one part, or NoMemory
 abbrev pub IsAnswer : Errand → Result Worker Refusal → Type 0
 IsAnswer errand answer = MatchResult answer (IsHand errand) (λ r. r ≡ NoMemory)

@@ -1,4 +1,4 @@
-//! The threads in which workers work.
+//! The threads of the workers.
 ghost use Rattle.std.specs.Prelude.{◌≡◌, ◌+◌, ◌<◌, ◌≤◌, [], All, IfOk, IfErr, vec_len};
 ghost use Rattle.tag.specs.declared.refusal.Refusal.TheVariants.{NoMemory};
 ghost use Rattle.coding_pool.specs.Worker.{IsHand, IsErrand, IsAnswer};
@@ -11,8 +11,8 @@ use std::thread;
 use std::thread::{PromisedHandle, Scope, Threads};
 use tag::Refusal;
 
-/// Lets each worker work in a thread of its own, and gives their answers, in some order, after all threads have ended.
-/// A worker for which no thread can be started takes no job. `NoMemory` is the only refusal.
+/// Lets each worker work in a thread of its own. Returns their answers, in some order, after all threads have ended. A
+/// worker for which no thread can be started takes no job. `NoMemory` is the only refusal.
 pub fn work_all<G: Gate, R: Threads + Wait + Sync>(
     rt: &R,
     errand: Errand,
@@ -84,7 +84,8 @@ fn work_in<'s, E, G: Gate, R: Threads + Wait + Sync>(
     Ok(answers)
 }
 
-/// Starts a thread for the worker at this place of the crew. At `Err` none could be started.
+/// Starts a thread for the worker at this place of the crew. If no thread can be started, returns as `Err` the answer
+/// of the worker, which has taken no job.
 fn start<'s, E, G: Gate, R: Wait + Sync>(
     scope: &Scope<'s, E>,
     errand: Errand<'s>,

@@ -8,7 +8,7 @@ use crossbeam_queue::{Pass, RuledArrayQueue};
 use std::collections::LinkedList;
 use std::sync::Wait;
 
-/// The numbers of the jobs that no worker has taken.
+/// The queue of the jobs that no worker has taken yet, by number.
 pub type Jobs = RuledArrayQueue<u8, Known, Once>;
 
 /// The right to push and pop jobs, with what its holder knows.
@@ -16,15 +16,16 @@ pub type JobPass = Pass<u8, Known>;
 
 /// What the holder of a pass knows. Only proofs have values of it.
 pub struct Known {
-    /// How many parts of the right to know the whole come with the pass.
+    /// How many parts of the right to know the whole queue come with the pass.
     pub parts: u64,
-    /// How many jobs were pushed by it.
+    /// How many jobs were pushed with it.
     pub pushed: u64,
-    /// The jobs that were popped by it, in that order.
+    /// The jobs that were popped with it, in that order.
     pub popped: LinkedList<u8>,
 }
 
-/// The rule: the jobs in the queue and in all views together are those below the number pushed, each once.
+/// The rule of the queue: the jobs in the queue and the popped jobs of all views are the jobs below the number pushed,
+/// each once.
 pub struct Once;
 
 impl Protocol<u8, Known> for Once {
@@ -68,7 +69,7 @@ impl Lesson<u8, Known> for Pop {
     ghost fact = { IsWhole };
 }
 
-/// A pass with one part is cut off, and joined again.
+/// The step that cuts a pass with one part off another pass, and the step that joins it again.
 pub struct Cut;
 
 impl Split<Known> for Cut {
@@ -89,7 +90,7 @@ impl Join<Known> for Cut {
     ghost spent = { known 0 0 [] };
 }
 
-/// Pushes the jobs below `n`, for which an empty queue has room.
+/// Pushes the jobs 0 to `n` - 1, for which an empty queue has room.
 pub fn push_all<R: Wait>(rt: &R, queue: &Jobs, pass: &mut JobPass, n: u8)
     requires pass { IsPassOf queue.now pass.old }
     requires first { view pass.old ≡ known PARTS 0 [] }

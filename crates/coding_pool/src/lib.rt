@@ -1,4 +1,4 @@
-//! The pieces of one value, made by many workers that share a bounded queue of jobs.
+//! Encodes one value with several worker threads, which share a bounded queue of jobs. Each job makes one piece.
 #![tactic(auto)]
 
 pub use gate::{Gate, NoGate};

@@ -1,4 +1,4 @@
-//! The pieces of a value by many workers.
+//! Encoding of one value by several workers.
 ghost use Rattle.std.specs.Prelude.{◌≡◌, ◌≤◌, ◌<◌, ◌+◌, ◌-◌, All, IfOk, IfErr, length, vec_len};
 ghost use Rattle.crossbeam_queue.specs.Passes.{view, IsPassOf};
 ghost use Rattle.tag.specs.declared.limits.TheConstants.{MOST_WORKERS};
@@ -20,13 +20,13 @@ use std::sync::Wait;
 use std::thread::Threads;
 use tag::{LONGEST_VALUE, MOST_MEMBERS, MOST_WORKERS, Refusal};
 
-/// Codes `value` as `encode` does, with that many workers, each in a thread of its own. The caller's thread waits for
-/// them, and then makes the pieces that are left with no gate: all of them where there is no worker. A thread that
-/// cannot be started is no refusal.
+/// Encodes `value` into n pieces of which any k give it back, as `encode` does, with `workers` workers, each in a
+/// thread of its own. The caller's thread waits for them, and then makes the pieces that are left without a gate: all
+/// pieces where there is no worker. It is no refusal if a thread cannot be started.
 ///
-/// Refused with `BadLayout` where `k` is 0 or above `n`, or `n` is above `MOST_MEMBERS`; else with `TooLong` where the
-/// value is longer than `LONGEST_VALUE`; else with `Full` where there are more than `MOST_WORKERS` workers; else with
-/// `NoMemory` where memory is refused, once all threads have ended.
+/// `BadLayout` where `k` is 0 or above `n`, or `n` is above `MOST_MEMBERS`; else `TooLong` where the value is longer
+/// than `LONGEST_VALUE` bytes; else `Full` where there are more than `MOST_WORKERS` workers; else `NoMemory` where an
+/// allocation is refused, once all threads have ended.
 pub fn encode_all<G: Gate, R: Threads + Wait + Sync>(
     rt: &R,
     alloc: Global,
@@ -52,7 +52,7 @@ pub fn encode_all<G: Gate, R: Threads + Wait + Sync>(
     Ok(assemble(k, n, value, pieces))
 }
 
-/// The pieces of `value` at the points below `n`, in that order. `NoMemory` is the only refusal.
+/// The pieces of `value` at the points 0 to n - 1, in that order. `NoMemory` is the only refusal.
 fn all_pieces<G: Gate, R: Threads + Wait + Sync>(
     rt: &R,
     alloc: Global,
@@ -87,7 +87,7 @@ fn all_pieces<G: Gate, R: Threads + Wait + Sync>(
     Ok(pieces)
 }
 
-/// That many new workers, with a part of `pass` each. `NoMemory` is the only refusal.
+/// `workers` new workers, each with one part of `pass`. `NoMemory` is the only refusal.
 fn hire(errand: Errand, pass: &mut JobPass, workers: usize) -> Result<Vec<Worker>, Refusal>
     requires pass { IsPassOf errand.jobs.now pass.old }
     requires workers { workers ≤ MOST_WORKERS }
@@ -106,7 +106,8 @@ fn hire(errand: Errand, pass: &mut JobPass, workers: usize) -> Result<Vec<Worker
     Ok(crew)
 }
 
-/// Takes over from each worker of the crew. `NoMemory` is the only refusal: that of a worker, or the caller's own.
+/// Takes over the passes and the pieces of all workers of the crew. `NoMemory` is the only refusal: a worker's, or the
+/// caller's own.
 fn gather(errand: Errand, mut caller: Worker, mut answers: Vec<Answer>) -> Answer
     requires caller { IsWorker errand caller }
     requires part { 0 < (view caller.pass).parts }

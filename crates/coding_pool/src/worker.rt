@@ -16,17 +16,22 @@ use tag::Refusal;
 /// What all workers of one value share.
 #[derive(Clone, Copy)]
 pub struct Errand<'a> {
+    /// Allocates the pieces.
     pub alloc: Global,
+    /// The queue of the jobs that are left.
     pub jobs: &'a Jobs,
-    /// How many pieces determine the value.
+    /// How many pieces give the value back.
     pub k: u8,
+    /// The value to encode, of at most `LONGEST_VALUE` bytes.
     pub value: &'a [u8],
 }
 
-/// A worker, with the pieces of the jobs that it took, in that order.
+/// A worker: its pass, and the pieces of the jobs that it took, in that order.
 #[derive(Drop)]
 pub struct Worker {
+    /// The worker's right to pop jobs.
     pub pass: JobPass,
+    /// The pieces that the worker has made.
     pub pieces: Vec<Piece>,
 }
 
@@ -40,7 +45,7 @@ impl<'a> Promise<Answer> for Errand<'a> {
 }
 
 impl Worker {
-    /// A worker that has taken no job.
+    /// A worker that has taken no job. It allocates no memory.
     pub fn new(errand: Errand, pass: JobPass) -> Worker
         requires pass { IsPassOf errand.jobs.now pass }
         requires popped { (view pass).popped ≡ [] }
@@ -77,7 +82,7 @@ impl Worker {
         unreachable!()
     }
 
-    /// Takes over the pass and the pieces of another. `NoMemory` is the only refusal.
+    /// Takes over the pass and the pieces of another worker. `NoMemory` is the only refusal.
     pub fn take_over(mut self, errand: Errand, other: Worker) -> Answer
         requires worker { IsWorker errand self }
         requires other { IsHand errand other }
