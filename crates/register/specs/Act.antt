@@ -1,5 +1,5 @@
 -- The contracts that docs/trusted.md lists do not depend on this file; other contracts and proofs do.
--- A step that a caller asks for, as one value: the step that it is, why it is refused, and what it answers.
+-- A step that a caller asks for, as one value: which step it is, why it is refused, and what it returns.
 use Rattle.std.specs.Prelude.{ℕ, suc, pred, Bool, true, false, length, Option, Some, option_map, Result}
 use Rattle.tag.specs.Refusal.{IsByCause, IsExactlyByCause}
 use Rattle.tag.specs.declared.refusal.Refusal.{Refusal}
@@ -14,7 +14,7 @@ use Rattle.register.specs.Causes.{supply_cause, post_cause, settle_cause, answer
 use Rattle.register.specs.Causes.{serve_cause, take_cause, lose_cause, repeat_cause}
 use Rattle.register.specs.View.{receipt_at, took_at}
 
--- the step that an act asks for
+-- the step of the record that an act makes
 abbrev pub step_of : Act → Step
 step_of act.CallRead = Step.CallRead
 step_of (act.CallWrite value) = Step.CallWrite value
@@ -30,7 +30,7 @@ step_of (act.Take place) = Step.Take place
 step_of (act.Lose place) = Step.Lose place
 step_of (act.Repeat place) = Step.Repeat place
 
--- why an act is refused
+-- the cause of refusal of an act, if there is one
 abbrev pub act_cause : Act → (now : ℕ) → Object → Option Refusal
 act_cause act.CallRead now object = read_cause now object
 act_cause (act.CallWrite value) now object = write_cause value now object
@@ -46,23 +46,23 @@ act_cause (act.Take place) now object = take_cause now object place
 act_cause (act.Lose place) now object = lose_cause now object place
 act_cause (act.Repeat place) now object = repeat_cause now object place
 
--- whether an act may want memory
+-- whether an act may allocate memory, and so be refused as NoMemory
 abbrev pub takes_memory : Act → Bool
 takes_memory (act.Settle call decoded) = false
 takes_memory (act.Take place) = false
 takes_memory (act.Lose place) = false
 takes_memory _ = true
 
--- an answer by its cause, where memory may be wanting or not
+-- the result follows from its cause of refusal, where `memory` says whether NoMemory is possible too
 abbrev pub IsCausedBy : {T : Type 0} → (memory : Bool) → Option Refusal → Result T Refusal → Type 0
 IsCausedBy true cause answer = IsByCause cause answer
 IsCausedBy false cause answer = IsExactlyByCause cause answer
 
--- an act's answer by its cause
+-- the result of an act follows from its cause of refusal
 abbrev pub IsActCause : {T : Type 0} → Act → Option Refusal → Result T Refusal → Type 0
 IsActCause act cause answer = IsCausedBy (takes_memory act) cause answer
 
--- what an act answers, of the object at this place
+-- what an act returns where it is not refused, for the object at this place
 abbrev pub answered_by : Act → (place now : ℕ) → Object → Option Answered
 answered_by act.CallRead place now object = Some (answered.Call (suc (length object.calls)))
 answered_by (act.CallWrite value) place now object = Some (answered.Call (suc (length object.calls)))

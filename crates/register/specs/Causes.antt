@@ -1,4 +1,4 @@
--- Why each step is refused: of all that hold, the first by the order of refusals. `NoMemory` comes after these.
+-- Why each step is refused: the first cause that applies, in the order of refusals. `NoMemory` comes after all these.
 use Rattle.std.specs.Prelude.{ℕ, zero, suc, ◌+◌, Bool, true, false, not, nat_le, nat_lt, is_some}
 use Rattle.std.specs.Prelude.{if◌then◌else◌, List, length, Option, Some, None, slice_get, pred}
 use Rattle.tag.specs.declared.limits.TheConstants.{LONGEST_VALUE, MOST_BYTES, MOST_CALLS, MOST_PHASES, MOST_POSITIONS}
@@ -26,11 +26,11 @@ use Rattle.register.specs.Position.{all_bytes}
 use Rattle.register.specs.Kept.{has_open_move}
 use Rattle.register.specs.Coding.{is_pre_write, pieces_due, is_coded_for, is_decoded_from}
 
--- this refusal unless it is so, and then what comes after it
+-- this refusal unless the condition holds, and else the later cause
 abbrev pub unless : Bool → Refusal → Option Refusal → Option Refusal
 unless holds refusal later = if holds then later else Some refusal
 
--- the step of this number is within the limit of steps, and then what comes after it
+-- Full unless the number of the step is within the limit of steps, and else the later cause
 abbrev pub if_step : (now : ℕ) → Option Refusal → Option Refusal
 if_step now later = unless (nat_le now MOST_STEPS) Full later
 
@@ -39,19 +39,19 @@ abbrev pub call_at : Object → (number : ℕ) → Option Call
 call_at object zero = None
 call_at object (suc index) = slice_get object.calls index
 
--- the call is there, and then what comes after it
+-- NoCall if there is no call, and else the later cause
 abbrev pub if_call : Option Call → (Call → Option Refusal) → Option Refusal
 if_call None cause = Some NoCall
 if_call (Some call) cause = cause call
 
--- the message is there, and then what comes after it
+-- NoMessage if there is no message, and else the later cause
 abbrev pub if_message : Option Message → (Message → Option Refusal) → Option Refusal
 if_message None cause = Some NoMessage
 if_message (Some message) cause = cause message
 
 -- Messages
 
--- a request is served where the piece that it brings has room beside all that is stored
+-- why a message with this body is not served: it is a reply, or there is no room for the step or the request's piece
 abbrev pub served_cause : (now : ℕ) → Object → Body → Option Refusal
 served_cause now object (body.Request asked) =
     if_step now (unless (nat_le (all_bytes object.banks + request_bytes asked) MOST_BYTES) Full None)
@@ -62,7 +62,7 @@ abbrev pub serve_cause : (now : ℕ) → Object → (place : ℕ) → Option Ref
 serve_cause now object place = if_message (slice_get object.mail place)
     (λ message. served_cause now object message.body)
 
--- a reply is taken, and a request is not
+-- why a message with this body is not taken: it is a request, or the step is beyond the limit of steps
 abbrev pub taken_cause : (now : ℕ) → Body → Option Refusal
 taken_cause now (body.Request asked) = Some NotNow
 taken_cause now (body.Reply kind made) = if_step now None
@@ -82,7 +82,7 @@ repeat_cause now object place = if_message (slice_get object.mail place)
 
 -- New calls
 
--- one more step, and one more call, has room, with the messages that this step posts
+-- Full unless there is room for one more step, one more call, and the messages that the step posts
 abbrev pub new_call_cause : Step → (now : ℕ) → Object → Option Refusal
 new_call_cause step now object =
     if_step now (unless (nat_lt (length object.calls) MOST_CALLS) Full
@@ -110,19 +110,18 @@ abbrev pub is_advance : Want → Bool
 is_advance want.Advance = true
 is_advance _ = false
 
--- whether a call wants to begin anew
+-- whether a call wants to be restarted
 abbrev pub is_again : Want → Bool
 is_again want.Again = true
 is_again _ = false
 
--- a call that wants to settle a value may, and then what comes after it; of one whose fetch lacks pieces, they are
--- collected
+-- the later cause if the call wants to settle a value, Collected if its fetch lacks pieces, and else NotNow
 abbrev pub if_settle : Want → Option Refusal → Option Refusal
 if_settle (want.Settle k len) later = later
 if_settle want.Again later = Some Collected
 if_settle _ later = Some NotNow
 
--- whether a call wants its answer
+-- whether a call wants to be answered
 abbrev pub is_answer : Want → Bool
 is_answer want.Answer = true
 is_answer _ = false
@@ -132,27 +131,27 @@ abbrev pub is_replies : Want → Bool
 is_replies want.Replies = true
 is_replies _ = false
 
--- one more step, and one more phase of the call, has room, with the messages that this step posts
+-- Full unless there is room for one more step, one more phase of the call, and the messages that the step posts
 abbrev pub new_phase_cause : Step → (now : ℕ) → Object → Call → Option Refusal
 new_phase_cause step now object call =
     if_step now (unless (nat_lt (length call.phases) MOST_PHASES) Full
     (mail_cause (stepped fragment step now object).mail))
 
--- there is such a call
+-- NoCall unless there is a call of this number
 abbrev pub number_cause : Object → (number : ℕ) → Option Refusal
 number_cause object number = if_call (call_at object number) (λ call. None)
 
--- whether a call that wants this is to begin the phase that is due, as it is or anew
+-- whether a call that wants this is to begin the phase that is due: as an advance, or if `anew` as a restart
 abbrev pub wants_due : (anew : Bool) → Want → Bool
 wants_due false wanted = is_advance wanted
 wants_due true wanted = is_again wanted
 
--- the step that begins that phase
+-- the step that begins the phase that is due: as an advance, or if `anew` as a restart
 abbrev pub due_step : (anew : Bool) → (index : ℕ) → Step
 due_step false index = Step.Advance index
 due_step true index = Step.Again index
 
--- why a call does not begin the phase that is due, as it is or anew
+-- why a call does not begin the phase that is due: as an advance, or if `anew` as a restart
 abbrev pub due_cause : (anew : Bool) → (now : ℕ) → Object → (number : ℕ) → Option Refusal
 due_cause anew now object number =
     if_call (call_at object number) (λ call. unless (wants_due anew (want_of object (pred number) call)) NotNow
@@ -162,38 +161,38 @@ due_cause anew now object number =
 abbrev pub advance_cause : (now : ℕ) → Object → (number : ℕ) → Option Refusal
 advance_cause now object number = due_cause false now object number
 
--- why a call does not begin anew
+-- why a call is not restarted
 abbrev pub again_cause : (now : ℕ) → Object → (number : ℕ) → Option Refusal
 again_cause now object number = due_cause true now object number
 
--- whether the phase sends no pieces
+-- whether there is a phase, and it sends no pieces
 abbrev pub is_plain : Option Phase → Bool
 is_plain None = false
 is_plain (Some phase) = not (is_pre_write phase.kind)
 
--- whether a call that wants this may ask again in its current phase
+-- whether a call that wants this may resend the requests of its current phase by a post
 abbrev pub may_post : Want → Option Phase → Bool
 may_post wanted phase = if is_replies wanted then is_plain phase else false
 
--- why a call does not ask again
+-- why a call does not resend the requests of its current phase by a post
 abbrev pub post_cause : (now : ℕ) → Object → (number : ℕ) → Option Refusal
 post_cause now object number =
     if_call (call_at object number) (λ call. unless
     (may_post (want_of object (pred number) call) (current_phase call.phases)) NotNow
     (if_step now (mail_cause (stepped fragment (Step.Post (pred number)) now object).mail)))
 
--- whether a call wants to begin a phase, and not to ask again in its current one
+-- whether there is a phase, and a quorum has replied to it
 abbrev pub is_replied : Option Phase → Bool
 is_replied None = false
 is_replied (Some phase) = is_some phase.end
 
--- pieces have room as they are sent: in a new phase, or once more in the current one
+-- Full unless there is room for a supply: for a new phase and its messages, or for resent requests of the current phase
 abbrev pub supply_room_cause : (now : ℕ) → Object → (index : ℕ) → Call → Option Refusal
 supply_room_cause now object index call =
     if is_replied (current_phase call.phases) then new_phase_cause (Step.Supply index) now object call
     else if_step now (mail_cause (stepped fragment (Step.Supply index) now object).mail)
 
--- pieces for a position are those of the value that the call sends, coded for the position's layout
+-- why a call is not supplied for this position: it sends no pieces, `coded` is wrong for it, or there is no room
 abbrev pub supplied_cause : (now : ℕ) → Object → (index : ℕ) → Call → Coding → Option ℕ → Option Refusal
 supplied_cause now object index call coded None = Some NotNow
 supplied_cause now object index call coded (Some position) =
@@ -201,29 +200,29 @@ supplied_cause now object index call coded (Some position) =
     WrongCode
     (supply_room_cause now object index call)
 
--- why a call is not supplied with this coded value
+-- why a call is not supplied with this encoded value
 abbrev pub supply_cause : (now : ℕ) → Object → (number : ℕ) → Coding → Option Refusal
 supply_cause now object number coded =
     if_call (call_at object number) (λ call. supplied_cause now object (pred number) call coded
     (pieces_due object (pred number) call))
 
--- why a call is not supplied with its own value, coded for its own layout: it sends none, or a limit is met
+-- why a call is not supplied with its own value, encoded for its own layout: it sends none, or a limit is met
 abbrev pub supplying_cause : (now : ℕ) → Object → (number : ℕ) → Option Refusal
 supplying_cause now object number =
     if_call (call_at object number) (λ call. unless (is_some (pieces_due object (pred number) call)) NotNow
     (supply_room_cause now object (pred number) call))
 
--- there are pieces to send
+-- why the value that a call is to encode is not returned: there is no such call, or it sends no pieces
 abbrev pub value_cause : Object → (number : ℕ) → Option Refusal
 value_cause object number = if_call (call_at object number)
     (λ call. unless (is_some (pieces_due object (pred number) call)) NotNow None)
 
--- there are pieces to decode
+-- why the pieces that a call is to decode are not returned: there is no such call, or it wants no value
 abbrev pub pieces_cause : Object → (number : ℕ) → Option Refusal
 pieces_cause object number = if_call (call_at object number)
     (λ call. if_settle (want_of object (pred number) call) None)
 
--- whether a decoded value is of pieces of this phase
+-- whether the value was decoded from k pieces that this phase took
 abbrev pub is_decoded_in : Object → Option Phase → Decoding → Bool
 is_decoded_in object None decoded = false
 is_decoded_in object (Some phase) decoded = is_decoded_from (layout_at object phase.position).k phase.replies decoded

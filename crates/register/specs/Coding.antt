@@ -1,5 +1,5 @@
 -- The contracts that docs/trusted.md lists do not depend on this file; other contracts and proofs do.
--- Pieces that a call sends, takes in and settles.
+-- The pieces that a call sends, and those from which it decodes a value.
 use Rattle.std.specs.Prelude.{◌≡◌, ◌<◌, ℕ, suc, zero, nat_eq, Bool, true, false, ◌==◌, ◌&&◌, if◌then◌else◌, List, []}
 use Rattle.std.specs.Prelude.{◌∷◌, ◌++◌, length, take, Option, Some, None, option_map}
 use Rattle.std.specs.List.{list_any, list_all}
@@ -21,7 +21,7 @@ use Rattle.record.specs.declared.stage.Want.{Want}
 use Rattle.record.specs.declared.stage.Want.TheVariants as want
 use Rattle.record.specs.Wants.{current_phase, want_of}
 
--- whether two lists are of the same bytes
+-- whether two lists have the same bytes
 abbrev pub bytes_eq : List ℕ → List ℕ → Bool
 bytes_eq a b = pointwise nat_eq a b
 
@@ -30,66 +30,65 @@ abbrev pub is_pre_write : Kind → Bool
 is_pre_write (PreWrite tag) = true
 is_pre_write _ = false
 
--- the position of a phase that sends pieces
+-- the position of the phase, if there is a phase and it sends pieces
 abbrev pub sending_position : Option Phase → Option ℕ
 sending_position None = None
 sending_position (Some phase) = if is_pre_write phase.kind then Some phase.position else None
 
--- the position whose members are to get the pieces of a call that wants this: that of the pre-write that is due, or of
--- the one that lacks a quorum
+-- where the pieces of a call that wants this go: to the position of the pre-write that is due, or that lacks a quorum
 abbrev pub pieces_position : Want → Option (Kind × ℕ) → Option Phase → Option ℕ
 pieces_position (want.Supply k n) next phase = option_map (λ n. n.1) next
 pieces_position want.Replies next phase = sending_position phase
 pieces_position _ next phase = None
 
--- the position whose members are to get the pieces of the call at this place
+-- the position whose members are to get the pieces of the call at this index, if it sends any
 abbrev pub pieces_due : Object → (index : ℕ) → Call → Option ℕ
 pieces_due object index call =
     pieces_position (want_of object index call) (due_of object index call) (current_phase call.phases)
 
--- whether a coded value is this value, coded for a layout
+-- whether `coded` is this value, encoded for this layout
 abbrev pub is_coded_for : Layout → (value : List ℕ) → Coding → Bool
 is_coded_for layout value coded = bytes_eq coded.value value &&
     (coded.k == layout.k && coded.n == length layout.members)
 
--- the pieces of a coded value, where there is one
+-- the piece of a member: of the encoded value if there is one, and else of the empty value
 abbrev pub piece_from : Option Coding → (member : ℕ) → Piece
 piece_from None member = empty_piece member
 piece_from (Some coded) member = piece_of coded.value coded.k member
 
--- whether a piece is this one
+-- whether two pieces are the same
 abbrev pub same_piece : Piece → Piece → Bool
 same_piece a b = a.point == b.point && (a.len == b.len && bytes_eq a.bytes b.bytes)
 
--- whether there is a piece, and it is this one
+-- whether there is a piece, and it is the same as the given one
 abbrev pub has_piece : Piece → Option Piece → Bool
 has_piece piece None = false
 has_piece piece (Some other) = same_piece piece other
 
--- whether a reply with this piece was recorded
+-- whether one of the recorded replies carries this piece
 abbrev pub is_recorded : List Taken → Piece → Bool
 is_recorded replies piece = list_any (λ t. has_piece piece (answer_piece t.reply.answer)) replies
 
--- whether a decoded value has k pieces, each recorded among these replies
+-- whether the value was decoded from k pieces, each carried by one of these replies
 abbrev pub is_decoded_from : (k : ℕ) → List Taken → Decoding → Bool
 is_decoded_from k replies decoded = decoded.k == k && list_all (is_recorded replies) decoded.pieces
 
--- the piece that a member replied, if it did
+-- the piece that the member's reply carries, if there is one
 abbrev pub piece_by : List Taken → (member : ℕ) → Option Piece
 piece_by [] member = None
 piece_by (t ∷ replies) member = if t.member == member then answer_piece t.reply.answer else piece_by replies member
 
--- the piece that is there, or none, as a list
+-- the piece as a list of one, or the empty list where there is none
 abbrev pub listed : Option Piece → List Piece
 listed None = []
 listed (Some piece) = piece ∷ []
 
--- the pieces that the first `count` members replied, by rising members, which are their points
+-- the pieces that the replies of the first `count` members carry, by rising member, which is the point of the piece
 abbrev pub pieces_below : List Taken → (count : ℕ) → List Piece
 pieces_below replies zero = []
 pieces_below replies (suc member) = pieces_below replies member ++ listed (piece_by replies member)
 
--- of the pieces that members of a layout replied, the k of least points
+-- of the pieces that the replies of a layout's members carry, the k with the least points
 abbrev pub least_pieces : Layout → List Taken → List Piece
 least_pieces layout replies = take layout.k (pieces_below replies (length layout.members))
 
@@ -98,13 +97,13 @@ abbrev pub least_of : Object → Option Phase → List Piece
 least_of object None = []
 least_of object (Some phase) = least_pieces (layout_at object phase.position) phase.replies
 
--- a phase that sends pieces to so many members has a coded value with a piece for each
+-- if a phase of this kind sends pieces, there is an encoded value with a piece for each of this many members
 abbrev pub HavePieces : Kind → (members : ℕ) → Option Coding → Type 0
 HavePieces (PreWrite tag) members None = ⊥
 HavePieces (PreWrite tag) members (Some coded) = coded.n ≡ members
 HavePieces _ members coded = Unit {0}
 
--- where a request of this kind brings a piece, the coded value has one for the member
+-- if a request of this kind carries a piece, there is an encoded value with a piece for the member
 abbrev pub HavePieceOf : Kind → (member : ℕ) → Option Coding → Type 0
 HavePieceOf (PreWrite tag) member None = ⊥
 HavePieceOf (PreWrite tag) member (Some coded) = member < coded.n

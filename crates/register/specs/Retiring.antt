@@ -7,7 +7,7 @@ use Rattle.record.specs.Records.{Call, Object, base_of}
 use Rattle.record.specs.Legal.{is_move}
 use Rattle.register.specs.Causes.{unless, if_step}
 
--- whether the move out of a position was answered; the first move among these calls leads out of the position `from`
+-- whether the move out of a position was answered; the first move among the calls leads out of the position `from`
 abbrev pub is_moved_out : List Call → (from position : ℕ) → Bool
 is_moved_out [] from position = false
 is_moved_out (call ∷ calls) from position =

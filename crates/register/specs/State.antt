@@ -1,4 +1,4 @@
--- One object with the number of its last step, and what each step makes of it.
+-- The state of an object: its record and the number of its last step; and the parts of a `Register`.
 use Rattle.std.specs.Prelude.{ℕ, Bool, List, Option, refl}
 use Rattle.std.specs.Coded.{Coded, code_by, coded×, coded_list, coded_ℕ, coded_option}
 use Rattle.layout.specs.Layout.{Layout}
@@ -10,12 +10,12 @@ use Rattle.record.specs.Steps.{Step, stepped}
 use Rattle.register.specs.Position.{Position, layouts_of, banks_of}
 use Rattle.register.specs.Tracked.{Tracked, calls_of}
 
--- the record of an object, and the number of the step that made it what it is
+-- the state of an object: its record, and the number of its last step
 pub record State : Type 0 where
   pub object : Object
   pub last : ℕ
 
--- an object is stored as the tuple of its parts
+-- how a state is encoded: as the tuple of its parts
 abbrev pub state_code : Coded Layout → Coded Bank → Coded Message → Coded Call → Coded State
 state_code layout bank message call =
     code_by (List Layout × (List (List Bank) × (List Message × (List Call × (Option ℕ × ℕ)))))
@@ -33,12 +33,11 @@ state_code layout bank message call =
       last = p.1.1.1.1.1;
     }) (λ _. refl)
 
--- the state that step number `now` makes of a state
+-- the state after a step with the number `now`
 abbrev pub made : Step → (now : ℕ) → State → State
 made step now state = record { object = stepped fragment step now state.object; last = now }
 
--- what a register holds: the parts of the record, the base, the stage of each call, whether a move is open, the bytes
--- that all banks store, and the number of the last step
+-- what a register holds: the parts of the record, values that are kept beside it, and the number of the last step
 pub record Contents : Type 0 where
   pub delta : Option ℕ
   pub positions : List Position
@@ -49,7 +48,7 @@ pub record Contents : Type 0 where
   pub stored : ℕ
   pub last : ℕ
 
--- the record of what a register holds
+-- the record that is made up of these parts of a register
 abbrev pub object_of : (delta : Option ℕ) → List Position → List Message → List Tracked → Object
 object_of delta positions mail calls = record {
   delta = delta;
@@ -59,6 +58,6 @@ object_of delta positions mail calls = record {
   calls = calls_of calls;
 }
 
--- a record with the number of its last step
+-- the state that a register represents: its record, and the number of its last step
 abbrev pub state_of : Contents → State
 state_of c = record { object = object_of c.delta c.positions c.mail c.calls; last = c.last }

@@ -1,4 +1,4 @@
--- A call, and the stage that is kept beside its phases.
+-- A call with the stage that is kept beside its phases.
 use Rattle.std.specs.Prelude.{◌≡◌, ℕ, suc, ◌<◌, is_some, if◌then◌else◌, List, [], ◌∷◌, ◌++◌, length, map, Option, Some}
 use Rattle.std.specs.Prelude.{None, IfSome}
 use Rattle.layout.specs.Layout.{Layout}
@@ -23,17 +23,17 @@ pub record Tracked : Type 0 where
   pub call : Call
   pub stage : Stage
 
--- the calls of the record
+-- the calls, without their stages
 abbrev pub calls_of : List Tracked → List Call
 calls_of calls = map (λ t. t.call) calls
 
--- what a call wants, by the stage that is kept
+-- what a call wants, computed from the stage that is kept beside it
 abbrev pub tracked_want : Object → Tracked → Want
 tracked_want object t =
     if is_some t.call.answered then want.Done else want_after object (due t.stage) t.call.settled
     (current_phase t.call.phases)
 
--- the call of this number with one more phase; a first reading begins where that phase is
+-- the call of this number with one more phase; where a first reading is to begin, it begins at the phase's position
 abbrev pub with_begun : Tracked → (number : ℕ) → Kind → (position : ℕ) → Layout → (now : ℕ) → Tracked
 with_begun t number kind position layout now = record {
   call = record t.call {
@@ -43,35 +43,35 @@ with_begun t number kind position layout now = record {
   stage = begun_at t.stage position;
 }
 
--- the stage once the current phase took a message: it moves on where that take completed the phase
+-- the stage after the current phase takes a message: it moves on if that completes the phase
 abbrev pub stage_taken : CallKind → Stage → Option Phase → Message → (now : ℕ) → Stage
 stage_taken kind stage None message now = stage
 stage_taken kind stage (Some phase) message now =
     if is_some phase.end then stage else stage_past kind message.call stage (after_take phase message now)
 
--- a call once its current phase took a message
+-- a call and its stage after its current phase takes a message
 abbrev pub taken_tracked : Message → (now : ℕ) → Tracked → Tracked
 taken_tracked message now t = record {
   call = taking_call message now t.call;
   stage = stage_taken t.call.kind t.stage (current_phase t.call.phases) message now;
 }
 
--- what the take of a message by a current phase does
+-- the outcome of taking a message, where this is the call's current phase, if it has one
 abbrev pub took_current : Message → Option Phase → Took
 took_current message None = took.Stale
 took_current message (Some phase) = took_by phase message
 
--- what the take of a message by the call that it names does
+-- the outcome of taking a message, where this is the call that it names, if there is one
 abbrev pub took_call : Message → Option Call → Took
 took_call message None = took.Stale
 took_call message (Some call) = took_current message (current_phase call.phases)
 
--- the requests of a phase that go out again, where these are the members
+-- the requests of a phase that are resent, where the position has these members and these messages wait
 abbrev pub asked_again : (number : ℕ) → Phase → (members : List ℕ) → List Message → (ℕ → Piece) → List Message
 asked_again number phase members mail piece =
     missing mail (members_of phase.replies) (requests number phase.number phase.kind phase.position members 0 piece)
 
--- the positions of the current phase and of the phase that is due are below this one
+-- the positions of the current phase and of the phase that is due are below `count`
 pub record IsBelow (count : ℕ) (t : Tracked) : Type 0 where
   pub current : (phase : Phase) → current_phase t.call.phases ≡ Some phase → phase.position < count
   pub due : IfSome (due t.stage) (λ asked. asked.1 < count)

@@ -1,5 +1,5 @@
 -- The contracts that docs/trusted.md lists do not depend on this file; other contracts and proofs do.
--- What is read of an object without a step.
+-- What can be read of an object without a step.
 use Rattle.std.specs.Prelude.{ℕ, pred, List, [], length, Option, Some, None, option_map, get_or, slice_get}
 use Rattle.tag.specs.declared.tag.Tag.{Tag}
 use Rattle.encoder.specs.declared.fragment.Piece.{Piece}
@@ -19,20 +19,20 @@ use Rattle.register.specs.Tracked.{took_call}
 use Rattle.register.specs.Coding.{pieces_due, least_of}
 use Rattle.register.specs.Causes.{call_at}
 
--- what a take of this message does
+-- the outcome of taking this message, if there is a message
 abbrev pub took_message : Object → Option Message → Took
 took_message object None = took.Stale
 took_message object (Some message) = took_call message (slice_get object.calls (pred message.call))
 
--- what a take of the message at a place does
+-- the outcome of taking the message at a place
 abbrev pub took_at : Object → (place : ℕ) → Took
 took_at object place = took_message object (slice_get object.mail place)
 
--- what the call of this number wants
+-- what the call of this number wants, if there is such a call
 abbrev pub want_at : Object → (number : ℕ) → Option Want
 want_at object number = option_map (λ call. want_of object (pred number) call) (call_at object number)
 
--- a value with the k and the n of a position's layout
+-- the value whose pieces a call sends to a position, with the k and the n of the position's layout
 abbrev pub to_code : Object → Call → (position : ℕ) → List ℕ × ℕ × ℕ
 to_code object call position = (
   value_or_empty (sent_value call.kind call.settled),
@@ -40,21 +40,21 @@ to_code object call position = (
   length (layout_at object position).members,
 )
 
--- the value whose pieces a call is to send, with k and n, if there is such a call
+-- the value whose pieces a call is to send, with k and n, if there is such a call and it sends pieces
 abbrev pub coding_of : Object → (number : ℕ) → Option Call → Option (List ℕ × ℕ × ℕ)
 coding_of object number None = None
 coding_of object number (Some call) = option_map (to_code object call) (pieces_due object (pred number) call)
 
--- the value whose pieces the call of this number is to send, with k and n
+-- the value whose pieces the call of this number is to send, with k and n, if it sends pieces
 abbrev pub coding_at : Object → (number : ℕ) → Option (List ℕ × ℕ × ℕ)
 coding_at object number = coding_of object number (call_at object number)
 
--- the pieces that give the value that a call is to settle, if there is such a call
+-- the pieces from which a call is to decode its value, if there is such a call
 abbrev pub pieces_of : Object → Option Call → List Piece
 pieces_of object None = []
 pieces_of object (Some call) = least_of object (current_phase call.phases)
 
--- the pieces that give the value that the call of this number is to settle
+-- the pieces from which the call of this number is to decode its value
 abbrev pub pieces_at : Object → (number : ℕ) → List Piece
 pieces_at object number = pieces_of object (call_at object number)
 
@@ -73,7 +73,7 @@ receipt_of place number now call = record {
 abbrev pub receipt_at : Object → (place number now : ℕ) → Option Receipt
 receipt_at object place number now = option_map (receipt_of place number now) (call_at object number)
 
--- what is shown of a call in its current phase
+-- the view of a call that is in this phase
 abbrev pub phase_view : Object → (number : ℕ) → Call → Phase → CallView
 phase_view object number call phase = record {
   kind = operation_of call.kind;
@@ -86,12 +86,12 @@ phase_view object number call phase = record {
   want = want_of object (pred number) call;
 }
 
--- what is shown of a call, if there is such a call
+-- the view of a call, if there is such a call
 abbrev pub viewed : Object → (number : ℕ) → Option Call → Option CallView
 viewed object number None = None
 viewed object number (Some call) = option_map (phase_view object number call) (current_phase call.phases)
 
--- what is shown of the call of this number
+-- the view of the call of this number
 abbrev pub view_at : Object → (number : ℕ) → Option CallView
 view_at object number = viewed object number (call_at object number)
 
@@ -113,7 +113,7 @@ phases_of (Some call) = call.phases
 abbrev pub phases_at : Object → (number : ℕ) → List Phase
 phases_at object number = phases_of (call_at object number)
 
--- the bank of a member of a position
+-- the bank of a member of a position, if there is one
 abbrev pub bank_there : Object → (position member : ℕ) → Option Bank
 bank_there object position member = slice_get (get_or object.banks position []) member
 

@@ -41,7 +41,7 @@ pub struct Call {
     answered: Option<Stamp>,
     settled: Option<Bytes>,
     phases: Vec<Phase>,
-    // Where the phases lead.
+    // The stage to which the phases lead.
     stage: Stage,
 }
 
@@ -63,7 +63,7 @@ impl Model for Call {
 }
 
 impl Call {
-    /// A call that begins at a stage, without its first phase. It takes no memory.
+    /// A call that begins at a stage, before its first phase. It allocates no memory.
     pub(crate) fn new(alloc: Global, kind: CallKind, stage: Stage, now: Stamp) -> Call
         ensures { result ≡ record { call = new_call kind now; stage = stage } }
     {
@@ -77,8 +77,8 @@ impl Call {
         }
     }
 
-    /// The call, whose number this is, begins a phase at a position with this layout: its requests are posted, and the
-    /// call has the phase; a first reading begins there. Either all or, where it is refused, nothing.
+    /// The call, whose number is given, begins a phase at a position with this layout. The requests are posted, and the
+    /// phase is added; a first reading begins at the position. Where it is refused, nothing changes.
     pub(crate) fn begin(
         &mut self,
         number: u64,
@@ -127,7 +127,7 @@ impl Call {
         Ok(())
     }
 
-    /// Whether a phase with so many members may begin, by the limits of the phases and of the messages.
+    /// Whether a phase with this many members may begin, by the limits on phases and messages.
     pub(crate) fn can_begin(&self, members: u8, mail: &Mail) -> bool
         ensures { result ≡ (nat_lt (length self.now.call.phases) MOST_PHASES
             && nat_le (length mail.now + members) MOST_MESSAGES) }
@@ -135,7 +135,7 @@ impl Call {
         self.phases.len() < MOST_PHASES && has_room(mail, usize::from(members))
     }
 
-    /// Whether the current phase of the call, whose number this is, may ask again, by the limit of the messages.
+    /// Whether the current phase of the call, whose number is given, may resend its requests, by the limit on messages.
     pub(crate) fn can_ask_again(&self, number: u64, mail: &Mail) -> bool
         requires begun { IsSome (current_phase self.now.call.phases) }
         ensures { (p : Asking) (servers : List ℕ) (piece : ℕ → Piece) → current_phase self.now.call.phases ≡ Some p
@@ -154,8 +154,8 @@ impl Call {
         has_room(mail, missing_count(ask, phase, mail))
     }
 
-    /// The current phase of the call, whose number this is, asks again: a request goes to each member without a
-    /// recorded reply and without a waiting message of the phase.
+    /// The current phase of the call, whose number is given, resends its requests: one to each member that has no
+    /// recorded reply and no waiting message of the phase.
     pub(crate) fn ask_again(
         &self,
         number: u64,
@@ -196,8 +196,8 @@ impl Call {
         mail.post_all(messages)
     }
 
-    /// The current phase takes a message at step `now`, and the stage moves on where that completes the phase. It takes
-    /// no memory.
+    /// The current phase takes a message at step `now`, and the stage moves on if that completes the phase. It
+    /// allocates no memory.
     pub(crate) fn take(&mut self, message: Message, now: Stamp) -> Took
         requires near { (p : Asking) → current_phase self.old.call.phases ≡ Some p
             → IsBelowLimit (begun_at self.old.stage p.position) }
@@ -227,7 +227,7 @@ impl Call {
         self.settled = Some(value);
     }
 
-    /// The call is answered at step `now`. It gives back the room for phases that it has no more use for.
+    /// The call is answered at step `now`. It frees the room that was reserved for further phases.
     pub(crate) fn answer(&mut self, now: Stamp)
         ensures { self.new ≡ record { call = record self.old.call { answered = Some now }; stage = self.old.stage } }
     {

@@ -1,4 +1,4 @@
-//! Pieces as they were coded, and as a phase took them.
+//! Comparison of encoded values, and of decoded values with the pieces that a phase took.
 
 ghost use Rattle.std.specs.Prelude.{◌≡◌, option_copied};
 ghost use Rattle.std.specs.List.{list_all};
@@ -19,7 +19,7 @@ fn are_same(a: &[u8], b: &[u8]) -> bool
     a.len() == b.len() && same(a, b)
 }
 
-/// Whether a coded value is this value, coded for a layout.
+/// Whether `coded` is this value, encoded for this layout.
 pub(crate) fn is_coded_for(layout: &Layout, value: &Bytes, coded: &Coded) -> bool
     ensures { result ≡ is_coded_for layout.now value.now coded.now }
 {
@@ -28,14 +28,14 @@ pub(crate) fn is_coded_for(layout: &Layout, value: &Bytes, coded: &Coded) -> boo
         && coded.n() == layout.n()
 }
 
-// Whether the first piece is the second.
+// Whether the two pieces are the same.
 fn is_same(a: &Piece, b: &Piece) -> bool
     ensures { result ≡ same_piece a.now b.now }
 {
     a.point == b.point && a.len == b.len && are_same(a.bytes.as_slice(), b.bytes.as_slice())
 }
 
-// Whether a reply with this piece was recorded.
+// Whether one of the recorded replies carries this piece.
 fn is_recorded(replies: &[Taken], piece: &Piece) -> bool
     ensures { result ≡ is_recorded replies.now piece.now }
 {
@@ -49,14 +49,14 @@ fn is_recorded(replies: &[Taken], piece: &Piece) -> bool
     false
 }
 
-/// Whether a decoded value has k pieces, each recorded.
+/// Whether the value was decoded from k pieces, each carried by one of the recorded replies.
 pub(crate) fn is_decoded_from(k: u8, replies: &[Taken], decoded: &Decoded) -> bool
     ensures { result ≡ is_decoded_from k replies.now decoded.now }
 {
     decoded.k() == k && are_recorded(replies, decoded.pieces())
 }
 
-// Whether each piece was recorded.
+// Whether each of these pieces is carried by one of the recorded replies.
 fn are_recorded(replies: &[Taken], pieces: &[Piece]) -> bool
     ensures { result ≡ list_all (is_recorded replies.now) pieces.now }
 {
@@ -68,7 +68,7 @@ fn are_recorded(replies: &[Taken], pieces: &[Piece]) -> bool
     true
 }
 
-/// The piece that a member replied.
+/// The piece that the member's reply carries, if there is one.
 pub(crate) fn piece_by(replies: &[Taken], member: u8) -> Option<&Piece>
     ensures { option_copied result ≡ piece_by replies.now member }
 {

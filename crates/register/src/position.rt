@@ -37,8 +37,8 @@ impl Position {
     ghost use Rattle.record.specs.Accounts.{position_bytes};
     ghost use Rattle.record.specs.Steps.{opened_banks};
 
-    /// A position whose banks are opened at step `now`, and keep `delta` finalized versions beside the newest.
-    /// `NoMemory` is the only refusal.
+    /// A position whose banks are opened at step `now`, and keep `delta` finalized versions beside the newest, or all
+    /// without `delta`. `NoMemory` is the only refusal.
     pub(crate) fn new(
         alloc: Global,
         layout: Layout,
@@ -73,7 +73,7 @@ impl Position {
         self.banks.get(usize::from(member))
     }
 
-    /// How many bytes a member's bank stores.
+    /// How many bytes of pieces the bank of a member stores.
     pub(crate) fn bytes(&self, member: u8) -> u64
         requires there { member < length self.now.banks }
         requires room { (b : Table) → slice_get self.now.banks member ≡ Some b → bank_bytes b < 2 ^ 64 }
@@ -103,7 +103,8 @@ impl Position {
         self.banks[usize::from(member)].serve(request, now)
     }
 
-    /// The banks drop all pieces, and those that come after step `now`. It answers how many bytes that frees.
+    /// Retires the banks at step `now`: they drop all pieces, and each piece that comes later. Returns how many bytes
+    /// this frees.
     pub(crate) fn retire(&mut self, now: Stamp) -> u64
         requires room { banks_bytes self.old.banks < 2 ^ 64 }
         ensures layout { self.new.layout ≡ self.old.layout }
@@ -113,13 +114,13 @@ impl Position {
         retire_all(&mut self.banks, now)
     }
 
-    /// How many bytes the banks store whose member is this server.
+    /// How many bytes of pieces this server stores at the position: 0 where it is no member.
     pub(crate) fn stored(&self, server: u8) -> u64
         requires lawful { IsLawful self.now.layout }
         requires room { position_bytes server self.now.layout.members self.now.banks < 2 ^ 64 }
         ensures { result ≡ position_bytes server self.now.layout.members self.now.banks }
     {
-        // No server is named twice.
+        // The layout names no server twice.
         match self.layout.point_of(server) {
             Some(member) => match self.bank(member) {
                 Some(bank) => bank.bytes(),
@@ -130,7 +131,7 @@ impl Position {
     }
 }
 
-// All these banks drop their pieces, and those that come after step `now`. It answers how many bytes that frees.
+// Retires these banks at step `now`. Returns how many bytes this frees.
 fn retire_all(banks: &mut [Bank], now: Stamp) -> u64
     requires room { banks_bytes banks.old < 2 ^ 64 }
     ensures banks { banks.new ≡ map (λ bank. retired_bank bank now) banks.old }

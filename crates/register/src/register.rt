@@ -26,17 +26,17 @@ mod views;
 /// that it allocates no memory never returns it.
 #[derive(Debug, Drop)]
 pub struct Register {
-    // How many finalized versions the banks keep beside the newest; all where there is none.
+    // How many finalized versions the banks keep beside the newest. None where they keep all.
     delta: Option<u32>,
     positions: Vec<Position>,
     // The first position that is not retired.
     base: u32,
     mail: Mail,
-    // By their numbers, from 1.
+    // In the order of their numbers, from 1.
     calls: Vec<Call>,
-    // Whether a move is not answered.
+    // Whether a move is open, which means not answered.
     is_moving: bool,
-    // The bytes of all pieces in all banks.
+    // The number of bytes of all pieces in all banks.
     stored: u64,
     last: Stamp,
 }

@@ -16,7 +16,7 @@ use phase::{Ask, Phase};
 use std::alloc::Global;
 use tag::{MOST_MESSAGES, Refusal};
 
-/// The requests of a phase to the members, member 0 first. A phase that sends pieces has the coded value.
+/// The requests of a phase to all members, member 0 first. For a phase that sends pieces, `coded` is the encoded value.
 pub(crate) fn requests(
     alloc: Global,
     ask: Ask,
@@ -37,7 +37,7 @@ pub(crate) fn requests(
     Ok(messages)
 }
 
-/// The requests of a phase that go out again: to the members without a recorded reply and without a waiting message.
+/// The requests of a phase that are resent: those to members that have no recorded reply and no waiting message of it.
 pub(crate) fn missing(
     alloc: Global,
     ask: Ask,
@@ -61,7 +61,7 @@ pub(crate) fn missing(
     Ok(messages)
 }
 
-/// How many requests of a phase go out again.
+/// How many requests of a phase are resent.
 pub(crate) fn missing_count(ask: Ask, phase: &Phase, mail: &Mail) -> usize
     ensures { (servers : List ℕ) (piece : ℕ → Piece) → length servers ≡ phase.now.members
         → result ≡ length (missing mail.now (members_of phase.now.replies)
@@ -76,7 +76,7 @@ pub(crate) fn missing_count(ask: Ask, phase: &Phase, mail: &Mail) -> usize
     count
 }
 
-/// Whether so many more messages may wait.
+/// Whether `count` more messages may wait.
 pub(crate) fn has_room(mail: &Mail, count: usize) -> bool
     ensures { result ≡ nat_le (length mail.now + count) MOST_MESSAGES }
 {
@@ -131,7 +131,7 @@ fn request_to(ask: Ask, member: u8, coded: Option<&Coded>) -> Result<Message, Re
     })
 }
 
-// What a phase of this kind asks of a member.
+// The request that a phase of this kind sends to a member.
 fn request_of(kind: Kind, member: u8, coded: Option<&Coded>) -> Result<Request, Refusal>
     requires { HavePieceOf kind member (option_copied coded) }
     ensures request { IfOk result (λ q. q ≡ request_to kind (piece_from (option_copied coded.entry) member)) }

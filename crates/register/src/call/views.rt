@@ -1,4 +1,4 @@
-//! What is read of a call.
+//! Read access to a call.
 
 ghost use Rattle.std.specs.Prelude.{◌≡◌, ℕ, Option, is_some, option_copied, IfOk, IfErr};
 ghost use Rattle.tag.specs.declared.refusal.Refusal.TheVariants.{NoMemory};
@@ -13,7 +13,7 @@ use record::{CallKind, Entry, Operation, Stage};
 use tag::{Refusal, Stamp};
 
 impl Call {
-    /// What the call does.
+    /// The kind of the call, without its value.
     pub(crate) fn operation(&self) -> Operation
         ensures { result ≡ operation_of self.now.call.kind }
     {
@@ -24,7 +24,7 @@ impl Call {
         }
     }
 
-    /// The step of the call.
+    /// The number of the step that began the call.
     pub(crate) fn called(&self) -> Stamp
         ensures { result ≡ self.now.call.called }
     {
@@ -62,7 +62,7 @@ impl Call {
         }
     }
 
-    /// A copy, which shares its bytes, of the value that the call writes, or that a read returns once it is answered.
+    /// A copy of the value that the call writes, or that a read returns once it is answered. The copy shares its bytes.
     pub(crate) fn returned(&self, is_answered: bool) -> Result<Option<Bytes>, Refusal>
         ensures value { (answered : Option ℕ) → is_answered ≡ is_some answered
             → IfOk result (λ v. v ≡ entry_value self.now.call.kind answered self.now.call.settled) }
@@ -83,7 +83,7 @@ impl Call {
         }
     }
 
-    /// The entry of the call, whose number this is, in the object's history.
+    /// The entry of the call, whose number is given, in the object's history.
     pub(crate) fn entry(&self, number: u64) -> Result<Entry, Refusal>
         ensures entry { IfOk result (λ e. e ≡ entry_of number self.now.call) }
         ensures refused { IfErr result (λ e. e ≡ NoMemory) }
@@ -98,14 +98,14 @@ impl Call {
         })
     }
 
-    /// The phase that began last.
+    /// The current phase: the one that began last.
     pub(crate) fn current(&self) -> Option<&Phase>
         ensures { option_copied result ≡ current_phase self.now.call.phases }
     {
         self.phases.last()
     }
 
-    /// Where the phases lead.
+    /// The stage to which the phases lead.
     pub(crate) fn stage(&self) -> Stage
         ensures { result ≡ self.now.stage }
     {

@@ -59,7 +59,7 @@ impl Register {
         self.begin_reading(CallKind::Write(value), now)
     }
 
-    // A call that reads the sequence of layouts begins.
+    // Begins a call that first reads the sequence of layouts: a read or a write.
     fn begin_reading(&mut self, kind: CallKind, now: Stamp) -> Result<u64, Refusal>
         requires after { self.old.last < now }
         requires kind { (kind ≡ Read) ⊎ ((value : List ℕ) × (kind ≡ Write value) × IsValue value) }
@@ -171,7 +171,7 @@ impl Register {
     }
 }
 
-// Whether a move is open once a call that did this is answered.
+// Whether a move is open after the answer of a call with this operation.
 fn is_still_moving(is_moving: bool, operation: Operation) -> bool
     ensures ended { operation ≡ operations.Move → result ≡ false }
     ensures same { (operation ≡ operations.Move → ⊥) → result ≡ is_moving }
@@ -182,7 +182,7 @@ fn is_still_moving(is_moving: bool, operation: Operation) -> bool
     }
 }
 
-// Whether these bytes are not too many for a value.
+// Whether the value is within the limit on its length.
 fn is_short(value: &[u8]) -> bool
     ensures short { result ≡ nat_le (length value.now) LONGEST_VALUE }
     ensures bytes { AreBytes value.now }

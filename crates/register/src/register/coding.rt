@@ -195,7 +195,7 @@ impl Register {
     }
 }
 
-// The position whose members are to get the pieces of a call.
+// The position whose members are to get the pieces of a call, if it sends any.
 fn pieces_position(positions: &[Position], call: &Call) -> Option<u32>
     requires count { length positions.now ≤ MOST_POSITIONS }
     requires below { IsBelow (length positions.now) call.now }
@@ -212,7 +212,7 @@ fn pieces_position(positions: &[Position], call: &Call) -> Option<u32>
     }
 }
 
-// The position of a phase that sends pieces.
+// The position of the phase, if there is a phase and it sends pieces.
 fn sending_position(phase: Option<&Phase>) -> Option<u32>
     ensures { result ≡ sending_position (option_copied phase.entry) }
 {
@@ -238,7 +238,7 @@ fn is_replied(phase: Option<&Phase>) -> bool
     }
 }
 
-// `Full` unless it is so.
+// `Full` unless the condition holds.
 fn full_unless(holds: bool) -> Result<(), Refusal>
     ensures { IsExactlyByCause (unless holds Full None) result }
 {

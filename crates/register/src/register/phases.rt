@@ -66,7 +66,7 @@ impl Register {
         self.begin_due(call, true, now)
     }
 
-    // The call of this number begins the phase that is due, where it wants to advance or, `anew`, to begin anew.
+    // The call of this number begins the phase that is due: as an advance, or if `anew` as a restart.
     fn begin_due(&mut self, call: u64, anew: bool, now: Stamp) -> Result<(), Refusal>
         requires after { self.old.last < now }
         ensures step { OnOk result (self.new ≡ made (due_step anew (pred call)) now self.old) }
@@ -132,7 +132,7 @@ impl Register {
     }
 }
 
-// The place of the call of this number.
+// The index of the call of this number.
 pub fn index_of(calls: &[Call], call: u64) -> Result<usize, Refusal>
     ensures place { IfOk result (λ index. (suc index ≡ call) × (index < length calls.now)) }
     ensures refused { IfErr result (λ e. (e ≡ NoCall) × ((call ≡ 0) ⊎ (length calls.now < call))) }
@@ -180,7 +180,7 @@ pub fn want_of(positions: &[Position], call: &Call) -> Want
     }
 }
 
-// Whether a call that wants this is to begin the phase that is due, as it is or `anew`.
+// Whether a call that wants this is to begin the phase that is due: as an advance, or if `anew` as a restart.
 fn wants_due(anew: bool, wanted: Want) -> bool
     ensures { result ≡ wants_due anew wanted }
 {
@@ -191,7 +191,7 @@ fn wants_due(anew: bool, wanted: Want) -> bool
     }
 }
 
-// The value's length that the first piece of these replies names; 0 where there is no piece.
+// The length of the value that the first piece of these replies states, or 0 where there is no piece.
 fn value_len(replies: &[Taken]) -> u32
     ensures { result ≡ value_len replies.now }
 {

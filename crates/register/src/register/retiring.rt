@@ -65,8 +65,8 @@ impl Register {
     }
 }
 
-// Whether the move out of a position was answered behind which there are so many. Of the moves only the last may be
-// open.
+// Whether the move out of a position was answered, where `behind` positions come after this one. Only the last move may
+// be open.
 fn is_left(behind: usize, is_moving: bool) -> bool
     ensures { result ≡ nat_lt (if is_moving then 1 else 0) behind }
 {

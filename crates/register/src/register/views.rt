@@ -28,12 +28,12 @@ use tag::{Refusal, Tag};
 use transfer::stage_tag;
 
 impl Register {
-    /// A law: the record is sound and within the written limits. It changes nothing and allocates no memory.
+    /// A law: the record is sound and within the limits of `tag`. It changes nothing and allocates no memory.
     pub fn soundness(&self)
         ensures sound { IsSound fragment self.now.object self.now.last }
         ensures limits { IsWithinLimits self.now.object }
     {
-        // What a register keeps is known where a field is read.
+        // Reading a field makes the invariant of the type known here.
         let _ = &self.positions;
     }
 
@@ -202,7 +202,7 @@ impl Register {
     }
 }
 
-// The tag that a phase of this kind fetches, or else that of the stage.
+// The tag that a phase of this kind fetches, or the tag of the stage if it is no fetch.
 fn viewed_tag(kind: Kind, stage: Stage) -> Option<Tag>
     ensures { result ≡ fetched_or kind (stage_tag stage) }
 {
