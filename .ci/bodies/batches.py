@@ -18,17 +18,17 @@ class Result:
     is_weak: bool = False  # refused only because a proof names what the edit took away
 
 
-def rounds_of(edits):
-    """Parts the edits into rounds, in each of which no two lie in one function."""
-    rounds = []
+def batches_of(edits):
+    """Parts the edits into batches, in each of which no two lie in one function."""
+    batches = []
     for edit in edits:
-        free = (it for it in rounds if not any(set(edit.functions) & set(other.functions) for other in it))
+        free = (it for it in batches if not any(set(edit.functions) & set(other.functions) for other in it))
         room = next(free, None)
         if room is None:
-            rounds.append([edit])
+            batches.append([edit])
         else:
             room.append(edit)
-    return rounds
+    return batches
 
 
 class Trial:
@@ -69,7 +69,7 @@ class Trial:
         rows, is_weak = report.reasons(edit, self.line_of)
         return Result(edit, Verdict.REFUSED, rows[0] if rows else "", is_weak)
 
-    def try_round(self, edits):
+    def try_batch(self, edits):
         """Tries the edits by one check. Returns the results, and the edits that have to be tried alone."""
         texts = edited_texts(self.crate.folder, edits)
         report = self.check(texts, [it for edit in edits for it in edit.functions])
@@ -78,7 +78,7 @@ class Trial:
             good = [it for it in edits if it not in bad]
             if not bad or not good:
                 return [], edits
-            results, alone = self.try_round(good)
+            results, alone = self.try_batch(good)
             return results, alone + bad
         if report.fails_alone(edits):
             return [], edits
@@ -112,8 +112,8 @@ class Trial:
         good = [it for it in edits if not it.problem]
         alone = [it for it in good if not it.is_inside]
         with tempfile.TemporaryDirectory(prefix="wrong-bodies-kept-") as self.kept:
-            for some in rounds_of([it for it in good if it.is_inside]):
-                judged, left = self.try_round(some) if len(some) > 1 else ([], some)
+            for some in batches_of([it for it in good if it.is_inside]):
+                judged, left = self.try_batch(some) if len(some) > 1 else ([], some)
                 results += judged
                 alone += left
             results += [self.try_alone(it) for it in alone]
