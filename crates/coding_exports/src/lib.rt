@@ -17,7 +17,5 @@ mod fragments;
 mod lost;
 mod repair;
 mod room;
-#[cfg(test)]
-mod tests;
 mod text;
 mod value;
