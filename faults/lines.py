@@ -1,28 +1,26 @@
-"""Plays the command lines and the store of threads, each with each of its requests for memory refused."""
+"""Plays the command lines, each with each of its requests for memory refused."""
 from memory import NO_MEMORY
 from stories import LINES
 
 
-def play_lines(machine, cas, scarce):
+def play_lines(machine, cas):
     """Plays every line. Answers what was not as it should be, a line each."""
     found = []
     for words, wanted in LINES.items():
         found += play_line(machine, [cas, *words], wanted)
-    if scarce:
-        found += play_line(machine, [scarce], "receipts 2\n", insists=True)
     return found
 
 
-def play_line(machine, words, wanted, insists=False):
-    """A line whose memory is refused prints nothing but the refusal, or comes out; one that insists comes out."""
-    name, found, nth = " ".join(words[1:] or ["scarce"]), [], 1
+def play_line(machine, words, wanted):
+    """A line whose memory is refused prints nothing but the refusal, or comes out."""
+    name, found, nth = " ".join(words[1:]), [], 1
     while True:
         run = machine.run(words, 0, nth)
         if not run.was_refused:
             break
         comes_out = run.out == wanted and run.status == 0
         is_refused = run.out == "" and run.err == NO_MEMORY + "\n" and run.status == 1
-        if not comes_out and (insists or not is_refused):
+        if not comes_out and not is_refused:
             found.append(f"{name}: request {nth}: {run.out!r}, {run.err!r}, status {run.status}")
         nth += 1
     if run.out != wanted or run.status != 0:

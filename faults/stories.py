@@ -64,5 +64,5 @@ LINES = {
     ("soak", "1", "4", "0", "7"): "calls 4\nreceipts 4\nmoves 0\ncheck true\naccounts true\n",
 }
 
-# The pieces that `pool_story` has its value coded into, of which any two give it back.
+# The pieces that `trials` has its value coded into, of which any two give it back.
 POOL_JOBS = 4

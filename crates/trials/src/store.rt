@@ -1,4 +1,5 @@
-//! The store, its one seat, a write and a read.
+//! One write and one read through a store of threads with one seat and no workers, made good where memory is refused
+//! once.
 ghost use Rattle.std.specs.Prelude.{◌≡◌, ◌+◌};
 
 use bytes::Bytes;
@@ -7,6 +8,7 @@ use cluster::Cluster;
 use layout::Layout;
 use register::Receipt;
 use std::alloc::Global;
+use std::marker::Brand;
 use std::sync::Wait;
 use std::sync::ledger::Blank;
 use std::thread::Threads;
@@ -17,12 +19,28 @@ const TURNS: u64 = 100_000;
 
 const HELLO: &[u8] = b"hello";
 
-/// Opens a store of one seat and no workers over a cluster, writes and reads, and closes it. Answers the receipts of
-/// the close.
+/// Plays the story, and prints the receipts of the close. A store that could not be opened or closed for want of memory
+/// is played again from its beginning. Answers whether it came to its end.
+pub(crate) fn play<R: Threads + Wait + Sync>(rt: &R, host: &HostRuntime) -> bool {
+    let receipts = match play_once(rt, host.alloc()) {
+        Err(Refusal::NoMemory) => play_once(rt, host.alloc()),
+        answer => answer,
+    };
+    match receipts {
+        Ok(receipts) => println!(host; "receipts {receipts}").is_ok(),
+        Err(_) => false,
+    }
+}
+
+fn play_once<R: Threads + Wait + Sync>(rt: &R, alloc: Global) -> Result<u64, Refusal> {
+    play_named::<Brand, R>(rt, alloc, Blank::new(2), four_servers(alloc)?)
+}
+
+/// Opens a store over a cluster, writes and reads, and closes it. Answers the receipts of the close.
 ///
 /// `NoMemory` where the store could not be opened or closed, or memory was refused twice to one call; `WrongCode` where
 /// what was read is not what was written.
-pub(crate) fn play<L: StoreName, R: Threads + Wait + Sync>(
+fn play_named<L: StoreName, R: Threads + Wait + Sync>(
     rt: &R,
     alloc: Global,
     blank: Blank,
@@ -33,13 +51,7 @@ pub(crate) fn play<L: StoreName, R: Threads + Wait + Sync>(
     requires parts { (blank.parts ≡ L.parts) × (blank.parts ≡ L.seats + 1) × (1 ≡ L.seats) }
 {
     let (store, mut seats, _admin) = Store::<L>::open(alloc, blank, cluster, 1, 0)?;
-    let mut seat = seats.pop().ok_or(Refusal::Stranger)?;
-    insist(rt, &store, &mut seat, true)?;
-    let read = insist(rt, &store, &mut seat, false)?;
-    if read.value != Some(Bytes::from_static(HELLO)) {
-        return Err(Refusal::WrongCode);
-    }
-    seats.push(seat)?;
+    write_and_read(rt, &store, &mut seats)?;
     match store.close(seats) {
         Ok(closed) => Ok(closed.receipts),
         Err(left) => Err(left.refusal),
@@ -47,11 +59,24 @@ pub(crate) fn play<L: StoreName, R: Threads + Wait + Sync>(
 }
 
 /// Four servers, one layout of all with k 2, and the object `a`.
-pub(crate) fn four_servers(alloc: Global) -> Result<Cluster, Refusal> {
+fn four_servers(alloc: Global) -> Result<Cluster, Refusal> {
     let mut cluster = Cluster::new(alloc, 4);
     let layout = cluster.add_layout(Layout::new(2, &[0, 1, 2, 3])?)?;
     cluster.create("a", layout)?;
     Ok(cluster)
+}
+
+fn write_and_read<L: StoreName, R: Threads + Wait + Sync>(
+    rt: &R,
+    store: &Store<L>,
+    seats: &mut [Seat<L>],
+) -> Result<(), Refusal> {
+    let seat = seats.first_mut().ok_or(Refusal::Stranger)?;
+    insist(rt, store, seat, true)?;
+    match insist(rt, store, seat, false)?.value {
+        Some(value) if value.as_slice() == HELLO => Ok(()),
+        _ => Err(Refusal::WrongCode),
+    }
 }
 
 // A whole write or read. Where memory is refused, it is resumed, or made again if its call step was not made.
