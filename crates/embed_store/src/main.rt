@@ -5,7 +5,7 @@
 ghost use Rattle.std.specs.Prelude.{◌≡◌, ◌+◌};
 
 use bytes::Bytes;
-use client::{First, Store, StoreName};
+use client::{Admin, First, Seat, Store, StoreName};
 use cluster::Cluster;
 use layout::Layout;
 use std::alloc::Global;
@@ -52,12 +52,11 @@ fn main(rt: HostRuntime) -> ExitCode {
 
 /// Opens the store under a name of its own, and uses it.
 fn play<R: Threads + Wait + Sync>(rt: &R, alloc: Global) -> Result<Outcome, Refusal> {
-    write_move_and_read::<Brand, R>(rt, alloc, Blank::new(2), four_servers(alloc)?)
+    open_and_close::<Brand, R>(rt, alloc, Blank::new(2), four_servers(alloc)?)
 }
 
-/// Writes `hello` to an object of four servers, any two of which give the value back. Moves the object to three
-/// servers, each of which keeps the whole value, and reads it. With several seats, each thread would borrow one.
-fn write_move_and_read<L: StoreName, R: Threads + Wait + Sync>(
+/// Opens a store of this name over the cluster, makes the calls, and closes it.
+fn open_and_close<L: StoreName, R: Threads + Wait + Sync>(
     rt: &R,
     alloc: Global,
     blank: Blank,
@@ -68,20 +67,31 @@ fn write_move_and_read<L: StoreName, R: Threads + Wait + Sync>(
     requires parts { (blank.parts ≡ L.parts) × (blank.parts ≡ L.seats + 1) × (1 ≡ L.seats) }
 {
     let (store, mut seats, mut admin) = Store::<L>::open(alloc, blank, cluster, SEATS, WORKERS)?;
-    let mut seat = seats.pop().ok_or(Refusal::Stranger)?;
-    let hello = Bytes::from_static(b"hello");
-    store.write(rt, &mut seat, NAME, hello, &mut First, MOST_TURNS)?;
-    let layout = store.add_layout(rt, &mut admin, Layout::new(1, &[1, 2, 3])?)?;
-    store.move_object(rt, &mut admin, NAME, layout, &mut First, MOST_TURNS)?;
-    let receipt = store.read(rt, &mut seat, NAME, &mut First, MOST_TURNS)?;
-    seats.push(seat)?;
+    let value = write_move_and_read(rt, &store, &mut seats, &mut admin)?;
     match store.close(seats) {
         Ok(closed) => Ok(Outcome {
-            value: receipt.value.ok_or(Refusal::NotNow)?,
+            value,
             receipts: closed.receipts,
         }),
         Err(kept) => Err(kept.refusal),
     }
+}
+
+/// Writes `hello` to an object of four servers, any two of which give the value back. Moves the object to three
+/// servers, each of which keeps the whole value, and reads it. With several seats, each thread would borrow one.
+fn write_move_and_read<L: StoreName, R: Threads + Wait + Sync>(
+    rt: &R,
+    store: &Store<L>,
+    seats: &mut [Seat<L>],
+    admin: &mut Admin<L>,
+) -> Result<Bytes, Refusal> {
+    let seat = seats.first_mut().ok_or(Refusal::Stranger)?;
+    let hello = Bytes::from_static(b"hello");
+    store.write(rt, seat, NAME, hello, &mut First, MOST_TURNS)?;
+    let layout = store.add_layout(rt, admin, Layout::new(1, &[1, 2, 3])?)?;
+    store.move_object(rt, admin, NAME, layout, &mut First, MOST_TURNS)?;
+    let receipt = store.read(rt, seat, NAME, &mut First, MOST_TURNS)?;
+    receipt.value.ok_or(Refusal::NotNow)
 }
 
 /// A cluster of four servers, with the object.
