@@ -13,7 +13,11 @@ mod mails;
 #[cfg(test)]
 mod phases;
 #[cfg(test)]
+mod pieces;
+#[cfg(test)]
 mod readings;
+#[cfg(test)]
+mod same;
 #[cfg(test)]
 mod stages;
 #[cfg(test)]

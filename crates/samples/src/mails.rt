@@ -1,11 +1,10 @@
-//! The messages that wait in a mail, their places, and the bytes that they carry.
-use bank::{Answer, HeldPiece, Reply, Request, Status};
-use bytes::Bytes;
-use encoder::Piece;
+//! Messages that wait, in their places, and the bytes that they carry.
+use crate::pieces::{held, piece};
+use crate::same::assert_same;
+use bank::{Answer, Reply, Request, Status};
 use mail::{Body, Mail, Message};
-use std::alloc::{AllocError, Global};
+use std::alloc::Global;
 use std::process::Abort;
-use std::test::Fail;
 use tag::{MOST_BYTES, Tag};
 
 const FIRST: Tag = Tag { number: 1, call: 1 };
@@ -20,12 +19,18 @@ fn request_to(member: u8, request: Request) -> Message {
     }
 }
 
-fn piece(alloc: Global) -> Result<Piece, AllocError> {
-    Ok(Piece {
-        point: 1,
-        len: 5,
-        bytes: Bytes::copy_from_slice(alloc, &[0x04, 0x0a, 0x6c])?,
-    })
+// A mail in which these messages wait.
+fn mail_of(rt: &impl Abort, alloc: Global, messages: Vec<Message>) -> Mail {
+    let mut mail = Mail::new(alloc);
+    assert!(rt; mail.is_empty());
+    mail.post_all(messages).expect(rt, "room for messages");
+    mail
+}
+
+fn post(rt: &impl Abort, messages: &mut Vec<Message>, member: u8, request: Request) {
+    messages
+        .push(request_to(member, request))
+        .expect(rt, "room for a message");
 }
 
 fn answer_at(rt: &impl Abort, mail: &mut Mail, place: usize, answer: Answer) {
@@ -35,48 +40,70 @@ fn answer_at(rt: &impl Abort, mail: &mut Mail, place: usize, answer: Answer) {
     mail.reply_in_place(place, reply);
 }
 
-#[test]
-fn keeps_the_order_of_places(rt: HostRuntime) -> Result<(), Fail> {
-    let mut requests = Vec::new(rt.alloc());
-    for member in 0..4u8 {
-        requests.push(request_to(member, Request::Next))?;
+fn assert_asks(rt: &impl Abort, mail: &Mail, place: usize, member: u8) {
+    assert!(rt; place < mail.len());
+    assert_same(
+        rt,
+        "a message",
+        mail.at(place),
+        &request_to(member, Request::Next),
+    );
+}
+
+// The members that are asked for their next pointer, in the order of the messages' places.
+fn assert_order(rt: &impl Abort, mail: &Mail, members: &[u8]) {
+    assert_same(rt, "how many messages", mail.len(), members.len());
+    for (place, &member) in members.iter().enumerate() {
+        assert_asks(rt, mail, place, member);
     }
-    let mut mail = Mail::new(rt.alloc());
-    assert!(rt; mail.is_empty());
-    mail.post_all(requests)?;
-    answer_at(&rt, &mut mail, 2, Answer::Pointer(Status::Unset));
-    assert!(rt; 2 < mail.len());
-    assert_eq!(rt; mail.take_out(2).member, 2);
-    assert!(rt; 0 < mail.len());
-    mail.repeat(0)?;
-    assert_eq!(rt; mail.len(), 4);
-    for (place, member) in [(0, 0), (1, 1), (2, 3), (3, 0)] {
-        assert!(rt; place < mail.len());
-        assert_eq!(rt; mail.at(place), &request_to(member, Request::Next));
+}
+
+fn asking(rt: &impl Abort, alloc: Global, members: u8) -> Vec<Message> {
+    let mut requests = Vec::new(alloc);
+    for member in 0..members {
+        post(rt, &mut requests, member, Request::Next);
     }
-    Ok(())
+    requests
 }
 
 #[test]
-fn counts_the_bytes_of_pieces(rt: HostRuntime) -> Result<(), Fail> {
+fn keeps_the_order_of_places(rt: HostRuntime) {
+    let mut mail = mail_of(&rt, rt.alloc(), asking(&rt, rt.alloc(), 4));
+    answer_at(&rt, &mut mail, 2, Answer::Pointer(Status::Unset));
+    assert!(rt; 2 < mail.len());
+    assert_same(&rt, "the member", mail.take_out(2).member, 2);
+    assert!(rt; 0 < mail.len());
+    mail.repeat(0).expect(&rt, "room for a message");
+    assert_order(&rt, &mail, &[0, 1, 3, 0]);
+}
+
+fn assert_bytes(rt: &impl Abort, mail: &Mail, len: usize, bytes: u64) {
+    assert_same(
+        rt,
+        "messages and bytes",
+        (mail.len(), mail.bytes()),
+        (len, bytes),
+    );
+}
+
+#[test]
+fn counts_the_bytes_of_pieces(rt: HostRuntime) {
     let alloc = rt.alloc();
     let mut requests = Vec::new(alloc);
-    requests.push(request_to(0, Request::PreWrite(FIRST, piece(alloc)?)))?;
-    requests.push(request_to(1, Request::Fetch(FIRST)))?;
-    let mut mail = Mail::new(alloc);
-    mail.post_all(requests)?;
-    assert_eq!(rt; mail.bytes(), 3);
-    answer_at(
+    post(
         &rt,
-        &mut mail,
-        1,
-        Answer::Piece(Some(HeldPiece::new(alloc, piece(alloc)?)?)),
+        &mut requests,
+        0,
+        Request::PreWrite(FIRST, piece(&rt, alloc)),
     );
-    assert_eq!(rt; mail.bytes(), 6);
+    post(&rt, &mut requests, 1, Request::Fetch(FIRST));
+    let mut mail = mail_of(&rt, alloc, requests);
+    assert_bytes(&rt, &mail, 2, 3);
+    answer_at(&rt, &mut mail, 1, Answer::Piece(Some(held(&rt, alloc))));
+    assert_bytes(&rt, &mail, 2, 6);
     answer_at(&rt, &mut mail, 0, Answer::Done);
-    assert_eq!(rt; mail.bytes(), 3);
+    assert_bytes(&rt, &mail, 2, 3);
     assert!(rt; 0 < mail.len());
     mail.lose(0);
-    assert_eq!(rt; (mail.len(), mail.bytes()), (1, 3));
-    Ok(())
+    assert_bytes(&rt, &mail, 1, 3);
 }
