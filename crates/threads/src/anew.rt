@@ -1,27 +1,54 @@
 //! A read whose version is collected before it is fetched, and which begins anew.
 
-ghost use Rattle.std.specs.Prelude.{◌≡◌, ◌+◌};
-
-use crate::acts::{
-    Answer, HELLO, TURNS, close, has_value, is_refused, open_store, put_both, read, resume,
-    take_seat, write,
-};
-use crate::kept::collecting_servers;
-use client::{Seat, Store, StoreName};
-use cluster::Cluster;
-use std::alloc::Global;
-use std::marker::Brand;
+use crate::acts::{Answer, HELLO, TURNS, put_seat, read, resume, take_seat, write};
+use crate::ends::{has_value, is_answered, is_refused};
+use crate::scene::{Play, Scene, perform};
+use crate::servers::Servers;
+use bytes::Bytes;
+use client::{First, Seat, Store, StoreName};
 use std::process::Abort;
 use std::sync::Wait;
-use std::sync::ledger::Blank;
-use std::test::Fail;
 use std::thread::Threads;
 use tag::Refusal;
 
 /// The turns of a read up to its fetch.
-pub(crate) const BEFORE_FETCH: u64 = 16;
+const BEFORE_FETCH: u64 = 16;
 
 const NEWER: &[u8] = b"newer";
+
+/// A read is left open right before its fetch.
+pub(crate) fn reads_up_to_its_fetch<L: StoreName, R: Threads + Wait + Abort + Sync>(
+    rt: &R,
+    store: &Store<L>,
+    reader: &mut Seat<L>,
+) {
+    let begun = read(rt, store, reader, &mut First, BEFORE_FETCH);
+    is_refused(rt, begun, Refusal::GaveUp);
+}
+
+/// The version that a read was about to fetch is gone: the read is collected, and then begins anew.
+pub(crate) fn is_collected_and_answered<L: StoreName, R: Threads + Wait + Abort + Sync>(
+    rt: &R,
+    store: &Store<L>,
+    reader: &mut Seat<L>,
+) -> Answer {
+    is_refused(
+        rt,
+        resume(rt, store, reader, &mut First, TURNS),
+        Refusal::Collected,
+    );
+    resume(rt, store, reader, &mut First, TURNS)
+}
+
+fn writes<L: StoreName, R: Threads + Wait + Abort + Sync>(
+    rt: &R,
+    store: &Store<L>,
+    writer: &mut Seat<L>,
+    value: &'static [u8],
+) {
+    let value = Bytes::from_static(value);
+    is_answered(rt, write(rt, store, writer, value, &mut First, TURNS));
+}
 
 // While a read is about to fetch the first value another is written. The read is collected, and then it has the other.
 fn reads_anew<L: StoreName, R: Threads + Wait + Abort + Sync>(
@@ -29,36 +56,37 @@ fn reads_anew<L: StoreName, R: Threads + Wait + Abort + Sync>(
     store: &Store<L>,
     writer: &mut Seat<L>,
     reader: &mut Seat<L>,
-) -> Answer {
-    write(rt, store, writer, HELLO, TURNS)?;
-    is_refused(rt, read(rt, store, reader, BEFORE_FETCH), Refusal::GaveUp);
-    write(rt, store, writer, NEWER, TURNS)?;
-    is_refused(rt, resume(rt, store, reader), Refusal::Collected);
-    resume(rt, store, reader)
+) {
+    writes(rt, store, writer, HELLO);
+    reads_up_to_its_fetch(rt, store, reader);
+    writes(rt, store, writer, NEWER);
+    has_value(rt, is_collected_and_answered(rt, store, reader), NEWER);
 }
 
-fn begins_anew<L: StoreName, R: Threads + Wait + Abort + Sync>(
+pub(crate) fn begins_anew<L: StoreName, R: Threads + Wait + Abort + Sync>(
     rt: &R,
-    alloc: Global,
-    blank: Blank,
-    cluster: Cluster,
-) -> Result<(), Refusal>
-    requires first { cluster ≡ L.first }
-    requires name { blank.name ≡ L.name }
-    requires parts { (blank.parts ≡ L.parts) × (blank.parts ≡ L.seats + 1) × (2 ≡ L.seats) }
-{
-    let (store, mut seats) = open_store::<L>(alloc, blank, cluster, 2, 0)?;
-    let mut reader = take_seat(&mut seats)?;
-    let mut writer = take_seat(&mut seats)?;
-    let receipt = reads_anew(rt, &store, &mut writer, &mut reader)?;
-    has_value(rt, &receipt, NEWER);
-    put_both(&mut seats, writer, reader)?;
-    close(rt, store, seats, 3, 3)?;
-    Ok(())
+    store: &Store<L>,
+    seats: &mut Vec<Seat<L>>,
+) {
+    let mut reader = take_seat(rt, seats);
+    let mut writer = take_seat(rt, seats);
+    reads_anew(rt, store, &mut writer, &mut reader);
+    put_seat(rt, seats, writer);
+    put_seat(rt, seats, reader);
 }
 
 #[test]
-fn a_read_begins_anew(rt: HostRuntime) -> Result<(), Fail> {
-    let cluster = collecting_servers(rt.alloc(), 0)?;
-    Ok(begins_anew::<Brand, _>(&rt, rt.alloc(), Blank::new(3), cluster)?)
+fn a_read_begins_anew(rt: HostRuntime) {
+    perform(
+        &rt,
+        rt.alloc(),
+        Play {
+            scene: Scene::BeginsAnew,
+            servers: Servers::Collect { delta: 0 },
+            seats: 2,
+            workers: 0,
+            closing: Ok(3),
+            calls: 3,
+        },
+    );
 }

@@ -1,23 +1,15 @@
 //! Values are coded and decoded with the lock free.
 
-ghost use Rattle.std.specs.Prelude.{◌≡◌, ◌+◌};
-
-use crate::acts::{
-    Answer, HELLO, TURNS, close, four_servers, has_value, is_refused, open_store, put_both, read,
-    take_seat,
-};
+use crate::acts::{Answer, HELLO, TURNS, put_seat, read, take_seat};
+use crate::ends::{has_value, is_refused};
+use crate::scene::{Play, Scene, perform};
+use crate::servers::Servers;
 use bytes::Bytes;
-use client::{Begin, Seat, Store, StoreName};
-use cluster::Cluster;
+use client::{Begin, First, Seat, Store, StoreName};
 use coding_pool::Gate;
-use driver::First;
-use std::alloc::Global;
-use std::marker::Brand;
 use std::process::Abort;
 use std::sync::Wait;
 use std::sync::atomic::{AtomicBool, Ordering};
-use std::sync::ledger::Blank;
-use std::test::Fail;
 use std::thread;
 use std::thread::{Threads, join};
 use tag::Refusal;
@@ -47,29 +39,24 @@ impl Gate for Hold {
     fn leave(&self, _job: usize) {}
 }
 
-fn not_yet() -> AtomicBool {
-    AtomicBool::new(false)
-}
-
 fn new_hold() -> Hold {
     Hold {
-        entered: not_yet(),
-        stirred: not_yet(),
-        overlapped: not_yet(),
+        entered: AtomicBool::new(false),
+        stirred: AtomicBool::new(false),
+        overlapped: AtomicBool::new(false),
     }
 }
 
-fn stir<L: StoreName, R: Wait>(rt: &R, store: &Store<L>) -> Result<bool, Refusal> {
-    store.stir(rt, "a", &mut First)
+fn stir<L: StoreName, R: Wait>(rt: &R, store: &Store<L>) -> bool {
+    store.stir(rt, "a", &mut First) == Ok(true)
 }
 
 // Handles one message once a job has entered the gate, which is to come within a million turns.
 fn stirs<L: StoreName, R: Wait>(rt: &R, store: &Store<L>, gate: &Hold) {
     for _ in 0..MOST_LOOKS {
         if gate.entered.load(Ordering::SeqCst) {
-            let stirred = stir(rt, store) == Ok(true);
-            gate.stirred.store(stirred, Ordering::SeqCst);
-            return;
+            let stirred = stir(rt, store);
+            return gate.stirred.store(stirred, Ordering::SeqCst);
         }
         thread::yield_now();
     }
@@ -79,11 +66,10 @@ fn calls<L: StoreName, R: Threads + Wait + Sync>(
     rt: &R,
     store: &Store<L>,
     gate: &Hold,
-    mut seat: Seat<L>,
+    seat: &mut Seat<L>,
     what: Begin,
-) -> (Seat<L>, Answer) {
-    let answer = store.call(rt, gate, &mut seat, "a", what, &mut First, TURNS);
-    (seat, answer)
+) -> Answer {
+    store.call(rt, gate, seat, "a", what, &mut First, TURNS)
 }
 
 // A call that is held at the gate, while another thread handles a message of a call that was left open.
@@ -91,65 +77,90 @@ fn calls_beside<L: StoreName + Send + Sync, R: Threads + Wait + Sync>(
     rt: &R,
     store: &Store<L>,
     gate: &Hold,
-    seat: Seat<L>,
+    seat: &mut Seat<L>,
     what: Begin,
-) -> (Seat<L>, Answer) {
-    let (called, ()) = join(
+) -> Answer {
+    let (answer, ()) = join(
         rt,
         move || calls(rt, store, gate, seat, what),
         move || stirs(rt, store, gate),
     );
-    called
+    answer
 }
 
 fn overlaps<L: StoreName + Send + Sync, R: Threads + Wait + Abort + Sync>(
     rt: &R,
     store: &Store<L>,
-    seat: Seat<L>,
+    seat: &mut Seat<L>,
     what: Begin,
     value: &'static [u8],
-) -> Result<Seat<L>, Refusal> {
+) {
     let hold = new_hold();
-    let (seat, answer) = calls_beside(rt, store, &hold, seat, what);
+    let answer = calls_beside(rt, store, &hold, seat, what);
     assert!(rt; hold.overlapped.load(Ordering::SeqCst));
-    has_value(rt, &answer?, value);
-    Ok(seat)
+    has_value(rt, answer, value);
 }
 
-fn leaves_the_lock_free<L: StoreName + Send + Sync, R: Threads + Wait + Abort + Sync>(
+fn is_left_open<L: StoreName, R: Threads + Wait + Abort + Sync>(
     rt: &R,
-    alloc: Global,
-    blank: Blank,
-    cluster: Cluster,
-    what: Begin,
-    value: &'static [u8],
-) -> Result<(), Refusal>
-    requires first { cluster ≡ L.first }
-    requires name { blank.name ≡ L.name }
-    requires parts { (blank.parts ≡ L.parts) × (blank.parts ≡ L.seats + 1) × (2 ≡ L.seats) }
-{
-    let (store, mut seats) = open_store::<L>(alloc, blank, cluster, 2, 1)?;
-    let mut idle = take_seat(&mut seats)?;
-    let seat = take_seat(&mut seats)?;
-    is_refused(rt, read(rt, &store, &mut idle, 0), Refusal::GaveUp);
-    let seat = overlaps(rt, &store, seat, what, value)?;
-    put_both(&mut seats, seat, idle)?;
-    close(rt, store, seats, 1, 2)?;
-    Ok(())
+    store: &Store<L>,
+    seat: &mut Seat<L>,
+) {
+    is_refused(rt, read(rt, store, seat, &mut First, 0), Refusal::GaveUp);
+}
+
+pub(crate) fn leaves_the_lock_free<L: StoreName + Send + Sync, R: Threads + Wait + Abort + Sync>(
+    rt: &R,
+    store: &Store<L>,
+    seats: &mut Vec<Seat<L>>,
+    writes: bool,
+) {
+    let mut idle = take_seat(rt, seats);
+    is_left_open(rt, store, &mut idle);
+    let mut seat = take_seat(rt, seats);
+    let (what, value) = begin_of(writes);
+    overlaps(rt, store, &mut seat, what, value);
+    put_seat(rt, seats, seat);
+    put_seat(rt, seats, idle);
+}
+
+// What is called, and the value of its receipt.
+fn begin_of(writes: bool) -> (Begin, &'static [u8]) {
+    if writes {
+        (Begin::Write(Bytes::from_static(HELLO)), HELLO)
+    } else {
+        (Begin::Read, b"")
+    }
 }
 
 #[test]
-fn encoding_leaves_the_lock_free(rt: HostRuntime) -> Result<(), Fail> {
-    let what = Begin::Write(Bytes::from_static(HELLO));
-    let cluster = four_servers(rt.alloc())?;
-    leaves_the_lock_free::<Brand, _>(&rt, rt.alloc(), Blank::new(3), cluster, what, HELLO)?;
-    Ok(())
+fn encoding_leaves_the_lock_free(rt: HostRuntime) {
+    perform(
+        &rt,
+        rt.alloc(),
+        Play {
+            scene: Scene::LeavesTheLockFree { writes: true },
+            servers: Servers::KeepAll,
+            seats: 2,
+            workers: 1,
+            closing: Ok(1),
+            calls: 2,
+        },
+    );
 }
 
 #[test]
-fn decoding_leaves_the_lock_free(rt: HostRuntime) -> Result<(), Fail> {
-    let what = Begin::Read;
-    let cluster = four_servers(rt.alloc())?;
-    leaves_the_lock_free::<Brand, _>(&rt, rt.alloc(), Blank::new(3), cluster, what, b"")?;
-    Ok(())
+fn decoding_leaves_the_lock_free(rt: HostRuntime) {
+    perform(
+        &rt,
+        rt.alloc(),
+        Play {
+            scene: Scene::LeavesTheLockFree { writes: false },
+            servers: Servers::KeepAll,
+            seats: 2,
+            workers: 1,
+            closing: Ok(1),
+            calls: 2,
+        },
+    );
 }

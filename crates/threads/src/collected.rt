@@ -1,49 +1,60 @@
 //! Writers and readers of one object whose banks collect.
 
-ghost use Rattle.std.specs.Prelude.{◌≡◌, ◌+◌};
-
-use crate::acts::{close, open_store};
-use crate::crew::{has_a_sequence, work};
-use crate::kept::{collecting_servers, keeps_few};
+use crate::crew::{Part, work};
+use crate::scene::{Play, Scene, perform};
+use crate::servers::Servers;
 use crate::tally::Tally;
-use client::StoreName;
-use cluster::Cluster;
+use client::{Seat, Store, StoreName};
 use std::alloc::Global;
-use std::marker::Brand;
 use std::process::Abort;
 use std::sync::Wait;
-use std::sync::ledger::Blank;
-use std::test::Fail;
 use std::thread::Threads;
-use tag::Refusal;
 
-// All calls are answered, and at the end the banks keep no more than they may.
-fn collects<L: StoreName + Send + Sync, R: Threads + Wait + Abort + Sync>(
+/// Four writers and four readers.
+pub(crate) const EIGHT: Part = Part {
+    calls: 20,
+    alternates: false,
+};
+
+// All calls are answered.
+pub(crate) fn collects<L: StoreName + Send + Sync, R: Threads + Wait + Abort + Sync>(
     rt: &R,
     alloc: Global,
-    blank: Blank,
-    cluster: Cluster,
-    delta: u32,
-) -> Result<(), Refusal>
-    requires first { cluster ≡ L.first }
-    requires name { blank.name ≡ L.name }
-    requires parts { (blank.parts ≡ L.parts) × (blank.parts ≡ L.seats + 1) × (8 ≡ L.seats) }
-{
-    let (store, mut seats) = open_store::<L>(alloc, blank, cluster, 8, 2)?;
-    work(rt, alloc, &store, &mut seats, &Tally::new())?;
-    let cluster = close(rt, store, seats, 160, 160)?;
-    has_a_sequence(rt, alloc, &cluster, 160)?;
-    keeps_few(rt, &cluster, delta)
+    store: &Store<L>,
+    seats: &mut Vec<Seat<L>>,
+    tally: &Tally,
+) {
+    work(rt, alloc, store, seats, EIGHT, tally)
 }
 
 #[test]
-fn the_newest_version_is_kept(rt: HostRuntime) -> Result<(), Fail> {
-    let cluster = collecting_servers(rt.alloc(), 0)?;
-    Ok(collects::<Brand, _>(&rt, rt.alloc(), Blank::new(9), cluster, 0)?)
+fn the_newest_version_is_kept(rt: HostRuntime) {
+    perform(
+        &rt,
+        rt.alloc(),
+        Play {
+            scene: Scene::Collects { delta: 0 },
+            servers: Servers::Collect { delta: 0 },
+            seats: 8,
+            workers: 2,
+            closing: Ok(160),
+            calls: 160,
+        },
+    );
 }
 
 #[test]
-fn the_two_newest_versions_are_kept(rt: HostRuntime) -> Result<(), Fail> {
-    let cluster = collecting_servers(rt.alloc(), 1)?;
-    Ok(collects::<Brand, _>(&rt, rt.alloc(), Blank::new(9), cluster, 1)?)
+fn the_two_newest_versions_are_kept(rt: HostRuntime) {
+    perform(
+        &rt,
+        rt.alloc(),
+        Play {
+            scene: Scene::Collects { delta: 1 },
+            servers: Servers::Collect { delta: 1 },
+            seats: 8,
+            workers: 2,
+            closing: Ok(160),
+            calls: 160,
+        },
+    );
 }

@@ -1,7 +1,8 @@
-//! Writers and readers of one object, in a thread each.
+//! Clients of one object, in a thread each.
 
-use crate::acts::{put_both, take_seat};
-use crate::insisting::{insist, read, write};
+use crate::acts::{Answer, read, write};
+use crate::ends::is_answered;
+use crate::insisting::{FEW_TURNS, insist};
 use crate::tally::Tally;
 use crate::varied::Varied;
 use bytes::Bytes;
@@ -11,167 +12,92 @@ use history::{check, sequence};
 use std::alloc::Global;
 use std::process::Abort;
 use std::sync::Wait;
-use std::thread::{Threads, join};
-use tag::Refusal;
+use std::thread::{Threads, for_each_mut};
 
-/// The calls of each client.
-const CALLS: u8 = 20;
+/// The most threads: one for each client.
+const THREADS: usize = 8;
 
-/// A writer and a reader.
-type Pair<L> = (Seat<L>, Seat<L>);
+/// What each client of a crew does.
+#[derive(Clone, Copy)]
+pub(crate) struct Part {
+    pub(crate) calls: u8,
+    /// Each client writes and reads in turn. Else every second one writes, and the others read.
+    pub(crate) alternates: bool,
+}
 
-/// What clients leave, and the first refusal that none of their resumes mends.
-pub(crate) type Worked<T> = (T, Result<(), Refusal>);
-
-fn chooser_of<L: StoreName>(seat: &Seat<L>) -> Varied {
-    Varied {
-        state: u64::from(seat.number()),
-        mask: 3,
+impl Part {
+    fn is_write(&self, seat: u32, call: u8) -> bool {
+        if self.alternates {
+            call % 2 == 0
+        } else {
+            seat % 2 == 1
+        }
     }
 }
 
-fn write_number<L: StoreName, R: Threads + Wait + Sync>(
+fn value_of(rt: &impl Abort, alloc: Global, seat: u32, call: u8) -> Bytes {
+    let value = Bytes::copy_from_slice(alloc, &[(seat % 8) as u8, call]);
+    value.expect(rt, "memory for a value")
+}
+
+// A write of its client's number and its own, or a read.
+fn begin<L: StoreName, R: Threads + Wait + Abort + Sync>(
     rt: &R,
     alloc: Global,
     store: &Store<L>,
     seat: &mut Seat<L>,
-    number: u8,
+    part: Part,
+    call: u8,
     chooser: &mut Varied,
-    tally: &Tally,
-) -> Result<(), Refusal> {
-    let client = (seat.number() % 8) as u8;
-    let value = Bytes::copy_from_slice(alloc, &[client, number])?;
-    let begun = write(rt, store, seat, value, chooser);
-    insist(rt, store, seat, begun, chooser, tally)?;
-    Ok(())
-}
-
-fn writes<L: StoreName, R: Threads + Wait + Sync>(
-    rt: &R,
-    alloc: Global,
-    store: &Store<L>,
-    mut seat: Seat<L>,
-    tally: &Tally,
-) -> Worked<Seat<L>> {
-    let mut chooser = chooser_of(&seat);
-    for number in 0..CALLS {
-        tally.count_call();
-        let wrote = write_number(rt, alloc, store, &mut seat, number, &mut chooser, tally);
-        if wrote.is_err() {
-            return (seat, wrote);
-        }
+) -> Answer {
+    let number = seat.number();
+    if part.is_write(number, call) {
+        let value = value_of(rt, alloc, number, call);
+        write(rt, store, seat, value, chooser, FEW_TURNS)
+    } else {
+        read(rt, store, seat, chooser, FEW_TURNS)
     }
-    (seat, Ok(()))
 }
 
-fn reads<L: StoreName, R: Threads + Wait + Sync>(
+// Each call goes on by one of the first four messages that it can handle, and is answered in the end.
+fn make_calls<L: StoreName, R: Threads + Wait + Abort + Sync>(
     rt: &R,
+    alloc: Global,
     store: &Store<L>,
-    mut seat: Seat<L>,
+    seat: &mut Seat<L>,
+    part: Part,
     tally: &Tally,
-) -> Worked<Seat<L>> {
-    let mut chooser = chooser_of(&seat);
-    for _ in 0..CALLS {
+) {
+    let mut chooser = Varied::new(seat.number());
+    for call in 0..part.calls {
         tally.count_call();
-        let begun = read(rt, store, &mut seat, &mut chooser);
-        if let Err(refusal) = insist(rt, store, &mut seat, begun, &mut chooser, tally) {
-            return (seat, Err(refusal));
-        }
+        let begun = begin(rt, alloc, store, seat, part, call, &mut chooser);
+        is_answered(rt, insist(rt, store, seat, begun, &mut chooser, tally));
     }
-    (seat, Ok(()))
 }
 
-fn pair_works<L: StoreName + Send + Sync, R: Threads + Wait + Sync>(
-    rt: &R,
-    alloc: Global,
-    store: &Store<L>,
-    pair: Pair<L>,
-    tally: &Tally,
-) -> Worked<Pair<L>> {
-    let (writer, reader) = pair;
-    let ((writer, wrote), (reader, read)) = join(
-        rt,
-        move || writes(rt, alloc, store, writer, tally),
-        move || reads(rt, store, reader, tally),
-    );
-    ((writer, reader), wrote.and(read))
-}
-
-fn two_pairs_work<L: StoreName + Send + Sync, R: Threads + Wait + Sync>(
-    rt: &R,
-    alloc: Global,
-    store: &Store<L>,
-    first: Pair<L>,
-    second: Pair<L>,
-    tally: &Tally,
-) -> Worked<(Pair<L>, Pair<L>)> {
-    let ((first, made), (second, made_too)) = join(
-        rt,
-        move || pair_works(rt, alloc, store, first, tally),
-        move || pair_works(rt, alloc, store, second, tally),
-    );
-    ((first, second), made.and(made_too))
-}
-
-fn take_pair<L: StoreName>(seats: &mut Vec<Seat<L>>) -> Result<Pair<L>, Refusal> {
-    let writer = take_seat(seats)?;
-    let reader = take_seat(seats)?;
-    Ok((writer, reader))
-}
-
-fn put_pairs<L: StoreName>(
-    seats: &mut Vec<Seat<L>>,
-    first: Pair<L>,
-    second: Pair<L>,
-) -> Result<(), Refusal> {
-    put_both(seats, first.0, first.1)?;
-    put_both(seats, second.0, second.1)?;
-    Ok(())
-}
-
-// Two pairs in a thread each beside two others.
-fn four_pairs_work<L: StoreName + Send + Sync, R: Threads + Wait + Sync>(
-    rt: &R,
-    alloc: Global,
-    store: &Store<L>,
-    tally: &Tally,
-    first: (Pair<L>, Pair<L>),
-    second: (Pair<L>, Pair<L>),
-) -> Worked<((Pair<L>, Pair<L>), (Pair<L>, Pair<L>))> {
-    let ((first, made), (second, made_too)) = join(
-        rt,
-        move || two_pairs_work(rt, alloc, store, first.0, first.1, tally),
-        move || two_pairs_work(rt, alloc, store, second.0, second.1, tally),
-    );
-    ((first, second), made.and(made_too))
-}
-
-/// Four writers and four readers make their calls, which are counted.
-pub(crate) fn work<L: StoreName + Send + Sync, R: Threads + Wait + Sync>(
+/// All clients make their calls, which are counted.
+pub(crate) fn work<L: StoreName + Send + Sync, R: Threads + Wait + Abort + Sync>(
     rt: &R,
     alloc: Global,
     store: &Store<L>,
     seats: &mut Vec<Seat<L>>,
+    part: Part,
     tally: &Tally,
-) -> Result<(), Refusal> {
-    let first = (take_pair(seats)?, take_pair(seats)?);
-    let second = (take_pair(seats)?, take_pair(seats)?);
-    let ((first, second), worked) = four_pairs_work(rt, alloc, store, tally, first, second);
-    worked?;
-    put_pairs(seats, first.0, first.1)?;
-    put_pairs(seats, second.0, second.1)
+) {
+    for_each_mut(
+        rt,
+        seats.as_mut_slice(),
+        THREADS,
+        &|_, seat| { make_calls(rt, alloc, store, seat, part, tally) },
+    );
 }
 
 /// The sequence that the tags give has all calls, so many, and is one of the history.
-pub(crate) fn has_a_sequence<R: Abort>(
-    rt: &R,
-    alloc: Global,
-    cluster: &Cluster,
-    calls: usize,
-) -> Result<(), Refusal> {
-    let order = sequence(alloc, cluster.register("a")?)?;
-    assert_eq!(rt; order.len(), calls);
-    let entries = cluster.entries("a")?;
+pub(crate) fn has_a_sequence(rt: &impl Abort, alloc: Global, cluster: &Cluster, calls: usize) {
+    let register = cluster.register("a").expect(rt, "the object");
+    let order = sequence(alloc, register).expect(rt, "a sequence");
+    assert!(rt; order.len() == calls);
+    let entries = cluster.entries("a").expect(rt, "the object's history");
     assert!(rt; check(&entries, &order));
-    Ok(())
 }

@@ -1,20 +1,14 @@
 //! A write and a read whose messages are all chosen out of their range.
 
-ghost use Rattle.std.specs.Prelude.{◌≡◌, ◌+◌};
-
-use crate::acts::{Answer, HELLO, TURNS, close, four_servers, has_value, open_store, take_seat};
+use crate::acts::{HELLO, TURNS, put_seat, read, take_seat, write};
+use crate::ends::{has_value, is_answered};
+use crate::scene::{Play, Scene, perform};
+use crate::servers::Servers;
 use bytes::Bytes;
-use client::{Seat, Store, StoreName};
-use cluster::Cluster;
-use driver::Chooser;
-use std::alloc::Global;
-use std::marker::Brand;
+use client::{Chooser, Seat, Store, StoreName};
 use std::process::Abort;
 use std::sync::Wait;
-use std::sync::ledger::Blank;
-use std::test::Fail;
 use std::thread::Threads;
-use tag::Refusal;
 
 /// Answers the greatest number there is.
 #[derive(Clone, Copy)]
@@ -26,37 +20,38 @@ impl Chooser for Greatest {
     }
 }
 
-fn writes_and_reads<L: StoreName, R: Threads + Wait + Sync>(
+fn writes_and_reads<L: StoreName, R: Threads + Wait + Abort + Sync>(
     rt: &R,
     store: &Store<L>,
     seat: &mut Seat<L>,
-) -> Answer {
+) {
     let value = Bytes::from_static(HELLO);
-    store.write(rt, seat, "a", value, &mut Greatest, TURNS)?;
-    store.read(rt, seat, "a", &mut Greatest, TURNS)
+    is_answered(rt, write(rt, store, seat, value, &mut Greatest, TURNS));
+    has_value(rt, read(rt, store, seat, &mut Greatest, TURNS), HELLO);
 }
 
-fn chooses_the_greatest<L: StoreName, R: Threads + Wait + Abort + Sync>(
+pub(crate) fn chooses_the_greatest<L: StoreName, R: Threads + Wait + Abort + Sync>(
     rt: &R,
-    alloc: Global,
-    blank: Blank,
-    cluster: Cluster,
-) -> Result<(), Refusal>
-    requires first { cluster ≡ L.first }
-    requires name { blank.name ≡ L.name }
-    requires parts { (blank.parts ≡ L.parts) × (blank.parts ≡ L.seats + 1) × (1 ≡ L.seats) }
-{
-    let (store, mut seats) = open_store::<L>(alloc, blank, cluster, 1, 0)?;
-    let mut seat = take_seat(&mut seats)?;
-    let receipt = writes_and_reads(rt, &store, &mut seat)?;
-    has_value(rt, &receipt, HELLO);
-    seats.push(seat)?;
-    close(rt, store, seats, 2, 2)?;
-    Ok(())
+    store: &Store<L>,
+    seats: &mut Vec<Seat<L>>,
+) {
+    let mut seat = take_seat(rt, seats);
+    writes_and_reads(rt, store, &mut seat);
+    put_seat(rt, seats, seat);
 }
 
 #[test]
-fn a_store_of_the_greatest_choices(rt: HostRuntime) -> Result<(), Fail> {
-    let cluster = four_servers(rt.alloc())?;
-    Ok(chooses_the_greatest::<Brand, _>(&rt, rt.alloc(), Blank::new(2), cluster)?)
+fn a_store_of_the_greatest_choices(rt: HostRuntime) {
+    perform(
+        &rt,
+        rt.alloc(),
+        Play {
+            scene: Scene::ChoosesTheGreatest,
+            servers: Servers::KeepAll,
+            seats: 1,
+            workers: 0,
+            closing: Ok(2),
+            calls: 2,
+        },
+    );
 }

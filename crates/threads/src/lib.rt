@@ -1,13 +1,11 @@
-//! Stores of one object over four servers, used by threads of the tests' own, and the pool of coding workers: tests
-//! alone. They stand in a crate of their own, so that the store and the pool are proved once less.
+//! Stores of one object over four servers, used by threads of the tests' own: tests alone. They stand in a crate of
+//! their own, so that the store is proved once less.
 #![tactic(auto)]
 
 #[cfg(test)]
 mod acts;
 #[cfg(test)]
 mod anew;
-#[cfg(test)]
-mod choosing;
 #[cfg(test)]
 mod coding;
 #[cfg(test)]
@@ -17,6 +15,8 @@ mod crew;
 #[cfg(test)]
 mod disturbed;
 #[cfg(test)]
+mod ends;
+#[cfg(test)]
 mod greatest;
 #[cfg(test)]
 mod insisting;
@@ -25,16 +25,15 @@ mod kept;
 #[cfg(test)]
 mod limits;
 #[cfg(test)]
-#[cfg(test)]
-mod pool;
-#[cfg(test)]
-mod pool_gate;
-#[cfg(test)]
 mod resumed;
 #[cfg(test)]
 mod retired;
 #[cfg(test)]
+mod scene;
+#[cfg(test)]
 mod seats;
+#[cfg(test)]
+mod servers;
 #[cfg(test)]
 mod tally;
 #[cfg(test)]

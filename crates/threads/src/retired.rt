@@ -1,21 +1,18 @@
 //! Writers and readers of one object, while the administrator moves it and retires what it leaves.
 
-ghost use Rattle.std.specs.Prelude.{◌≡◌, ◌+◌};
-
-use crate::acts::{Answer, TURNS, close, is_refused, read, resume, take_seat};
-use crate::anew::BEFORE_FETCH;
-use crate::crew::{Worked, has_a_sequence, work};
+use crate::acts::{Answer, TURNS, put_seat, take_seat};
+use crate::anew::{is_collected_and_answered, reads_up_to_its_fetch};
+use crate::collected::EIGHT;
+use crate::crew::work;
+use crate::ends::{are_equal, is_answered};
+use crate::scene::{Play, Scene, perform};
+use crate::servers::Servers;
 use crate::tally::Tally;
-use client::{Admin, Seat, Store, StoreName};
+use client::{Admin, First, Seat, Store, StoreName};
 use cluster::Cluster;
-use driver::First;
-use layout::Layout;
 use std::alloc::Global;
-use std::marker::Brand;
 use std::process::Abort;
 use std::sync::Wait;
-use std::sync::ledger::Blank;
-use std::test::Fail;
 use std::thread::{Threads, join};
 use tag::Refusal;
 
@@ -25,15 +22,6 @@ const MOVES: u32 = 6;
 /// The calls of clients between two moves.
 const CALLS_BETWEEN: u64 = 20;
 
-// Four servers, a layout of all with k 2 and one of three with k 1, and the object `a` with the first.
-fn two_layouts(alloc: Global) -> Result<Cluster, Refusal> {
-    let mut cluster = Cluster::new(alloc, 4);
-    let layout = cluster.add_layout(Layout::new(2, &[0, 1, 2, 3])?)?;
-    cluster.add_layout(Layout::new(1, &[1, 2, 3])?)?;
-    cluster.create("a", layout)?;
-    Ok(cluster)
-}
-
 fn retire<L: StoreName, R: Wait>(
     rt: &R,
     store: &Store<L>,
@@ -41,6 +29,15 @@ fn retire<L: StoreName, R: Wait>(
     position: u32,
 ) -> Result<u64, Refusal> {
     store.retire(rt, admin, "a", u64::from(position))
+}
+
+fn is_not_retired<L: StoreName, R: Wait + Abort>(
+    rt: &R,
+    store: &Store<L>,
+    admin: &mut Admin<L>,
+    position: u32,
+) {
+    assert_eq!(rt; retire(rt, store, admin, position), Err(Refusal::NotNow));
 }
 
 // A move out of a position, to the other layout.
@@ -54,120 +51,89 @@ fn move_on<L: StoreName, R: Threads + Wait + Sync>(
     store.move_object(rt, admin, "a", layout, &mut First, TURNS)
 }
 
-// No position is retired before the move out of it is answered, and each is afterwards, once.
+// A position is not retired before the move out of it is answered, and is afterwards, once.
 fn moves_and_retires<L: StoreName, R: Threads + Wait + Abort + Sync>(
     rt: &R,
     store: &Store<L>,
     admin: &mut Admin<L>,
-    tally: &Tally,
-) -> Result<(), Refusal> {
-    for position in 0..MOVES {
-        tally.wait_for_more(u64::from(position) * CALLS_BETWEEN);
-        assert_eq!(rt; retire(rt, store, admin, position), Err(Refusal::NotNow));
-        move_on(rt, store, admin, position)?;
-        retire(rt, store, admin, position)?;
-        assert_eq!(rt; retire(rt, store, admin, position), Err(Refusal::NotNow));
-    }
-    Ok(())
-}
-
-fn administers<L: StoreName, R: Threads + Wait + Abort + Sync>(
-    rt: &R,
-    store: &Store<L>,
-    mut admin: Admin<L>,
-    tally: &Tally,
-) -> Worked<Admin<L>> {
-    let done = moves_and_retires(rt, store, &mut admin, tally);
-    (admin, done)
-}
-
-fn clients_work<L: StoreName + Send + Sync, R: Threads + Wait + Sync>(
-    rt: &R,
-    alloc: Global,
-    store: &Store<L>,
-    mut seats: Vec<Seat<L>>,
-    tally: &Tally,
-) -> Worked<Vec<Seat<L>>> {
-    let done = work(rt, alloc, store, &mut seats, tally);
-    (seats, done)
+    position: u32,
+) {
+    is_not_retired(rt, store, admin, position);
+    is_answered(rt, move_on(rt, store, admin, position));
+    assert!(rt; retire(rt, store, admin, position).is_ok());
+    is_not_retired(rt, store, admin, position);
 }
 
 // Six moves and as many positions retired are the administrator's orders, while clients call.
+fn administers<L: StoreName, R: Threads + Wait + Abort + Sync>(
+    rt: &R,
+    store: &Store<L>,
+    admin: &mut Admin<L>,
+    tally: &Tally,
+) {
+    for position in 0..MOVES {
+        tally.wait_for_more(u64::from(position) * CALLS_BETWEEN);
+        moves_and_retires(rt, store, admin, position);
+    }
+    are_equal(rt, admin.orders(), 12);
+}
+
 fn all_work<L: StoreName + Send + Sync, R: Threads + Wait + Abort + Sync>(
     rt: &R,
     alloc: Global,
     store: &Store<L>,
-    admin: Admin<L>,
-    seats: Vec<Seat<L>>,
-) -> Result<Vec<Seat<L>>, Refusal> {
-    let tally = Tally::new();
-    let counted = &tally;
-    let ((admin, moved), (seats, worked)) = join(
+    admin: &mut Admin<L>,
+    seats: &mut Vec<Seat<L>>,
+    tally: &Tally,
+) {
+    join(
         rt,
-        move || administers(rt, store, admin, counted),
-        move || clients_work(rt, alloc, store, seats, counted),
+        move || administers(rt, store, admin, tally),
+        move || work(rt, alloc, store, seats, EIGHT, tally),
     );
-    moved?;
-    worked?;
-    assert_eq!(rt; admin.orders(), 12);
-    Ok(seats)
 }
 
 // A read that began before all of them is about to fetch in a position that is retired by then: it is collected, and
 // then begins anew.
-fn all_work_around<L: StoreName + Send + Sync, R: Threads + Wait + Abort + Sync>(
+pub(crate) fn retires<L: StoreName + Send + Sync, R: Threads + Wait + Abort + Sync>(
     rt: &R,
     alloc: Global,
     store: &Store<L>,
-    admin: Admin<L>,
-    mut seats: Vec<Seat<L>>,
-) -> Result<Vec<Seat<L>>, Refusal> {
-    let mut early = take_seat(&mut seats)?;
-    is_refused(
-        rt,
-        read(rt, store, &mut early, BEFORE_FETCH),
-        Refusal::GaveUp,
-    );
-    let mut seats = all_work(rt, alloc, store, admin, seats)?;
-    is_refused(rt, resume(rt, store, &mut early), Refusal::Collected);
-    resume(rt, store, &mut early)?;
-    seats.push(early)?;
-    Ok(seats)
+    admin: &mut Admin<L>,
+    seats: &mut Vec<Seat<L>>,
+    tally: &Tally,
+) {
+    let mut early = take_seat(rt, seats);
+    reads_up_to_its_fetch(rt, store, &mut early);
+    all_work(rt, alloc, store, admin, seats, tally);
+    is_answered(rt, is_collected_and_answered(rt, store, &mut early));
+    put_seat(rt, seats, early);
 }
 
-// All positions but the last are retired, and only the last one's banks store pieces.
-fn stores_the_last_alone<R: Abort>(rt: &R, cluster: &Cluster) -> Result<(), Refusal> {
-    let register = cluster.register("a")?;
-    assert_eq!(rt; register.base(), MOVES);
+/// All positions but the last are retired, and only the last one's banks store pieces.
+pub(crate) fn stores_the_last_alone(rt: &impl Abort, cluster: &Cluster) {
+    let register = cluster.register("a").expect(rt, "the object");
+    assert!(rt; register.base() == MOVES);
     let mut stored = 0u64;
     for server in 0..4u8 {
         stored = stored.saturating_add(register.stored_at_base(server));
     }
     assert!(rt; stored > 0);
-    assert_eq!(rt; cluster.stored_all(), stored);
-    Ok(())
-}
-
-// All calls are answered and in one sequence, and at the end the retired positions store nothing.
-fn retires<L: StoreName + Send + Sync, R: Threads + Wait + Abort + Sync>(
-    rt: &R,
-    alloc: Global,
-    blank: Blank,
-    cluster: Cluster,
-) -> Result<(), Refusal>
-    requires first { cluster ≡ L.first }
-    requires name { blank.name ≡ L.name }
-    requires parts { (blank.parts ≡ L.parts) × (blank.parts ≡ L.seats + 1) × (9 ≡ L.seats) }
-{
-    let (store, seats, admin) = Store::<L>::open(alloc, blank, cluster, 9, 2)?;
-    let seats = all_work_around(rt, alloc, &store, admin, seats)?;
-    let cluster = close(rt, store, seats, 161, 167)?;
-    has_a_sequence(rt, alloc, &cluster, 161)?;
-    stores_the_last_alone(rt, &cluster)
+    are_equal(rt, cluster.stored_all(), stored);
 }
 
 #[test]
-fn positions_are_retired_under_clients(rt: HostRuntime) -> Result<(), Fail> {
-    let cluster = two_layouts(rt.alloc())?;
-    Ok(retires::<Brand, _>(&rt, rt.alloc(), Blank::new(10), cluster)?)
+fn positions_are_retired_under_clients(rt: HostRuntime) {
+    perform(
+        &rt,
+        rt.alloc(),
+        Play {
+            scene: Scene::Retires,
+            servers: Servers::TwoLayouts,
+            seats: 9,
+            workers: 2,
+            closing: Ok(161),
+            calls: 167,
+        },
+    );
 }

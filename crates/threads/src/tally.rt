@@ -7,11 +7,12 @@ use tag::Refusal;
 /// The most resumes of all clients together.
 pub(crate) const MOST_RESUMES: u64 = 10_000;
 
-/// How many calls were begun, and how many resumes were made.
+/// How many calls were begun, how many resumes were made, and at which step the last noted call was answered.
 #[derive(Drop)]
 pub(crate) struct Tally {
     begun: AtomicU64,
     resumed: AtomicU64,
+    answered: AtomicU64,
 }
 
 impl Tally {
@@ -19,11 +20,20 @@ impl Tally {
         Tally {
             begun: AtomicU64::new(0),
             resumed: AtomicU64::new(0),
+            answered: AtomicU64::new(0),
         }
     }
 
     pub(crate) fn count_call(&self) {
         self.begun.fetch_add(1, Ordering::SeqCst);
+    }
+
+    pub(crate) fn note_answered(&self, step: u64) {
+        self.answered.store(step, Ordering::SeqCst);
+    }
+
+    pub(crate) fn answered(&self) -> u64 {
+        self.answered.load(Ordering::SeqCst)
     }
 
     /// Whether a call is to be resumed: it is stuck, gave up or is to begin anew, and resumes are left.

@@ -1,17 +1,14 @@
 //! Turns are counted: each call and each resume makes so many steps as it may, and one more for the call step.
 
-ghost use Rattle.std.specs.Prelude.{◌≡◌, ◌+◌};
-
-use crate::acts::{Answer, HELLO, close, four_servers, is_refused, read, take_seat, write};
-use client::{Admin, Seat, Store, StoreName};
+use crate::acts::{HELLO, put_seat, read, resume, take_seat, write};
+use crate::ends::{are_equal, is_refused};
+use crate::scene::{Play, Scene, perform};
+use crate::servers::Servers;
+use bytes::Bytes;
+use client::{Admin, First, Seat, Store, StoreName};
 use cluster::Cluster;
-use driver::First;
-use std::alloc::Global;
-use std::marker::Brand;
 use std::process::Abort;
 use std::sync::Wait;
-use std::sync::ledger::Blank;
-use std::test::Fail;
 use std::thread::Threads;
 use tag::Refusal;
 
@@ -25,17 +22,8 @@ fn gives_up_a_move<L: StoreName, R: Threads + Wait + Abort + Sync>(
     is_refused(rt, begun, Refusal::GaveUp);
     let resumed = store.resume_move(rt, admin, &mut First, 2);
     is_refused(rt, resumed, Refusal::GaveUp);
-    assert_eq!(rt; admin.orders(), 1);
-    assert_eq!(rt; admin.asked(), 1);
-}
-
-fn resume<L: StoreName, R: Threads + Wait + Sync>(
-    rt: &R,
-    store: &Store<L>,
-    seat: &mut Seat<L>,
-    turns: u64,
-) -> Answer {
-    store.resume(rt, seat, &mut First, turns)
+    are_equal(rt, admin.orders(), 1);
+    are_equal(rt, admin.asked(), 1);
 }
 
 // The write is called at step 9, and has three turns and then two.
@@ -44,9 +32,14 @@ fn gives_up_a_write<L: StoreName, R: Threads + Wait + Abort + Sync>(
     store: &Store<L>,
     seat: &mut Seat<L>,
 ) {
-    is_refused(rt, write(rt, store, seat, HELLO, 3), Refusal::GaveUp);
-    is_refused(rt, resume(rt, store, seat, 2), Refusal::GaveUp);
-    assert_eq!(rt; seat.asked(), 1);
+    let value = Bytes::from_static(HELLO);
+    is_refused(
+        rt,
+        write(rt, store, seat, value, &mut First, 3),
+        Refusal::GaveUp,
+    );
+    is_refused(rt, resume(rt, store, seat, &mut First, 2), Refusal::GaveUp);
+    are_equal(rt, seat.asked(), 1);
     seat.abandon();
 }
 
@@ -56,42 +49,44 @@ fn gives_up_reads<L: StoreName, R: Threads + Wait + Abort + Sync>(
     store: &Store<L>,
     seat: &mut Seat<L>,
 ) {
-    is_refused(rt, read(rt, store, seat, 4), Refusal::GaveUp);
+    is_refused(rt, read(rt, store, seat, &mut First, 4), Refusal::GaveUp);
     seat.abandon();
-    is_refused(rt, read(rt, store, seat, 0), Refusal::GaveUp);
+    is_refused(rt, read(rt, store, seat, &mut First, 0), Refusal::GaveUp);
 }
 
-fn was_called<R: Abort>(rt: &R, cluster: &Cluster) -> Result<(), Refusal> {
-    let entries = cluster.entries("a")?;
-    assert_eq!(rt; entries.len(), 4);
+pub(crate) fn was_called(rt: &impl Abort, cluster: &Cluster) {
+    let entries = cluster.entries("a").expect(rt, "the object's history");
+    assert!(rt; entries.len() == 4);
     for (entry, called) in entries.iter().zip([3, 9, 15, 20]) {
-        assert_eq!(rt; entry.called, called);
+        assert!(rt; entry.called == called);
     }
-    Ok(())
 }
 
-fn gives_up<L: StoreName, R: Threads + Wait + Abort + Sync>(
+pub(crate) fn gives_up<L: StoreName, R: Threads + Wait + Abort + Sync>(
     rt: &R,
-    alloc: Global,
-    blank: Blank,
-    cluster: Cluster,
-) -> Result<(), Refusal>
-    requires first { cluster ≡ L.first }
-    requires name { blank.name ≡ L.name }
-    requires parts { (blank.parts ≡ L.parts) × (blank.parts ≡ L.seats + 1) × (1 ≡ L.seats) }
-{
-    let (store, mut seats, mut admin) = Store::<L>::open(alloc, blank, cluster, 1, 0)?;
-    let mut seat = take_seat(&mut seats)?;
-    gives_up_a_move(rt, &store, &mut admin);
-    gives_up_a_write(rt, &store, &mut seat);
-    gives_up_reads(rt, &store, &mut seat);
-    seats.push(seat)?;
-    let cluster = close(rt, store, seats, 0, 4)?;
-    was_called(rt, &cluster)
+    store: &Store<L>,
+    admin: &mut Admin<L>,
+    seats: &mut Vec<Seat<L>>,
+) {
+    let mut seat = take_seat(rt, seats);
+    gives_up_a_move(rt, store, admin);
+    gives_up_a_write(rt, store, &mut seat);
+    gives_up_reads(rt, store, &mut seat);
+    put_seat(rt, seats, seat);
 }
 
 #[test]
-fn turns_are_counted(rt: HostRuntime) -> Result<(), Fail> {
-    let cluster = four_servers(rt.alloc())?;
-    Ok(gives_up::<Brand, _>(&rt, rt.alloc(), Blank::new(2), cluster)?)
+fn turns_are_counted(rt: HostRuntime) {
+    perform(
+        &rt,
+        rt.alloc(),
+        Play {
+            scene: Scene::GivesUp,
+            servers: Servers::KeepAll,
+            seats: 1,
+            workers: 0,
+            closing: Ok(0),
+            calls: 4,
+        },
+    );
 }

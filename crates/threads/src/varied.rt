@@ -1,11 +1,22 @@
 //! Varied choices.
-use driver::Chooser;
+
+use client::Chooser;
 
 /// Varied choices: the upper half of a linear congruence, masked.
 #[derive(Clone, Copy)]
 pub(crate) struct Varied {
     pub(crate) state: u64,
     pub(crate) mask: u64,
+}
+
+impl Varied {
+    /// One of the first four, by the seat of this number.
+    pub(crate) fn new(seat: u32) -> Varied {
+        Varied {
+            state: u64::from(seat),
+            mask: 3,
+        }
+    }
 }
 
 impl Chooser for Varied {

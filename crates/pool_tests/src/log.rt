@@ -1,0 +1,96 @@
+//! A gate that counts what it is told.
+
+use coding_pool::Gate;
+use std::alloc::Global;
+use std::process::Abort;
+use std::sync::atomic::{AtomicUsize, Ordering};
+use std::thread;
+
+/// What the gate was told of one job.
+#[derive(Drop)]
+struct Told {
+    entered: AtomicUsize,
+    left: AtomicUsize,
+}
+
+/// Counts for each job how often it was entered and left, and what no worker may do.
+#[derive(Drop)]
+pub(crate) struct Log {
+    jobs: Vec<Told>,
+    inside: AtomicUsize,
+    most_inside: AtomicUsize,
+    // Jobs that were left before they were entered, and such as do not exist.
+    strays: AtomicUsize,
+}
+
+fn none_yet() -> AtomicUsize {
+    AtomicUsize::new(0)
+}
+
+fn nothing_told(rt: &impl Abort, alloc: Global, jobs: u8) -> Vec<Told> {
+    let mut told = Vec::new(alloc);
+    for _ in 0..jobs {
+        let job = Told {
+            entered: none_yet(),
+            left: none_yet(),
+        };
+        told.push(job).expect(rt, "memory for a job");
+    }
+    told
+}
+
+impl Log {
+    pub(crate) fn new(rt: &impl Abort, alloc: Global, jobs: u8) -> Log {
+        Log {
+            jobs: nothing_told(rt, alloc, jobs),
+            inside: none_yet(),
+            most_inside: none_yet(),
+            strays: none_yet(),
+        }
+    }
+
+    fn stray(&self) {
+        self.strays.fetch_add(1, Ordering::SeqCst);
+    }
+
+    fn note_inside(&self, inside: usize) {
+        self.most_inside.fetch_max(inside, Ordering::SeqCst);
+    }
+
+    /// The most jobs that were entered and not yet left.
+    pub(crate) fn most_inside(&self) -> usize {
+        self.most_inside.load(Ordering::SeqCst)
+    }
+
+    /// Each job was entered that often, and left as often, no other was, and none is still inside.
+    pub(crate) fn is_told_each(&self, rt: &impl Abort, times: usize) {
+        for job in &self.jobs {
+            assert!(rt; job.entered.load(Ordering::SeqCst) == times);
+            assert!(rt; job.left.load(Ordering::SeqCst) == times);
+        }
+        assert!(rt; self.strays.load(Ordering::SeqCst) == 0);
+        assert!(rt; self.inside.load(Ordering::SeqCst) == 0);
+    }
+}
+
+impl Gate for Log {
+    fn enter(&self, job: usize) {
+        let Some(told) = self.jobs.get(job) else {
+            return self.stray();
+        };
+        told.entered.fetch_add(1, Ordering::SeqCst);
+        self.note_inside(self.inside.fetch_add(1, Ordering::SeqCst).wrapping_add(1));
+        thread::yield_now();
+    }
+
+    fn leave(&self, job: usize) {
+        let Some(told) = self.jobs.get(job) else {
+            return self.stray();
+        };
+        let left = told.left.fetch_add(1, Ordering::SeqCst);
+        if told.entered.load(Ordering::SeqCst) <= left {
+            self.stray();
+        }
+        self.inside.fetch_sub(1, Ordering::SeqCst);
+    }
+}
