@@ -11,14 +11,21 @@ use std::process::Abort;
 use std::sync::ledger::Blank;
 use tag::Refusal;
 
-/// How many seats a store gives that is opened with so many seats and workers.
-fn seats_of(rt: &impl Abort, alloc: Global, seats: u32, workers: usize) -> Result<usize, Refusal> {
+// A store that is opened with so many seats and workers gives so many seats, or is refused.
+fn gives(
+    rt: &impl Abort,
+    alloc: Global,
+    seats: u32,
+    workers: usize,
+    given: Result<usize, Refusal>,
+) {
     let blank = Blank::new(u64::from(seats) + 1);
     let cluster = cluster_of(rt, alloc, Servers::KeepAll);
-    seats_named::<Brand>(alloc, blank, cluster, seats, workers)
+    let opened = seats_named::<Brand>(alloc, blank, cluster, seats, workers);
+    assert_eq!(rt; opened, given);
 }
 
-// The same of the store of this name.
+// How many seats the store of this name gives.
 fn seats_named<L: StoreName>(
     alloc: Global,
     blank: Blank,
@@ -38,12 +45,12 @@ fn seats_named<L: StoreName>(
 
 #[test]
 fn the_most_seats_and_one_more(rt: HostRuntime) {
-    assert!(rt; seats_of(&rt, rt.alloc(), 1024, 0) == Ok(1024));
-    assert!(rt; seats_of(&rt, rt.alloc(), 1025, 0) == Err(Refusal::Full));
+    gives(&rt, rt.alloc(), 1024, 0, Ok(1024));
+    gives(&rt, rt.alloc(), 1025, 0, Err(Refusal::Full));
 }
 
 #[test]
 fn the_most_workers_and_one_more(rt: HostRuntime) {
-    assert!(rt; seats_of(&rt, rt.alloc(), 1, 64) == Ok(1));
-    assert!(rt; seats_of(&rt, rt.alloc(), 1, 65) == Err(Refusal::Full));
+    gives(&rt, rt.alloc(), 1, 64, Ok(1));
+    gives(&rt, rt.alloc(), 1, 65, Err(Refusal::Full));
 }

@@ -17,7 +17,7 @@ use crate::seats::{abandons, has_both, learns, strangers};
 use crate::servers::{Servers, cluster_of};
 use crate::tally::Tally;
 use crate::turns::{gives_up, was_called};
-use client::{Admin, Seat, Store, StoreName};
+use client::{Admin, Opened, Seat, Store, StoreName};
 use cluster::Cluster;
 use std::alloc::Global;
 use std::marker::Brand;
@@ -74,13 +74,21 @@ fn perform_named<L: StoreName + Send + Sync, R: Threads + Wait + Abort + Sync>(
     requires parts { (blank.parts ≡ L.parts) × (blank.parts ≡ L.seats + 1) × (play.seats ≡ L.seats) }
 {
     let opened = Store::<L>::open(alloc, blank, cluster, play.seats, play.workers);
-    let (store, mut seats, mut admin) = opened.expect(rt, "a store");
     let tally = Tally::new();
-    act(
-        rt, alloc, &store, &mut seats, &mut admin, &tally, play.scene,
-    );
-    let cluster = close(rt, store, seats, play.closing, play.calls);
+    let cluster = act_and_close(rt, alloc, opened.expect(rt, "a store"), &tally, play);
     look_at(rt, alloc, &cluster, &tally, play.scene)
+}
+
+fn act_and_close<L: StoreName + Send + Sync, R: Threads + Wait + Abort + Sync>(
+    rt: &R,
+    alloc: Global,
+    opened: Opened<L>,
+    tally: &Tally,
+    play: Play,
+) -> Cluster {
+    let (store, mut seats, mut admin) = opened;
+    act(rt, alloc, &store, &mut seats, &mut admin, tally, play.scene);
+    close(rt, store, seats, play.closing, play.calls)
 }
 
 fn act<L: StoreName + Send + Sync, R: Threads + Wait + Abort + Sync>(

@@ -41,23 +41,27 @@ fn reads_behind<L: StoreName, R: Threads + Wait + Sync>(
     read(rt, store, seat, &mut First, TURNS)
 }
 
-fn writes_apart<L: StoreName + Send + Sync, R: Threads + Wait + Sync>(
+// A write, or a read once a receipt is learnt.
+fn calls<L: StoreName, R: Threads + Wait + Sync>(
     rt: &R,
     store: &Store<L>,
     seat: &mut Seat<L>,
+    learnt: Option<&Receipt>,
 ) -> Answer {
-    let (written, ()) = join(rt, move || writes(rt, store, seat, HELLO, TURNS), || ());
-    written
+    match learnt {
+        Some(receipt) => reads_behind(rt, store, seat, receipt),
+        None => writes(rt, store, seat, HELLO, TURNS),
+    }
 }
 
-fn reads_apart<L: StoreName + Send + Sync, R: Threads + Wait + Sync>(
+fn calls_apart<L: StoreName + Send + Sync, R: Threads + Wait + Sync>(
     rt: &R,
     store: &Store<L>,
     seat: &mut Seat<L>,
-    learnt: &Receipt,
+    learnt: Option<&Receipt>,
 ) -> Answer {
-    let (read, ()) = join(rt, move || reads_behind(rt, store, seat, learnt), || ());
-    read
+    let (answer, ()) = join(rt, move || calls(rt, store, seat, learnt), || ());
+    answer
 }
 
 // One seat writes; the other learns the receipt and reads. Each does so in a thread of its own.
@@ -67,8 +71,8 @@ fn pass_on<L: StoreName + Send + Sync, R: Threads + Wait + Abort + Sync>(
     first: &mut Seat<L>,
     second: &mut Seat<L>,
 ) {
-    let written = receipt_of(rt, writes_apart(rt, store, first));
-    let called = called_with(rt, reads_apart(rt, store, second, &written), HELLO);
+    let written = receipt_of(rt, calls_apart(rt, store, first, None));
+    let called = called_with(rt, calls_apart(rt, store, second, Some(&written)), HELLO);
     assert!(rt; written.answered < called);
 }
 

@@ -7,6 +7,7 @@ use crate::servers::Servers;
 use bytes::Bytes;
 use client::{Admin, First, Seat, Store, StoreName};
 use cluster::Cluster;
+use record::Entry;
 use std::process::Abort;
 use std::sync::Wait;
 use std::thread::Threads;
@@ -54,12 +55,17 @@ fn gives_up_reads<L: StoreName, R: Threads + Wait + Abort + Sync>(
     is_refused(rt, read(rt, store, seat, &mut First, 0), Refusal::GaveUp);
 }
 
+fn is_called_at(rt: &impl Abort, entry: Option<&Entry>, step: u64) {
+    are_equal(rt, entry.expect(rt, "a call").called, step);
+}
+
 pub(crate) fn was_called(rt: &impl Abort, cluster: &Cluster) {
     let entries = cluster.entries("a").expect(rt, "the object's history");
     assert!(rt; entries.len() == 4);
-    for (entry, called) in entries.iter().zip([3, 9, 15, 20]) {
-        assert!(rt; entry.called == called);
-    }
+    is_called_at(rt, entries.first(), 3);
+    is_called_at(rt, entries.get(1), 9);
+    is_called_at(rt, entries.get(2), 15);
+    is_called_at(rt, entries.last(), 20);
 }
 
 pub(crate) fn gives_up<L: StoreName, R: Threads + Wait + Abort + Sync>(
