@@ -11,16 +11,14 @@ use std::sync::Wait;
 use std::thread::Threads;
 use tag::{LONGEST_VALUE, Refusal};
 
+/// The pieces of `hello`, 2 of 4.
+const HELLO: &[&[u8]] = &[b"hel", b"\x04\x0a\x6c", b"\xb0\xbb\x6c", b"\xdc\xd4\x6c"];
+
 #[test]
 fn a_held_worker_stops_no_other(rt: HostRuntime) {
     let gate = Hold::new();
-    let coded = code(&rt, rt.alloc(), 2, &gate, 2, 4, b"hello");
+    has_fragments(&rt, &code(&rt, rt.alloc(), 2, &gate, 2, 4, b"hello"), HELLO);
     assert!(rt; gate.has_overlapped());
-    has_fragments(
-        &rt,
-        &coded,
-        &[b"hel", b"\x04\x0a\x6c", b"\xb0\xbb\x6c", b"\xdc\xd4\x6c"],
-    );
 }
 
 /// What Intel ISA-L's `ec_encode_data` gives for 4 of 7 pieces of the value below.
