@@ -95,10 +95,20 @@ pub(crate) fn write_whole(
     let most = (room.len() / fragments.len()).min(MOST_BLOCKS);
     let mut done = 0;
     while done < n {
-        let rows = most.min(n - done);
+        let rows = blocks_at_once(n - done, most).min(n - done);
         write_rows(out, done * size, room, table, fragments, size, done, rows);
         done += rows;
     }
+}
+
+/// How many blocks one pass takes where `left` are left, at most `most`: the passes have about as many as each other.
+fn blocks_at_once(left: usize, most: usize) -> usize
+    requires { 1 ≤ most }
+    ensures some { 1 ≤ result }
+    ensures most { result ≤ most }
+{
+    let passes = left.div_ceil(most).max(1);
+    left.div_ceil(passes).clamp(1, most)
 }
 
 /// `write_some` on the bytes of `out` from `start` on.
