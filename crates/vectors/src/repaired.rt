@@ -1,8 +1,11 @@
 //! Fragments from k others.
+ghost use Rattle.std.specs.Prelude.{◌≤◌};
+
 use crate::decoded::{Fragment, ONE, THREE, TWO, ZERO};
 use crate::decoded_into::value_of_len;
+use bytes::Bytes;
 use decoder::repair_into;
-use encoder::{encode, piece};
+use encoder::encode;
 use std::alloc::{AllocError, Global};
 use std::test::Fail;
 use tag::Refusal;
@@ -14,7 +17,9 @@ fn repaired(
     len: usize,
     fragments: &[Fragment],
     point: u8,
-) -> Result<(Option<Refusal>, Vec<u8>), AllocError> {
+) -> Result<(Option<Refusal>, Vec<u8>), AllocError>
+    requires threshold { 1 ≤ k }
+{
     let mut points = Vec::new(alloc);
     let mut slices = Vec::new(alloc);
     for &(at, bytes) in fragments {
@@ -63,41 +68,45 @@ fn repairs_nothing_from_bad_pieces(rt: HostRuntime) -> Result<(), Fail> {
     Ok(())
 }
 
-/// Each room on the stack, and lengths about the blocks of 32 bytes.
-const SHAPES: [(u8, usize); 12] = [
-    (1, 100),
-    (3, 100),
-    (4, 256),
-    (5, 1),
-    (8, 0),
-    (8, 511),
-    (16, 1040),
-    (17, 2209),
-    (64, 4096),
-    (65, 3001),
-    (255, 254),
-    (255, 9000),
-];
+/// The fragment at `point`, from the last `k` of the 255 pieces of `value`, the last one first.
+fn from_the_last(alloc: Global, k: u8, value: &Bytes, point: u8) -> Result<Vec<u8>, Fail>
+    requires threshold { 1 ≤ k }
+{
+    let coded = encode(alloc, k, 255, value.clone()?)?;
+    let mut points = Vec::new(alloc);
+    let mut fragments = Vec::new(alloc);
+    for i in (255 - k..255).rev() {
+        points.push(i)?;
+        fragments.push(coded.piece_at(i).bytes.as_slice())?;
+    }
+    let mut out = vec![in alloc; 0xAA; value.len().div_ceil(k as usize)]?;
+    repair_into(k, &points, &fragments, point, value.len(), &mut out)?;
+    Ok(out)
+}
 
-// The fragment at the point 255 is no member's.
+// Each room on the stack, and lengths about the blocks of 32 bytes.
 #[test]
 fn repairs_what_the_encoder_made(rt: HostRuntime) -> Result<(), Fail> {
-    for (k, len) in SHAPES {
+    for (k, len) in [
+        (1, 100),
+        (3, 100),
+        (4, 256),
+        (5, 1),
+        (8, 0),
+        (8, 511),
+        (16, 1040),
+        (17, 2209),
+        (64, 4096),
+        (65, 3001),
+        (255, 9000),
+    ] {
         let value = value_of_len(rt.alloc(), len)?;
         let coded = encode(rt.alloc(), k, 255, value.clone()?)?;
-        let mut points = Vec::new(rt.alloc());
-        let mut fragments = Vec::new(rt.alloc());
-        for i in (255 - k..255).rev() {
-            points.push(i)?;
-            fragments.push(coded.piece_at(i).bytes.as_slice())?;
-        }
-        for point in [0, 254, 255] {
-            let lost = piece(rt.alloc(), k, point, value.as_slice())?;
-            let mut out = vec![in rt.alloc(); 0xAA; lost.bytes.len()]?;
-            repair_into(k, &points, &fragments, point, len, &mut out)?;
+        for point in [0, 7, 254] {
+            let out = from_the_last(rt.alloc(), k, &value, point)?;
             assert_eq!(rt;
                 out.as_slice(),
-                lost.bytes.as_slice(),
+                coded.piece_at(point).bytes.as_slice(),
                 "{k} pieces, {len} bytes, point {point}"
             );
         }
