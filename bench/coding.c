@@ -1,5 +1,5 @@
 /* Measures the coding library of this repository against Intel ISA-L: first it compares all bytes, then it times, and
-   prints five tables. README.md says what is measured, and what is in and out. */
+   prints seven tables. README.md says what is measured, and what is in and out. */
 #include "peers.h"
 #include <stdio.h>
 #include <stdlib.h>
@@ -12,6 +12,7 @@ static const int CODES[][2] = {{2, 4}, {3, 5}, {4, 6}, {8, 12}, {10, 14}, {32, 3
 static const size_t LENGTHS[] = {64, 4 << 10, 64 << 10, 300 << 10, 1 << 20, 16 << 20};
 enum { CODE_COUNT = sizeof CODES / sizeof CODES[0], LENGTH_COUNT = sizeof LENGTHS / sizeof LENGTHS[0] };
 static const double RUN_SECONDS = 0.1;
+static uint8_t *lost;
 
 /* Codes the value by ISA-L, and compares what each call of this repository makes of the value and of the pieces. Of
    the calls that take memory each fragment of values up to 1 MiB, above it the first and the last, since each codes
@@ -44,6 +45,15 @@ static void is_value(const struct task *t, const uint8_t *got, const char *what)
   memset(room, 0xA5, t->len);
 }
 
+/* The room has the fragment at the lost point; it is written anew by the encoder. */
+static void is_lost(const struct task *t, const char *what) {
+  memcpy(lost, room, t->fragment_len);
+  own_encode_one(t, lost_point(t));
+  if (memcmp(room, lost, t->fragment_len) != 0)
+    refuse_bytes(t, what, lost_point(t));
+  memset(room, 0xA5, t->fragment_len);
+}
+
 static void compare_values(const struct task *t, uint8_t *other) {
   own_decode(t);
   is_value(t, room, "a decoded value");
@@ -51,10 +61,13 @@ static void compare_values(const struct task *t, uint8_t *other) {
   is_value(t, room, "a value decoded in fresh memory");
   isal_decode(t);
   is_value(t, room, "a value decoded by ISA-L");
-  own_repair(t, 0, other);
-  if (memcmp(room, t->fragments, t->fragment_len) != 0)
-    refuse_bytes(t, "a repaired fragment", 0);
+  own_repair(t, lost_point(t), other);
+  is_lost(t, "a fragment repaired with its value");
   is_value(t, other, "a value decoded for a repair");
+  own_repair_fragment(t);
+  is_lost(t, "a repaired fragment");
+  isal_repair(t);
+  is_lost(t, "a fragment repaired by ISA-L");
 }
 
 /* Processor time, which on a quiet machine is the time on the clock. */
@@ -81,8 +94,8 @@ struct timing {
   double rates[RUNS];
 };
 
-/* The places of the works in each row. */
-enum { OWN_INTO, OWN_FRESH, ISAL, ISAL_AT_LEVEL, ISAL_FRESH, ISAL_KEPT, PEER };
+/* The places of the works in each row; a repair has the first three. */
+enum { OWN_INTO, OWN_FRESH, ISAL, ISAL_AT_LEVEL, ISAL_FRESH, ISAL_KEPT, PEER, WITH_VALUE = OWN_FRESH, REPAIRS_END = 3 };
 
 /* The rows of one call, for each code and each length. */
 static const struct timing ENCODES[WORKS] = {{NULL, own_encode_calls, 0, {0}},
@@ -99,7 +112,10 @@ static const struct timing DECODES[WORKS] = {{NULL, own_decode_calls, 0, {0}},
                                              {NULL, isal_decode_fresh_calls, 0, {0}},
                                              {isal_decode_tables, isal_decode_blocks_calls, 0, {0}},
                                              {NULL, peer_decode_calls, 0, {0}}};
-static struct timing rows[CODE_COUNT][LENGTH_COUNT][2][WORKS];
+static const struct timing REPAIRS[REPAIRS_END] = {{NULL, own_repair_fragment_calls, 0, {0}},
+                                                   {NULL, own_repair_calls, 0, {0}},
+                                                   {NULL, isal_repair_calls, 0, {0}}};
+static struct timing rows[CODE_COUNT][LENGTH_COUNT][3][WORKS];
 
 static int runs_of(size_t len) { return len > 1 << 20 ? RUNS_OF_LONG : RUNS; }
 
@@ -157,16 +173,16 @@ static void print_row(const char *call, int code, size_t len, const struct timin
   printf("\n");
 }
 
-static void print_table(const char *title, const char *name, int own, int other, int with_kept) {
+static void print_table(const char *title, const char *name, int first, int last, int own, int other, int with_kept) {
+  static const char *const CALLS[] = {"encode", "decode", "repair"};
   printf("%s\n\n| | k of n | value | ours, best | median | %s, best | median | ours / %s, best | median |%s\n", title,
          name, name, with_kept ? " ISA-L, tables kept, best | median |" : "");
   printf("|-|-|-|-|-|-|-|-|-|%s\n", with_kept ? "-|-|" : "");
   for (int c = 0; c < CODE_COUNT; c++) {
     for (int l = 0; l < LENGTH_COUNT; l++) {
-      if (rows[c][l][0][other].calls == 0)
-        continue;
-      print_row("encode", c, LENGTHS[l], rows[c][l][0], own, other, with_kept);
-      print_row("decode", c, LENGTHS[l], rows[c][l][1], own, other, with_kept);
+      for (int call = first; call <= last; call++)
+        if (rows[c][l][call][other].calls != 0)
+          print_row(CALLS[call], c, LENGTHS[l], rows[c][l][call], own, other, with_kept);
     }
   }
   printf("\n");
@@ -188,6 +204,7 @@ int main(void) {
   uint8_t *value = memory(LONGEST), *other = memory(LONGEST), *fragments = memory(most_bytes);
   uint8_t *place = memory(most_bytes + MOST * 16);
   prepare_works(most_bytes);
+  lost = memory(LONGEST);
   uint64_t state = 88172645463325252u; /* xorshift */
   for (size_t at = 0; at < LONGEST; at++) {
     state ^= state << 13, state ^= state >> 7, state ^= state << 17;
@@ -214,12 +231,18 @@ int main(void) {
         peer_compare(&t);
       measure(&t, rows[c][l][0], has_peer ? WORKS : PEER);
       measure(&t, rows[c][l][1], has_peer ? WORKS : PEER);
+      memcpy(rows[c][l][2], REPAIRS, sizeof REPAIRS);
+      measure(&t, rows[c][l][2], REPAIRS_END);
     }
   }
-  print_table("The caller's buffers on both sides.", "ISA-L", OWN_INTO, ISAL, 1);
-  print_table("The caller's buffers, and ISA-L with our level's instructions.", "ISA-L", OWN_INTO, ISAL_AT_LEVEL, 0);
-  print_table("Fresh memory on both sides.", "ISA-L", OWN_FRESH, ISAL_FRESH, 1);
-  print_table("Ours in fresh memory, ISA-L in warm buffers.", "ISA-L", OWN_FRESH, ISAL, 1);
-  print_table("Jerasure's systematic code, in the caller's buffers on both sides.", "Jerasure", OWN_INTO, PEER, 0);
+  const char *warm = "The caller's buffers on both sides.", *fresh = "Fresh memory on both sides.";
+  print_table(warm, "ISA-L", 0, 1, OWN_INTO, ISAL, 1);
+  print_table("The caller's buffers, and ISA-L with our level's instructions.", "ISA-L", 0, 1, OWN_INTO, ISAL_AT_LEVEL,
+              0);
+  print_table(fresh, "ISA-L", 0, 1, OWN_FRESH, ISAL_FRESH, 1);
+  print_table("Ours in fresh memory, ISA-L in warm buffers.", "ISA-L", 0, 1, OWN_FRESH, ISAL, 1);
+  print_table("Jerasure's systematic code, in the caller's buffers.", "Jerasure", 0, 1, OWN_INTO, PEER, 0);
+  print_table("A lost fragment.", "ISA-L", 2, 2, OWN_INTO, ISAL, 0);
+  print_table("A lost fragment, and the same with the value.", "with the value", 2, 2, OWN_INTO, WITH_VALUE, 0);
   return 0;
 }

@@ -23,8 +23,8 @@ void *memory(size_t size);
 void refuse_bytes(const struct task *t, const char *what, int place);
 void prepare_works(size_t most_bytes);
 
-/* ISA-L with its matrix, inverse and tables made in each call, into the room; then the same with the instructions of the
-   level that our library is built for; then with the tables kept, which the first of two calls makes. */
+/* ISA-L with its matrix, inverse and tables made in each call, into the room; then the same with the instructions of
+   the level that our library is built for; then with the tables kept, which the first of two calls makes. */
 void isal_encode(const struct task *t);
 void isal_decode(const struct task *t);
 void isal_encode_level(const struct task *t);
@@ -55,6 +55,15 @@ void isal_encode_level_calls(const struct task *t, long calls);
 void isal_decode_level_calls(const struct task *t, long calls);
 void isal_encode_blocks_calls(const struct task *t, long calls);
 void isal_decode_blocks_calls(const struct task *t, long calls);
+
+/* The fragment at the lost point from the task's pieces, into the room: alone, with the value, and by ISA-L. A code
+   with as many pieces as fragments has lost none of them, and makes one more. */
+int lost_point(const struct task *t);
+void own_repair_fragment(const struct task *t);
+void isal_repair(const struct task *t);
+void own_repair_fragment_calls(const struct task *t, long calls);
+void own_repair_calls(const struct task *t, long calls);
+void isal_repair_calls(const struct task *t, long calls);
 
 /* With an output in the room: fragment i alone, fragment i from the task's pieces, and the outputs in fresh memory. */
 void own_encode_one(const struct task *t, int i);
