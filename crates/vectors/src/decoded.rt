@@ -1,27 +1,50 @@
-//! Values that fragments give back, and fragments that no value has.
+//! Values that fragments give back, and fragments that give none.
+use crate::same::assert_same;
 use bytes::Bytes;
 use decoder::decode;
 use encoder::Piece;
-use std::alloc::{AllocError, Global};
-use std::test::Fail;
+use std::alloc::Global;
+use std::process::Abort;
 use tag::Refusal;
 
 pub(crate) type Fragment = (u8, &'static [u8]);
 
-/// Pieces with these points and fragments, of a value of `len` bytes.
-fn pieces_of(alloc: Global, len: u32, fragments: &[Fragment]) -> Result<Vec<Piece>, AllocError> {
+/// How many pieces give a value, their fragments, and the value.
+pub(crate) type Row = (u8, &'static [Fragment], &'static [u8]);
+
+/// The pieces with these points and fragments, of a value of `len` bytes.
+fn pieces_of(rt: &impl Abort, alloc: Global, len: u32, fragments: &[Fragment]) -> Vec<Piece> {
     let mut pieces = Vec::new(alloc);
     for &(point, bytes) in fragments {
-        pieces.push(Piece {
+        let piece = Piece {
             point,
             len,
             bytes: Bytes::from_static(bytes),
-        })?;
+        };
+        pieces.push(piece).expect(rt, "room for a piece");
     }
-    Ok(pieces)
+    pieces
 }
 
-// The fragments of `hello`, which is cut into two blocks.
+pub(crate) fn len_of(rt: &impl Abort, value: &[u8]) -> u32 {
+    u32::try_from(value.len()).expect(rt, "a short value")
+}
+
+fn assert_gives_back(rt: &impl Abort, alloc: Global, k: u8, fragments: &[Fragment], value: &[u8]) {
+    let len = len_of(rt, value);
+    let decoded = decode(alloc, k, len, pieces_of(rt, alloc, len, fragments)).expect(rt, "a value");
+    assert_same(rt, "the value", decoded.value().as_slice(), value);
+    let counts = (decoded.k(), decoded.pieces().len());
+    assert_same(rt, "k and the pieces", counts, (k, k as usize));
+}
+
+fn assert_table(rt: &impl Abort, alloc: Global, table: &[Row]) {
+    for &(k, fragments, value) in table {
+        assert_gives_back(rt, alloc, k, fragments, value);
+    }
+}
+
+// The fragments of `hello` in two blocks.
 pub(crate) const ZERO: Fragment = (0, b"\x68\x65\x6c");
 
 pub(crate) const ONE: Fragment = (1, b"\x04\x0a\x6c");
@@ -30,8 +53,8 @@ pub(crate) const TWO: Fragment = (2, b"\xb0\xbb\x6c");
 
 pub(crate) const THREE: Fragment = (3, b"\xdc\xd4\x6c");
 
-/// Values with their fragments, worked out by hand from the definition of a fragment.
-pub(crate) const SMALL: [(u8, &[Fragment], &[u8]); 10] = [
+/// Worked out by hand from the definition of a fragment.
+pub(crate) const SMALL: [Row; 10] = [
     (2, &[ZERO, ONE], b"hello"),
     (2, &[TWO, ZERO], b"hello"),
     (2, &[ZERO, THREE], b"hello"),
@@ -45,21 +68,16 @@ pub(crate) const SMALL: [(u8, &[Fragment], &[u8]); 10] = [
 ];
 
 #[test]
-fn gives_back_small_values(rt: HostRuntime) -> Result<(), Fail> {
-    for (k, fragments, value) in SMALL {
-        let pieces = pieces_of(rt.alloc(), value.len() as u32, fragments)?;
-        let decoded = decode(rt.alloc(), k, value.len() as u32, pieces)?;
-        assert_eq!(rt; decoded.value().as_slice(), value, "{k} pieces");
-        assert_eq!(rt; (decoded.k(), decoded.pieces().len()), (k, k as usize));
-    }
-    Ok(())
+fn gives_back_small_values(rt: HostRuntime) {
+    assert_table(&rt, rt.alloc(), &SMALL);
 }
 
 /// What Intel ISA-L's `ec_encode_data` gives for the rows `i^0, i^1, .. i^(k-1)` of each point `i` and the value padded
 /// with zeros; ISA-L gives the value back by the inverse of that matrix, from `gf_invert_matrix`.
-pub(crate) const ISA_L: [(&[Fragment], &[u8]); 6] = [
-    (&[(200, b"\x8c"), (254, b"\xe0")], b"\x01\x02"),
+pub(crate) const ISA_L: [Row; 6] = [
+    (2, &[(200, b"\x8c"), (254, b"\xe0")], b"\x01\x02"),
     (
+        3,
         &[
             (254, b"\x62\xe6\xcb\x1e\xdc\xd1\xf2\x85\xd3"),
             (3, b"\x34\x78\x4c\xb7\x3a\x69\x30\x50\x05"),
@@ -68,6 +86,7 @@ pub(crate) const ISA_L: [(&[Fragment], &[u8]); 6] = [
         b"Any k pieces give it back.",
     ),
     (
+        5,
         &[
             (9, b"\x38\x9f"),
             (0, b"\x71\x75"),
@@ -78,6 +97,7 @@ pub(crate) const ISA_L: [(&[Fragment], &[u8]); 6] = [
         b"quorum",
     ),
     (
+        7,
         &[
             (6, b"\x7f"),
             (5, b"\x7a"),
@@ -90,6 +110,7 @@ pub(crate) const ISA_L: [(&[Fragment], &[u8]); 6] = [
         b"\x00\xff\x00\xff",
     ),
     (
+        10,
         &[
             (11, b"\xb3\x06\x4b\xae"),
             (2, b"\x2c\x29\x1c\xd7"),
@@ -105,6 +126,7 @@ pub(crate) const ISA_L: [(&[Fragment], &[u8]); 6] = [
         b"A value of ten blocks, and a half more",
     ),
     (
+        10,
         &[
             (255, b"\xd8\x99"),
             (254, b"\xd6\x3d"),
@@ -122,48 +144,54 @@ pub(crate) const ISA_L: [(&[Fragment], &[u8]); 6] = [
 ];
 
 #[test]
-fn decodes_what_isa_l_coded(rt: HostRuntime) -> Result<(), Fail> {
-    for (fragments, value) in ISA_L {
-        let pieces = pieces_of(rt.alloc(), value.len() as u32, fragments)?;
-        let decoded = decode(
-            rt.alloc(),
-            fragments.len() as u8,
-            value.len() as u32,
-            pieces,
-        )?;
-        assert_eq!(rt; decoded.value().as_slice(), value);
-    }
-    Ok(())
+fn decodes_what_isa_l_coded(rt: HostRuntime) {
+    assert_table(&rt, rt.alloc(), &ISA_L);
 }
 
+fn assert_refuses(
+    rt: &impl Abort,
+    alloc: Global,
+    k: u8,
+    len: u32,
+    of: u32,
+    fragments: &[Fragment],
+) {
+    let refused = decode(alloc, k, len, pieces_of(rt, alloc, of, fragments));
+    let expected = (k, len, Some(Refusal::BadPieces));
+    assert_same(
+        rt,
+        "k, the length and the refusal",
+        (k, len, refused.err()),
+        expected,
+    );
+}
+
+const BAD_PIECES: [(u8, u32, u32, &[Fragment]); 10] = [
+    // One point twice, another length, and too few pieces.
+    (2, 5, 5, &[ONE, ONE]),
+    (2, 5, 5, &[(0, b"\x68\x65"), ONE]),
+    (2, 5, 5, &[ZERO]),
+    // Pieces of a value of another length, and too many.
+    (2, 5, 6, &[ZERO, ONE]),
+    (1, 1, 1, &[(0, b"A"), (1, b"A")]),
+    // No blocks, and a value above the limit.
+    (0, 0, 0, &[]),
+    (1, 16_777_217, 16_777_217, &[(0, b"A")]),
+    // The sixth byte would be 01.
+    (2, 5, 5, &[ZERO, (1, b"\x04\x0a\x6d")]),
+    // The polynomial that is 1 at one of k points and 0 at the others has the degree k - 1.
+    (3, 1, 1, &[(0, b"A"), (1, b"A"), (2, b"B")]),
+    (
+        4,
+        3,
+        3,
+        &[(9, b"\x00"), (8, b"\x01"), (0, b"\x00"), (7, b"\x00")],
+    ),
+];
+
 #[test]
-fn refuses_bad_pieces(rt: HostRuntime) -> Result<(), Fail> {
-    let table: [(u8, u32, u32, &[Fragment]); 10] = [
-        // One point twice, another length, and too few pieces.
-        (2, 5, 5, &[ONE, ONE]),
-        (2, 5, 5, &[(0, b"\x68\x65"), ONE]),
-        (2, 5, 5, &[ZERO]),
-        // Pieces of a value of another length, and too many.
-        (2, 5, 6, &[ZERO, ONE]),
-        (1, 1, 1, &[(0, b"A"), (1, b"A")]),
-        // No blocks, and a value above the limit.
-        (0, 0, 0, &[]),
-        (1, 16_777_217, 16_777_217, &[(0, b"A")]),
-        // The sixth byte would be 01.
-        (2, 5, 5, &[ZERO, (1, b"\x04\x0a\x6d")]),
-        // The polynomial that is 1 at one of k points and 0 at the others has the degree k - 1.
-        (3, 1, 1, &[(0, b"A"), (1, b"A"), (2, b"B")]),
-        (
-            4,
-            3,
-            3,
-            &[(9, b"\x00"), (8, b"\x01"), (0, b"\x00"), (7, b"\x00")],
-        ),
-    ];
-    for (k, len, of, fragments) in table {
-        let pieces = pieces_of(rt.alloc(), of, fragments)?;
-        let refused = decode(rt.alloc(), k, len, pieces);
-        assert_eq!(rt; refused.err(), Some(Refusal::BadPieces), "{k} of {len}");
+fn refuses_bad_pieces(rt: HostRuntime) {
+    for &(k, len, of, fragments) in &BAD_PIECES {
+        assert_refuses(&rt, rt.alloc(), k, len, of, fragments);
     }
-    Ok(())
 }

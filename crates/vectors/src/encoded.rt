@@ -1,43 +1,60 @@
-//! Fragments of values: worked out by hand, as Intel's ISA-L gives them, and by their definition.
+//! Fragments of values, by hand and beside Intel's ISA-L.
 
-ghost use Rattle.std.specs.Prelude.{◌≤◌, length};
+ghost use Rattle.std.specs.Prelude.{◌≡◌};
 
+use crate::same::assert_same;
 use bytes::Bytes;
-use encoder::{assemble, encode, encode_into, fragment_into, piece};
-use gf256::mul;
+use encoder::{Coded, assemble, encode, encode_into, fragment_into, piece};
 use std::alloc::Global;
 use std::fmt::Write;
+use std::process::Abort;
 use std::test::Fail;
 use tag::{LONGEST_VALUE, Refusal};
 
+fn add_fragment(rt: &impl Abort, text: &mut String, fragment: &[u8]) {
+    for byte in fragment {
+        write!(text, "{byte:02x}").expect(rt, "room for a text");
+    }
+}
+
 /// The fragments of `value` in hexadecimal, in the order of their points.
-fn fragments(alloc: Global, k: u8, n: u8, value: &[u8]) -> Result<String, Fail> {
-    let coded = encode(alloc, k, n, Bytes::copy_from_slice(alloc, value)?)?;
+fn fragments(rt: &impl Abort, alloc: Global, k: u8, n: u8, value: &[u8]) -> String {
+    let value = Bytes::copy_from_slice(alloc, value).expect(rt, "a copy");
+    let coded = encode(alloc, k, n, value).expect(rt, "fragments");
     let mut text = String::new(alloc);
     for i in 0..coded.n() {
         if i > 0 {
-            write!(text, " ")?;
+            text.push(' ').expect(rt, "room for a text");
         }
-        for byte in coded.piece_at(i).bytes.as_slice() {
-            write!(text, "{byte:02x}")?;
-        }
+        add_fragment(rt, &mut text, coded.piece_at(i).bytes.as_slice());
     }
-    Ok(text)
+    text
 }
 
+fn assert_fragments(rt: &impl Abort, alloc: Global, k: u8, n: u8, value: &[u8], expected: &str) {
+    let text = fragments(rt, alloc, k, n, value);
+    assert_same(
+        rt,
+        "k, n and the fragments",
+        (k, n, text.as_str()),
+        (k, n, expected),
+    );
+}
+
+/// Worked out by hand from the definition of a fragment.
+const SMALL: [(u8, u8, &[u8], &str); 5] = [
+    (2, 4, b"hello", "68656c 040a6c b0bb6c dcd46c"),
+    (2, 3, b"", "  "),
+    (3, 3, b"A", "41 41 41"),
+    (3, 4, b"ABC", "41 40 d4 d5"),
+    (1, 3, b"AB", "4142 4142 4142"),
+];
+
 #[test]
-fn cuts_small_values(rt: HostRuntime) -> Result<(), Fail> {
-    for (k, n, value, expected) in [
-        (2, 4, b"hello".as_slice(), "68656c 040a6c b0bb6c dcd46c"),
-        (2, 3, b"".as_slice(), "  "),
-        (3, 3, b"A".as_slice(), "41 41 41"),
-        (3, 4, b"ABC".as_slice(), "41 40 d4 d5"),
-        (1, 3, b"AB".as_slice(), "4142 4142 4142"),
-    ] {
-        let got = fragments(rt.alloc(), k, n, value)?;
-        assert_eq!(rt; got.as_str(), expected, "{k} of {n}");
+fn cuts_small_values(rt: HostRuntime) {
+    for &(k, n, value, expected) in &SMALL {
+        assert_fragments(&rt, rt.alloc(), k, n, value, expected);
     }
-    Ok(())
 }
 
 /// What Intel ISA-L's `ec_encode_data` gives for the rows `i^0, i^1, .. i^(k-1)` and the value padded with zeros.
@@ -79,130 +96,62 @@ const ISA_L: [(u8, u8, &[u8], &str); 5] = [
 ];
 
 #[test]
-fn codes_as_isa_l_does(rt: HostRuntime) -> Result<(), Fail> {
-    for (k, n, value, expected) in ISA_L {
-        let got = fragments(rt.alloc(), k, n, value)?;
-        assert_eq!(rt; got.as_str(), expected, "{k} of {n}");
+fn codes_as_isa_l_does(rt: HostRuntime) {
+    for &(k, n, value, expected) in &ISA_L {
+        assert_fragments(&rt, rt.alloc(), k, n, value, expected);
     }
-    Ok(())
 }
 
-/// Byte `b` of the fragment of `value` at the point `x`, by definition: the sum of `x^j` times byte `b` of block j.
-fn fragment_byte(k: u8, x: u8, value: &[u8], b: usize) -> u8 {
-    let block_len = value.len().div_ceil(k.max(1) as usize);
-    let mut sum = 0;
-    let mut power = 1;
-    for block in value.chunks(block_len.max(1)) {
-        sum ^= mul(power, block.get(b).copied().unwrap_or(0));
-        power = mul(power, x);
-    }
-    sum
-}
-
-#[test]
-fn meets_the_definition_at_each_length(rt: HostRuntime) -> Result<(), Fail> {
-    let text =
-        b"Thirty-two bytes go at once, so lengths near its multiples are those that a loop over lanes gets wrong.";
-    for (k, x) in [(1, 0), (1, 7), (2, 1), (3, 2), (5, 31), (32, 255)] {
-        for len in [0, 1, 31, 32, 33, 63, 64, 65, 95, 96, 97, 99] {
-            let Some(value) = text.get(..len) else {
-                return Err(Fail::from("the text is too short"));
-            };
-            let made = piece(rt.alloc(), k, x, value)?;
-            assert_eq!(rt; (made.point, made.len as usize), (x, len));
-            assert_eq!(rt; made.bytes.len(), len.div_ceil(k as usize));
-            for (b, byte) in made.bytes.as_slice().iter().enumerate() {
-                assert_eq!(rt;
-                    *byte,
-                    fragment_byte(k, x, value, b),
-                    "{len} bytes, {k}, {x}"
-                );
-            }
-        }
-    }
-    Ok(())
-}
-
-/// The greatest length of a value, and of all fragments of one together, in the test below.
-const MOST_BYTES: usize = 255 * 65;
-
-/// Whether each byte of the first seven fragments, and of the last one, is as the definition says.
-fn are_fragments(k: u8, n: u8, value: &[u8]) -> bool
-    requires threshold { 1 ≤ k }
-    requires most { length value.now ≤ MOST_BYTES }
-{
-    let mut room = [0xAA; MOST_BYTES];
-    let block_len = value.len().div_ceil(k as usize);
-    let Some(out) = room.get_mut(..n as usize * block_len) else {
-        return false;
-    };
-    encode_into(k, n, value, out);
-    for x in 0..n {
-        if x < 7 || x == n - 1 {
-            for b in 0..block_len {
-                let made = out.get(x as usize * block_len + b).copied();
-                if made != Some(fragment_byte(k, x, value, b)) {
-                    return false;
-                }
-            }
-        }
-    }
-    true
-}
-
-#[test]
-fn meets_the_definition_at_each_shape(rt: HostRuntime) -> Result<(), Fail> {
-    let mut bytes = [0; MOST_BYTES];
-    let mut byte = 1u8;
-    for b in bytes.iter_mut() {
-        *b = byte;
-        byte = byte.wrapping_mul(5).wrapping_add(7);
-    }
-    for k in [1, 2, 3, 255] {
-        for block_len in [1, 31, 32, 33, 63, 64, 65] {
-            // The last block is one byte short where blocks have 64 bytes or more.
-            let Some(value) = bytes.get(..k as usize * block_len - block_len / 64) else {
-                return Err(Fail::from("the bytes are too few"));
-            };
-            for n in [1, 2, 3, 4, 5, 6, 7, 255] {
-                assert_eq!(rt; are_fragments(k, n, value), true, "{k} of {n}, {block_len}");
-            }
-        }
-    }
-    Ok(())
-}
-
-// The fragments are those of `cuts_small_values`.
+// By `cuts_small_values`.
 #[test]
 fn encodes_into_the_caller_s_bytes(rt: HostRuntime) {
     let mut out = [0xAA; 12];
     encode_into(2, 4, b"hello", &mut out);
-    assert_eq!(rt; out, *b"hel\x04\x0a\x6c\xb0\xbb\x6c\xdc\xd4\x6c");
+    assert_same(
+        &rt,
+        "fragments",
+        out,
+        *b"hel\x04\x0a\x6c\xb0\xbb\x6c\xdc\xd4\x6c",
+    );
 }
 
-// The fragment is that of `cuts_small_values`.
+// By `cuts_small_values`.
 #[test]
 fn writes_one_fragment(rt: HostRuntime) {
     let mut out = [0xAA; 3];
     fragment_into(2, 3, b"hello", &mut out);
-    assert_eq!(rt; out, *b"\xdc\xd4\x6c");
+    assert_same(&rt, "a fragment", out, *b"\xdc\xd4\x6c");
 }
 
 #[test]
-fn refuses_bad_numbers(rt: HostRuntime) -> Result<(), Fail> {
+fn refuses_bad_numbers(rt: HostRuntime) {
     for (k, n) in [(0, 3), (4, 3), (0, 0)] {
         let refused = encode(rt.alloc(), k, n, Bytes::from_static(b"A"));
-        assert_eq!(rt; refused.err(), Some(Refusal::BadLayout), "{k} of {n}");
+        let expected = (k, n, Some(Refusal::BadLayout));
+        assert_same(&rt, "k, n and the refusal", (k, n, refused.err()), expected);
     }
-    Ok(())
 }
 
 #[test]
-fn refuses_a_long_value(rt: HostRuntime) -> Result<(), Fail> {
-    let value = Bytes::from_vec(vec![in rt.alloc(); 0; LONGEST_VALUE + 1]?)?;
+fn refuses_a_long_value(rt: HostRuntime) {
+    let bytes = vec![in rt.alloc(); 0; LONGEST_VALUE + 1].expect(&rt, "so many bytes");
+    let value = Bytes::from_vec(bytes).expect(&rt, "so many bytes");
     let refused = encode(rt.alloc(), 1, 1, value);
-    assert_eq!(rt; refused.err(), Some(Refusal::TooLong));
-    Ok(())
+    assert_same(&rt, "the refusal", refused.err(), Some(Refusal::TooLong));
+}
+
+fn assert_hello(rt: &impl Abort, coded: &Coded)
+    requires { coded.now.n ≡ 4 }
+{
+    assert_same(rt, "k and n", (coded.k(), coded.n()), (2, 4));
+    assert_same(
+        rt,
+        "the value",
+        coded.value().as_slice(),
+        b"hello".as_slice(),
+    );
+    let last = coded.piece_at(3).bytes.as_slice();
+    assert_same(rt, "the last fragment", last, b"\xdc\xd4\x6c".as_slice());
 }
 
 #[test]
@@ -212,12 +161,6 @@ fn assembles_pieces_made_apart(rt: HostRuntime) -> Result<(), Fail> {
     for i in 0..4 {
         pieces.push(piece(rt.alloc(), 2, i, value)?)?;
     }
-    let coded = assemble(2, 4, Bytes::from_static(value), pieces);
-    assert_eq!(rt; (coded.k(), coded.n()), (2, 4));
-    assert_eq!(rt; coded.value().as_slice(), value.as_slice());
-    assert_eq!(rt;
-        coded.piece_at(3).bytes.as_slice(),
-        [0xdc, 0xd4, 0x6c].as_slice()
-    );
+    assert_hello(&rt, &assemble(2, 4, Bytes::from_static(value), pieces));
     Ok(())
 }

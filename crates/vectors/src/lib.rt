@@ -7,6 +7,8 @@ mod decoded;
 #[cfg(test)]
 mod decoded_into;
 #[cfg(test)]
+mod defined;
+#[cfg(test)]
 mod dots;
 #[cfg(test)]
 mod encoded;
@@ -18,3 +20,5 @@ mod products;
 mod repaired;
 #[cfg(test)]
 mod rows;
+#[cfg(test)]
+mod same;

@@ -1,23 +1,37 @@
-//! Rows of interpolation.
-use poly::Rows;
+//! The rows of interpolation.
 
-#[test]
-fn gives_the_rows_of_lagrange(rt: HostRuntime) {
-    // Worked out by hand, one product at a time. Each row is 1 at its own point and 0 at the others.
-    let rows: [(&[u8], usize, &[u8]); 8] = [
-        (&[0x05], 0, &[0x01]),
-        (&[0x00, 0x01], 0, &[0x01, 0x01]),
-        (&[0x00, 0x01], 1, &[0x00, 0x01]),
-        (&[0x03, 0x02], 0, &[0x02, 0x01]),
-        (&[0x03, 0x02], 1, &[0x03, 0x01]),
-        (&[0x00, 0x01, 0x02], 0, &[0x01, 0x8f, 0x8e]),
-        (&[0x00, 0x01, 0x02], 1, &[0x00, 0xf5, 0xf4]),
-        (&[0x00, 0x01, 0x02], 2, &[0x00, 0x7a, 0x7a]),
-    ];
-    for (points, i, row) in rows {
+ghost use Rattle.gf256.specs.Polynomial.{AreDistinct};
+ghost use Rattle.std.specs.Prelude.{◌≤◌, length};
+
+use crate::same::assert_same;
+use poly::Rows;
+use std::process::Abort;
+
+fn assert_rows(rt: &impl Abort, points: &[u8], expected: &[&[u8]])
+    requires distinct { AreDistinct points.now }
+    requires few { length points.now ≤ 3 }
+{
+    assert_same(rt, "how many rows", expected.len(), points.len());
+    let rows = Rows::new(points);
+    for (i, row) in expected.iter().enumerate() {
+        assert!(rt; i < points.len());
         let mut room = [0u8; 3];
         let written = &mut room[..points.len()];
-        Rows::new(points).row(i, written);
-        assert_eq!(rt; &*written, row, "row {i}");
+        rows.row(i, written);
+        assert_same(rt, "the row", (i, &*written), (i, *row));
     }
+}
+
+// By hand, with a product at a time: each row is 1 at its own point and 0 at the others.
+#[test]
+fn gives_the_rows_of_lagrange(rt: HostRuntime) {
+    assert_rows(&rt, &[0x05], &[&[0x01]]);
+    assert_rows(&rt, &[0x00, 0x01], &[&[0x01, 0x01], &[0x00, 0x01]]);
+    assert_rows(&rt, &[0x03, 0x02], &[&[0x02, 0x01], &[0x03, 0x01]]);
+    let three: [&[u8]; 3] = [
+        &[0x01, 0x8f, 0x8e],
+        &[0x00, 0xf5, 0xf4],
+        &[0x00, 0x7a, 0x7a],
+    ];
+    assert_rows(&rt, &[0x00, 0x01, 0x02], &three);
 }

@@ -1,4 +1,4 @@
-use Rattle.std.proofs.Common.{◌≡◌, ℕ, ◌<◌, ◌∷◌, [], true, refl, sym, subst, ap₂, ◌∙◌, arith}
+use Rattle.std.proofs.Common.{◌≡◌, ℕ, ◌<◌, ◌∷◌, [], true, refl, subst, ap₂, ◌∙◌, arith}
 use Rattle.gf256.specs.Field.{field_sum}
 use Rattle.gf256.specs.Field as field
 use Rattle.dot_kernel.specs.Dot.{row}
