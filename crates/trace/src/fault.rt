@@ -12,7 +12,7 @@ use std::io::{ErrorKind, Write};
 use tag::Refusal;
 
 /// Why the program ended early. The object is not shown.
-#[derive(Clone, Copy, Debug, PartialEq, Eq)]
+#[derive(Clone, Copy)]
 pub enum Fault {
     /// A word of the command line is not UTF-8.
     NotText,

@@ -3,7 +3,7 @@ ghost use Rattle.std.specs.Prelude.{◌∷◌, [], map, string_bytes};
 ghost use Rattle.trace.specs.Request.{IsReading};
 
 /// The form in which an object is shown.
-#[derive(Clone, Copy, Debug, PartialEq, Eq)]
+#[derive(Clone, Copy)]
 pub enum Form {
     /// A picture in SVG.
     Picture,
@@ -16,7 +16,7 @@ pub enum Form {
 }
 
 /// A request: play a script, then show one object in one form.
-#[derive(Clone, Copy, Debug, PartialEq, Eq)]
+#[derive(Clone, Copy)]
 pub struct Request<'a> {
     /// The form in which the object is shown.
     pub form: Form,
