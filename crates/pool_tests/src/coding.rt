@@ -2,7 +2,7 @@
 
 use bytes::Bytes;
 use coding_pool::{Gate, encode_all};
-use encoder::Coded;
+use encoder::{Coded, Piece};
 use std::alloc::Global;
 use std::process::Abort;
 use std::sync::Wait;
@@ -22,12 +22,20 @@ pub(crate) fn code<G: Gate, R: Threads + Wait + Abort + Sync>(
     coded.expect(rt, "the value is coded")
 }
 
+fn is_piece(rt: &impl Abort, piece: &Piece, point: u8, fragment: Option<&&[u8]>) {
+    assert!(rt; piece.point == point);
+    assert!(rt; fragment == Some(&piece.bytes.as_slice()));
+}
+
 /// Each piece is at its point, and these are the fragments in the order of the points.
 pub(crate) fn has_fragments<R: Abort>(rt: &R, coded: &Coded, fragments: &[&[u8]]) {
     assert!(rt; usize::from(coded.n()) == fragments.len());
     for point in 0..coded.n() {
-        let piece = coded.piece_at(point);
-        assert!(rt; piece.point == point);
-        assert!(rt; fragments.get(usize::from(point)) == Some(&piece.bytes.as_slice()));
+        is_piece(
+            rt,
+            coded.piece_at(point),
+            point,
+            fragments.get(usize::from(point)),
+        );
     }
 }

@@ -27,6 +27,10 @@ fn none_yet() -> AtomicUsize {
     AtomicUsize::new(0)
 }
 
+fn has_counted(rt: &impl Abort, count: &AtomicUsize, expected: usize) {
+    assert_eq!(rt; count.load(Ordering::SeqCst), expected);
+}
+
 fn nothing_told(rt: &impl Abort, alloc: Global, jobs: u8) -> Vec<Told> {
     let mut told = Vec::new(alloc);
     for _ in 0..jobs {
@@ -57,19 +61,20 @@ impl Log {
         self.most_inside.fetch_max(inside, Ordering::SeqCst);
     }
 
-    /// The most jobs that were entered and not yet left.
-    pub(crate) fn most_inside(&self) -> usize {
-        self.most_inside.load(Ordering::SeqCst)
+    /// The most jobs that were entered and not yet left are within these bounds.
+    pub(crate) fn has_most_inside(&self, rt: &impl Abort, least: usize, most: usize) {
+        let inside = self.most_inside.load(Ordering::SeqCst);
+        assert!(rt; least <= inside && inside <= most, "{inside}");
     }
 
     /// Each job was entered that often, and left as often, no other was, and none is still inside.
     pub(crate) fn is_told_each(&self, rt: &impl Abort, times: usize) {
         for job in &self.jobs {
-            assert!(rt; job.entered.load(Ordering::SeqCst) == times);
-            assert!(rt; job.left.load(Ordering::SeqCst) == times);
+            has_counted(rt, &job.entered, times);
+            has_counted(rt, &job.left, times);
         }
-        assert!(rt; self.strays.load(Ordering::SeqCst) == 0);
-        assert!(rt; self.inside.load(Ordering::SeqCst) == 0);
+        has_counted(rt, &self.strays, 0);
+        has_counted(rt, &self.inside, 0);
     }
 }
 

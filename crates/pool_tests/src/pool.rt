@@ -14,11 +14,15 @@ use tag::{LONGEST_VALUE, Refusal};
 /// The pieces of `hello`, 2 of 4.
 const HELLO: &[&[u8]] = &[b"hel", b"\x04\x0a\x6c", b"\xb0\xbb\x6c", b"\xdc\xd4\x6c"];
 
+fn works_beside_a_held_one<R: Threads + Wait + Abort + Sync>(rt: &R, alloc: Global) {
+    let gate = Hold::new();
+    has_fragments(rt, &code(rt, alloc, 2, &gate, 2, 4, b"hello"), HELLO);
+    assert!(rt; gate.has_overlapped());
+}
+
 #[test]
 fn a_held_worker_stops_no_other(rt: HostRuntime) {
-    let gate = Hold::new();
-    has_fragments(&rt, &code(&rt, rt.alloc(), 2, &gate, 2, 4, b"hello"), HELLO);
-    assert!(rt; gate.has_overlapped());
+    works_beside_a_held_one(&rt, rt.alloc());
 }
 
 /// What Intel ISA-L's `ec_encode_data` gives for 4 of 7 pieces of the value below.
@@ -60,8 +64,8 @@ fn is_refused<R: Threads + Wait + Abort + Sync>(
     value: Bytes,
     refusal: Refusal,
 ) {
-    let refused = encode_all(rt, alloc, 65, &NoGate, k, 1, value);
-    assert_eq!(rt; refused.err(), Some(refusal));
+    let coded = encode_all(rt, alloc, 65, &NoGate, k, 1, value);
+    assert_eq!(rt; coded.expect_err(rt, "a refusal"), refusal);
 }
 
 #[test]
