@@ -1,122 +1,77 @@
-//! What tests do to a cluster, step by step.
+//! What tests do to an object and to a cluster.
 
 use bytes::Bytes;
 use cluster::Cluster;
-use driver::{Chooser, First};
+use driver::Chooser;
 use layout::Layout;
-use register::Receipt;
+use register::{Receipt, Register};
 use std::alloc::Global;
 use std::process::Abort;
-use std::test::Fail;
-use tag::Refusal;
+use tag::{Refusal, Stamp};
 
 // More turns than any call here takes.
-const TURNS: u64 = 100_000;
+pub(crate) const TURNS: u64 = 100_000;
+
+// An object alone, made by step 1.
+pub(crate) fn object(rt: &impl Abort, alloc: Global, k: u8, members: &[u8]) -> Register {
+    let layout = Layout::new(k, members).expect(rt, "a layout");
+    Register::new(alloc, layout, None, 1).expect(rt, "an object")
+}
+
+// A read of an object begins as the step of this number.
+pub(crate) fn read_at(rt: &impl Abort, object: &mut Register, now: Stamp) -> Result<u64, Refusal> {
+    assert!(rt; object.last() < now);
+    object.call_read(now)
+}
 
 // So many servers, one layout of these members, and the object a.
 pub(crate) fn one_object(
+    rt: &impl Abort,
     alloc: Global,
     servers: u8,
     k: u8,
     members: &[u8],
-) -> Result<Cluster, Refusal> {
-    let layout = Layout::new(k, members)?;
+) -> Cluster {
     let mut cluster = Cluster::new(alloc, servers);
-    let id = cluster.add_layout(layout)?;
-    cluster.create("a", id)?;
-    Ok(cluster)
+    let layout = Layout::new(k, members).expect(rt, "a layout");
+    cluster.add_layout(layout).expect(rt, "a layout's number");
+    cluster.create("a", 0).expect(rt, "an object");
+    cluster
 }
 
-// The same with the object b too.
-pub(crate) fn two_objects(
-    alloc: Global,
-    servers: u8,
-    k: u8,
-    members: &[u8],
-) -> Result<Cluster, Refusal> {
-    let mut cluster = one_object(alloc, servers, k, members)?;
-    cluster.create("b", 0)?;
-    Ok(cluster)
-}
-
-// The steps of a call, up to its answer, by its messages as they are chosen.
-pub(crate) fn finish_by(
-    alloc: Global,
-    cluster: &mut Cluster,
-    name: &str,
-    call: u64,
-    chooser: &mut impl Chooser,
-) -> Result<Receipt, Refusal> {
-    driver::finish(alloc, cluster, name, call, false, chooser, TURNS)
-}
-
-// The same, by its messages in their order.
-pub(crate) fn finish(
-    alloc: Global,
-    cluster: &mut Cluster,
-    name: &str,
-    call: u64,
-) -> Result<Receipt, Refusal> {
-    finish_by(alloc, cluster, name, call, &mut First)
-}
-
-// A whole write.
-pub(crate) fn write(
+// A whole write, by its messages as they are chosen.
+pub(crate) fn write<C: Chooser>(
+    rt: &impl Abort,
     alloc: Global,
     cluster: &mut Cluster,
     name: &str,
     text: &'static [u8],
-) -> Result<Receipt, Refusal> {
-    let call = cluster.call_write(name, Bytes::from_static(text))?;
-    finish(alloc, cluster, name, call)
+    chooser: &mut C,
+) -> Receipt {
+    let value = Bytes::from_static(text);
+    driver::write(alloc, cluster, name, value, chooser, TURNS).expect(rt, "a write")
 }
 
-// A whole read.
-pub(crate) fn read(alloc: Global, cluster: &mut Cluster, name: &str) -> Result<Receipt, Refusal> {
-    let call = cluster.call_read(name)?;
-    finish(alloc, cluster, name, call)
-}
-
-// What each server stores.
-pub(crate) fn assert_stored(rt: &impl Abort, cluster: &Cluster, expected: &[u64]) {
-    assert_eq!(rt; usize::from(cluster.servers()), expected.len());
-    for server in 0..cluster.servers() {
-        let bytes = cluster.stored(server);
-        assert_eq!(rt; Some(&bytes), expected.get(usize::from(server)));
-    }
-}
-
-// So many layouts more, of server 0 alone.
-pub(crate) fn add_layouts(cluster: &mut Cluster, count: usize) -> Result<(), Refusal> {
-    for _ in 0..count {
-        cluster.add_layout(Layout::new(1, &[0])?)?;
-    }
-    Ok(())
-}
-
-// So many objects more, whose names are numbers, of layout 0.
-pub(crate) fn create_objects(
-    alloc: Global,
-    cluster: &mut Cluster,
-    count: usize,
-) -> Result<(), Fail> {
-    for number in 0..count {
-        let name = format!(in alloc; "{number}")?;
-        cluster.create(&name, 0)?;
-    }
-    Ok(())
-}
-
-// So many whole moves of an object to layout 0.
-pub(crate) fn move_on(
+// A whole read, by its messages as they are chosen.
+pub(crate) fn read<C: Chooser>(
+    rt: &impl Abort,
     alloc: Global,
     cluster: &mut Cluster,
     name: &str,
-    count: usize,
-) -> Result<(), Refusal> {
-    for _ in 0..count {
-        let call = cluster.call_move(name, 0)?;
-        finish(alloc, cluster, name, call)?;
+    chooser: &mut C,
+) -> Receipt {
+    driver::read(alloc, cluster, name, chooser, TURNS).expect(rt, "a read")
+}
+
+// Compares the steps of a call and of its answer.
+pub(crate) fn assert_steps(rt: &impl Abort, receipt: &Receipt, called: Stamp, answered: Stamp) {
+    assert!(rt; receipt.called == called && receipt.answered == answered);
+}
+
+// Compares the value of a call.
+pub(crate) fn assert_value(rt: &impl Abort, value: Option<&Bytes>, text: &[u8]) {
+    match value {
+        Some(value) => assert!(rt; value.as_slice() == text),
+        None => panic!(rt; "no value"),
     }
-    Ok(())
 }

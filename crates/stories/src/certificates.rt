@@ -1,184 +1,128 @@
+//! Histories made by hand, and what `check` says of them.
 ghost use Rattle.std.specs.Prelude.{◌≡◌};
 
+use crate::acts::{object, read_at};
 use bytes::Bytes;
 use history::{atomic, check, order_by_tags, sequence};
-use layout::Layout;
 use record::{Entry, Operation, TaggedCall};
 use register::Register;
-use std::alloc::{AllocError, Global};
+use std::alloc::Global;
 use std::process::Abort;
-use std::test::Fail;
 use tag::{Stamp, Tag};
 
-/// What is seen of a call.
-#[derive(Clone, Copy)]
-struct Seen {
-    operation: Operation,
-    called: Stamp,
-    answered: Option<Stamp>,
-    value: Option<&'static [u8]>,
-}
+/// What is seen of a call: its operation, the steps of its call and its answer, and its value.
+type Seen = (Operation, Stamp, Option<Stamp>, &'static [u8]);
 
-fn write(called: Stamp, answered: Option<Stamp>, value: &'static [u8]) -> Seen {
-    Seen {
-        operation: Operation::Write,
-        called,
-        answered,
-        value: Some(value),
-    }
-}
+const READ: Operation = Operation::Read;
 
-fn read(called: Stamp, answered: Stamp, value: &'static [u8]) -> Seen {
-    Seen {
-        operation: Operation::Read,
-        called,
-        answered: Some(answered),
-        value: Some(value),
-    }
-}
+const WRITE: Operation = Operation::Write;
 
-fn entries_of(alloc: Global, calls: &[Seen]) -> Result<Vec<Entry>, AllocError> {
+/// The entries of these calls, numbered from 1.
+fn entries_of(rt: &impl Abort, alloc: Global, calls: &[Seen]) -> Vec<Entry> {
     let mut entries = Vec::new(alloc);
     for (place, seen) in calls.iter().enumerate() {
-        entries.push(Entry {
+        let (operation, called, answered, value) = *seen;
+        let entry = Entry {
             call: place as u64 + 1,
-            operation: seen.operation,
-            called: seen.called,
-            answered: seen.answered,
-            value: seen.value.map(Bytes::from_static),
-        })?;
+            operation,
+            called,
+            answered,
+            value: Some(Bytes::from_static(value)),
+        };
+        entries.push(entry).expect(rt, "room for an entry");
     }
-    Ok(entries)
+    entries
 }
 
-/// Whether some list of at most four of the calls 1 to 4 passes.
-fn some_list_passes(alloc: Global, entries: &[Entry]) -> Result<bool, AllocError> {
+/// The list of at most four of the calls 1 to 4 whose digits to the base 5 these are. A digit 0 names no call.
+fn list_of(rt: &impl Abort, alloc: Global, code: u64) -> Vec<u64> {
+    let mut list = Vec::new(alloc);
+    for digit in [code % 5, code / 5 % 5, code / 25 % 5, code / 125] {
+        if digit > 0 {
+            list.push(digit).expect(rt, "room for a call");
+        }
+    }
+    list
+}
+
+/// Whether some list of at most four of these calls passes.
+fn is_atomic(rt: &impl Abort, alloc: Global, calls: &[Seen]) -> bool {
+    let entries = entries_of(rt, alloc, calls);
+    let mut found = false;
     for code in 0..625u64 {
-        let mut order = Vec::new(alloc);
-        // A digit 0 names no call.
-        for digit in [code % 5, code / 5 % 5, code / 25 % 5, code / 125] {
-            if digit > 0 {
-                order.push(digit)?;
-            }
-        }
-        if check(entries, &order) {
-            return Ok(true);
-        }
+        found = found || check(&entries, &list_of(rt, alloc, code));
     }
-    Ok(false)
+    found
 }
 
-/// Whether some list of at most four of these four calls passes.
-fn is_atomic(alloc: Global, calls: &[Seen; 4]) -> Result<bool, AllocError> {
-    let entries = entries_of(alloc, calls.as_slice())?;
-    some_list_passes(alloc, &entries)
+/// Histories of four calls, and whether each is atomic.
+const HISTORIES: [(&str, &[Seen], bool); 5] = [
+    (
+        "a stale read",
+        &[
+            (WRITE, 1, Some(2), b"A"),
+            (WRITE, 3, Some(4), b"B"),
+            (READ, 5, Some(6), b"A"),
+            (READ, 7, Some(8), b"B"),
+        ],
+        false,
+    ),
+    (
+        "a lost acknowledged write",
+        &[
+            (WRITE, 1, Some(2), b"A"),
+            (READ, 3, Some(4), b""),
+            (READ, 5, Some(6), b""),
+            (WRITE, 7, None, b"B"),
+        ],
+        false,
+    ),
+    (
+        "a new value and then an old one",
+        &[
+            (WRITE, 1, Some(2), b"A"),
+            (WRITE, 3, None, b"B"),
+            (READ, 4, Some(5), b"B"),
+            (READ, 6, Some(7), b"A"),
+        ],
+        false,
+    ),
+    (
+        "a value never written",
+        &[
+            (WRITE, 1, Some(2), b"A"),
+            (WRITE, 3, Some(4), b"B"),
+            (READ, 5, Some(6), b"C"),
+            (WRITE, 7, None, b"D"),
+        ],
+        false,
+    ),
+    (
+        "an old value and then a new one",
+        &[
+            (WRITE, 1, Some(2), b"A"),
+            (WRITE, 3, None, b"B"),
+            (READ, 4, Some(5), b"A"),
+            (READ, 6, Some(7), b"B"),
+        ],
+        true,
+    ),
+];
+
+fn assert_atomic(rt: &impl Abort, alloc: Global, name: &str, calls: &[Seen], expected: bool) {
+    let is_atomic = is_atomic(rt, alloc, calls);
+    assert!(rt; is_atomic == expected, "{name}");
 }
 
-/// Compares what `check` says of each of the lists. A list is written by its calls' digits.
-fn assert_checks<R: AllocGlobal + Abort>(
-    rt: &R,
-    entries: &[Entry],
-    lists: &str,
-    expected: bool,
-) -> Result<(), AllocError> {
-    for list in lists.split(' ') {
-        let mut order = Vec::new(rt.alloc());
-        for digit in list.bytes() {
-            order.push(u64::from(digit.saturating_sub(b'0')))?;
-        }
-        assert!(rt; check(entries, &order) == expected, "{list}");
+fn assert_each(rt: &impl Abort, alloc: Global, histories: &[(&str, &[Seen], bool)]) {
+    for (name, calls, expected) in histories {
+        assert_atomic(rt, alloc, name, calls, *expected);
     }
-    Ok(())
-}
-
-/// Two answered writes, a read of the later one, a write without an answer, and a move.
-fn five_calls(alloc: Global) -> Result<Vec<Entry>, AllocError> {
-    let moved = Seen {
-        operation: Operation::Move,
-        called: 33,
-        answered: Some(41),
-        value: None,
-    };
-    let calls = [
-        write(1, Some(30), b"A"),
-        write(2, Some(31), b"B"),
-        read(32, 40, b"B"),
-        write(3, None, b"C"),
-        moved,
-    ];
-    entries_of(alloc, calls.as_slice())
 }
 
 #[test]
-fn tells_sequences_from_other_lists(rt: HostRuntime) -> Result<(), Fail> {
-    let entries = five_calls(rt.alloc())?;
-    // In order, and with the unanswered write first or last.
-    assert_checks(&rt, &entries, "123 4123 1234", true)?;
-    // The read has an older value, a write or the read is left out, or a read comes before an answered write.
-    assert_checks(&rt, &entries, "213 13 12 231", false)?;
-    // A repeat, a move, and no such call.
-    assert_checks(&rt, &entries, "1233 1235 1236", false)?;
-    Ok(())
-}
-
-#[test]
-fn refuses_a_stale_read(rt: HostRuntime) -> Result<(), Fail> {
-    let calls = [
-        write(1, Some(2), b"A"),
-        write(3, Some(4), b"B"),
-        read(5, 6, b"A"),
-        read(7, 8, b"B"),
-    ];
-    assert!(rt; !is_atomic(rt.alloc(), &calls)?);
-    Ok(())
-}
-
-#[test]
-fn refuses_a_lost_acknowledged_write(rt: HostRuntime) -> Result<(), Fail> {
-    let calls = [
-        write(1, Some(2), b"A"),
-        read(3, 4, b""),
-        read(5, 6, b""),
-        write(7, None, b"B"),
-    ];
-    assert!(rt; !is_atomic(rt.alloc(), &calls)?);
-    Ok(())
-}
-
-#[test]
-fn refuses_a_new_value_and_then_an_old_one(rt: HostRuntime) -> Result<(), Fail> {
-    let calls = [
-        write(1, Some(2), b"A"),
-        write(3, None, b"B"),
-        read(4, 5, b"B"),
-        read(6, 7, b"A"),
-    ];
-    assert!(rt; !is_atomic(rt.alloc(), &calls)?);
-    Ok(())
-}
-
-#[test]
-fn refuses_a_value_never_written(rt: HostRuntime) -> Result<(), Fail> {
-    let calls = [
-        write(1, Some(2), b"A"),
-        write(3, Some(4), b"B"),
-        read(5, 6, b"C"),
-        write(7, None, b"D"),
-    ];
-    assert!(rt; !is_atomic(rt.alloc(), &calls)?);
-    Ok(())
-}
-
-#[test]
-fn takes_an_old_value_and_then_a_new_one(rt: HostRuntime) -> Result<(), Fail> {
-    let calls = [
-        write(1, Some(2), b"A"),
-        write(3, None, b"B"),
-        read(4, 5, b"A"),
-        read(6, 7, b"B"),
-    ];
-    assert!(rt; is_atomic(rt.alloc(), &calls)?);
-    Ok(())
+fn tells_atomic_histories_from_others(rt: HostRuntime) {
+    assert_each(&rt, rt.alloc(), &HISTORIES);
 }
 
 fn tagged(
@@ -201,33 +145,35 @@ fn tagged(
 }
 
 #[test]
-fn orders_by_tags(rt: HostRuntime) -> Result<(), Fail> {
-    let (read, write) = (Operation::Read, Operation::Write);
+fn orders_by_tags(rt: HostRuntime) {
     let first = Some(Tag { number: 1, call: 1 });
     let lost = Some(Tag { number: 2, call: 4 });
     let calls = [
-        tagged(1, write, first, 1, false), // call 3 returned its value
-        tagged(2, read, Some(Tag::OPENING), 2, true),
-        tagged(3, read, first, 4, true),
-        tagged(4, write, lost, 5, false),
-        tagged(5, read, lost, 7, false),
+        tagged(1, WRITE, first, 1, false), // call 3 returned its value
+        tagged(2, READ, Some(Tag::OPENING), 2, true),
+        tagged(3, READ, first, 4, true),
+        tagged(4, WRITE, lost, 5, false),
+        tagged(5, READ, lost, 7, false),
         tagged(6, Operation::Move, first, 8, true),
-        tagged(7, write, Some(Tag { number: 2, call: 3 }), 9, true),
-        tagged(8, write, None, 10, false),
+        tagged(7, WRITE, Some(Tag { number: 2, call: 3 }), 9, true),
+        tagged(8, WRITE, None, 10, false),
     ];
-    let order = order_by_tags(rt.alloc(), &calls)?;
-    assert_eq!(rt; order.as_slice(), [2, 1, 3, 7].as_slice());
-    Ok(())
+    let order = order_by_tags(rt.alloc(), &calls).expect(&rt, "an order");
+    assert!(rt; order.as_slice() == [2, 1, 3, 7].as_slice());
+}
+
+/// Compares the sequence of an object with the only one, which is empty, and looks for a call that is not there.
+fn assert_empty(rt: &impl Abort, alloc: Global, object: &Register) {
+    let order = sequence(alloc, object).expect(rt, "an order");
+    let entries = object.entries().expect(rt, "entries");
+    assert!(rt; order.is_empty() && check(&entries, &order));
+    assert!(rt; !check(&entries, &[2]));
 }
 
 #[test]
-fn leaves_out_an_open_read(rt: HostRuntime) -> Result<(), Fail> {
-    let alloc = rt.alloc();
-    let mut object = Register::new(alloc, Layout::new(1, &[0])?, None, 1)?;
-    object.call_read(2)?;
+fn leaves_out_an_open_read(rt: HostRuntime) {
+    let mut object = object(&rt, rt.alloc(), 1, &[0]);
+    assert!(rt; read_at(&rt, &mut object, 2) == Ok(1));
     atomic(&object);
-    let order = sequence(alloc, &object)?;
-    assert!(rt; order.is_empty());
-    assert!(rt; check(&object.entries()?, &order));
-    Ok(())
+    assert_empty(&rt, rt.alloc(), &object);
 }

@@ -1,5 +1,5 @@
-//! Objects played by hand, clusters, histories made by hand, and scripts whose readers and writers fail: tests
-//! alone. They stand in a crate of their own, so that the crates which they play are proved once and not twice.
+//! Objects played by hand, clusters at their limits, and histories made by hand: tests alone. They stand in a crate of
+//! their own, so that the crates which they play are proved once and not twice.
 #![tactic(auto)]
 
 #[cfg(test)]
@@ -7,14 +7,10 @@ mod acts;
 #[cfg(test)]
 mod certificates;
 #[cfg(test)]
-mod edges;
-#[cfg(test)]
-mod many_objects;
+mod limits;
 #[cfg(test)]
 mod one_object;
 #[cfg(test)]
-mod scripts;
+mod two_objects;
 #[cfg(test)]
 mod whole_calls;
-#[cfg(test)]
-mod wide_layouts;
