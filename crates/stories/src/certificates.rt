@@ -56,7 +56,7 @@ fn is_atomic(rt: &impl Abort, alloc: Global, calls: &[Seen]) -> bool {
 }
 
 /// Histories of four calls, and whether each is atomic.
-const HISTORIES: [(&str, &[Seen], bool); 5] = [
+const HISTORIES: &[(&str, &[Seen], bool)] = &[
     (
         "a stale read",
         &[
@@ -122,7 +122,7 @@ fn assert_each(rt: &impl Abort, alloc: Global, histories: &[(&str, &[Seen], bool
 
 #[test]
 fn tells_atomic_histories_from_others(rt: HostRuntime) {
-    assert_each(&rt, rt.alloc(), &HISTORIES);
+    assert_each(&rt, rt.alloc(), HISTORIES);
 }
 
 fn tagged(

@@ -117,7 +117,7 @@ fn one_server(rt: &impl Abort, alloc: Global) -> Cluster {
     one_object(rt, alloc, 1, 1, &[0])
 }
 
-const LAYOUTS: [(Deed, usize, Option<Refusal>); 2] = [
+const LAYOUTS: &[(Deed, usize, Option<Refusal>)] = &[
     (Deed::AddLayout, MOST_LAYOUTS - 1, None),
     (Deed::AddLayout, 1, Some(Refusal::Full)),
 ];
@@ -125,11 +125,11 @@ const LAYOUTS: [(Deed, usize, Option<Refusal>); 2] = [
 #[test]
 fn is_full_of_layouts(rt: HostRuntime) {
     let mut cluster = one_server(&rt, rt.alloc());
-    play(&rt, rt.alloc(), &mut cluster, &LAYOUTS);
+    play(&rt, rt.alloc(), &mut cluster, LAYOUTS);
     assert_counts(&rt, &cluster, 0, 1025, 0);
 }
 
-const OBJECTS: [(Deed, usize, Option<Refusal>); 2] = [
+const OBJECTS: &[(Deed, usize, Option<Refusal>)] = &[
     (Deed::Create, MOST_OBJECTS - 1, None),
     (Deed::Create, 1, Some(Refusal::Full)),
 ];
@@ -137,11 +137,11 @@ const OBJECTS: [(Deed, usize, Option<Refusal>); 2] = [
 #[test]
 fn is_full_of_objects(rt: HostRuntime) {
     let mut cluster = one_server(&rt, rt.alloc());
-    play(&rt, rt.alloc(), &mut cluster, &OBJECTS);
+    play(&rt, rt.alloc(), &mut cluster, OBJECTS);
     assert_counts(&rt, &cluster, 0, 65_537, 0);
 }
 
-const POSITIONS: [(Deed, usize, Option<Refusal>); 2] = [
+const POSITIONS: &[(Deed, usize, Option<Refusal>)] = &[
     (Deed::Move, MOST_POSITIONS - 1, None),
     (Deed::Move, 1, Some(Refusal::Full)),
 ];
@@ -149,10 +149,10 @@ const POSITIONS: [(Deed, usize, Option<Refusal>); 2] = [
 #[test]
 fn is_full_of_positions(rt: HostRuntime) {
     let mut cluster = one_server(&rt, rt.alloc());
-    play(&rt, rt.alloc(), &mut cluster, &POSITIONS);
+    play(&rt, rt.alloc(), &mut cluster, POSITIONS);
 }
 
-const MESSAGES: [(Deed, usize, Option<Refusal>); 7] = [
+const MESSAGES: &[(Deed, usize, Option<Refusal>)] = &[
     (Deed::CallRead, 1, None),
     (Deed::Repeat, 1_048_575, None),
     (Deed::Repeat, 1, Some(Refusal::Full)),
@@ -165,17 +165,17 @@ const MESSAGES: [(Deed, usize, Option<Refusal>); 7] = [
 #[test]
 fn the_message_1_048_576(rt: HostRuntime) {
     let mut cluster = one_server(&rt, rt.alloc());
-    play(&rt, rt.alloc(), &mut cluster, &MESSAGES);
+    play(&rt, rt.alloc(), &mut cluster, MESSAGES);
     assert!(rt; cluster.calls() == 2);
 }
 
-const TOO_LONG: [(Deed, usize, Option<Refusal>); 1] = [(
+const TOO_LONG: &[(Deed, usize, Option<Refusal>)] = &[(
     Deed::Write(16_777_217),
     1,
     Some(Refusal::TooLong),
 )];
 
-const LONGEST: [(Deed, usize, Option<Refusal>); 2] = [
+const LONGEST: &[(Deed, usize, Option<Refusal>)] = &[
     (Deed::Write(16_777_216), 1, None),
     (Deed::Read(16_777_216), 1, None),
 ];
@@ -183,15 +183,15 @@ const LONGEST: [(Deed, usize, Option<Refusal>); 2] = [
 #[test]
 fn a_value_of_16_mebibytes(rt: HostRuntime) {
     let mut cluster = one_server(&rt, rt.alloc());
-    play(&rt, rt.alloc(), &mut cluster, &TOO_LONG);
+    play(&rt, rt.alloc(), &mut cluster, TOO_LONG);
     assert_counts(&rt, &cluster, 0, 2, 0);
-    play(&rt, rt.alloc(), &mut cluster, &LONGEST);
+    play(&rt, rt.alloc(), &mut cluster, LONGEST);
     // A write is 16 steps and a read is 14, where there is one server.
     assert_counts(&rt, &cluster, 2, 32, 16_777_216);
 }
 
 /// Steps at which a read begins, what each answers, and the last step then.
-const STEPS: [(Stamp, Option<Refusal>, Stamp); 2] = [
+const STEPS: &[(Stamp, Option<Refusal>, Stamp)] = &[
     ((1 << 62) + 1, Some(Refusal::Full), 1),
     (1 << 62, None, 1 << 62),
 ];
@@ -206,5 +206,5 @@ fn read_each(rt: &impl Abort, object: &mut Register, steps: &[(Stamp, Option<Ref
 #[test]
 fn a_step_at_2_to_the_62(rt: HostRuntime) {
     let mut object = object(&rt, rt.alloc(), 1, &[0]);
-    read_each(&rt, &mut object, &STEPS);
+    read_each(&rt, &mut object, STEPS);
 }

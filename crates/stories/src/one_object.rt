@@ -14,7 +14,7 @@ fn four_servers(rt: &impl Abort, alloc: Global) -> Register {
     object(rt, alloc, 2, &[0, 1, 2, 3])
 }
 
-const IN_ORDER: [(Deed, Option<Refusal>); 22] = [
+const IN_ORDER: &[(Deed, Option<Refusal>)] = &[
     (Deed::Serve, Some(Refusal::NoMessage)),
     (Deed::Take, Some(Refusal::NoMessage)),
     (Deed::Lose, Some(Refusal::NoMessage)),
@@ -42,15 +42,15 @@ const IN_ORDER: [(Deed, Option<Refusal>); 22] = [
 #[test]
 fn refuses_in_order(rt: HostRuntime) {
     let mut object = four_servers(&rt, rt.alloc());
-    play(&rt, rt.alloc(), &mut object, &IN_ORDER);
+    play(&rt, rt.alloc(), &mut object, IN_ORDER);
 }
 
-const OPEN_WRITE_AND_MOVE: [(Deed, Option<Refusal>); 2] = [
+const OPEN_WRITE_AND_MOVE: &[(Deed, Option<Refusal>)] = &[
     (Deed::Write(HELLO), None),
     (Deed::Move(3, &[0, 1, 2, 3, 4]), None),
 ];
 
-const OTHER_PIECES: [(Deed, Option<Refusal>); 8] = [
+const OTHER_PIECES: &[(Deed, Option<Refusal>)] = &[
     (Deed::Advance(1), Some(Refusal::NotNow)),
     (Deed::Post(1), Some(Refusal::NotNow)),
     (Deed::Supply(1, 2, 4, b"hellO"), Some(Refusal::WrongCode)),
@@ -71,10 +71,10 @@ fn assert_moving(rt: &impl Abort, object: &Register) {
 #[test]
 fn refuses_pieces_of_another_value(rt: HostRuntime) {
     let mut object = four_servers(&rt, rt.alloc());
-    play(&rt, rt.alloc(), &mut object, &OPEN_WRITE_AND_MOVE);
+    play(&rt, rt.alloc(), &mut object, OPEN_WRITE_AND_MOVE);
     go_on(&rt, rt.alloc(), &mut object, 1, 1);
     deliver(&rt, rt.alloc(), &mut object);
-    play(&rt, rt.alloc(), &mut object, &OTHER_PIECES);
+    play(&rt, rt.alloc(), &mut object, OTHER_PIECES);
     assert_moving(&rt, &object);
 }
 
@@ -100,7 +100,7 @@ fn shows_nothing_of_no_call(rt: HostRuntime) {
     }
 }
 
-const SETTLES: [(Deed, Option<Refusal>); 5] = [
+const SETTLES: &[(Deed, Option<Refusal>)] = &[
     (Deed::Advance(2), Some(Refusal::NotNow)),
     (Deed::Settle(2, b"hellO", 0), Some(Refusal::WrongCode)),
     // The reply of member 3 came when the quorum was there.
@@ -124,6 +124,6 @@ fn fetched(rt: &impl Abort, alloc: Global) -> Register {
 #[test]
 fn settles_what_was_fetched(rt: HostRuntime) {
     let mut object = fetched(&rt, rt.alloc());
-    play(&rt, rt.alloc(), &mut object, &SETTLES);
+    play(&rt, rt.alloc(), &mut object, SETTLES);
     assert_value(&rt, object.value_view(2), HELLO);
 }
