@@ -61,7 +61,7 @@ fn assert_serves(
     assert_reply(rt, alloc, &reply, step, said);
 }
 
-// Serves one request after another, each at the step before it and with the answer behind it.
+// Serves one request after another. Each row has the step, the request and what is said to it.
 fn assert_table(rt: &impl Abort, alloc: Global, bank: &mut Bank, table: &[(Stamp, Kind, Said)]) {
     for &(step, kind, said) in table {
         assert_serves(rt, alloc, bank, step, kind, said);
@@ -141,7 +141,7 @@ fn answers_the_table_of_requests(rt: HostRuntime) {
     assert_keeps(&rt, &bank, &KEPT_AFTER_REQUESTS);
 }
 
-// Calls that `serve` makes, one by one.
+// Four of the calls that `serve` makes, each by itself.
 fn assert_calls(rt: &impl Abort, alloc: Global, bank: &mut Bank) {
     bank.fetch(SECOND, 4).expect(rt, "a reply");
     assert_reply(rt, alloc, &bank.query(5), 5, Said::Greatest(SECOND));
