@@ -54,7 +54,7 @@ pub(crate) const TWO: Fragment = (2, b"\xb0\xbb\x6c");
 pub(crate) const THREE: Fragment = (3, b"\xdc\xd4\x6c");
 
 /// Worked out by hand from the definition of a fragment.
-pub(crate) const SMALL: [Row; 10] = [
+pub(crate) static SMALL: [Row; 10] = [
     (2, &[ZERO, ONE], b"hello"),
     (2, &[TWO, ZERO], b"hello"),
     (2, &[ZERO, THREE], b"hello"),
@@ -74,7 +74,7 @@ fn gives_back_small_values(rt: HostRuntime) {
 
 /// What Intel ISA-L's `ec_encode_data` gives for the rows `i^0, i^1, .. i^(k-1)` of each point `i` and the value padded
 /// with zeros; ISA-L gives the value back by the inverse of that matrix, from `gf_invert_matrix`.
-pub(crate) const ISA_L: [Row; 6] = [
+pub(crate) static ISA_L: [Row; 6] = [
     (2, &[(200, b"\x8c"), (254, b"\xe0")], b"\x01\x02"),
     (
         3,
@@ -166,7 +166,7 @@ fn assert_refuses(
     );
 }
 
-const BAD_PIECES: [(u8, u32, u32, &[Fragment]); 10] = [
+static BAD_PIECES: [(u8, u32, u32, &[Fragment]); 10] = [
     // One point twice, another length, and too few pieces.
     (2, 5, 5, &[ONE, ONE]),
     (2, 5, 5, &[(0, b"\x68\x65"), ONE]),

@@ -70,7 +70,7 @@ fn assert_refuses(rt: &impl Abort, alloc: Global, k: u8, len: usize, fragments: 
     assert_untouched(rt, &out);
 }
 
-const BAD_FRAGMENTS: [(u8, usize, &[Fragment]); 7] = [
+static BAD_FRAGMENTS: [(u8, usize, &[Fragment]); 7] = [
     (2, 5, &[ONE, ONE]),
     (2, 5, &[(0, b"\x68\x65"), ONE]),
     (2, 5, &[ZERO]),
@@ -93,8 +93,8 @@ fn refuses_more_fragments_than_points(rt: HostRuntime) {
     let mut out = [0xAA; 5];
     let fragments = [ZERO.1, ONE.1, TWO.1];
     let refused = decode_into(2, &[0, 1], &fragments, &mut out).err();
-    assert_same(&rt, "the refusal", refused, Some(Refusal::BadPieces));
-    assert_same(&rt, "the bytes", &out, &[0xAA; 5]);
+    let expected = (Some(Refusal::BadPieces), &[0xAA; 5]);
+    assert_same(&rt, "the refusal and the bytes", (refused, &out), expected);
 }
 
 /// A value of `len` bytes, in which each value of a byte comes up where it is long enough.
