@@ -44,7 +44,7 @@ fn assert_repairs(rt: &impl Abort, alloc: Global, lost: Fragment, left: &[Fragme
 }
 
 /// A fragment of `hello`, and the two others that give it back.
-const LOST: [(Fragment, [Fragment; 2]); 5] = [
+static LOST: [(Fragment, [Fragment; 2]); 5] = [
     (ZERO, [ONE, TWO]),
     (ONE, [THREE, ZERO]),
     (TWO, [ONE, THREE]),
@@ -72,7 +72,7 @@ fn assert_refuses(rt: &impl Abort, alloc: Global, k: u8, len: usize, fragments: 
     assert_untouched(rt, &out);
 }
 
-const BAD_FRAGMENTS: [(u8, usize, &[Fragment]); 6] = [
+static BAD_FRAGMENTS: [(u8, usize, &[Fragment]); 6] = [
     (2, 5, &[ONE, ONE]),
     (2, 5, &[(0, b"\x68\x65"), ONE]),
     (2, 5, &[ZERO]),
