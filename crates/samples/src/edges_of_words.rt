@@ -4,7 +4,7 @@ use std::alloc::Global;
 use std::process::Abort;
 use words::{Hexadecimal, parse_bytes, parse_number};
 
-const NUMBERS: [(&str, Option<u64>); 14] = [
+static NUMBERS: [(&str, Option<u64>); 14] = [
     ("0", Some(0)),
     ("0007", Some(7)),
     ("18446744073709551615", Some(u64::MAX)),
@@ -28,7 +28,7 @@ fn numbers(rt: HostRuntime) {
     }
 }
 
-const BYTES: [(&str, Option<&str>); 8] = [
+static BYTES: [(&str, Option<&str>); 8] = [
     (".", Some(".")),
     ("00ff", Some("00ff")),
     ("0aBC", Some("0abc")),
