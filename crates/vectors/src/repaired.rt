@@ -44,18 +44,18 @@ fn assert_repairs(rt: &impl Abort, alloc: Global, lost: Fragment, left: &[Fragme
 }
 
 /// A fragment of `hello`, and the two others that give it back.
-static LOST: [(Fragment, [Fragment; 2]); 5] = [
-    (ZERO, [ONE, TWO]),
-    (ONE, [THREE, ZERO]),
-    (TWO, [ONE, THREE]),
-    (THREE, [ZERO, TWO]),
-    (TWO, [TWO, ONE]),
+static LOST: [(Fragment, &[Fragment]); 5] = [
+    (ZERO, &[ONE, TWO]),
+    (ONE, &[THREE, ZERO]),
+    (TWO, &[ONE, THREE]),
+    (THREE, &[ZERO, TWO]),
+    (TWO, &[TWO, ONE]),
 ];
 
 #[test]
 fn repairs_each_fragment_from_two_others(rt: HostRuntime) {
-    for (lost, left) in &LOST {
-        assert_repairs(&rt, rt.alloc(), *lost, left);
+    for &(lost, left) in &LOST {
+        assert_repairs(&rt, rt.alloc(), lost, left);
     }
 }
 
