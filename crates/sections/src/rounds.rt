@@ -25,8 +25,7 @@ use encoder::Coded;
 use record::Want;
 use tag::{MOST_STEPS, Refusal};
 
-/// What a thread hands in at a round: the result of what an earlier round handed out to be encoded or decoded, if it
-/// handed out something.
+/// What a thread hands in at a round: what it encoded or decoded for an earlier round, if that handed out anything.
 #[derive(Debug, Drop)]
 pub enum Hand {
     /// Nothing is handed in.
@@ -53,12 +52,10 @@ impl Hand {
 /// or no step and a copy of what is to be encoded or decoded before the next round. With an encoded value in `hand` it
 /// supplies the call, and with a decoded value it settles it; where an encoded value comes too late, it makes no step
 /// and returns `Round::Late`. The seat counts each round made with `asks_again`, and keeps the receipt of the answer.
-///
 /// `turns` is how many turns the call has left; a round needs one.
 ///
-/// `Stranger` where the seat's floor is above the cluster's counter, `NoCall` where the seat has no pending call,
-/// `NotNow` where that call is answered, and `GaveUp` where `turns` is 0. Else it is refused as `make_round`,
-/// `Cluster::supply` or `Cluster::settle`.
+/// `Stranger` if the seat's floor is above the cluster's counter, `NoCall` if the seat has no pending call, `NotNow` if it
+/// is answered, and `GaveUp` if `turns` is 0. Else refused as `make_round`, `Cluster::supply` or `Cluster::settle`.
 pub fn round_in<L: StoreName, C: Chooser>(
     booked: &mut Booked<L>,
     seat: &mut Seat<L>,
@@ -103,8 +100,7 @@ pub fn round_in<L: StoreName, C: Chooser>(
     Ok(round)
 }
 
-/// Makes one round of a call. Where the round answers the call, it also returns a second copy of the value, which is
-/// made before the step, since making it can be refused.
+/// Makes one round of a call. If it answers the call, it also returns a second copy of the value, made before the step.
 pub(crate) fn round_with_copy<C: Chooser>(
     cluster: &mut Cluster,
     name: &str,
@@ -217,8 +213,7 @@ fn want_to_go(cluster: &Cluster, name: &str, call: u64, turns: u64) -> Result<Wa
     Ok(want)
 }
 
-// One round of a call that wants this. Only with nothing handed in, and where the call wants to be answered, does the
-// round answer it.
+// One round of a call that wants this. It answers the call only if the call wants that and nothing is handed in.
 fn round_with<C: Chooser>(
     cluster: &mut Cluster,
     name: &str,
