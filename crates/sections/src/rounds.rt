@@ -54,8 +54,8 @@ impl Hand {
 /// and returns `Round::Late`. The seat counts each round made with `asks_again`, and keeps the receipt of the answer.
 /// `turns` is how many turns the call has left; a round needs one.
 ///
-/// `Stranger` if the seat's floor is above the cluster's counter, `NoCall` if the seat has no pending call, `NotNow` if it
-/// is answered, and `GaveUp` if `turns` is 0. Else refused as `make_round`, `Cluster::supply` or `Cluster::settle`.
+/// `Stranger` if the seat's floor is above the cluster's counter, `NoCall` if the seat has no pending call, `NotNow` if
+/// it is answered, `GaveUp` if `turns` is 0. Else refused as `make_round`, `Cluster::supply` or `Cluster::settle`.
 pub fn round_in<L: StoreName, C: Chooser>(
     booked: &mut Booked<L>,
     seat: &mut Seat<L>,
