@@ -1,6 +1,6 @@
 -- What becomes of who makes a call that asks again in its first round.
 use Rattle.std.proofs.Common.{◌≡◌, ◌∙◌, inl, inr, Bool, true, false, refl}
-use Rattle.sections.specs.Moves.{asked_if}
+use Rattle.locked_steps.specs.Moves.{asked_if}
 use Rattle.client.specs.Callers.{StaysOpen}
 
 module _ {S : Type 0} (asks : S → S) (resumed : Bool) (first : S) where

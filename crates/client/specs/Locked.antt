@@ -10,10 +10,10 @@ use Rattle.cluster.specs.Accounts.{stored_all}
 use Rattle.cluster.specs.Cluster.{Cluster}
 use Rattle.cluster.specs.Causes.{layout_cause, create_cause, server_cause}
 use Rattle.cluster.specs.Steps.{created, with_layout, with_server}
-use Rattle.sections.specs.Course.{IsStateOf}
-use Rattle.sections.specs.Moves.{AdminState, Ends, ordered_by}
-use Rattle.sections.specs.Messages.{Stirs, StirsNot, Disturbs, DisturbsNot}
-use Rattle.sections.specs.Orders.{begin_move_cause, move_begun, retired, retiring_cause}
+use Rattle.locked_steps.specs.Course.{IsStateOf}
+use Rattle.locked_steps.specs.Moves.{AdminState, Ends, ordered_by}
+use Rattle.locked_steps.specs.Messages.{Stirs, StirsNot, Disturbs, DisturbsNot}
+use Rattle.locked_steps.specs.Orders.{begin_move_cause, move_begun, retired, retiring_cause}
 
 module _ {C : Type 0} (first : Cluster) (chooses : C → ℕ → ℕ → C → Type 0) (name : List ℕ) (before : C) where
   -- in some state of the cluster the chosen message is served or taken, or none can be handled

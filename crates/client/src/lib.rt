@@ -4,10 +4,13 @@
 //! refused with `NoMemory`, unless its comment says that it allocates no memory.
 #![tactic(auto)]
 
-pub use driver::{Chooser, First};
+pub use driver::{Chooser, First, finish};
+pub use locked_steps::{
+    Admin, Begin, Booked, CallRecord, Closed, NotClosed, Order, Seat, StoreName,
+};
 pub use record::Operation;
 pub use register::Receipt;
-pub use sections::{Admin, Begin, CallRecord, Closed, NotClosed, Seat, StoreName};
 pub use store::{Opened, Store};
 
+pub mod sections;
 mod store;

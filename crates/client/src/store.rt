@@ -2,16 +2,16 @@
 
 ghost use Rattle.std.specs.Prelude.{◌≡◌, ◌+◌, ◌⊎◌, ◌<◌, None, Some, IfOk, IfErr, MatchResult, if◌then◌else◌};
 ghost use Rattle.tag.specs.Refusal.{IsByCause};
-ghost use Rattle.sections.specs.Closing.{Fit, IsAccounted, all_records, receipts_of};
-ghost use Rattle.sections.specs.Course.{HasBecome};
-ghost use Rattle.sections.specs.Moves.{new_admin};
-ghost use Rattle.sections.specs.Seats.{new_seats};
+ghost use Rattle.locked_steps.specs.Closing.{Fit, IsAccounted, all_records, receipts_of};
+ghost use Rattle.locked_steps.specs.Course.{HasBecome};
+ghost use Rattle.locked_steps.specs.Moves.{new_admin};
+ghost use Rattle.locked_steps.specs.Seats.{new_seats};
 ghost use Rattle.client.specs.Locked.{DisturbsNotThen, DisturbsThen, StirsNotThen, StirsThen};
 ghost use Rattle.client.specs.Opening.{open_store_cause};
 
 use cluster::Cluster;
 use driver::Chooser;
-use sections::{
+use locked_steps::{
     Admin, Booked, Closed, NotClosed, Seat, StoreName, close_in, disturb_in, open_in, stir_in,
 };
 use std::alloc::Global;

@@ -3,6 +3,10 @@
 #![tactic(auto)]
 
 pub use cluster::{Accounts, Cluster, LayoutId};
+pub use phase::Took;
+pub use record::Entry;
+pub use register::{Receipt, Want};
+pub use tag::CallId;
 
 mod cluster;
 mod loads;

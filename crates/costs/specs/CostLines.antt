@@ -35,7 +35,7 @@ steps_text called (Some answered) = decimal (answered - called)
 -- the text of what one call cost
 abbrev pub line_text : Entry → Cost → List ℕ
 line_text entry cost = in_words (
-    codes "call" ∷ decimal entry.call ∷ word_of_operation entry.operation ∷ cost_text cost
+    codes "call" ∷ decimal entry.call ∷ word_of_operation entry.kind ∷ cost_text cost
     ∷ codes "steps" ∷ steps_text entry.called entry.answered ∷ [])
 
 -- the text of what all calls cost together

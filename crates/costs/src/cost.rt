@@ -4,6 +4,7 @@ ghost use Rattle.costs.specs.Cost.{capped, cost_of, plus};
 
 use crate::sums;
 use register::Register;
+use tag::CallId;
 
 /// What calls cost. A sum that does not fit 64 bits is replaced by the greatest number of 64 bits.
 #[derive(Clone, Copy, Debug, PartialEq, Eq)]
@@ -47,7 +48,7 @@ impl Cost {
 }
 
 /// What the call of this number cost so far; `Cost::NONE` where there is no such call.
-pub fn cost_of(register: &Register, call: u64) -> Cost
+pub fn cost_of(register: &Register, call: CallId) -> Cost
     ensures { result ≡ cost_of register.now.object call }
 {
     let phases = register.phases_view(call);

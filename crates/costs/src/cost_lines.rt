@@ -49,7 +49,7 @@ impl fmt::Display for CostLine<'_> {
             f,
             "call {} {} {} steps {}",
             self.entry.call,
-            operation_word(self.entry.operation),
+            operation_word(self.entry.kind),
             CostText(self.cost),
             Steps {
                 called: self.entry.called,

@@ -7,7 +7,7 @@ ghost use Rattle.std.specs.FinMap as map;
 use bank::{Bank, Kind, Row};
 use phase::{Phase, Taken};
 use register::Register;
-use tag::Tag;
+use tag::{CallId, Tag};
 
 /// The number of requests of these phases: one to each member that a phase asks.
 pub fn requests(phases: &[Phase]) -> u64
@@ -53,7 +53,7 @@ fn returned_in(replies: &[Taken]) -> u64
 }
 
 /// The bytes of the fragments that the pre-writes among these phases of the call send.
-pub fn sent(register: &Register, call: u64, phases: &[Phase]) -> u64
+pub fn sent(register: &Register, call: CallId, phases: &[Phase]) -> u64
     ensures { result ≡ capped (sum_by (sent_in register.now.object call) phases.now) }
 {
     let mut total: u64 = 0;
@@ -63,7 +63,7 @@ pub fn sent(register: &Register, call: u64, phases: &[Phase]) -> u64
     total
 }
 
-fn sent_in(register: &Register, call: u64, phase: &Phase) -> u64
+fn sent_in(register: &Register, call: CallId, phase: &Phase) -> u64
     ensures { result ≡ capped (sent_in register.now.object call phase.now) }
 {
     let position = phase.position();
@@ -77,7 +77,7 @@ fn sent_in(register: &Register, call: u64, phase: &Phase) -> u64
 }
 
 // The bytes of a fragment of the call's value under the layout of a position.
-fn fragment_at(register: &Register, call: u64, position: u32) -> u64
+fn fragment_at(register: &Register, call: CallId, position: u32) -> u64
     ensures { result ≡ fragment_at register.now.object call position }
 {
     match (register.value_view(call), register.layout_view(position)) {

@@ -20,7 +20,7 @@ use decoder::decode;
 use encoder::{Piece, encode};
 use record::Want;
 use std::alloc::Global;
-use tag::{MOST_STEPS, Refusal};
+use tag::{CallId, MOST_STEPS, Refusal};
 
 /// Encodes the value that the call of this number is to send, and supplies the call with it: one step. Whatever else
 /// refuses the step is found before the value is copied and encoded.
@@ -28,7 +28,7 @@ use tag::{MOST_STEPS, Refusal};
 /// `NoObject` where no object has this name, `NoCall` where it has no call of this number, and `NotNow` where the call
 /// has no pieces to send. `Full` where the limit of steps, of the call's phases or of the object's waiting messages is
 /// met.
-pub fn supply(alloc: Global, cluster: &mut Cluster, name: &str, call: u64) -> Result<(), Refusal>
+pub fn supply(alloc: Global, cluster: &mut Cluster, name: &str, call: CallId) -> Result<(), Refusal>
     ensures step { OnOk result (cluster.new ≡ stepped cluster.old name.entry.now (Step.Supply (pred call))) }
     ensures cause { IsByCause
         (object_cause cluster.old name.entry.now (λ object. supplying_cause (next cluster.old) object call)) result }
@@ -43,7 +43,7 @@ pub fn supply(alloc: Global, cluster: &mut Cluster, name: &str, call: u64) -> Re
 ///
 /// `NoObject` where no object has this name, `NoCall` where it has no call of this number, `NotNow` unless the call
 /// wants to settle a value, `Collected` where its fetch lacks pieces, and `Full` where the limit of steps is met.
-pub fn settle(alloc: Global, cluster: &mut Cluster, name: &str, call: u64) -> Result<(), Refusal>
+pub fn settle(alloc: Global, cluster: &mut Cluster, name: &str, call: CallId) -> Result<(), Refusal>
     ensures step { OnOk result (SettlesOwn cluster.old name.entry.now call cluster.new) }
     ensures cause { IsByCause
         (object_cause cluster.old name.entry.now (λ object. settling_cause (next cluster.old) object call)) result }
@@ -63,7 +63,7 @@ pub fn settle(alloc: Global, cluster: &mut Cluster, name: &str, call: u64) -> Re
 pub(crate) fn value_to_encode(
     cluster: &Cluster,
     name: &str,
-    call: u64,
+    call: CallId,
 ) -> Result<(Bytes, u8, u8), Refusal>
     ensures value { IfOk result (λ r. IsToEncode cluster.now name.now call r.1 r.2 r.0) }
     ensures cause { IsByCause
@@ -78,7 +78,7 @@ pub(crate) fn value_to_encode(
 pub(crate) fn pieces_to_decode(
     cluster: &Cluster,
     name: &str,
-    call: u64,
+    call: CallId,
     k: u8,
     len: u32,
 ) -> Result<Vec<Piece>, Refusal>
@@ -101,7 +101,7 @@ pub(crate) fn supply_value(
     alloc: Global,
     cluster: &mut Cluster,
     name: &str,
-    call: u64,
+    call: CallId,
     value: Bytes,
     k: u8,
     n: u8,
@@ -121,7 +121,7 @@ pub(crate) fn settle_pieces(
     alloc: Global,
     cluster: &mut Cluster,
     name: &str,
-    call: u64,
+    call: CallId,
     k: u8,
     len: u32,
     pieces: Vec<Piece>,

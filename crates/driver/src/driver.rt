@@ -9,7 +9,7 @@ use cluster::Cluster;
 use record::Want;
 use register::Receipt;
 use std::alloc::Global;
-use tag::Refusal;
+use tag::{CallId, Refusal};
 
 /// Brings the call of this number to its answer, in at most `turns` turns. Each turn is one step: where the call wants
 /// replies, one of its messages is handled, the one that `chooser` chooses; otherwise it is the step that the call
@@ -30,7 +30,7 @@ pub fn finish<C: Chooser>(
     alloc: Global,
     cluster: &mut Cluster,
     name: &str,
-    call: u64,
+    call: CallId,
     resumed: bool,
     chooser: &mut C,
     turns: u64,
@@ -67,7 +67,7 @@ fn make_turn<C: Chooser>(
     alloc: Global,
     cluster: &mut Cluster,
     name: &str,
-    call: u64,
+    call: CallId,
     asks_again: bool,
     chooser: &mut C,
 ) -> Result<Option<Receipt>, Refusal>

@@ -14,7 +14,7 @@ use cluster::Cluster;
 use mail::Body;
 use phase::Took;
 use register::Register;
-use tag::Refusal;
+use tag::{CallId, Refusal};
 
 /// What was done with a message.
 #[derive(Clone, Copy, Debug, PartialEq, Eq)]
@@ -63,7 +63,7 @@ fn handle_as(
 pub(crate) fn handle_chosen<C: Chooser>(
     cluster: &mut Cluster,
     name: &str,
-    call: u64,
+    call: CallId,
     chooser: &mut C,
 ) -> Result<(), Refusal>
     requires { wanted cluster.old name.now call ≡ Some want.Replies }
@@ -110,7 +110,7 @@ fn is_request_at(register: &Register, place: usize) -> bool
 fn chosen<C: Chooser>(
     cluster: &Cluster,
     register: &Register,
-    call: u64,
+    call: CallId,
     chooser: &mut C,
 ) -> Option<usize>
     ensures { MatchOption result ((choices cluster.now call register.now.object ≡ []) × (chooser.new ≡ chooser.old))

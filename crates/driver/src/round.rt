@@ -12,7 +12,7 @@ use cluster::Cluster;
 use encoder::Piece;
 use record::Want;
 use register::Receipt;
-use tag::Refusal;
+use tag::{CallId, Refusal};
 
 /// What a round came to: its step was made, or it is still to be made, once a value is encoded or decoded.
 #[derive(Debug, Drop)]
@@ -43,7 +43,7 @@ pub enum Round {
 pub fn make_round<C: Chooser>(
     cluster: &mut Cluster,
     name: &str,
-    call: u64,
+    call: CallId,
     want: Want,
     asks_again: bool,
     chooser: &mut C,
@@ -91,7 +91,7 @@ pub fn make_round<C: Chooser>(
 fn ask_again<C: Chooser>(
     cluster: &mut Cluster,
     name: &str,
-    call: u64,
+    call: CallId,
     chooser: &C,
 ) -> Result<Round, Refusal>
     requires { wanted cluster.old name.now call ≡ Some want.Replies }

@@ -10,7 +10,7 @@ use bytes::Bytes;
 use cluster::{Cluster, LayoutId};
 use register::Receipt;
 use std::alloc::Global;
-use tag::Refusal;
+use tag::{CallId, Refusal};
 
 /// Why a whole call has no answer.
 #[derive(Clone, Copy, Debug, PartialEq, Eq)]
@@ -18,7 +18,7 @@ pub enum NotAnswered {
     /// The step that begins the call was refused, and nothing was done.
     NotCalled(Refusal),
     /// The driver was refused. The call of this number stays open, and `finish` can resume it.
-    Open { call: u64, refusal: Refusal },
+    Open { call: CallId, refusal: Refusal },
 }
 
 /// A whole read: `Cluster::call_read`, and then `finish` without a resume, in at most `turns` turns beside the first
@@ -80,7 +80,7 @@ fn finish_begun<C: Chooser>(
     alloc: Global,
     cluster: &mut Cluster,
     name: &str,
-    call: u64,
+    call: CallId,
     chooser: &mut C,
     turns: u64,
 ) -> Result<Receipt, NotAnswered>

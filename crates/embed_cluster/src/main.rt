@@ -14,7 +14,7 @@ use record::Want;
 use register::Receipt;
 use std::alloc::Global;
 use std::process::ExitCode;
-use tag::Refusal;
+use tag::{CallId, Refusal};
 use words::Hexadecimal;
 
 /// The name of the object.
@@ -48,7 +48,7 @@ fn write_and_read(alloc: Global) -> Result<Bytes, Refusal> {
 
 /// Makes turns until the call is answered: the loop over `want`. Whatever the loop does, every object stays atomic, and
 /// each piece in a bank or message stays its member's fragment of a value that was written.
-fn bring_to_answer(alloc: Global, cluster: &mut Cluster, call: u64) -> Result<Receipt, Refusal>
+fn bring_to_answer(alloc: Global, cluster: &mut Cluster, call: CallId) -> Result<Receipt, Refusal>
     ensures atomic { AreAtomic cluster.new }
     ensures fragments { AreFragments cluster.new }
 {
@@ -57,7 +57,7 @@ fn bring_to_answer(alloc: Global, cluster: &mut Cluster, call: u64) -> Result<Re
     answer
 }
 
-fn make_turns(alloc: Global, cluster: &mut Cluster, call: u64) -> Result<Receipt, Refusal> {
+fn make_turns(alloc: Global, cluster: &mut Cluster, call: CallId) -> Result<Receipt, Refusal> {
     for _ in 0..MOST_TURNS {
         match cluster.want(NAME, call)? {
             Want::Replies => handle_first(cluster)?,

@@ -20,7 +20,7 @@ IsAnsweredBy entry by = (step : ℕ) × (entry.answered ≡ Some step) × (step 
 -- the first calls have these processes, and each client's calls are answered by the step that is kept of it
 pub record Follows (entries : List Entry) (processes : List Process) (clients : List (Option ℕ)) : Type 0 where
   pub moves : (i : ℕ) → i < length processes
-      → (slice_get processes i ≡ Some process.Nemesis) ↔ ((get_or entries i no_entry).operation ≡ operation.Move)
+      → (slice_get processes i ≡ Some process.Nemesis) ↔ ((get_or entries i no_entry).kind ≡ operation.Move)
   pub known : (i client : ℕ) → slice_get processes i ≡ Some (process.Client client) → client < length clients
   pub free : (i client since : ℕ) → slice_get processes i ≡ Some (process.Client client)
       → slice_get clients client ≡ Some (Some since) → IsAnsweredBy (get_or entries i no_entry) since
@@ -50,9 +50,9 @@ module _ (entries : List Entry) (processes : List Process) (old new : List (Opti
   here : Entry
   here = get_or entries (length processes) no_entry
 
-  moves_too : (p : Process) → ((p ≡ process.Nemesis) ↔ ((get_or entries (length processes) no_entry).operation ≡ operation.Move))
+  moves_too : (p : Process) → ((p ≡ process.Nemesis) ↔ ((get_or entries (length processes) no_entry).kind ≡ operation.Move))
       → (i : ℕ) → i < length (processes ++ p ∷ [])
-      → (slice_get (processes ++ p ∷ []) i ≡ Some process.Nemesis) ↔ ((get_or entries i no_entry).operation ≡ operation.Move)
+      → (slice_get (processes ++ p ∷ []) i ≡ Some process.Nemesis) ↔ ((get_or entries i no_entry).kind ≡ operation.Move)
   moves_too p is i below = elim (cases_lt i (length processes)) [
     | inl early ↦ (
       (λ e. (so_far.moves i early).0 (sym (front processes p i early) ∙ e)),
@@ -62,12 +62,12 @@ module _ (entries : List Entry) (processes : List Process) (old new : List (Opti
         let count = length-pushed processes p in
         let place : length processes ≡ i = omega (arith, count, below, late) in
         subst (λ (n : ℕ). (slice_get (processes ++ p ∷ []) n ≡ Some process.Nemesis)
-        ↔ ((get_or entries n no_entry).operation ≡ operation.Move))
+        ↔ ((get_or entries n no_entry).kind ≡ operation.Move))
         place
         ((λ e. is.0 (same_some p process.Nemesis (sym (last processes p) ∙ e))), λ m. last processes p ∙ ap Some (is.1 m))
   ]
 
-  pub to_nemesis : (get_or entries (length processes) no_entry).operation ≡ operation.Move → new ≡ old
+  pub to_nemesis : (get_or entries (length processes) no_entry).kind ≡ operation.Move → new ≡ old
       → Follows entries (processes ++ process.Nemesis ∷ []) new
   to_nemesis is same = subst (Follows entries (processes ++ process.Nemesis ∷ [])) (sym same) (record {
     moves = moves_too process.Nemesis ((λ _. is), λ _. refl);
@@ -83,7 +83,7 @@ module _ (entries : List Entry) (processes : List Process) (old new : List (Opti
         | inr now ↦ absurd (let clash = now.1 in cc)
       ]
 
-  module _ (client : ℕ) (is : (get_or entries (length processes) no_entry).operation ≢ operation.Move) where
+  module _ (client : ℕ) (is : (get_or entries (length processes) no_entry).kind ≢ operation.Move) where
     abbrev all : List Process
     all = processes ++ process.Client client ∷ []
 
@@ -91,7 +91,7 @@ module _ (entries : List Entry) (processes : List Process) (old new : List (Opti
     same_client other e = cc
 
     moves_not : (i : ℕ) → i < length all
-        → (slice_get all i ≡ Some process.Nemesis) ↔ ((get_or entries i no_entry).operation ≡ operation.Move)
+        → (slice_get all i ≡ Some process.Nemesis) ↔ ((get_or entries i no_entry).kind ≡ operation.Move)
     moves_not = moves_too (process.Client client) ((λ e. absurd (cc)), λ m. absurd (is m))
 
     -- of two calls of one client, the later one is the last, or both are earlier

@@ -12,7 +12,7 @@ use Rattle.exports.specs.declared.event.Process.TheVariants as process
 pub record AreProcesses (entries : List Entry) (processes : List Process) : Type 0 where
   pub one_each : length processes ≡ length entries
   pub moves : (i : ℕ) → i < length entries
-      → (slice_get processes i ≡ Some process.Nemesis) ↔ ((get_or entries i no_entry).operation ≡ operation.Move)
+      → (slice_get processes i ≡ Some process.Nemesis) ↔ ((get_or entries i no_entry).kind ≡ operation.Move)
   pub apart : (i j client : ℕ) → i < j → slice_get processes i ≡ Some (process.Client client)
       → slice_get processes j ≡ Some (process.Client client)
       → IsAnsweredBefore (get_or entries i no_entry) (get_or entries j no_entry)
@@ -31,6 +31,6 @@ TakesClient old entry new client =
 
 -- the call of this entry gets a client, or the nemesis where it is a move
 abbrev pub TakesProcess : List (Option ℕ) → Entry → List (Option ℕ) → Process → Type 0
-TakesProcess old entry new process.Nemesis = (entry.operation ≡ operation.Move) × (new ≡ old)
+TakesProcess old entry new process.Nemesis = (entry.kind ≡ operation.Move) × (new ≡ old)
 TakesProcess old entry new (process.Client client) =
-    (entry.operation ≢ operation.Move) × TakesClient old entry new client
+    (entry.kind ≢ operation.Move) × TakesClient old entry new client

@@ -46,9 +46,9 @@ begin_of entry process = record {
   step = entry.called;
   process = process;
   call = entry.call;
-  operation = entry.operation;
-  stage = stage_of_begin entry.operation;
-  value = value_of_begin entry.operation entry.value;
+  kind = entry.kind;
+  stage = stage_of_begin entry.kind;
+  value = value_of_begin entry.kind entry.value;
 }
 
 -- the event that ends the call of this entry: at its answer, or at the step `end` where it is open
@@ -57,8 +57,8 @@ end_of end entry process = record {
   step = step_of_end end entry.answered;
   process = process;
   call = entry.call;
-  operation = entry.operation;
-  stage = stage_of_end entry.operation entry.answered;
+  kind = entry.kind;
+  stage = stage_of_end entry.kind entry.answered;
   value = entry.value;
 }
 

@@ -18,7 +18,7 @@ abbrev pub object_text : (index : ℕ) → Event → List ℕ
 object_text index event = texts (
     codes "{\"index\":" ∷ decimal index ∷ codes ",\"time\":" ∷ decimal event.step
     ∷ codes ",\"type\":\"" ∷ word_of_stage event.stage ∷ codes "\",\"process\":" ∷ process_text event.process
-    ∷ codes ",\"f\":\"" ∷ word_of_operation event.operation
+    ∷ codes ",\"f\":\"" ∷ word_of_operation event.kind
     ∷ codes "\",\"value\":" ∷ quoted_or event.value (codes "null") ∷ codes "}" ∷ [])
 
 -- the object of an event, with its line feed

@@ -25,7 +25,7 @@ pub(crate) fn assign(alloc: Global, entries: &[Entry]) -> Result<Vec<Process>, A
 fn process_of(clients: &mut Vec<Option<Stamp>>, entry: &Entry) -> Result<Process, AllocError>
     ensures { IfOk result (λ process. TakesProcess clients.old.items entry.now clients.new.items process) }
 {
-    match entry.operation {
+    match entry.kind {
         Operation::Move => Ok(Process::Nemesis),
         _ => Ok(Process::Client(take_client(clients, entry)?)),
     }

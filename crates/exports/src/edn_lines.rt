@@ -40,7 +40,7 @@ impl fmt::Display for EdnMap<'_> {
             event.step,
             stage_word(event.stage),
             EdnProcess(event.process),
-            operation_word(event.operation),
+            operation_word(event.kind),
             QuotedOr {
                 value: &event.value,
                 none: "nil",

@@ -7,7 +7,7 @@ use crate::clients::assign;
 use bytes::Bytes;
 use record::{Entry, Operation};
 use std::alloc::{AllocError, Global};
-use tag::Stamp;
+use tag::{CallId, Stamp};
 
 /// The process that makes a call, as a history names it. No process has two calls at once.
 #[derive(Clone, Copy, Debug, PartialEq, Eq)]
@@ -37,9 +37,9 @@ pub struct Event {
     /// The process that makes the call.
     pub process: Process,
     /// The call's number in its object, from 1.
-    pub call: u64,
+    pub call: CallId,
     /// What the call does.
-    pub operation: Operation,
+    pub kind: Operation,
     /// What the event says of the call.
     pub stage: Stage,
     /// The value that the call writes, or that an answered read returned; none where a read begins.
@@ -78,11 +78,11 @@ fn both_ends(
 fn begin_of(entry: &Entry, process: Process) -> Result<Event, AllocError>
     ensures { IfOk result (λ event. event ≡ begin_of entry.now process) }
 {
-    let stage = match entry.operation {
+    let stage = match entry.kind {
         Operation::Move => Stage::Info,
         _ => Stage::Invoke,
     };
-    let value = match entry.operation {
+    let value = match entry.kind {
         Operation::Read => None,
         _ => value_of(entry)?,
     };
@@ -90,7 +90,7 @@ fn begin_of(entry: &Entry, process: Process) -> Result<Event, AllocError>
         step: entry.called,
         process,
         call: entry.call,
-        operation: entry.operation,
+        kind: entry.kind,
         stage,
         value,
     })
@@ -99,7 +99,7 @@ fn begin_of(entry: &Entry, process: Process) -> Result<Event, AllocError>
 fn end_of(entry: &Entry, process: Process, end: Stamp) -> Result<Event, AllocError>
     ensures { IfOk result (λ event. event ≡ end_of end entry.now process) }
 {
-    let stage = match (entry.operation, entry.answered) {
+    let stage = match (entry.kind, entry.answered) {
         (Operation::Move, _) | (_, None) => Stage::Info,
         _ => Stage::Complete,
     };
@@ -107,7 +107,7 @@ fn end_of(entry: &Entry, process: Process, end: Stamp) -> Result<Event, AllocErr
         step: entry.answered.unwrap_or(end),
         process,
         call: entry.call,
-        operation: entry.operation,
+        kind: entry.kind,
         stage,
         value: value_of(entry)?,
     })

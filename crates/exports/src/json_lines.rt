@@ -41,7 +41,7 @@ impl fmt::Display for JsonObject<'_> {
             event.step,
             stage_word(event.stage),
             JsonProcess(event.process),
-            operation_word(event.operation),
+            operation_word(event.kind),
             QuotedOr {
                 value: &event.value,
                 none: "null",

@@ -134,7 +134,7 @@ must_from operation.Move answered t = absurd (cc)
 -- each answered read and write is in the list
 abbrev pub HoldsAnswered : List Entry → List ℕ → Type 0
 HoldsAnswered entries order =
-    (call : ℕ) → (entry_at entries call).operation ≢ operation.Move → IsSome (entry_at entries call).answered →
+    (call : ℕ) → (entry_at entries call).kind ≢ operation.Move → IsSome (entry_at entries call).answered →
     IsTrue (has order call)
 
 pub holds_from_count : (entries : List Entry) (order : List ℕ) → MayAllStand entries order → IsDistinct nat_eq order →
@@ -147,7 +147,7 @@ holds_from_count entries order standing distinct e (suc index) no_move answered 
       sym (count_named must_stand entries order standing distinct) ∙ sym e ∙ count_all must_stand entries in
       (and_parts _ _ (tally_all (both must_stand entries order) (λ i. must_stand (get_or entries i no_entry)) (length entries)
       (λ i b. (and_parts _ _ b).0) same index within (must_so _ _ no_move answered))).1
-  | inr past ↦ absurd (no_move (ap (λ (e : Entry). e.operation) (get_or_past entries index no_entry past)))
+  | inr past ↦ absurd (no_move (ap (λ (e : Entry). e.kind) (get_or_past entries index no_entry past)))
 ]
 
 pub count_from_holds : (entries : List Entry) (order : List ℕ) → MayAllStand entries order → IsDistinct nat_eq order →
@@ -161,6 +161,6 @@ count_from_holds entries order standing distinct holds =
     agree : (i : ℕ) → (must_stand (get_or entries i no_entry) ≡ true) ⊎ (must_stand (get_or entries i no_entry) ≡ false) →
         must_stand (get_or entries i no_entry) ≡ both must_stand entries order i
     agree i (inl passes) =
-        let parts = must_from (get_or entries i no_entry).operation (is_some (get_or entries i no_entry).answered) passes in
+        let parts = must_from (get_or entries i no_entry).kind (is_some (get_or entries i no_entry).answered) passes in
         passes ∙ sym (and_from _ _ passes (holds (suc i) parts.0 parts.1))
     agree i (inr fails) = rw fails refl

@@ -30,7 +30,7 @@ pub is_call : (entries : List Entry) (call : ℕ) → MayStand (entry_at entries
 is_call entries zero may = absurd (may.0 refl)
 is_call entries (suc index) may = elim (cases_lt index (length entries)) [
   | inl within ↦ (omega arith, omega arith)
-  | inr past ↦ absurd (may.0 (ap (λ (e : Entry). e.operation) (get_or_past entries index no_entry past)))
+  | inr past ↦ absurd (may.0 (ap (λ (e : Entry). e.kind) (get_or_past entries index no_entry past)))
 ]
 
 -- a list of calls that may stand names entries

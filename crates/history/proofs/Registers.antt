@@ -45,7 +45,7 @@ wrong_read op value current bytes rest eo ev ne s =
 pub passes_on : (entries : List Entry) (order : List ℕ) (index : ℕ) (entry : Entry) (current next : List ℕ) →
     index < length order → entry ≡ at entries order index →
     IsRegister [] (named entries order) ↔ IsRegister current (named entries (drop index order)) →
-    Steps entry.operation entry.value current (named entries (drop (index + 1) order))
+    Steps entry.kind entry.value current (named entries (drop (index + 1) order))
     ↔ IsRegister next (named entries (drop (index + 1) order)) →
     IsRegister [] (named entries order) ↔ IsRegister next (named entries (drop (index + 1) order))
 passes_on entries order index entry current next h is whole step =
@@ -59,7 +59,7 @@ passes_on entries order index entry current next h is whole step =
 -- a call that is no step ends it
 pub stops : (entries : List Entry) (order : List ℕ) (index : ℕ) (entry : Entry) (current : List ℕ) → index < length order →
     entry ≡ at entries order index → IsRegister [] (named entries order) ↔ IsRegister current (named entries (drop index order)) →
-    (Steps entry.operation entry.value current (named entries (drop (index + 1) order)) → ⊥) →
+    (Steps entry.kind entry.value current (named entries (drop (index + 1) order)) → ⊥) →
     IsRegister [] (named entries order) → ⊥
 stops entries order index entry current h is whole none r =
     let cut : named entries (drop index order) ≡ entry ∷ named entries (drop (index + 1) order) =

@@ -27,4 +27,4 @@ must_stand_as operation.Move is_answered = false
 
 -- whether the call of an entry has to stand in each sequence: an answered read or write has to
 abbrev pub must_stand : Entry → Bool
-must_stand entry = must_stand_as entry.operation (is_some entry.answered)
+must_stand entry = must_stand_as entry.kind (is_some entry.answered)

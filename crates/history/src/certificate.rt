@@ -8,20 +8,20 @@ ghost use Rattle.record.specs.Atomic.{IsSequence, IsRegister, KeepsOrder, MaySta
 ghost use Rattle.history.specs.Check.{AreLawful, MayAllStand, must_stand, named};
 
 use record::{Entry, Operation};
-use tag::Stamp;
+use tag::{CallId, Stamp};
 
 /// Whether the entries are lawful and `order`, a list of call numbers, is a sequence of them. Nothing is assumed of
 /// either, and no memory is allocated.
 ///
 /// The time grows with the length of the list times the number of calls that overlap one call. Apart from a few passes,
 /// it goes into the search for repeats, which looks back from each call over the calls that overlap it.
-pub fn check(entries: &[Entry], order: &[u64]) -> bool
+pub fn check(entries: &[Entry], order: &[CallId]) -> bool
     ensures { IsTrue result ↔ (AreLawful entries.now × IsSequence entries.now order.now) }
 {
     are_lawful(entries) && is_sequence(entries, order)
 }
 
-fn is_sequence(entries: &[Entry], order: &[u64]) -> bool
+fn is_sequence(entries: &[Entry], order: &[CallId]) -> bool
     requires { AreLawful entries.now }
     ensures { IsTrue result ↔ IsSequence entries.now order.now }
 {
@@ -44,20 +44,20 @@ fn are_lawful(entries: &[Entry]) -> bool
     true
 }
 
-fn is_lawful_as(entry: &Entry, call: u64) -> bool
+fn is_lawful_as(entry: &Entry, call: CallId) -> bool
     ensures { IsTrue result ↔ ((entry.now.call ≡ call) × (MayStand entry.now → IsSome entry.now.value)) }
 {
     entry.call == call && (!may_stand(entry) || entry.value.is_some())
 }
 
 /// Whether the list names only writes and answered reads.
-fn may_all_stand(entries: &[Entry], order: &[u64]) -> bool
+fn may_all_stand(entries: &[Entry], order: &[CallId]) -> bool
     ensures { IsTrue result ↔ MayAllStand entries.now order.now }
 {
     order.iter().all(|call| may_stand_at(entries, *call))
 }
 
-fn may_stand_at(entries: &[Entry], call: u64) -> bool
+fn may_stand_at(entries: &[Entry], call: CallId) -> bool
     ensures { IsTrue result ↔ MayStand (entry_at entries.now call) }
 {
     call > 0 && call <= entries.len() as u64 && may_stand(entry_at(entries, call))
@@ -65,7 +65,7 @@ fn may_stand_at(entries: &[Entry], call: u64) -> bool
 
 /// Whether each call stands behind all calls that were answered before it was called. That is so where no answer lies
 /// before the greatest step at which an earlier element was called.
-fn keeps_order(entries: &[Entry], order: &[u64]) -> bool
+fn keeps_order(entries: &[Entry], order: &[CallId]) -> bool
     requires { MayAllStand entries.now order.now }
     ensures { IsTrue result ↔ KeepsOrder (named entries.now order.now) }
 {
@@ -80,7 +80,7 @@ fn keeps_order(entries: &[Entry], order: &[u64]) -> bool
     true
 }
 
-fn has_no_repeat(entries: &[Entry], order: &[u64]) -> bool
+fn has_no_repeat(entries: &[Entry], order: &[CallId]) -> bool
     requires standing { MayAllStand entries.now order.now }
     requires in_order { KeepsOrder (named entries.now order.now) }
     ensures { IsTrue result ↔ IsDistinct nat_eq order.now }
@@ -95,7 +95,7 @@ fn has_no_repeat(entries: &[Entry], order: &[u64]) -> bool
 
 /// Whether the call at this place stands at no earlier place. The search goes back to the first element that was
 /// answered before this call was made: if the same call stood before that element, it would break the order.
-fn is_new(entries: &[Entry], order: &[u64], place: usize) -> bool
+fn is_new(entries: &[Entry], order: &[CallId], place: usize) -> bool
     requires standing { MayAllStand entries.now order.now }
     requires in_order { KeepsOrder (named entries.now order.now) }
     requires within { place < length order.now }
@@ -120,10 +120,10 @@ fn is_new(entries: &[Entry], order: &[u64], place: usize) -> bool
 
 /// Whether the list has each answered read and each answered write. Since no call is repeated, it is enough to count
 /// them.
-fn holds_answered(entries: &[Entry], order: &[u64]) -> bool
+fn holds_answered(entries: &[Entry], order: &[CallId]) -> bool
     requires standing { MayAllStand entries.now order.now }
     requires distinct { IsDistinct nat_eq order.now }
-    ensures { IsTrue result ↔ ((call : ℕ) → (entry_at entries.now call).operation ≢ operation.Move →
+    ensures { IsTrue result ↔ ((call : ℕ) → (entry_at entries.now call).kind ≢ operation.Move →
         IsSome (entry_at entries.now call).answered → IsTrue (has order.now call)) }
 {
     answered_among(entries) == answered_in(entries, order)
@@ -137,7 +137,7 @@ fn answered_among(entries: &[Entry]) -> usize
 }
 
 /// The number of answered reads and writes in the list.
-fn answered_in(entries: &[Entry], order: &[u64]) -> usize
+fn answered_in(entries: &[Entry], order: &[CallId]) -> usize
     requires { MayAllStand entries.now order.now }
     ensures { result ≡ count_by must_stand (named entries.now order.now) }
 {
@@ -151,7 +151,7 @@ fn answered_in(entries: &[Entry], order: &[u64]) -> usize
 }
 
 /// Whether each read of the list has the value of the nearest write before it, or the empty value where there is none.
-fn is_register(entries: &[Entry], order: &[u64]) -> bool
+fn is_register(entries: &[Entry], order: &[CallId]) -> bool
     requires lawful { AreLawful entries.now }
     requires standing { MayAllStand entries.now order.now }
     ensures { IsTrue result ↔ IsRegister [] (named entries.now order.now) }
@@ -160,7 +160,7 @@ fn is_register(entries: &[Entry], order: &[u64]) -> bool
     for call in order {
         let entry = entry_at(entries, *call);
         let value = value_of(entry);
-        match entry.operation {
+        match entry.kind {
             Operation::Write => current = value,
             Operation::Read => {
                 if !are_same(value, current) {
@@ -174,7 +174,7 @@ fn is_register(entries: &[Entry], order: &[u64]) -> bool
 }
 
 /// The entry of the call with this number, from 1.
-fn entry_at(entries: &[Entry], call: u64) -> &Entry
+fn entry_at(entries: &[Entry], call: CallId) -> &Entry
     requires some { 0 < call }
     requires within { call ≤ length entries.now }
     ensures { result.now ≡ entry_at entries.now call }
@@ -186,7 +186,7 @@ fn entry_at(entries: &[Entry], call: u64) -> &Entry
 fn may_stand(entry: &Entry) -> bool
     ensures { IsTrue result ↔ MayStand entry.now }
 {
-    match entry.operation {
+    match entry.kind {
         Operation::Read => entry.answered.is_some(),
         Operation::Write => true,
         Operation::Move => false,
@@ -197,7 +197,7 @@ fn may_stand(entry: &Entry) -> bool
 fn must_stand(entry: &Entry) -> bool
     ensures { result ≡ must_stand entry.now }
 {
-    entry.operation != Operation::Move && entry.answered.is_some()
+    entry.kind != Operation::Move && entry.answered.is_some()
 }
 
 fn is_before(answered: Option<Stamp>, step: Stamp) -> bool

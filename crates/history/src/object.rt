@@ -13,7 +13,7 @@ use crate::order::order_by_tags;
 use record::{Entry, TaggedCall};
 use register::Register;
 use std::alloc::{AllocError, Global};
-use tag::Refusal;
+use tag::{CallId, Refusal};
 
 /// A law: the history of each object is atomic, whatever steps were made. It does nothing and allocates no memory.
 pub fn atomic(register: &Register)
@@ -27,7 +27,7 @@ pub fn atomic(register: &Register)
 /// `check` accepts it.
 ///
 /// `NoMemory` is the only refusal. For n calls it makes some n log n comparisons, and needs room for n.
-pub fn sequence(alloc: Global, register: &Register) -> Result<Vec<u64>, Refusal>
+pub fn sequence(alloc: Global, register: &Register) -> Result<Vec<CallId>, Refusal>
     ensures listed { IfOk result (λ order. IsTagSequence register.now.object order.items) }
     ensures sequence { IfOk result (λ order. IsSequence (entries register.now.object) order.items) }
     ensures refused { IfErr result (λ e. e ≡ NoMemory) }
@@ -65,7 +65,7 @@ fn tagged_entry(register: &Register, entry: &Entry) -> TaggedCall
 {
     TaggedCall {
         call: entry.call,
-        operation: entry.operation,
+        kind: entry.kind,
         tag: register.tag_view(entry.call),
         called: entry.called,
         is_answered: entry.answered.is_some(),

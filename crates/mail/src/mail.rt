@@ -11,7 +11,7 @@ use bank::Reply;
 use std::alloc::{AllocError, Global};
 use std::marker::Model;
 use std::slice;
-use tag::{MOST_BYTES, MOST_MESSAGES, Refusal};
+use tag::{CallId, MOST_BYTES, MOST_MESSAGES, Refusal};
 
 /// The mail of an object: its messages that wait to be handled. The place of a message is its index in the list, from
 /// 0.
@@ -20,7 +20,7 @@ pub struct Mail {
     messages: Vec<Message>,
     // For each message an upper bound of the call numbers of all messages up to it. It does not change when earlier
     // messages are removed.
-    bounds: Vec<u64>,
+    bounds: Vec<CallId>,
     // The number of bytes of the pieces in all messages.
     bytes: u64,
 }
@@ -75,7 +75,7 @@ impl Mail {
     /// A place before which there is no message of the call. It is found by binary search, without a look at each
     /// message. From this place on there may be messages of other calls, but none that was posted before the first
     /// message of this call or of a call with a greater number.
-    pub fn first_place(&self, call: u64) -> usize
+    pub fn first_place(&self, call: CallId) -> usize
         ensures { AreOthers call result self.now }
     {
         first_at_least(&self.bounds, call)
@@ -173,7 +173,7 @@ impl Mail {
 
 // Appends the bounds of more messages, which come behind those that have the bounds given. It appends none where the
 // list cannot grow.
-fn add_bounds(bounds: &mut Vec<u64>, messages: &[Message]) -> Result<(), AllocError>
+fn add_bounds(bounds: &mut Vec<CallId>, messages: &[Message]) -> Result<(), AllocError>
     ensures added { OnOk result (bounds.new.items
         ≡ bounds.old.items ++ bounds_from (last_bound 0 bounds.old.items) messages.now) }
     ensures unchanged { OnErr result (bounds.new.items ≡ bounds.old.items) }
@@ -188,7 +188,7 @@ fn add_bounds(bounds: &mut Vec<u64>, messages: &[Message]) -> Result<(), AllocEr
 }
 
 // The last bound, or 0 where there is none.
-fn last_of(bounds: &[u64]) -> u64
+fn last_of(bounds: &[CallId]) -> CallId
     ensures { result ≡ last_bound 0 bounds.now }
 {
     match bounds.last() {
@@ -199,7 +199,7 @@ fn last_of(bounds: &[u64]) -> u64
 
 // The place of the first bound that is at least `call`, or the number of bounds where there is none. The search is
 // binary, since the bounds rise.
-fn first_at_least(bounds: &[u64], call: u64) -> usize
+fn first_at_least(bounds: &[CallId], call: CallId) -> usize
     requires { AreRising bounds.now }
     ensures within { result ≤ length bounds.now }
     ensures below { (place : ℕ) → place < result → slice_index bounds.now place < call }

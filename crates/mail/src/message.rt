@@ -1,6 +1,7 @@
 ghost use Rattle.std.specs.Prelude.{◌≡◌, ◌^◌, ◌<◌};
 
 use bank::{Kind, Reply, Request};
+use tag::CallId;
 
 /// The body of a message: a request to a member, or the reply of its bank with the kind of the request.
 #[derive(Clone, Debug, PartialEq, Eq, Drop)]
@@ -29,7 +30,7 @@ impl Body {
 #[derive(Clone, Debug, PartialEq, Eq, Drop)]
 pub struct Message {
     /// The call's number in its object, from 1.
-    pub call: u64,
+    pub call: CallId,
     /// The phase's number in its call, from 1.
     pub phase: u32,
     /// The position whose members the phase asks, from 0.

@@ -7,7 +7,7 @@ use bank::{Answer, Kind, Reply};
 use mail::{Body, Message};
 use std::alloc::Global;
 use std::marker::Model;
-use tag::{Refusal, Stamp};
+use tag::{CallId, Refusal, Stamp};
 
 mod views;
 
@@ -15,7 +15,7 @@ mod views;
 #[derive(Clone, Copy, Debug, PartialEq, Eq)]
 pub struct Ask {
     /// The call's number in its object, from 1.
-    pub call: u64,
+    pub call: CallId,
     /// The phase's number in its call, from 1.
     pub number: u32,
     /// The position whose members are asked, from 0.
@@ -175,7 +175,7 @@ impl Phase {
     }
 
     // Whether the call and the number are those of this phase, and it lacks a quorum.
-    fn is_current(&self, call: u64, number: u32) -> bool
+    fn is_current(&self, call: CallId, number: u32) -> bool
         ensures { result ≡ is_current self.now call number }
     {
         call == self.ask.call && number == self.ask.number && !self.complete()

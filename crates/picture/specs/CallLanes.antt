@@ -37,7 +37,7 @@ course_text called (Some step) = codes "steps " ++ decimal called ++ (codes " to
 abbrev pub name_text : Lane → List ℕ
 name_text lane = texts (
     codes "<text x='8' y='" ∷ px_text (base_of lane) ∷ codes "'>call " ∷ decimal lane.entry.call
-    ∷ codes " " ∷ word_of_operation lane.entry.operation ∷ codes "</text>\n" ∷ [])
+    ∷ codes " " ∷ word_of_operation lane.entry.kind ∷ codes "</text>\n" ∷ [])
 
 -- the path of a bar: a mark at the step of the call, and a line to the answer, or to the right edge where it is open
 abbrev pub path_text : Plan → Lane → List ℕ
@@ -47,7 +47,7 @@ path_text plan lane = codes "M" ++ (px_text (x_of plan lane.entry.called)
 
 -- the title of a bar: the call, what it does, and its steps
 abbrev pub title_text : Entry → List ℕ
-title_text entry = codes "call " ++ (decimal entry.call ++ (codes " " ++ (word_of_operation entry.operation
+title_text entry = codes "call " ++ (decimal entry.call ++ (codes " " ++ (word_of_operation entry.kind
     ++ (codes ", " ++ course_text entry.called entry.answered))))
 
 -- the bar of a call, with its title

@@ -41,7 +41,7 @@ impl fmt::Display for CallName<'_> {
             "<text x='8' y='{}'>call {} {}</text>",
             lane.base(),
             lane.entry.call,
-            operation_word(lane.entry.operation)
+            operation_word(lane.entry.kind)
         )
     }
 }
@@ -94,7 +94,7 @@ impl fmt::Display for BarTitle<'_> {
     ghost output = { λ title. Some (title_text title.0.now) };
 
     fn fmt<W: fmt::Write>(&self, f: &mut fmt::Formatter<W>) -> fmt::Result {
-        let word = operation_word(self.0.operation);
+        let word = operation_word(self.0.kind);
         write!(f, "call {} {word}, {}", self.0.call, Course(self.0))
     }
 }

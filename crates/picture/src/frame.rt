@@ -62,7 +62,7 @@ impl fmt::Display for Bands<'_> {
         let mut position = 0u64;
         for lane in &plan.lanes {
             let entry = &lane.entry;
-            if entry.operation != Operation::Move {
+            if entry.kind != Operation::Move {
                 continue;
             }
             position = position.saturating_add(1);
@@ -121,7 +121,7 @@ struct Ordered<'a>(&'a Entry);
 
 impl fmt::Display for Ordered<'_> {
     fn fmt<W: fmt::Write>(&self, f: &mut fmt::Formatter<W>) -> fmt::Result {
-        write!(f, "{} {}", self.0.call, operation_word(self.0.operation))?;
+        write!(f, "{} {}", self.0.call, operation_word(self.0.kind))?;
         match &self.0.value {
             Some(value) => {
                 let bytes = value.as_slice();

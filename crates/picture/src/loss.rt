@@ -3,13 +3,13 @@ ghost use Rattle.std.specs.Prelude.{◌≡◌};
 ghost use Rattle.picture.specs.Loss.{loss_of};
 
 use mail::{Body, Message};
-use tag::Stamp;
+use tag::{CallId, Stamp};
 
 /// A message of an object, a request or a reply, that was lost.
 #[derive(Clone, Copy, Debug, PartialEq, Eq)]
 pub struct Loss {
     /// The call's number in its object, from 1.
-    pub call: u64,
+    pub call: CallId,
     /// The phase's number in its call, from 1.
     pub phase: u32,
     /// The position that the phase asks, from 0.

@@ -5,7 +5,7 @@ use crate::px::Px;
 use phase::{Phase, Taken};
 use register::Register;
 use std::fmt;
-use tag::Stamp;
+use tag::{CallId, Stamp};
 
 /// How many replies are drawn at most.
 pub(crate) const MOST_REPLIES: usize = 4000;
@@ -69,7 +69,7 @@ impl fmt::Display for Messages<'_> {
 #[derive(Clone, Copy)]
 struct PhaseReplies<'a> {
     plan: &'a Plan,
-    call: u64,
+    call: CallId,
     phase: &'a Phase,
 }
 

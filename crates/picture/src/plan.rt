@@ -9,7 +9,7 @@ use phase::Phase;
 use record::Entry;
 use register::Register;
 use std::alloc::{AllocError, Global};
-use tag::{MOST_POSITIONS, Stamp};
+use tag::{CallId, MOST_POSITIONS, Stamp};
 
 /// The left edge of the time axis. The names of the lanes are left of it.
 pub(crate) const LEFT: u64 = 1500;
@@ -135,7 +135,7 @@ impl Plan {
     }
 
     /// The lower edge of the bar of a call.
-    pub(crate) fn call_foot(&self, call: u64) -> Px {
+    pub(crate) fn call_foot(&self, call: CallId) -> Px {
         match self.lanes.get(call.saturating_sub(1) as usize) {
             Some(lane) => lane.foot(),
             None => Px(CALLS_TOP),
@@ -212,7 +212,7 @@ fn copy_of(entry: &Entry) -> Result<Entry, AllocError>
     };
     Ok(Entry {
         call: entry.call,
-        operation: entry.operation,
+        kind: entry.kind,
         called: entry.called,
         answered: entry.answered,
         value,

@@ -15,7 +15,7 @@ use bytes::Bytes;
 use cluster::Cluster;
 use record::Want;
 use std::alloc::Global;
-use tag::{LONGEST_VALUE, Refusal};
+use tag::{CallId, LONGEST_VALUE, Refusal};
 
 /// Makes the step that begins a read.
 pub(crate) fn call_read(cluster: &mut Cluster, name: &str) -> Report
@@ -39,14 +39,14 @@ pub(crate) fn call_move(cluster: &mut Cluster, name: &str, layout: u64) -> Repor
 }
 
 /// The call begins the phase that is due.
-pub(crate) fn advance(cluster: &mut Cluster, name: &str, call: u64) -> Report
+pub(crate) fn advance(cluster: &mut Cluster, name: &str, call: CallId) -> Report
     ensures { Advances cluster.old name.entry.now call cluster.new result }
 {
     Report::of_step(cluster.advance(name, call))
 }
 
 /// Supplies the call with its own value, which is encoded for it.
-pub(crate) fn supply(alloc: Global, cluster: &mut Cluster, name: &str, call: u64) -> Report
+pub(crate) fn supply(alloc: Global, cluster: &mut Cluster, name: &str, call: CallId) -> Report
     ensures { Supplies cluster.old name.entry.now call cluster.new result }
 {
     Report::of_step(driver::supply(alloc, cluster, name, call))
@@ -57,7 +57,7 @@ pub(crate) fn supply_as(
     alloc: Global,
     cluster: &mut Cluster,
     name: &str,
-    call: u64,
+    call: CallId,
     value: Bytes,
 ) -> Report
     ensures { SuppliesAs cluster.old name.entry.now call value cluster.new result }
@@ -69,7 +69,7 @@ fn supply_value(
     alloc: Global,
     cluster: &mut Cluster,
     name: &str,
-    call: u64,
+    call: CallId,
     value: Bytes,
 ) -> Result<(), Refusal>
     ensures step { OnOk result (cluster.new ≡ stepped cluster.old name.entry.now (Step.Supply (pred call))) }
@@ -82,7 +82,7 @@ fn supply_value(
 }
 
 // Refuses bytes that are not the value which the call is to send, where the call wants a value. It allocates no memory.
-fn expect_own(cluster: &Cluster, name: &str, call: u64, value: &Bytes) -> Result<(), Refusal>
+fn expect_own(cluster: &Cluster, name: &str, call: CallId, value: &Bytes) -> Result<(), Refusal>
     ensures own { OnOk result (object_cause cluster.now name.now (supplying_as_cause cluster.now call value.now)
         ≡ object_cause cluster.now name.now (λ object. supplying_cause (next cluster.now) object call)) }
     ensures other { IfErr result
@@ -113,28 +113,28 @@ fn is_value(value: Option<&Bytes>, bytes: &Bytes) -> bool
 }
 
 /// Decodes the pieces of the call, and settles the value.
-pub(crate) fn settle(alloc: Global, cluster: &mut Cluster, name: &str, call: u64) -> Report
+pub(crate) fn settle(alloc: Global, cluster: &mut Cluster, name: &str, call: CallId) -> Report
     ensures { SettlesValue cluster.old name.entry.now call cluster.new result }
 {
     Report::of_step(driver::settle(alloc, cluster, name, call))
 }
 
 /// Resends the requests of the call's current phase.
-pub(crate) fn post(cluster: &mut Cluster, name: &str, call: u64) -> Report
+pub(crate) fn post(cluster: &mut Cluster, name: &str, call: CallId) -> Report
     ensures { Posts cluster.old name.entry.now call cluster.new result }
 {
     Report::of_step(cluster.post(name, call))
 }
 
 /// Restarts a call whose fetch lacks pieces.
-pub(crate) fn again(cluster: &mut Cluster, name: &str, call: u64) -> Report
+pub(crate) fn again(cluster: &mut Cluster, name: &str, call: CallId) -> Report
     ensures { BeginsAnew cluster.old name.entry.now call cluster.new result }
 {
     Report::of_step(cluster.again(name, call))
 }
 
 /// Answers the call.
-pub(crate) fn answer(cluster: &mut Cluster, name: &str, call: u64) -> Report
+pub(crate) fn answer(cluster: &mut Cluster, name: &str, call: CallId) -> Report
     ensures { Answers cluster.old name.entry.now call cluster.new result }
 {
     Report::of_answer(cluster.answer(name, call))

@@ -20,13 +20,13 @@ use printing::{
 use register::{CallView, Register};
 use std::alloc::Global;
 use std::io::Write;
-use tag::{MOST_MEMBERS, MOST_POSITIONS, Refusal};
+use tag::{CallId, MOST_MEMBERS, MOST_POSITIONS, Refusal};
 
 /// Prints how far a call has come.
 pub(crate) fn call<W: Write>(
     cluster: &Cluster,
     name: &str,
-    call: u64,
+    call: CallId,
     out: &mut W,
 ) -> Result<(), Stop>
     ensures { Prints (W.contents out.old) (W.contents out.new) (ShowsCall cluster.now name.now call) ⊥ result }
@@ -37,7 +37,7 @@ pub(crate) fn call<W: Write>(
     }
 }
 
-fn view_of(cluster: &Cluster, name: &str, call: u64) -> Result<CallView, Refusal>
+fn view_of(cluster: &Cluster, name: &str, call: CallId) -> Result<CallView, Refusal>
     ensures view { IfOk result (λ view. if_named cluster.now name.now (λ object. view_at object call) ≡ Some view) }
     ensures cause { IsExactlyByCause (object_cause cluster.now name.now (λ object. number_cause object call)) result }
 {

@@ -9,6 +9,7 @@ use cluster::Cluster;
 use driver::{First, finish};
 use printing::Outcome;
 use std::alloc::Global;
+use tag::CallId;
 
 /// Makes a whole read. A refusal after its first step names the call, which stays open.
 pub fn read(alloc: Global, cluster: &mut Cluster, name: &str, turns: u64) -> Report
@@ -33,7 +34,7 @@ pub fn move_to(alloc: Global, cluster: &mut Cluster, name: &str, layout: u64, tu
 }
 
 /// Continues a call that is there.
-pub fn resume(alloc: Global, cluster: &mut Cluster, name: &str, call: u64, turns: u64) -> Report
+pub fn resume(alloc: Global, cluster: &mut Cluster, name: &str, call: CallId, turns: u64) -> Report
     ensures { Resumes cluster.old name.entry.now call turns cluster.new result }
 {
     match cluster.want(name, call) {
@@ -44,7 +45,7 @@ pub fn resume(alloc: Global, cluster: &mut Cluster, name: &str, call: u64, turns
 
 // Continues the call. Its first turn resends the requests that the call waits for, or restarts a call that lacks
 // pieces.
-fn carried_on(alloc: Global, cluster: &mut Cluster, name: &str, call: u64, turns: u64) -> Report
+fn carried_on(alloc: Global, cluster: &mut Cluster, name: &str, call: CallId, turns: u64) -> Report
     ensures { GoesOn name.entry.now call true turns cluster.old cluster.new result }
 {
     match finish(alloc, cluster, name, call, true, &mut First, turns) {

@@ -15,4 +15,4 @@ words_of_answer o v = codes "answered" ∷ []
 
 -- the line: the number of the call, and its answer
 abbrev pub answer_text : Receipt → List ℕ
-answer_text r = in_words (codes "call" ∷ decimal r.call ∷ words_of_answer r.operation r.value)
+answer_text r = in_words (codes "call" ∷ decimal r.call ∷ words_of_answer r.kind r.value)

@@ -11,7 +11,7 @@ use Rattle.printing.specs.Words.{in_words, text_or_dash}
 -- the call and what it does, the step that began it and the one that answered it, and its value
 abbrev pub entry_text : Entry → List ℕ
 entry_text e = in_words (
-    decimal e.call ∷ word_of_operation e.operation ∷ decimal e.called ∷ text_or_dash decimal e.answered
+    decimal e.call ∷ word_of_operation e.kind ∷ decimal e.called ∷ text_or_dash decimal e.answered
     ∷ text_or_dash hexadecimal_text e.value ∷ [])
 
 -- the text of an entry with its line feed

@@ -16,7 +16,7 @@ impl fmt::Display for AnswerLine<'_> {
 
     fn fmt<W: fmt::Write>(&self, f: &mut fmt::Formatter<W>) -> fmt::Result {
         let receipt = self.0;
-        match (receipt.operation, &receipt.value) {
+        match (receipt.kind, &receipt.value) {
             (Operation::Read, Some(value)) => {
                 let value = Hexadecimal(value.as_slice());
                 write!(f, "call {} value {value}", receipt.call)

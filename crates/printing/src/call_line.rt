@@ -6,12 +6,13 @@ use crate::dash::TagOrDash;
 use crate::vocabulary::{kind_word, operation_word, want_word};
 use register::CallView;
 use std::fmt;
+use tag::CallId;
 
 /// The line of a call: `call C KIND phase J PHASE P replies R of Q tag T want W`.
 #[derive(Clone, Copy)]
 pub struct CallLine<'a> {
     /// The call's number in its object, from 1.
-    pub call: u64,
+    pub call: CallId,
     /// How far the call has come.
     pub view: &'a CallView,
 }

@@ -36,7 +36,7 @@ impl fmt::Display for EntryLine<'_> {
             f,
             "{} {} {} {} {}",
             entry.call,
-            operation_word(entry.operation),
+            operation_word(entry.kind),
             entry.called,
             NumberOrDash(entry.answered),
             ValueOrDash(&entry.value)

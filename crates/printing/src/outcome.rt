@@ -5,7 +5,7 @@ ghost use Rattle.printing.specs.Outcome.{outcome_text};
 use crate::vocabulary::took_word;
 use phase::Took;
 use std::fmt;
-use tag::Refusal;
+use tag::{CallId, Refusal};
 
 /// What a command did, where it shows nothing. It prints as one line.
 #[derive(Clone, Copy, Debug, PartialEq, Eq)]
@@ -25,7 +25,7 @@ pub enum Outcome {
     /// `refused N Name`
     Refused(Refusal),
     /// `call C refused N Name`: the call began, and a later step was refused
-    CallRefused { call: u64, refusal: Refusal },
+    CallRefused { call: CallId, refusal: Refusal },
     /// `check true` or `check false`
     Checked(bool),
 }

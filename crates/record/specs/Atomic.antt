@@ -9,7 +9,7 @@ use Rattle.record.specs.declared.call.Operation.TheVariants as operation
 
 -- the entry that stands for a call that does not exist
 abbrev pub no_entry : Entry
-no_entry = record { call = 0; operation = operation.Move; called = 0; answered = None; value = None }
+no_entry = record { call = 0; kind = operation.Move; called = 0; answered = None; value = None }
 
 -- the entry of the call with this number, counted from 1
 abbrev pub entry_at : List Entry → (number : ℕ) → Entry
@@ -26,7 +26,7 @@ Leaves operation.Move value current next = ⊥
 abbrev pub IsRegister : (current : List ℕ) → List Entry → Type 0
 IsRegister current [] = Unit {0}
 IsRegister current (entry ∷ later) =
-    (next : List ℕ) × Leaves entry.operation entry.value current next × IsRegister next later
+    (next : List ℕ) × Leaves entry.kind entry.value current next × IsRegister next later
 
 -- a was answered before b was called
 abbrev pub IsAnsweredBefore : Entry → Entry → Type 0
@@ -39,13 +39,13 @@ KeepsOrder (entry ∷ later) = AllByRecursion (λ other. IsAnsweredBefore other 
 
 -- an entry may stand in a sequence if it is a write or an answered read; a move never may
 abbrev pub MayStand : Entry → Type 0
-MayStand entry = (entry.operation ≢ operation.Move) × (entry.operation ≡ operation.Read → IsSome entry.answered)
+MayStand entry = (entry.kind ≢ operation.Move) × (entry.kind ≡ operation.Read → IsSome entry.answered)
 
 -- the calls with these numbers, in this order, follow one register, keep answer before call, and miss no answered one
 pub record IsSequence (entries : List Entry) (order : List ℕ) : Type 0 where
   pub distinct : IsDistinct nat_eq order
   pub fitting : AllByRecursion (λ number. MayStand (entry_at entries number)) order
-  pub complete : (number : ℕ) → (entry_at entries number).operation ≢ operation.Move →
+  pub complete : (number : ℕ) → (entry_at entries number).kind ≢ operation.Move →
       IsSome (entry_at entries number).answered → has order number ≡ true
   pub one_register : IsRegister [] (map (λ number. entry_at entries number) order)
   pub in_order : KeepsOrder (map (λ number. entry_at entries number) order)

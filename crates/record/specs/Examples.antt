@@ -37,8 +37,8 @@ script =
 -- the entries of both calls: the write has the steps 3 to 18, and the read has 19 to 32
 abbrev pub script_entries : List Entry
 script_entries =
-    record { call = 1; operation = operation.Write; called = 3; answered = Some 18; value = Some (65 ∷ []) }
-    ∷ record { call = 2; operation = operation.Read; called = 19; answered = Some 32; value = Some (65 ∷ []) }
+    record { call = 1; kind = operation.Write; called = 3; answered = Some 18; value = Some (65 ∷ []) }
+    ∷ record { call = 2; kind = operation.Read; called = 19; answered = Some 32; value = Some (65 ∷ []) }
     ∷ []
 
 -- a write, a move to the other server, and a read that follows the pointer
@@ -59,9 +59,9 @@ move_script =
 -- the entries of the write, the move and the read
 abbrev pub move_entries : List Entry
 move_entries =
-    record { call = 1; operation = operation.Write; called = 3; answered = Some 18; value = Some (65 ∷ []) }
-    ∷ record { call = 2; operation = operation.Move; called = 19; answered = Some 38; value = None }
-    ∷ record { call = 3; operation = operation.Read; called = 39; answered = Some 58; value = Some (65 ∷ []) }
+    record { call = 1; kind = operation.Write; called = 3; answered = Some 18; value = Some (65 ∷ []) }
+    ∷ record { call = 2; kind = operation.Move; called = 19; answered = Some 38; value = None }
+    ∷ record { call = 3; kind = operation.Read; called = 39; answered = Some 58; value = Some (65 ∷ []) }
     ∷ []
 
 -- a write and a move to the other server; then the first position is retired, and a read begins at the second
@@ -80,16 +80,16 @@ retire_script =
 -- the entries of the three calls: step 39, after the move and before the read, retires the first position
 abbrev pub retire_entries : List Entry
 retire_entries =
-    record { call = 1; operation = operation.Write; called = 3; answered = Some 18; value = Some (65 ∷ []) }
-    ∷ record { call = 2; operation = operation.Move; called = 19; answered = Some 38; value = None }
-    ∷ record { call = 3; operation = operation.Read; called = 40; answered = Some 53; value = Some (65 ∷ []) }
+    record { call = 1; kind = operation.Write; called = 3; answered = Some 18; value = Some (65 ∷ []) }
+    ∷ record { call = 2; kind = operation.Move; called = 19; answered = Some 38; value = None }
+    ∷ record { call = 3; kind = operation.Read; called = 40; answered = Some 53; value = Some (65 ∷ []) }
     ∷ []
 
 -- the entries of a write, and of a read that was called after the write was answered and missed its value
 abbrev pub stale_entries : List Entry
 stale_entries =
-    record { call = 1; operation = operation.Write; called = 3; answered = Some 18; value = Some (65 ∷ []) }
-    ∷ record { call = 2; operation = operation.Read; called = 19; answered = Some 32; value = Some [] } ∷ []
+    record { call = 1; kind = operation.Write; called = 3; answered = Some 18; value = Some (65 ∷ []) }
+    ∷ record { call = 2; kind = operation.Read; called = 19; answered = Some 32; value = Some [] } ∷ []
 
 -- a read finds the opening tag, a write of byte 65 is answered, and then the read's fetch lacks pieces, as delta is 0
 abbrev pub lacking_script : List Step
@@ -109,8 +109,8 @@ anew_script =
 -- the entries of both calls: the read has the steps 3 to 41, and the write has 9 to 24
 abbrev pub anew_entries : List Entry
 anew_entries =
-    record { call = 1; operation = operation.Read; called = 3; answered = Some 41; value = Some (65 ∷ []) }
-    ∷ record { call = 2; operation = operation.Write; called = 9; answered = Some 24; value = Some (65 ∷ []) }
+    record { call = 1; kind = operation.Read; called = 3; answered = Some 41; value = Some (65 ∷ []) }
+    ∷ record { call = 2; kind = operation.Write; called = 9; answered = Some 24; value = Some (65 ∷ []) }
     ∷ []
 
 -- the read's fetch, complete at step 27, lacks pieces, and exactly delta + 1 = 1 write overlaps the read

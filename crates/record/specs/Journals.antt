@@ -79,7 +79,7 @@ entry_value Move answered settled = None
 abbrev pub entry_of : (number : ℕ) → Call → Entry
 entry_of number call = record {
   call = number;
-  operation = operation_of call.kind;
+  kind = operation_of call.kind;
   called = call.called;
   answered = call.answered;
   value = entry_value call.kind call.answered call.settled;

@@ -1,6 +1,6 @@
 //! What a call of an object does, and its entry in the object's history.
 use bytes::Bytes;
-use tag::{Stamp, Tag};
+use tag::{CallId, Stamp, Tag};
 
 /// What a call does to its object.
 #[derive(Clone, Debug, PartialEq, Eq, Drop)]
@@ -28,9 +28,9 @@ pub enum Operation {
 #[derive(Clone, Debug, PartialEq, Eq, Drop)]
 pub struct Entry {
     /// The call's number in its object, from 1.
-    pub call: u64,
+    pub call: CallId,
     /// What the call does: it reads, writes or moves.
-    pub operation: Operation,
+    pub kind: Operation,
     /// The number of the step that began the call.
     pub called: Stamp,
     /// The number of the step that answered the call. None while it is not answered.
@@ -43,9 +43,9 @@ pub struct Entry {
 #[derive(Clone, Copy, Debug, PartialEq, Eq)]
 pub struct TaggedCall {
     /// The call's number in its object, from 1.
-    pub call: u64,
+    pub call: CallId,
     /// What the call does: it reads, writes or moves.
-    pub operation: Operation,
+    pub kind: Operation,
     /// The call's tag, once it has one.
     pub tag: Option<Tag>,
     /// The number of the step that began the call.

@@ -192,12 +192,12 @@ pub receipt_is : {c : Contents} {number index : ℕ} {t : Tracked} → IsFound c
     → {operation : Operation} {called : ℕ} {value : Option (List ℕ)} → operation ≡ operation_of t.call.kind → called ≡ t.call.called
     → value ≡ entry_value t.call.kind (Some now) t.call.settled
     → receipt_at (state_of c).object place number now
-    ≡ Some (record { object = place; operation = operation; call = number; called = called; answered = now; value = value })
+    ≡ Some (record { object = place; kind = operation; call = number; called = called; answered = now; value = value })
 receipt_is {number = number} f place now operation_is called_is value_is =
     ap (option_map (receipt_of place number now)) (at_number f)
     ∙ (λ j. Some (record {
       object = place;
-      operation = sym operation_is j;
+      kind = sym operation_is j;
       call = number;
       called = sym called_is j;
       answered = now;

@@ -62,7 +62,7 @@ pieces_at object number = pieces_of object (call_at object number)
 abbrev pub receipt_of : (place number : ℕ) → (now : ℕ) → Call → Receipt
 receipt_of place number now call = record {
   object = place;
-  operation = operation_of call.kind;
+  kind = operation_of call.kind;
   call = number;
   called = call.called;
   answered = now;

@@ -28,7 +28,7 @@ use phase::{Ask, Phase, Took};
 use record::{CallKind, Stage};
 use std::alloc::Global;
 use std::marker::Model;
-use tag::{MOST_PHASES, Refusal, Stamp};
+use tag::{CallId, MOST_PHASES, Refusal, Stamp};
 use transfer::{begun_at, passed};
 
 mod views;
@@ -81,7 +81,7 @@ impl Call {
     /// phase is added; a first reading begins at the position. Where it is refused, nothing changes.
     pub(crate) fn begin(
         &mut self,
-        number: u64,
+        number: CallId,
         kind: Kind,
         position: u32,
         layout: &Layout,
@@ -136,7 +136,7 @@ impl Call {
     }
 
     /// Whether the current phase of the call, whose number is given, may resend its requests, by the limit on messages.
-    pub(crate) fn can_ask_again(&self, number: u64, mail: &Mail) -> bool
+    pub(crate) fn can_ask_again(&self, number: CallId, mail: &Mail) -> bool
         requires begun { IsSome (current_phase self.now.call.phases) }
         ensures { (p : Asking) (servers : List ℕ) (piece : ℕ → Piece) → current_phase self.now.call.phases ≡ Some p
             → length servers ≡ p.members
@@ -158,7 +158,7 @@ impl Call {
     /// recorded reply and no waiting message of the phase.
     pub(crate) fn ask_again(
         &self,
-        number: u64,
+        number: CallId,
         coded: Option<&Coded>,
         mail: &mut Mail,
     ) -> Result<(), Refusal>

@@ -2,7 +2,7 @@
 use bank::Kind;
 use bytes::Bytes;
 use record::{Operation, Want};
-use tag::{Stamp, Tag};
+use tag::{CallId, Stamp, Tag};
 
 /// What the client of an answered call gets.
 #[derive(Clone, Debug, PartialEq, Eq, Drop)]
@@ -10,9 +10,9 @@ pub struct Receipt {
     /// The object's place in the order of creation, from 0.
     pub object: u32,
     /// What the call does: it reads, writes or moves.
-    pub operation: Operation,
+    pub kind: Operation,
     /// The call's number in its object, from 1.
-    pub call: u64,
+    pub call: CallId,
     /// The number of the step that began the call.
     pub called: Stamp,
     /// The number of the step that answered it.

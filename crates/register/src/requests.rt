@@ -14,7 +14,7 @@ use encoder::Coded;
 use mail::{Body, Mail, Message};
 use phase::{Ask, Phase};
 use std::alloc::Global;
-use tag::{MOST_MESSAGES, Refusal};
+use tag::{CallId, MOST_MESSAGES, Refusal};
 
 /// The requests of a phase to all members, member 0 first. For a phase that sends pieces, `coded` is the encoded value.
 pub(crate) fn requests(
@@ -91,7 +91,7 @@ fn is_there(ask: Ask, phase: &Phase, mail: &Mail, member: u8) -> bool
 }
 
 // Whether a message of this phase to or from the member waits.
-fn waits(mail: &Mail, call: u64, phase: u32, member: u8) -> bool
+fn waits(mail: &Mail, call: CallId, phase: u32, member: u8) -> bool
     ensures { result ≡ waits mail.now call phase member }
 {
     for place in mail.first_place(call)..mail.len() {
@@ -103,7 +103,7 @@ fn waits(mail: &Mail, call: u64, phase: u32, member: u8) -> bool
 }
 
 // Whether a message is of this phase, to or from the member.
-fn is_of(message: &Message, call: u64, phase: u32, member: u8) -> bool
+fn is_of(message: &Message, call: CallId, phase: u32, member: u8) -> bool
     ensures { result ≡ (message.now.call == call && (message.now.phase == phase && message.now.member == member)) }
 {
     message.call == call && message.phase == phase && message.member == member

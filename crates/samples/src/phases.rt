@@ -5,6 +5,7 @@ use mail::{Body, Message};
 use phase::{Ask, Phase, Took};
 use std::alloc::Global;
 use std::process::Abort;
+use tag::CallId;
 
 // Phase 2 of call 5 in a layout of n 4 and k 2, whose quorum is 3, begun at step 9.
 fn begin(rt: &impl Abort, alloc: Global) -> Phase {
@@ -17,7 +18,7 @@ fn begin(rt: &impl Abort, alloc: Global) -> Phase {
     Phase::new(alloc, ask, 4, 3, 2, 9).expect(rt, "a phase")
 }
 
-fn message(call: u64, phase: u32, member: u8, body: Body) -> Message {
+fn message(call: CallId, phase: u32, member: u8, body: Body) -> Message {
     Message {
         call,
         phase,
@@ -28,7 +29,7 @@ fn message(call: u64, phase: u32, member: u8, body: Body) -> Message {
 }
 
 // Gives the phase a member's reply to a phase of a call.
-fn take(phase: &mut Phase, call: u64, number: u32, member: u8) -> Took {
+fn take(phase: &mut Phase, call: CallId, number: u32, member: u8) -> Took {
     let reply = Reply {
         step: 10,
         answer: Answer::Pointer(Status::Unset),

@@ -8,10 +8,10 @@ use Rattle.std.proofs.lemmas.List.{append-nil}
 use Rattle.std.proofs.lemmas.List.Sums.{sum_by-append}
 use Rattle.tag.specs.declared.refusal.Refusal.{Refusal}
 use Rattle.register.specs.declared.receipt.Receipt.{Receipt}
-use Rattle.sections.specs.declared.call_record.CallRecord.{CallRecord}
-use Rattle.sections.specs.Closing.{all_records, receipts_of}
-use Rattle.sections.specs.Seats.{SeatState, Settles, begun, listed, new_seat, new_seats, records_of, with_pending}
-use Rattle.sections.proofs.Accounts.{all_append, all_back, all_front}
+use Rattle.locked_steps.specs.declared.call_record.CallRecord.{CallRecord}
+use Rattle.locked_steps.specs.Closing.{all_records, receipts_of}
+use Rattle.locked_steps.specs.Seats.{SeatState, Settles, begun, listed, new_seat, new_seats, records_of, with_pending}
+use Rattle.locked_steps.proofs.Accounts.{all_append, all_back, all_front}
 use Rattle.soak.specs.Call.{object_of}
 use Rattle.soak.specs.Closed.{IsOfClosed}
 use Rattle.soak.specs.Made.{HasMade, IsNew, Makes, MakesAll, begin_of}

@@ -3,8 +3,8 @@
 use Rattle.std.specs.Prelude.{ℕ, List}
 use Rattle.std.specs.List.{AllByRecursion}
 use Rattle.cluster.specs.Cluster.{Cluster}
-use Rattle.sections.specs.Closing.{Fit, IsAccounted, all_records, receipts_of}
-use Rattle.sections.specs.Seats.{SeatState}
+use Rattle.locked_steps.specs.Closing.{Fit, IsAccounted, all_records, receipts_of}
+use Rattle.locked_steps.specs.Seats.{SeatState}
 use Rattle.soak.specs.Made.{HasMade}
 use Rattle.soak.specs.Summary.{IsSummaryOf}
 use Rattle.soak.specs.declared.summary.Summary.{Summary}

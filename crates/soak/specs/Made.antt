@@ -3,9 +3,9 @@
 use Rattle.std.specs.Prelude.{◌≡◌, ℕ, zero, suc, ◌%◌, ◌==◌, if◌then◌else◌}
 use Rattle.register.specs.declared.receipt.Receipt.{Receipt}
 use Rattle.cluster.specs.Cluster.{Cluster}
-use Rattle.sections.specs.Seats.{SeatState, AddsAnswered, new_seat}
-use Rattle.sections.specs.declared.call_record.Begin.{Begin}
-use Rattle.sections.specs.declared.call_record.Begin.TheVariants as begin
+use Rattle.locked_steps.specs.Seats.{SeatState, AddsAnswered, new_seat}
+use Rattle.locked_steps.specs.declared.call_record.Begin.{Begin}
+use Rattle.locked_steps.specs.declared.call_record.Begin.TheVariants as begin
 use Rattle.soak.specs.Call.{object_of, value_of}
 
 -- what a client's call of this number does: an even number writes, and an odd one reads

@@ -30,7 +30,7 @@ is_move operation.Move = true
 
 -- whether an entry belongs to an answered move
 abbrev pub is_answered_move : Entry → Bool
-is_answered_move e = is_move e.operation && is_some e.answered
+is_answered_move e = is_move e.kind && is_some e.answered
 
 -- how many reads and writes of the object of this name are answered
 abbrev pub answered_calls : Cluster → (name : List ℕ) → ℕ

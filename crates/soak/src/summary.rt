@@ -124,11 +124,11 @@ fn answered_moves(entries: &[Entry]) -> usize
 fn is_answered_call(entry: &Entry) -> bool
     ensures { result ≡ must_stand entry.now }
 {
-    entry.operation != Operation::Move && entry.answered.is_some()
+    entry.kind != Operation::Move && entry.answered.is_some()
 }
 
 fn is_answered_move(entry: &Entry) -> bool
     ensures { result ≡ is_answered_move entry.now }
 {
-    entry.operation == Operation::Move && entry.answered.is_some()
+    entry.kind == Operation::Move && entry.answered.is_some()
 }

@@ -8,7 +8,7 @@ use record::{Entry, Operation, TaggedCall};
 use register::Register;
 use std::alloc::Global;
 use std::process::Abort;
-use tag::{Stamp, Tag};
+use tag::{CallId, Stamp, Tag};
 
 /// What is seen of a call: its operation, the steps of its call and its answer, and its value.
 type Seen = (Operation, Stamp, Option<Stamp>, &'static [u8]);
@@ -24,7 +24,7 @@ fn entries_of(rt: &impl Abort, alloc: Global, calls: &[Seen]) -> Vec<Entry> {
         let (operation, called, answered, value) = *seen;
         let entry = Entry {
             call: place as u64 + 1,
-            operation,
+            kind: operation,
             called,
             answered,
             value: Some(Bytes::from_static(value)),
@@ -126,8 +126,8 @@ fn tells_atomic_histories_from_others(rt: HostRuntime) {
 }
 
 fn tagged(
-    call: u64,
-    operation: Operation,
+    call: CallId,
+    kind: Operation,
     tag: Option<Tag>,
     called: Stamp,
     is_answered: bool,
@@ -137,7 +137,7 @@ fn tagged(
 {
     TaggedCall {
         call,
-        operation,
+        kind: operation,
         tag,
         called,
         is_answered,

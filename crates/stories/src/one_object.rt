@@ -3,7 +3,7 @@ use acts::{Deed, deliver, go_on, play};
 use register::Register;
 use std::alloc::Global;
 use std::process::Abort;
-use tag::{LONGEST_VALUE, Refusal, Tag};
+use tag::{CallId, LONGEST_VALUE, Refusal, Tag};
 
 mod acts;
 
@@ -79,14 +79,14 @@ fn refuses_pieces_of_another_value(rt: HostRuntime) {
 }
 
 /// Whether nothing is shown of this call.
-fn shows_nothing(object: &Register, call: u64) -> bool {
+fn shows_nothing(object: &Register, call: CallId) -> bool {
     matches!(object.want(call), Err(Refusal::NoCall))
         && matches!(object.call_view(call), Err(Refusal::NoCall))
         && object.value_view(call).is_none()
 }
 
 /// Whether nothing is made of this call.
-fn makes_nothing(object: &Register, call: u64) -> bool {
+fn makes_nothing(object: &Register, call: CallId) -> bool {
     matches!(object.value_to_code(call), Err(Refusal::NoCall))
         && matches!(object.pieces(call), Err(Refusal::NoCall))
 }

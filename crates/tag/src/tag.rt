@@ -1,6 +1,7 @@
 ghost use Rattle.std.specs.Prelude.{◌≡◌, ◌↔◌, ◌+◌, ◌<◌, ◌^◌, IsTrue, Some};
 ghost use Rattle.tag.specs.Tag.{later_tag, next_tag, opening_tag, tag_lt, tag_eq, tag_text, IsBelow};
 
+use crate::CallId;
 use std::fmt;
 
 /// The name of a version of an object's value, after the tags of Coded Atomic Storage (Cadambe, Lynch, Médard and
@@ -10,7 +11,7 @@ pub struct Tag {
     /// One more than the greatest number that the writing call found.
     pub number: u64,
     /// The writing call's number in its object, from 1.
-    pub call: u64,
+    pub call: CallId,
 }
 
 impl Tag {
@@ -41,7 +42,7 @@ impl Tag {
     }
 
     /// The tag of a write by the call of this number, where `self` is the greatest tag that its queries found.
-    pub fn next(self, call: u64) -> Tag
+    pub fn next(self, call: CallId) -> Tag
         requires { self.number + 1 < 2 ^ 64 }
         ensures { result ≡ next_tag self call }
     {

@@ -11,7 +11,7 @@ use layout::Layout;
 use std::process::Abort;
 use std::sync::Wait;
 use std::thread::Threads;
-use tag::Refusal;
+use tag::{CallId, Refusal};
 
 fn adds_layout<L: StoreName, R: Wait + Abort>(
     rt: &R,
@@ -85,9 +85,9 @@ fn resumes<L: StoreName, R: Threads + Wait + Sync>(
     resume(rt, store, seat, &mut First, TURNS)
 }
 
-fn is_call(rt: &impl Abort, answer: Answer, operation: Operation, call: u64) {
+fn is_call(rt: &impl Abort, answer: Answer, operation: Operation, call: CallId) {
     let receipt = receipt_of(rt, answer);
-    assert!(rt; receipt.operation == operation);
+    assert!(rt; receipt.kind == operation);
     assert!(rt; receipt.call == call);
 }
 

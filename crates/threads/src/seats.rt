@@ -12,7 +12,7 @@ use record::Entry;
 use std::process::Abort;
 use std::sync::Wait;
 use std::thread::{Threads, join};
-use tag::Refusal;
+use tag::{CallId, Refusal};
 
 fn writes<L: StoreName, R: Threads + Wait + Sync>(
     rt: &R,
@@ -120,10 +120,10 @@ fn leaves_and_writes<L: StoreName, R: Threads + Wait + Abort + Sync>(
     receipt_of(rt, writes(rt, store, seat, MADE, TURNS)).answered
 }
 
-fn written(call: u64, called: u64, answered: Option<u64>, value: &'static [u8]) -> Entry {
+fn written(call: CallId, called: u64, answered: Option<u64>, value: &'static [u8]) -> Entry {
     Entry {
         call,
-        operation: Operation::Write,
+        kind: Operation::Write,
         called,
         answered,
         value: Some(Bytes::from_static(value)),
@@ -172,7 +172,7 @@ fn an_abandoned_call_stays_open(rt: HostRuntime) {
 fn made_up() -> Receipt {
     Receipt {
         object: 0,
-        operation: Operation::Write,
+        kind: Operation::Write,
         call: 1,
         called: 1,
         answered: 1_000_000,

@@ -11,7 +11,7 @@ use bank::{Kind, Status};
 use phase::Phase;
 use record::{CallKind, Stage};
 use successor::Reading;
-use tag::Tag;
+use tag::{CallId, Tag};
 
 /// The stage at which a call begins. A move leads from the position `from`. A read or a write begins at the position
 /// that `begun_at` is given.
@@ -70,7 +70,7 @@ pub fn due(stage: Stage) -> Option<(Kind, u32)>
 }
 
 /// The stage to which a phase leads the call of this number. A phase that is not complete only begins what was due.
-pub fn passed(kind: &CallKind, number: u64, stage: Stage, phase: &Phase) -> Stage
+pub fn passed(kind: &CallKind, number: CallId, stage: Stage, phase: &Phase) -> Stage
     requires room { IsBelowLimit (begun_at stage phase.now.position) }
     requires tags { HasNextTag kind.now (begun_at stage phase.now.position) phase.now.replies }
     ensures { result ≡ stage_past kind.now number stage phase.now }

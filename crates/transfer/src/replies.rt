@@ -14,13 +14,13 @@ use bank::Status;
 use phase::Taken;
 use record::{CallKind, Stage};
 use successor::{Reading, greatest_status, greatest_tag};
-use tag::Tag;
+use tag::{CallId, Tag};
 
 /// The stage to which the replies of a complete phase lead the call of this number. A fetch that lacks pieces leads a
 /// read back to its first reading, and a move back to its query.
 pub(crate) fn after(
     kind: &CallKind,
-    number: u64,
+    number: CallId,
     stage: Stage,
     replies: &[Taken],
     lacks: bool,
@@ -118,7 +118,7 @@ fn spread(position: u32, finalized: u32, status: Status) -> Reading
 // Up to the last position, the next one is queried. Of the positions that showed the greatest tag, the last one counts.
 fn after_query(
     kind: &CallKind,
-    number: u64,
+    number: CallId,
     replies: &[Taken],
     position: u32,
     last: u32,
@@ -232,7 +232,7 @@ fn again(last: u32, tag: Tag, reading: Reading) -> Stage
 }
 
 // The stage once the queries are complete: a read fetches the greatest tag, and a write pre-writes the next one.
-fn tagged(kind: &CallKind, number: u64, shown_at: u32, last: u32, greatest: Tag) -> Stage
+fn tagged(kind: &CallKind, number: CallId, shown_at: u32, last: u32, greatest: Tag) -> Stage
     requires { IsTaggable kind.now greatest }
     ensures { result ≡ tagged kind.now number shown_at last greatest }
 {

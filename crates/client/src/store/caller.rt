@@ -4,12 +4,12 @@ ghost use Rattle.std.specs.Prelude.{◌≡◌, ◌⊎◌, None, IfErr, IfOk, OnE
 ghost use Rattle.tag.specs.declared.refusal.Refusal.{Refusal as RefusalOf};
 ghost use Rattle.tag.specs.declared.refusal.Refusal.TheVariants.{NoCall, Stranger};
 ghost use Rattle.register.specs.declared.receipt.Receipt.{Receipt as ReceiptOf};
-ghost use Rattle.sections.specs.Moves.{Ends, asked_if, has_asked};
-ghost use Rattle.sections.specs.Seats.{Settles, asked_once};
+ghost use Rattle.locked_steps.specs.Moves.{Ends, asked_if, has_asked};
+ghost use Rattle.locked_steps.specs.Seats.{Settles, asked_once};
 ghost use Rattle.client.specs.Callers.{LeavesBy};
 
 use driver::{Chooser, Round};
-use sections::{Admin, Booked, Hand, Seat, StoreName, move_round_in, round_in};
+use locked_steps::{Admin, Booked, Hand, Seat, StoreName, move_round_in, round_in};
 use tag::Refusal;
 
 /// A client's seat, or the administrator.

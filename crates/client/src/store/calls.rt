@@ -1,15 +1,15 @@
 //! Whole reads and writes.
 
 ghost use Rattle.std.specs.Prelude.{◌≡◌, ◌⊎◌, None, IfErr, IfOk, OnErr};
-ghost use Rattle.sections.specs.Seats.{AddsAnswered, AddsPending, BeginsNot, Settles, asked_once};
-ghost use Rattle.sections.specs.declared.call_record.Begin.TheVariants as begins;
+ghost use Rattle.locked_steps.specs.Seats.{AddsAnswered, AddsPending, BeginsNot, Settles, asked_once};
+ghost use Rattle.locked_steps.specs.declared.call_record.Begin.TheVariants as begins;
 
 use crate::store::Store;
 use bytes::Bytes;
 use coding_pool::{Gate, NoGate};
 use driver::Chooser;
+use locked_steps::{Begin, Seat, StoreName, begin_in};
 use register::Receipt;
-use sections::{Begin, Seat, StoreName, begin_in};
 use std::sync::Wait;
 use std::thread::Threads;
 use tag::Refusal;

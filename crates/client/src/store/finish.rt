@@ -2,15 +2,15 @@
 
 ghost use Rattle.std.specs.Prelude.{IfErr, IfOk, OnErr};
 ghost use Rattle.client.specs.Callers.{StaysOpen};
-ghost use Rattle.sections.specs.Moves.{asked_if};
+ghost use Rattle.locked_steps.specs.Moves.{asked_if};
 
 use crate::store::Store;
 use crate::store::caller::Caller;
 use coding_pool::{Gate, encode_all};
 use decoder::decode;
 use driver::{Chooser, Round};
+use locked_steps::{Hand, StoreName};
 use register::Receipt;
-use sections::{Hand, StoreName};
 use std::sync::Wait;
 use std::thread::Threads;
 use tag::Refusal;

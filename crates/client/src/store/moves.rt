@@ -2,15 +2,15 @@
 
 ghost use Rattle.std.specs.Prelude.{◌≡◌, ◌⊎◌, None, IfErr, IfOk, OnErr};
 ghost use Rattle.client.specs.Locked.{AddsLayout, BeginsMove, Creates, Moves, MovesNot, Retires, SetsServer};
-ghost use Rattle.sections.specs.Moves.{Ends, has_asked};
+ghost use Rattle.locked_steps.specs.Moves.{Ends, has_asked};
 
 use crate::store::Store;
 use cluster::LayoutId;
 use coding_pool::NoGate;
 use driver::Chooser;
 use layout::Layout;
+use locked_steps::{Admin, Order, StoreName, admin_in, begin_move_in, retire_in};
 use register::Receipt;
-use sections::{Admin, Order, StoreName, admin_in, begin_move_in, retire_in};
 use std::sync::Wait;
 use std::thread::Threads;
 use tag::Refusal;

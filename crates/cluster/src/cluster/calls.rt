@@ -12,7 +12,7 @@ ghost use Rattle.cluster.specs.Causes.{next, object_cause, moving_cause};
 use crate::cluster::{Cluster, LayoutId};
 use bytes::Bytes;
 use register::{Act, Answered, Receipt};
-use tag::Refusal;
+use tag::{CallId, Refusal};
 
 impl Cluster {
     /// Begins a read of an object: its first phase sends a request Next to each of the n members of the object's base.
@@ -20,7 +20,7 @@ impl Cluster {
     ///
     /// `NoObject` where no object has this name. `Full` where the counter is at `MOST_STEPS`, the object has
     /// `MOST_CALLS` calls, or the n requests would make more than `MOST_MESSAGES` waiting messages of the object.
-    pub fn call_read(&mut self, name: &str) -> Result<u64, Refusal>
+    pub fn call_read(&mut self, name: &str) -> Result<CallId, Refusal>
         ensures step { OnOk result (self.new ≡ stepped self.old name.entry.now (Step.CallRead)) }
         ensures number { IfOk result
             (λ n. if_named self.old name.entry.now (λ object. Some (suc (length object.calls))) ≡ Some n) }
@@ -40,7 +40,7 @@ impl Cluster {
     ///
     /// `NoObject` where no object has this name, `TooLong` where the value is longer than `LONGEST_VALUE` bytes, and
     /// `Full` as for `call_read`.
-    pub fn call_write(&mut self, name: &str, value: Bytes) -> Result<u64, Refusal>
+    pub fn call_write(&mut self, name: &str, value: Bytes) -> Result<CallId, Refusal>
         ensures step { OnOk result (self.new ≡ stepped self.old name.entry.now (Step.CallWrite value)) }
         ensures number { IfOk result
             (λ n. if_named self.old name.entry.now (λ object. Some (suc (length object.calls))) ≡ Some n) }
@@ -63,7 +63,7 @@ impl Cluster {
     /// `BadLayout` where there is no layout of this number. `Full` where the counter is at `MOST_STEPS`, the object has
     /// `MOST_POSITIONS` positions or `MOST_CALLS` calls, or the requests would make more than `MOST_MESSAGES` waiting
     /// messages of the object.
-    pub fn call_move(&mut self, name: &str, id: LayoutId) -> Result<u64, Refusal>
+    pub fn call_move(&mut self, name: &str, id: LayoutId) -> Result<CallId, Refusal>
         ensures step { OnOk result (self.new ≡ moved self.old name.entry.now id) }
         ensures number { IfOk result
             (λ n. if_named self.old name.entry.now (λ object. Some (suc (length object.calls))) ≡ Some n) }
@@ -91,7 +91,7 @@ impl Cluster {
     ///
     /// `NoObject` where no object has this name, `NoCall` where it has no call of this number, `NotNow` unless the call
     /// wants to be answered, and `Full` where the counter is at `MOST_STEPS`.
-    pub fn answer(&mut self, name: &str, call: u64) -> Result<Receipt, Refusal>
+    pub fn answer(&mut self, name: &str, call: CallId) -> Result<Receipt, Refusal>
         ensures step { OnOk result (self.new ≡ stepped self.old name.entry.now (Step.AnswerCall (pred call))) }
         ensures receipt { IfOk result (λ r. if_named self.old name.entry.now (λ object.
             receipt_at object (place_of self.old.objects name.entry.now) call (next self.old)) ≡ Some r) }

@@ -16,13 +16,13 @@ use decoder::Decoded;
 use encoder::{Coded, Piece};
 use record::Want;
 use register::Act;
-use tag::Refusal;
+use tag::{CallId, Refusal};
 
 impl Cluster {
     /// What the call of this number wants next: `Done` where it is answered. It is no step and allocates no memory.
     ///
     /// `NoObject` where no object has this name, and `NoCall` where it has no call of this number.
-    pub fn want(&self, name: &str, call: u64) -> Result<Want, Refusal>
+    pub fn want(&self, name: &str, call: CallId) -> Result<Want, Refusal>
         ensures want { IfOk result (λ w. if_named self.now name.now (λ object. want_at object call) ≡ Some w) }
         ensures cause { IsExactlyByCause (object_cause self.now name.now (λ object. number_cause object call)) result }
     {
@@ -38,7 +38,7 @@ impl Cluster {
     /// `NoObject` where no object has this name, `NoCall` where it has no call of this number, and `NotNow` unless the
     /// call wants to advance. `Full` where the counter is at `MOST_STEPS`, the call has `MOST_PHASES` phases, or the
     /// requests would make more than `MOST_MESSAGES` waiting messages of the object.
-    pub fn advance(&mut self, name: &str, call: u64) -> Result<(), Refusal>
+    pub fn advance(&mut self, name: &str, call: CallId) -> Result<(), Refusal>
         ensures step { OnOk result (self.new ≡ stepped self.old name.entry.now (Step.Advance (pred call))) }
         ensures cause { IsByCause
             (object_cause self.old name.entry.now (λ object. advance_cause (next self.old) object call)) result }
@@ -55,7 +55,7 @@ impl Cluster {
     ///
     /// `NoObject` where no object has this name, `NoCall` where it has no call of this number, `NotNow` unless the call
     /// wants to be restarted, and `Full` as for `advance`.
-    pub fn again(&mut self, name: &str, call: u64) -> Result<(), Refusal>
+    pub fn again(&mut self, name: &str, call: CallId) -> Result<(), Refusal>
         ensures step { OnOk result (self.new ≡ stepped self.old name.entry.now (Step.Again (pred call))) }
         ensures cause { IsByCause
             (object_cause self.old name.entry.now (λ object. again_cause (next self.old) object call)) result }
@@ -72,7 +72,7 @@ impl Cluster {
     ///
     /// `NoObject` where no object has this name, and `NoCall` where it has no call of this number. `NotNow` unless the
     /// phase that is due sends pieces, or the current phase sends them and has no quorum of replies yet.
-    pub fn value_to_code(&self, name: &str, call: u64) -> Result<(Bytes, u8, u8), Refusal>
+    pub fn value_to_code(&self, name: &str, call: CallId) -> Result<(Bytes, u8, u8), Refusal>
         ensures value { IfOk result (λ r. if_named self.now name.now (λ object. coding_at object call) ≡ Some r) }
         ensures cause { IsByCause (object_cause self.now name.now (λ object. value_cause object call)) result }
     {
@@ -90,7 +90,7 @@ impl Cluster {
     /// and the n that `value_to_code` gives. `Full` where the counter is at `MOST_STEPS`, the call has `MOST_PHASES`
     /// phases and would begin one more, or the requests would make more than `MOST_MESSAGES` waiting messages of the
     /// object.
-    pub fn supply(&mut self, name: &str, call: u64, coded: Coded) -> Result<(), Refusal>
+    pub fn supply(&mut self, name: &str, call: CallId, coded: Coded) -> Result<(), Refusal>
         ensures step { OnOk result (self.new ≡ stepped self.old name.entry.now (Step.Supply (pred call))) }
         ensures cause { IsByCause
             (object_cause self.old name.entry.now (λ object. supply_cause (next self.old) object call coded)) result }
@@ -108,7 +108,7 @@ impl Cluster {
     /// `NoObject` where no object has this name, `NoCall` where it has no call of this number, and `NotNow` unless the
     /// current phase lacks a quorum and sends no pieces (see `supply`). `Full` where the counter is at `MOST_STEPS` or
     /// the requests would make more than `MOST_MESSAGES` waiting messages of the object.
-    pub fn post(&mut self, name: &str, call: u64) -> Result<(), Refusal>
+    pub fn post(&mut self, name: &str, call: CallId) -> Result<(), Refusal>
         ensures step { OnOk result (self.new ≡ stepped self.old name.entry.now (Step.Post (pred call))) }
         ensures cause { IsByCause
             (object_cause self.old name.entry.now (λ object. post_cause (next self.old) object call)) result }
@@ -125,7 +125,7 @@ impl Cluster {
     ///
     /// `NoObject` where no object has this name, `NoCall` where it has no call of this number, `NotNow` unless the call
     /// wants to settle a value, and `Collected` where its fetch lacks pieces, so that it wants to be restarted.
-    pub fn pieces(&self, name: &str, call: u64) -> Result<Vec<Piece>, Refusal>
+    pub fn pieces(&self, name: &str, call: CallId) -> Result<Vec<Piece>, Refusal>
         ensures pieces { IfOk result
             (λ ps. if_named self.now name.now (λ object. Some (pieces_at object call)) ≡ Some ps.items) }
         ensures cause { IsByCause (object_cause self.now name.now (λ object. pieces_cause object call)) result }
@@ -141,7 +141,7 @@ impl Cluster {
     /// `NoObject` where no object has this name, `NoCall` where it has no call of this number, `NotNow` unless the call
     /// wants to settle a value, `Collected` where its fetch lacks pieces, `WrongCode` unless the value was decoded from
     /// k pieces that its current phase took, and `Full` where the counter is at `MOST_STEPS`.
-    pub fn settle(&mut self, name: &str, call: u64, decoded: Decoded) -> Result<(), Refusal>
+    pub fn settle(&mut self, name: &str, call: CallId, decoded: Decoded) -> Result<(), Refusal>
         ensures step { OnOk result
             (self.new ≡ stepped self.old name.entry.now (Step.Settle (pred call) decoded.value)) }
         ensures cause { IsExactlyByCause (object_cause self.old name.entry.now

@@ -13,7 +13,7 @@ ghost use Rattle.cluster.specs.Kept.{IsKeptCluster};
 
 use crate::cluster::{Cluster, LayoutId};
 use record::Entry;
-use tag::{LONGEST_VALUE, Refusal};
+use tag::{CallId, LONGEST_VALUE, Refusal};
 
 impl Cluster {
     /// A law: the limits hold, no two objects have the same name, and each member of a layout is a server. It changes
@@ -41,7 +41,7 @@ impl Cluster {
     /// The entry of the call of this number of an object, which is named by its index in the order of creation.
     ///
     /// `NoObject` where there is no object of this index, and `NoCall` where it has no call of this number.
-    pub fn entry(&self, object: u32, call: u64) -> Result<Entry, Refusal>
+    pub fn entry(&self, object: u32, call: CallId) -> Result<Entry, Refusal>
         ensures entry { IfOk result
             (λ e. if_placed self.now object (λ o. option_map (entry_of call) (call_at o call)) ≡ Some e) }
         ensures cause { IsByCause (placed_cause self.now object (λ o. number_cause o call)) result }
@@ -91,7 +91,7 @@ impl Cluster {
     /// and allocates no memory.
     ///
     /// `NoObject`, `NoCall` and `NotNow` as for `value_to_code`, and `Full` as for `supply`.
-    pub fn may_supply(&self, name: &str, call: u64) -> Result<(), Refusal>
+    pub fn may_supply(&self, name: &str, call: CallId) -> Result<(), Refusal>
         ensures cause { IsExactlyByCause
             (object_cause self.now name.now (λ object. supplying_cause (next self.now) object call)) result }
     {

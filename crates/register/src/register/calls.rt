@@ -23,7 +23,7 @@ use bank::{Kind, Status};
 use bytes::Bytes;
 use layout::Layout;
 use record::{CallKind, Operation, Want};
-use tag::{LONGEST_VALUE, MOST_STEPS, Refusal, Stamp};
+use tag::{CallId, LONGEST_VALUE, MOST_STEPS, Refusal, Stamp};
 use transfer::first_stage;
 
 impl Register {
@@ -32,7 +32,7 @@ impl Register {
     ///
     /// `Full` where `now` is above `MOST_STEPS`, the object has `MOST_CALLS` calls, or the n requests would make more
     /// than `MOST_MESSAGES` waiting messages.
-    pub fn call_read(&mut self, now: Stamp) -> Result<u64, Refusal>
+    pub fn call_read(&mut self, now: Stamp) -> Result<CallId, Refusal>
         requires after { self.old.last < now }
         ensures step { OnOk result (self.new ≡ made Step.CallRead now self.old) }
         ensures number { IfOk result (λ n. n ≡ suc (length self.old.object.calls)) }
@@ -46,7 +46,7 @@ impl Register {
     /// the call's number, counted from 1.
     ///
     /// `TooLong` where the value is longer than `LONGEST_VALUE` bytes, and `Full` as for `call_read`.
-    pub fn call_write(&mut self, value: Bytes, now: Stamp) -> Result<u64, Refusal>
+    pub fn call_write(&mut self, value: Bytes, now: Stamp) -> Result<CallId, Refusal>
         requires after { self.old.last < now }
         ensures step { OnOk result (self.new ≡ made (Step.CallWrite value) now self.old) }
         ensures number { IfOk result (λ n. n ≡ suc (length self.old.object.calls)) }
@@ -60,7 +60,7 @@ impl Register {
     }
 
     // Begins a call that first reads the sequence of layouts: a read or a write.
-    fn begin_reading(&mut self, kind: CallKind, now: Stamp) -> Result<u64, Refusal>
+    fn begin_reading(&mut self, kind: CallKind, now: Stamp) -> Result<CallId, Refusal>
         requires after { self.old.last < now }
         requires kind { (kind ≡ Read) ⊎ ((value : List ℕ) × (kind ≡ Write value) × IsValue value) }
         ensures step { OnOk result (self.new ≡ record { object = called_object self.old.object kind now; last = now }) }
@@ -95,7 +95,7 @@ impl Register {
     /// `MovePending` where an earlier move is not answered. `Full` where `now` is above `MOST_STEPS`, the object has
     /// `MOST_POSITIONS` positions or `MOST_CALLS` calls, or the requests would make more than `MOST_MESSAGES` waiting
     /// messages.
-    pub fn call_move(&mut self, layout: Layout, now: Stamp) -> Result<u64, Refusal>
+    pub fn call_move(&mut self, layout: Layout, now: Stamp) -> Result<CallId, Refusal>
         requires after { self.old.last < now }
         ensures step { OnOk result (self.new ≡ made (Step.CallMove layout) now self.old) }
         ensures number { IfOk result (λ n. n ≡ suc (length self.old.object.calls)) }
@@ -137,7 +137,7 @@ impl Register {
     ///
     /// `NoCall` where there is no call of this number, `NotNow` unless the call wants to be answered, and `Full` where
     /// `now` is above `MOST_STEPS`.
-    pub fn answer(&mut self, call: u64, object: u32, now: Stamp) -> Result<Receipt, Refusal>
+    pub fn answer(&mut self, call: CallId, object: u32, now: Stamp) -> Result<Receipt, Refusal>
         requires after { self.old.last < now }
         ensures step { OnOk result (self.new ≡ made (Step.AnswerCall (pred call)) now self.old) }
         ensures receipt { IfOk result (λ r. receipt_at self.old.object object call now ≡ Some r) }
@@ -162,7 +162,7 @@ impl Register {
         self.last = now;
         Ok(Receipt {
             object,
-            operation,
+            kind: operation,
             call,
             called,
             answered: now,

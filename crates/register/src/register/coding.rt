@@ -25,7 +25,7 @@ use decoder::Decoded;
 use encoder::{Coded, Piece};
 use phase::Phase;
 use record::Want;
-use tag::{MOST_STEPS, Refusal, Stamp};
+use tag::{CallId, MOST_STEPS, Refusal, Stamp};
 use transfer::due;
 
 impl Register {
@@ -34,7 +34,7 @@ impl Register {
     ///
     /// `NoCall` where there is no call of this number. `NotNow` unless the phase that is due sends pieces, or the
     /// current phase sends them and has no quorum of replies yet.
-    pub fn value_to_code(&self, call: u64) -> Result<(Bytes, u8, u8), Refusal>
+    pub fn value_to_code(&self, call: CallId) -> Result<(Bytes, u8, u8), Refusal>
         ensures value { IfOk result (λ r. coding_at self.now.object call ≡ Some r) }
         ensures cause { IsByCause (value_cause self.now.object call) result }
     {
@@ -56,7 +56,7 @@ impl Register {
     /// `NoCall` and `NotNow` as for `value_to_code`. `Full` where `now` is above `MOST_STEPS`, the call has
     /// `MOST_PHASES` phases and would begin one more, or the requests would make more than `MOST_MESSAGES` waiting
     /// messages. For every coded value that is not refused as `WrongCode`, `supply` has the same cause.
-    pub fn may_supply(&self, call: u64, now: Stamp) -> Result<(), Refusal>
+    pub fn may_supply(&self, call: CallId, now: Stamp) -> Result<(), Refusal>
         requires after { self.now.last < now }
         ensures cause { IsExactlyByCause (supplying_cause now self.now.object call) result }
         ensures coded { (coded : Coding) → (supply_cause now self.now.object call coded ≡ Some WrongCode)
@@ -87,7 +87,7 @@ impl Register {
     ///
     /// `NoCall` and `NotNow` as for `value_to_code`, `WrongCode` unless `coded` has the value, the k and the n that
     /// `value_to_code` gives, and `Full` as for `may_supply`.
-    pub fn supply(&mut self, call: u64, coded: Coded, now: Stamp) -> Result<(), Refusal>
+    pub fn supply(&mut self, call: CallId, coded: Coded, now: Stamp) -> Result<(), Refusal>
         requires after { self.old.last < now }
         ensures step { OnOk result (self.new ≡ made (Step.Supply (pred call)) now self.old) }
         ensures cause { IsByCause (supply_cause now self.old.object call coded) result }
@@ -135,7 +135,7 @@ impl Register {
     ///
     /// `NoCall` where there is no call of this number, `NotNow` unless the call wants to settle a value, and
     /// `Collected` where its fetch lacks pieces, so that it wants to be restarted.
-    pub fn pieces(&self, call: u64) -> Result<Vec<Piece>, Refusal>
+    pub fn pieces(&self, call: CallId) -> Result<Vec<Piece>, Refusal>
         ensures pieces { IfOk result (λ ps. ps.items ≡ pieces_at self.now.object call) }
         ensures cause { IsByCause (pieces_cause self.now.object call) result }
     {
@@ -165,7 +165,7 @@ impl Register {
     /// `NoCall` where there is no call of this number, `NotNow` unless the call wants to settle a value, `Collected`
     /// where its fetch lacks pieces, `WrongCode` unless the value was decoded from k pieces that its current phase
     /// took, and `Full` where `now` is above `MOST_STEPS`.
-    pub fn settle(&mut self, call: u64, decoded: Decoded, now: Stamp) -> Result<(), Refusal>
+    pub fn settle(&mut self, call: CallId, decoded: Decoded, now: Stamp) -> Result<(), Refusal>
         requires after { self.old.last < now }
         ensures step { OnOk result (self.new ≡ made (Step.Settle (pred call) decoded.value) now self.old) }
         ensures cause { IsExactlyByCause (settle_cause now self.old.object call decoded) result }

@@ -20,14 +20,14 @@ use crate::register::Register;
 use bank::{Answer, Kind};
 use phase::{Phase, Taken};
 use record::Want;
-use tag::{MOST_STEPS, Refusal, Stamp};
+use tag::{CallId, MOST_STEPS, Refusal, Stamp};
 use transfer::{begun_at, due};
 
 impl Register {
     /// What the call of this number wants next: `Done` where it is answered. It allocates no memory.
     ///
     /// `NoCall` where there is no call of this number.
-    pub fn want(&self, call: u64) -> Result<Want, Refusal>
+    pub fn want(&self, call: CallId) -> Result<Want, Refusal>
         ensures want { IfOk result (λ w. want_at self.now.object call ≡ Some w) }
         ensures cause { IsExactlyByCause (number_cause self.now.object call) result }
     {
@@ -43,7 +43,7 @@ impl Register {
     /// `NoCall` where there is no call of this number, `NotNow` unless the call wants to advance, and `Full` where
     /// `now` is above `MOST_STEPS`, the call has `MOST_PHASES` phases, or the requests would make more than
     /// `MOST_MESSAGES` waiting messages.
-    pub fn advance(&mut self, call: u64, now: Stamp) -> Result<(), Refusal>
+    pub fn advance(&mut self, call: CallId, now: Stamp) -> Result<(), Refusal>
         requires after { self.old.last < now }
         ensures step { OnOk result (self.new ≡ made (Step.Advance (pred call)) now self.old) }
         ensures cause { IsByCause (advance_cause now self.old.object call) result }
@@ -57,7 +57,7 @@ impl Register {
     ///
     /// `NoCall` where there is no call of this number, `NotNow` unless the call wants to be restarted, and `Full` as
     /// for `advance`.
-    pub fn again(&mut self, call: u64, now: Stamp) -> Result<(), Refusal>
+    pub fn again(&mut self, call: CallId, now: Stamp) -> Result<(), Refusal>
         requires after { self.old.last < now }
         ensures step { OnOk result (self.new ≡ made (Step.Again (pred call)) now self.old) }
         ensures cause { IsByCause (again_cause now self.old.object call) result }
@@ -67,7 +67,7 @@ impl Register {
     }
 
     // The call of this number begins the phase that is due: as an advance, or if `anew` as a restart.
-    fn begin_due(&mut self, call: u64, anew: bool, now: Stamp) -> Result<(), Refusal>
+    fn begin_due(&mut self, call: CallId, anew: bool, now: Stamp) -> Result<(), Refusal>
         requires after { self.old.last < now }
         ensures step { OnOk result (self.new ≡ made (due_step anew (pred call)) now self.old) }
         ensures cause { IsByCause (due_cause anew now self.old.object call) result }
@@ -106,7 +106,7 @@ impl Register {
     /// `NoCall` where there is no call of this number, `NotNow` unless its current phase lacks a quorum and sends no
     /// pieces (see `supply`), and `Full` where `now` is above `MOST_STEPS` or the requests would make more than
     /// `MOST_MESSAGES` waiting messages.
-    pub fn post(&mut self, call: u64, now: Stamp) -> Result<(), Refusal>
+    pub fn post(&mut self, call: CallId, now: Stamp) -> Result<(), Refusal>
         requires after { self.old.last < now }
         ensures step { OnOk result (self.new ≡ made (Step.Post (pred call)) now self.old) }
         ensures cause { IsByCause (post_cause now self.old.object call) result }
@@ -133,7 +133,7 @@ impl Register {
 }
 
 // The index of the call of this number.
-pub fn index_of(calls: &[Call], call: u64) -> Result<usize, Refusal>
+pub fn index_of(calls: &[Call], call: CallId) -> Result<usize, Refusal>
     ensures place { IfOk result (λ index. (suc index ≡ call) × (index < length calls.now)) }
     ensures refused { IfErr result (λ e. (e ≡ NoCall) × ((call ≡ 0) ⊎ (length calls.now < call))) }
 {

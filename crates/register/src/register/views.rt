@@ -24,7 +24,7 @@ use layout::Layout;
 use mail::Mail;
 use phase::Phase;
 use record::{Entry, Stage};
-use tag::{Refusal, Tag};
+use tag::{CallId, Refusal, Tag};
 use transfer::stage_tag;
 
 impl Register {
@@ -59,7 +59,7 @@ impl Register {
     /// The entry of the call of this number.
     ///
     /// `NoCall` where there is no call of this number.
-    pub fn entry(&self, call: u64) -> Result<Entry, Refusal>
+    pub fn entry(&self, call: CallId) -> Result<Entry, Refusal>
         ensures entry { IfOk result (λ e. option_map (entry_of call) (call_at self.now.object call) ≡ Some e) }
         ensures cause { IsByCause (number_cause self.now.object call) result }
     {
@@ -101,7 +101,7 @@ impl Register {
     /// How far the call of this number has come. It allocates no memory.
     ///
     /// `NoCall` where there is no call of this number.
-    pub fn call_view(&self, call: u64) -> Result<CallView, Refusal>
+    pub fn call_view(&self, call: CallId) -> Result<CallView, Refusal>
         ensures view { IfOk result (λ v. view_at self.now.object call ≡ Some v) }
         ensures cause { IsExactlyByCause (number_cause self.now.object call) result }
     {
@@ -126,7 +126,7 @@ impl Register {
     }
 
     /// The phases of the call of this number, the first one first. There are none where there is no such call.
-    pub fn phases_view(&self, call: u64) -> &[Phase]
+    pub fn phases_view(&self, call: CallId) -> &[Phase]
         ensures { result.now ≡ phases_at self.now.object call }
     {
         match index_of(&self.calls, call) {
@@ -168,7 +168,7 @@ impl Register {
     }
 
     /// The tag of the call of this number. None where there is no such call, or its queries are not complete.
-    pub fn tag_view(&self, call: u64) -> Option<Tag>
+    pub fn tag_view(&self, call: CallId) -> Option<Tag>
         ensures { result ≡ tag_at self.now.object call }
     {
         match index_of(&self.calls, call) {
@@ -192,7 +192,7 @@ impl Register {
 
     /// The value that the call of this number writes, or has settled. None where there is no such call, or a read or a
     /// move has settled none yet.
-    pub fn value_view(&self, call: u64) -> Option<&Bytes>
+    pub fn value_view(&self, call: CallId) -> Option<&Bytes>
         ensures { option_copied result ≡ value_at self.now.object call }
     {
         match index_of(&self.calls, call) {

@@ -8,7 +8,7 @@ use record::Want;
 use register::{Act, Register};
 use std::alloc::Global;
 use std::process::Abort;
-use tag::{Refusal, Stamp};
+use tag::{CallId, Refusal, Stamp};
 
 // What is done to an object, each at a step of its own.
 #[derive(Clone, Copy)]
@@ -41,7 +41,7 @@ fn move_to(k: u8, members: &[u8]) -> Result<Act, Refusal> {
     Ok(Act::CallMove(Layout::new(k, members)?))
 }
 
-fn supply(alloc: Global, call: u64, k: u8, n: u8, value: Bytes) -> Result<Act, Refusal> {
+fn supply(alloc: Global, call: CallId, k: u8, n: u8, value: Bytes) -> Result<Act, Refusal> {
     Ok(Act::Supply(call, encode(alloc, k, n, value)?))
 }
 
@@ -61,7 +61,7 @@ fn two_pieces(alloc: Global, text: &'static [u8], first: u8) -> Result<Vec<Piece
     Ok(pieces)
 }
 
-fn settle(alloc: Global, call: u64, text: &'static [u8], first: u8) -> Result<Act, Refusal> {
+fn settle(alloc: Global, call: CallId, text: &'static [u8], first: u8) -> Result<Act, Refusal> {
     let Ok(len) = u32::try_from(text.len()) else {
         return Err(Refusal::TooLong);
     };
@@ -72,14 +72,14 @@ fn settle(alloc: Global, call: u64, text: &'static [u8], first: u8) -> Result<Ac
 fn settle_fetched(
     alloc: Global,
     object: &Register,
-    call: u64,
+    call: CallId,
     k: u8,
     len: u32,
 ) -> Result<Act, Refusal> {
     Ok(Act::Settle(call, decode(alloc, k, len, object.pieces(call)?)?))
 }
 
-fn wanted(alloc: Global, object: &Register, call: u64) -> Result<Act, Refusal> {
+fn wanted(alloc: Global, object: &Register, call: CallId) -> Result<Act, Refusal> {
     match object.want(call)? {
         Want::Advance => Ok(Act::Advance(call)),
         Want::Supply { .. } => {
@@ -176,7 +176,13 @@ pub(crate) fn deliver(rt: &impl Abort, alloc: Global, object: &mut Register) {
 }
 
 // So many turns of a call, each once all is delivered.
-pub(crate) fn go_on(rt: &impl Abort, alloc: Global, object: &mut Register, call: u64, turns: u32) {
+pub(crate) fn go_on(
+    rt: &impl Abort,
+    alloc: Global,
+    object: &mut Register,
+    call: CallId,
+    turns: u32,
+) {
     for _ in 0..turns {
         deliver(rt, alloc, object);
         play(rt, alloc, object, &[(Deed::Turn(call), None)]);

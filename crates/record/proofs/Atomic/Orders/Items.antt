@@ -50,8 +50,8 @@ some_and_all P Q (x ∷ xs) (inr there) all = some_and_all P Q xs there all.1
 
 -- an item's entry is that of a read or of a write with its value
 abbrev pub IsKept : Item → Type 0
-IsKept x = ((x.reads ≡ 0) × (x.entry.operation ≡ operation.Write) × (x.entry.value ≡ Some x.value)) ⊎
-    ((x.reads ≡ 1) × (x.entry.operation ≡ operation.Read) × (x.entry.value ≡ Some x.value))
+IsKept x = ((x.reads ≡ 0) × (x.entry.kind ≡ operation.Write) × (x.entry.value ≡ Some x.value)) ⊎
+    ((x.reads ≡ 1) × (x.entry.kind ≡ operation.Read) × (x.entry.value ≡ Some x.value))
 
 -- w is the write that r returned
 abbrev pub Wrote : Item → Item → Type 0

@@ -35,7 +35,7 @@ ReadsAs op reads = ((op ≡ operation.Write) × (reads ≡ 0)) ⊎ ((op ≡ oper
 record Fits (x : Item) (call : TaggedCall) (tag : Tag) : Type 0 where
   same_tag : x.tag ≡ tag
   called : x.called ≡ call.called
-  reads : ReadsAs call.operation x.reads
+  reads : ReadsAs call.kind x.reads
 
 reads_as : (x : Item) (kind : CallKind) (answered : Option ℕ) (settled : Option (List ℕ)) → Does x kind answered settled →
     ReadsAs (operation_of kind) x.reads
@@ -52,7 +52,7 @@ fits_item object x ix call tag tagged =
       same_tag = same_Some x.tag tag (sym ix.tagged ∙ ap₂ (λ i c. tag_of object i c) place one ∙ f.tagged);
       called = ix.called ∙ ap (λ (c : Call). c.called) one ∙ ap (λ (c : TaggedCall). c.called) f.same;
       reads = subst (λ op. ReadsAs op x.reads)
-          (ap (λ (c : Call). operation_of c.kind) one ∙ ap (λ (c : TaggedCall). c.operation) f.same)
+          (ap (λ (c : Call). operation_of c.kind) one ∙ ap (λ (c : TaggedCall). c.kind) f.same)
           (reads_as x ix.call.kind ix.call.answered ix.call.settled ix.what);
     }
 
@@ -92,7 +92,7 @@ precedes_before object x y ix iy p = go p.comes_before
           n,
           inr (
             c,
-            within p.first.operation p.second.operation x.reads y.reads x.called y.called p.first.called p.second.called
+            within p.first.kind p.second.kind x.reads y.reads x.called y.called p.first.called p.second.called
                 fx.called fy.called same.1 fx.reads fy.reads,
           ),
         )

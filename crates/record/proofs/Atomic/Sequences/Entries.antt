@@ -49,16 +49,16 @@ same_entries entries (x ∷ xs) all = ap₂ (λ e es. e ∷ es) all.0 (same_entr
 pub may_stand : (object : Object) (x : Item) → IsItem object x → MayStand x.entry
 may_stand object x ix = go ix.what
   where
-    kind_is : x.entry.operation ≡ operation_of ix.call.kind
-    kind_is = ap (λ (e : Entry). e.operation) ix.entry
+    kind_is : x.entry.kind ≡ operation_of ix.call.kind
+    kind_is = ap (λ (e : Entry). e.kind) ix.entry
 
     go : Does x ix.call.kind ix.call.answered ix.call.settled →
         MayStand x.entry
     go (inl w) =
-        let k : x.entry.operation ≡ operation.Write = kind_is ∙ ap operation_of w.1 in
+        let k : x.entry.kind ≡ operation.Write = kind_is ∙ ap operation_of w.1 in
         ((λ e. cc), (λ e. absurd (cc)))
     go (inr r) =
-        let k : x.entry.operation ≡ operation.Read = kind_is ∙ ap operation_of r.1 in
+        let k : x.entry.kind ≡ operation.Read = kind_is ∙ ap operation_of r.1 in
         ((λ e. cc), (λ e. ap (λ (y : Entry). is_some y.answered) ix.entry ∙ ap is_some r.3))
 
 answers_later : (object : Object) → IsLegal object → (y : Item) → IsItem object y → (step : ℕ) →

@@ -52,8 +52,8 @@ no_move object x is = go is.what
 pub kept_item : (object : Object) (x : Item) → IsItem object x → IsKept x
 kept_item object x is = go is.what
   where
-    kind_is : x.entry.operation ≡ operation_of is.call.kind
-    kind_is = ap (λ (e : Entry). e.operation) is.entry
+    kind_is : x.entry.kind ≡ operation_of is.call.kind
+    kind_is = ap (λ (e : Entry). e.kind) is.entry
 
     value_is : x.entry.value ≡ entry_value is.call.kind is.call.answered is.call.settled
     value_is = ap (λ (e : Entry). e.value) is.entry

@@ -39,11 +39,11 @@ make_item object journaled number listed = go f.call.kind refl listed.reason
     f : Found object number listed.call listed.tag
     f = found object number listed.call listed.tag listed.tagged
 
-    does : operation_of f.call.kind ≡ listed.call.operation
-    does = ap (λ (c : TaggedCall). c.operation) f.same
+    does : operation_of f.call.kind ≡ listed.call.kind
+    does = ap (λ (c : TaggedCall). c.kind) f.same
 
     go : (kind : CallKind) → f.call.kind ≡ kind →
-        IsTrue listed.call.is_answered ⊎ ((listed.call.operation ≡ operation.Write) × IsReturned (tagged_calls object) listed.tag) →
+        IsTrue listed.call.is_answered ⊎ ((listed.call.kind ≡ operation.Write) × IsReturned (tagged_calls object) listed.tag) →
         Made object number
     go Read k (inl answered) =
         let step = some_step f.call.answered (ap (λ (c : TaggedCall). c.is_answered) f.same ∙ answered) in

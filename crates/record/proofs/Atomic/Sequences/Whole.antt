@@ -45,18 +45,18 @@ read_rests object journaled xs whole x ix reads = go ix.what
         found j.0 j.1 (same_Some j.0 x.value (sym j.2 ∙ r.4)) (same_Some j.1 x.tag (sym j.3 ∙ ix.tagged)) j.4
 
 complete : (object : Object) (xs : List Item) → IsWholeSequence object xs → (number : ℕ) →
-    (entry_at (entries object) number).operation ≢ operation.Move → IsSome (entry_at (entries object) number).answered →
+    (entry_at (entries object) number).kind ≢ operation.Move → IsSome (entry_at (entries object) number).answered →
     has (numbers xs) number ≡ true
 complete object xs whole zero stands answered = absurd (stands refl)
 complete object xs whole (suc index) stands answered = go (slice_get object.calls index) refl
   where
     go : (o : Option Call) → slice_get object.calls index ≡ o → has (numbers xs) (suc index) ≡ true
-    go None e = absurd (stands (ap (λ (y : Entry). y.operation) (entry_of_call object index None e)))
+    go None e = absurd (stands (ap (λ (y : Entry). y.kind) (entry_of_call object index None e)))
     go (Some call) e =
         let here = entry_of_call object index (Some call) e in
         let step = some_step call.answered (subst (λ (y : Entry). IsSome y.answered) here answered) in
         has_number xs (suc index)
-        (whole.answered index call step.0 e step.1 (stays call.kind (subst (λ (y : Entry). y.operation ≢ operation.Move) here stands)))
+        (whole.answered index call step.0 e step.1 (stays call.kind (subst (λ (y : Entry). y.kind ≢ operation.Move) here stands)))
 
 -- such items are a sequence of the entries
 pub sequence_of_items : (object : Object) → IsLegal object → ReadsJournaled object → (xs : List Item) → IsWholeSequence object xs →

@@ -1,5 +1,5 @@
 use Rattle.std.proofs.Common.{◌≡◌}
-use Rattle.sections.specs.Moves.{asked_if}
+use Rattle.locked_steps.specs.Moves.{asked_if}
 use Rattle.client.specs.Callers.{StaysOpen}
 use Rattle.client.proofs.store.Store.finish.Given as goal
 

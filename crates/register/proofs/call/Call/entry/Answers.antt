@@ -12,7 +12,7 @@ returns-clause-entry c =
     ∙ ap (λ (a : Option ℕ). entry_value t.call.kind a t.call.settled) answered in
     λ j. record {
       call = c.args.number;
-      operation = c.operation.ensures j;
+      kind = c.operation.ensures j;
       called = ap (λ (t : Tracked). t.call.called) c.self.view_is j;
       answered = answered j;
       value = value j;

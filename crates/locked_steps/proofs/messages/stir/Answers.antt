@@ -1,0 +1,39 @@
+use Rattle.std.proofs.Common.{inr, ap, ◌∙◌}
+use Rattle.cluster.specs.Steps.{stepped}
+use Rattle.locked_steps.proofs.Becoming.{goes_on_step}
+use Rattle.locked_steps.proofs.Going.{kept_step, quiet_handling}
+use Rattle.driver.proofs.Limits.{err_of}
+use Rattle.locked_steps.proofs.Stirring.{stirred, handled_step}
+use Rattle.locked_steps.proofs.messages.stir.Goals as goal
+
+pub returns-in_err-handle-clause-refused : goal.returns-in_err-handle-clause-refused
+returns-in_err-handle-clause-refused g c =
+    let s = stirred g.C.Chooser.chooses c.args.name.now c.args.cluster.now c.args.chooser.now c.choose.new.chooser
+    c.in_ok-register.register.now c.in_ok-register.ensures.object
+    c.in-Some.place c.in-Some.ensures in
+    err_of _ _ _ c.from_residual-in_err-handle.ensures.1 (inr (c.in-Some.place, s.0, s.1, c.in_err-handle.ensures.cause))
+
+pub returns-clause-step : goal.returns-clause-step
+returns-clause-step g c =
+    let s = stirred g.C.Chooser.chooses c.args.name.now c.args.cluster.now c.args.chooser.now c.choose.new.chooser
+    c.in_ok-register.register.now c.in_ok-register.ensures.object
+    c.in-Some.place c.in-Some.ensures in
+    let is = handled_step g.C.Chooser.chooses c.args.name.now c.args.cluster.now c.args.chooser.now c.choose.new.chooser
+    c.in_ok-register.register.now
+    c.in_ok-register.ensures.object c.in-Some.place c.in-Some.ensures s.0 s.1 c.in_ok-handle.field-0 c.in_ok-handle.ensures.handled in
+    (c.in-Some.place, s.0, s.1, c.in_ok-handle.ensures.step ∙ ap (λ x. stepped c.args.cluster.now c.args.name.now x) is)
+
+pub returns-clause-count : goal.returns-clause-count
+returns-clause-count g c =
+    let s = stirred g.C.Chooser.chooses c.args.name.now c.args.cluster.now c.args.chooser.now c.choose.new.chooser
+    c.in_ok-register.register.now c.in_ok-register.ensures.object
+    c.in-Some.place c.in-Some.ensures in
+    let is = handled_step g.C.Chooser.chooses c.args.name.now c.args.cluster.now c.args.chooser.now c.choose.new.chooser
+    c.in_ok-register.register.now
+    c.in_ok-register.ensures.object c.in-Some.place c.in-Some.ensures s.0 s.1 c.in_ok-handle.field-0 c.in_ok-handle.ensures.handled in
+    kept_step c.args.cluster.now c.handle.new.cluster c.args.name.now _ (quiet_handling c.in-Some.place s.0.body)
+    (c.in_ok-handle.ensures.step ∙ ap (λ x. stepped c.args.cluster.now c.args.name.now x) is)
+
+pub returns-clause-course : goal.returns-clause-course
+returns-clause-course g c =
+    goes_on_step c.args.cluster.now c.handle.new.cluster c.args.name.now _ c.in_ok-handle.ensures.step

@@ -1,0 +1,18 @@
+use Rattle.std.proofs.Common.{refl}
+use Rattle.record.specs.Steps.{Step}
+use Rattle.cluster.specs.Cluster.{layout_of}
+use Rattle.locked_steps.proofs.Becoming.{goes_on_both}
+use Rattle.locked_steps.proofs.Going.{kept_both}
+use Rattle.locked_steps.proofs.moves.call_move.Goals as goal
+
+pub returns-clause-count : goal.returns-clause-count
+returns-clause-count c =
+    kept_both c.call_move.result c.args.cluster.now c.call_move.new.self c.args.name.now
+    (Step.CallMove (layout_of c.args.cluster.now c.args.layout)) refl
+    c.call_move.ensures.step c.call_move.ensures.unchanged
+
+pub returns-clause-course : goal.returns-clause-course
+returns-clause-course c =
+    goes_on_both c.call_move.result c.args.cluster.now c.call_move.new.self c.args.name.now
+    (Step.CallMove (layout_of c.args.cluster.now c.args.layout))
+    c.call_move.ensures.step c.call_move.ensures.unchanged

@@ -1,0 +1,84 @@
+-- The contracts that docs/trusted.md lists do not depend on this file; other contracts and proofs do.
+-- What the administrator does in one section.
+use Rattle.std.specs.Prelude.{◌≡◌, ℕ, suc, not, Bool, is_some, List, length, Option, Some, None}
+use Rattle.tag.specs.declared.refusal.Refusal.{Refusal}
+use Rattle.tag.specs.declared.refusal.Refusal.TheVariants.{NoCall, MovePending}
+use Rattle.record.specs.Steps.{Step}
+use Rattle.register.specs.Causes.{unless}
+use Rattle.register.specs.Retiring.{retire_cause}
+use Rattle.cluster.specs.Cluster.{Cluster, named}
+use Rattle.cluster.specs.Causes.{next, object_cause, layout_cause, create_cause, server_cause, moving_cause}
+use Rattle.cluster.specs.Steps.{stepped, with_layout, with_server, created, moved}
+use Rattle.locked_steps.specs.Moves.{Moving, AdminState, Ends, asked_if, has_asked, ordered_by}
+use Rattle.locked_steps.specs.Seats.{call_count}
+use Rattle.locked_steps.specs.declared.admin.Order.{Order}
+use Rattle.locked_steps.specs.declared.admin.Order.TheVariants as order
+use Rattle.driver.specs.declared.round.Round.{Round}
+use Rattle.driver.specs.declared.round.Round.TheVariants as round
+use Rattle.locked_steps.specs.declared.rounds.Hand.{Hand}
+use Rattle.locked_steps.specs.Rounds.{going_cause, Goes, GoesNot}
+
+-- the cluster after an order is carried out
+abbrev pub ordered : Cluster → Order → Cluster
+ordered cluster (order.AddLayout layout) = with_layout cluster layout
+ordered cluster (order.Create name layout delta) = created cluster name.now layout delta
+ordered cluster (order.SetServer server up) = with_server cluster server up
+
+-- the number of the layout that an order adds; none for other orders
+abbrev pub ordered_id : Cluster → Order → Option ℕ
+ordered_id cluster (order.AddLayout layout) = Some (length cluster.layouts)
+ordered_id cluster _ = None
+
+-- why an order is not carried out
+abbrev pub order_cause : Cluster → Order → Option Refusal
+order_cause cluster (order.AddLayout layout) = layout_cause cluster layout
+order_cause cluster (order.Create name layout delta) = create_cause cluster name.now layout
+order_cause cluster (order.SetServer server up) = server_cause cluster server
+
+-- the cluster after the base of the object of this name is retired
+abbrev pub retired : Cluster → (name : List ℕ) → Cluster
+retired cluster name = stepped cluster name Step.Retire
+
+-- why this position of the object of this name is not retired
+abbrev pub retiring_cause : Cluster → (name : List ℕ) → (position : ℕ) → Option Refusal
+retiring_cause cluster name position =
+    object_cause cluster name (λ object. retire_cause (next cluster) object position)
+
+-- why the administrator does not begin a move of the object of this name
+abbrev pub begin_move_cause : Cluster → Option Moving → (name : List ℕ) → (id : ℕ) → Option Refusal
+begin_move_cause cluster pending name id =
+    object_cause cluster name (λ object. unless (not (is_some pending)) MovePending (moving_cause cluster id object))
+
+-- the administrator after it begins a move to the layout of this number
+abbrev pub move_begun : Cluster → AdminState → (name : List ℕ) → (id : ℕ) → AdminState
+move_begun cluster a name id =
+    record (ordered_by a (moved cluster name id)) {
+      moving = Some (record { name = name; call = suc (call_count (named cluster.objects name)) });
+    }
+
+-- why no round of the pending move is made; NoCall where none is pending
+abbrev pub move_cause_of : Cluster → Option Moving → (turns : ℕ) → Option Refusal
+move_cause_of cluster None turns = Some NoCall
+move_cause_of cluster (Some m) turns = going_cause cluster m.name m.call turns
+
+module _ {C : Type 0} (chooses : C → ℕ → ℕ → C → Type 0) where
+  -- a round of the pending move
+  abbrev pub MoveGoes : Option Moving → Hand → (again : Bool) → (old : Cluster) → (before : C) → (new : Cluster)
+      → (after : C) → Round → Type 0
+  MoveGoes None h again old before new after r = ⊥
+  MoveGoes (Some m) h again old before new after r = Goes chooses m.name m.call h again old before new after r
+
+  -- why a round of the pending move is refused, where no cause above forbids the round
+  abbrev pub MoveGoesNot : Option Moving → Hand → (again : Bool) → (old : Cluster) → (before after : C) → Refusal
+      → Type 0
+  MoveGoesNot None h again old before after r = ⊥
+  MoveGoesNot (Some m) h again old before after r = GoesNot chooses m.name m.call h again old before after r
+
+-- the administrator after a round: an answer ends its move, and any other round leaves it as it is
+abbrev pub RoundLeaves : AdminState → Round → AdminState → Type 0
+RoundLeaves a (round.Answered receipt) new = Ends a receipt new
+RoundLeaves a _ new = new ≡ a
+
+-- the administrator after a round; a round that asks again is counted
+abbrev pub MoveLeaves : (again : Bool) → AdminState → Round → AdminState → Type 0
+MoveLeaves again a r new = RoundLeaves (asked_if has_asked again a) r new

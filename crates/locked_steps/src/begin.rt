@@ -1,0 +1,87 @@
+//! How calls of seats begin.
+
+ghost use Rattle.std.specs.Prelude.{◌≡◌, ◌↔◌, ◌<◌, ◌+◌, suc, vec_len, vec_capacity, IfOk, IsTrue, OnOk, OnErr};
+ghost use Rattle.tag.specs.Refusal.{IsByCause};
+ghost use Rattle.cluster.specs.Causes.{next, object_cause};
+ghost use Rattle.cluster.specs.Cluster.{named};
+ghost use Rattle.cluster.specs.Steps.{stepped};
+ghost use Rattle.locked_steps.specs.Calls.{client_calls};
+ghost use Rattle.locked_steps.specs.Course.{GoesOn, IsStateOf};
+ghost use Rattle.locked_steps.specs.Seats.{begin_cause, begun, call_count, call_step, calling_cause, with_pending};
+
+use crate::booked::{Booked, StoreName};
+use crate::call_record::{Begin, CallRecord};
+use crate::seat::Seat;
+use cluster::Cluster;
+use tag::{CallId, Refusal};
+
+/// Begins a read or a write of a seat: one step, with its record in the seat.
+///
+/// `Stranger` where the seat's floor is above the cluster's counter, `NoObject` where no object has this name, `NotNow`
+/// where the seat has a pending call, `TooLong` where the value is longer than `LONGEST_VALUE` bytes, and `Full` where
+/// the limit of steps, of the object's calls or of its waiting messages is met. Else `NoMemory`, also where
+/// `Seat::make_room` was not called for this name: the seat does not grow under the lock.
+pub fn begin_in<L: StoreName>(
+    booked: &mut Booked<L>,
+    seat: &mut Seat<L>,
+    name: &str,
+    what: Begin,
+) -> Result<(), Refusal>
+    ensures state { IsStateOf L.first booked.old }
+    ensures step { OnOk result (booked.new ≡ stepped booked.old name.now (call_step what)) }
+    ensures seat { OnOk result
+        (seat.new ≡ with_pending seat.old name.now (begun booked.old name.now seat.old.floor what)) }
+    ensures cause { IsByCause (begin_cause booked.old seat.old name.now what) result }
+    ensures unchanged { OnErr result (booked.new ≡ booked.old) }
+    ensures kept { OnErr result (seat.new ≡ seat.old) }
+{
+    booked.cluster.keeping();
+    if seat.floor > booked.cluster.counter() {
+        return Err(Refusal::Stranger);
+    }
+    let object = booked.cluster.place(name)?;
+    if seat.pending.is_some() {
+        return Err(Refusal::NotNow);
+    }
+    booked.cluster.may_call(name, what.len())?;
+    if seat.name.as_str() != name || !has_room(&seat.records) {
+        return Err(Refusal::NoMemory);
+    }
+    let operation = what.operation();
+    let written = what.written()?;
+    let call = begin_call(&mut booked.cluster, name, what)?;
+    booked.book.add(&mut seat.share, 1);
+    seat.pending = Some(CallRecord {
+        object,
+        call,
+        kind: operation,
+        written,
+        floor: seat.floor,
+        called: booked.cluster.counter(),
+        receipt: None,
+    });
+    Ok(())
+}
+
+// Whether there is room for one more record.
+fn has_room(records: &Vec<CallRecord>) -> bool
+    ensures { IsTrue result ↔ (vec_len records.now < vec_capacity records.now) }
+{
+    records.len() < records.capacity()
+}
+
+// Makes the step that begins the call, and returns the call's number.
+fn begin_call(cluster: &mut Cluster, name: &str, what: Begin) -> Result<CallId, Refusal>
+    ensures step { OnOk result (cluster.new ≡ stepped cluster.old name.entry.now (call_step what)) }
+    ensures number { IfOk result (λ n. n ≡ suc (call_count (named cluster.old.objects name.entry.now))) }
+    ensures count { OnOk result (client_calls cluster.new ≡ client_calls cluster.old + 1) }
+    ensures course { GoesOn cluster.old cluster.new }
+    ensures cause { IsByCause
+        (object_cause cluster.old name.entry.now (λ object. calling_cause what (next cluster.old) object)) result }
+    ensures unchanged { OnErr result (cluster.new ≡ cluster.old) }
+{
+    match what {
+        Begin::Read => cluster.call_read(name),
+        Begin::Write(value) => cluster.call_write(name, value),
+    }
+}

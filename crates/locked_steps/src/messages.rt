@@ -1,0 +1,87 @@
+//! What sections do to waiting messages.
+
+ghost use Rattle.std.specs.Prelude.{◌≡◌, IfOk, IfErr, OnErr};
+ghost use Rattle.locked_steps.specs.Calls.{client_calls};
+ghost use Rattle.locked_steps.specs.Course.{GoesOn, IsStateOf};
+ghost use Rattle.locked_steps.specs.Messages.{Disturbs, DisturbsNot, Stirs, StirsNot};
+
+use crate::booked::{Booked, StoreName};
+use cluster::Cluster;
+use driver::{Among, Chooser, choose, handle};
+use tag::Refusal;
+
+/// Handles one message of an object, the one that `chooser` chooses among those that can be handled: a request to a
+/// server that is up is served, and a reply is taken. One step. False, and no step, where no message can be handled.
+///
+/// `NoObject` where no object has this name, and `Full` where the limit of steps or of stored bytes is met.
+pub fn stir_in<L: StoreName, C: Chooser>(
+    booked: &mut Booked<L>,
+    name: &str,
+    chooser: &mut C,
+) -> Result<bool, Refusal>
+    ensures state { IsStateOf L.first booked.old }
+    ensures step { IfOk result (λ b. Stirs C.chooses name.now booked.old chooser.old b booked.new chooser.new) }
+    ensures refused { IfErr result (λ e. StirsNot C.chooses name.now booked.old chooser.old chooser.new e) }
+    ensures unchanged { OnErr result (booked.new ≡ booked.old) }
+{
+    booked.cluster.keeping();
+    stir(&mut booked.cluster, name, chooser)
+}
+
+// The step alone, of the cluster without its book.
+fn stir<C: Chooser>(cluster: &mut Cluster, name: &str, chooser: &mut C) -> Result<bool, Refusal>
+    ensures step { IfOk result (λ b. Stirs C.chooses name.entry.now cluster.old chooser.old b cluster.new chooser.new) }
+    ensures refused { IfErr result (λ e. StirsNot C.chooses name.entry.now cluster.old chooser.old chooser.new e) }
+    ensures unchanged { OnErr result (cluster.new ≡ cluster.old) }
+    ensures count { client_calls cluster.new ≡ client_calls cluster.old }
+    ensures course { GoesOn cluster.old cluster.new }
+{
+    let register = cluster.register(name)?;
+    let Some(place) = choose(cluster, register, Among::Every, 0, chooser) else {
+        return Ok(false);
+    };
+    handle(cluster, name, place)?;
+    Ok(true)
+}
+
+/// Loses or repeats one waiting message of an object: one step. `chooser` first chooses the message among all that
+/// wait, and then among two: an even number loses it, an odd one repeats it. False, and no step, where no message
+/// waits.
+///
+/// `NoObject` where no object has this name, and `Full` where the limit of steps or of the object's waiting messages is
+/// met.
+pub fn disturb_in<L: StoreName, C: Chooser>(
+    booked: &mut Booked<L>,
+    name: &str,
+    chooser: &mut C,
+) -> Result<bool, Refusal>
+    ensures state { IsStateOf L.first booked.old }
+    ensures step { IfOk result (λ b. Disturbs C.chooses name.now booked.old chooser.old b booked.new chooser.new) }
+    ensures refused { IfErr result (λ e. DisturbsNot C.chooses name.now booked.old chooser.old chooser.new e) }
+    ensures unchanged { OnErr result (booked.new ≡ booked.old) }
+{
+    booked.cluster.keeping();
+    disturb(&mut booked.cluster, name, chooser)
+}
+
+// The step alone, of the cluster without its book.
+fn disturb<C: Chooser>(cluster: &mut Cluster, name: &str, chooser: &mut C) -> Result<bool, Refusal>
+    ensures step { IfOk result
+        (λ b. Disturbs C.chooses name.entry.now cluster.old chooser.old b cluster.new chooser.new) }
+    ensures refused { IfErr result (λ e. DisturbsNot C.chooses name.entry.now cluster.old chooser.old chooser.new e) }
+    ensures unchanged { OnErr result (cluster.new ≡ cluster.old) }
+    ensures count { client_calls cluster.new ≡ client_calls cluster.old }
+    ensures course { GoesOn cluster.old cluster.new }
+{
+    let count = cluster.register(name)?.mail_view().len();
+    if count == 0 {
+        return Ok(false);
+    }
+    let place = chooser.choose(count) % count;
+    if chooser.choose(2) % 2 == 0 {
+        cluster.lose(name, place)?;
+    } else {
+        cluster.repeat(name, place)?;
+    }
+    Ok(true)
+}

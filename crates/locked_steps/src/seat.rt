@@ -1,0 +1,177 @@
+//! A client's seat: its calls with their receipts, and what it has seen.
+
+ghost use Rattle.std.specs.Prelude.{◌≡◌, ◌<◌, ◌↔◌, IsTrue, IsSome, IfErr, OnOk};
+ghost use Rattle.std.specs.String.{string_bytes};
+ghost use Rattle.tag.specs.declared.refusal.Refusal.TheVariants.{NoMemory};
+ghost use Rattle.locked_steps.specs.Seats.{IsOf, Settles, abandoned, asked_once, learnt, new_seat};
+
+use crate::booked::StoreName;
+use crate::call_record::CallRecord;
+use bytes::Bytes;
+use register::Receipt;
+use std::alloc::Global;
+use std::marker::Model;
+use std::sync::ledger::Share;
+use tag::{Refusal, Stamp};
+
+/// The right of one client to make calls through the store of this name, one at a time. It keeps a record of each call,
+/// and its floor: the greatest answer step that it has seen.
+#[derive(Drop)]
+pub struct Seat<L: StoreName> {
+    pub(crate) number: u32,
+    pub(crate) floor: Stamp,
+    // How many rounds of its calls were made with `asks_again`. It never wraps, since a store has fewer steps.
+    pub(crate) asked: u64,
+    // The calls that are answered or abandoned. Where a call is pending, there is room for its record.
+    pub(crate) records: Vec<CallRecord>,
+    pub(crate) pending: Option<CallRecord>,
+    // The name of the object of the pending call.
+    pub(crate) name: String,
+    // Its share of the store's book, with one unit for each record.
+    pub(crate) share: Share<L>,
+}
+
+impl<L: StoreName> Model for Seat<L> {
+    ghost use Rattle.std.specs.Prelude.{◌≡◌, ◌+◌, ◌≤◌, ◌++◌, length, vec_len, vec_capacity};
+    ghost use Rattle.std.specs.String.{string_bytes};
+    ghost use Rattle.locked_steps.specs.Seats.{SeatState, IsRising, IsUnanswered, listed, pending_of};
+
+    ghost Value = { SeatState };
+
+    ghost view = { λ s. record {
+      number = s.number;
+      floor = s.floor;
+      asked = s.asked;
+      records = s.records.items;
+      pending = pending_of (string_bytes s.name) s.pending;
+    } };
+
+    ghost invariant = { λ s. let pending = pending_of (string_bytes s.name) s.pending in
+        (s.share.parts ≡ 1) × (s.share.amount ≡ length (s.records.items ++ listed pending))
+        × IsRising 0 (s.records.items ++ listed pending) s.floor × IsUnanswered pending
+        × (vec_len s.records + length (listed pending) ≤ vec_capacity s.records) };
+}
+
+impl<L: StoreName> Seat<L> {
+    /// The number of the seat in its store, from 0.
+    pub fn number(&self) -> u32
+        ensures { result ≡ self.now.number }
+    {
+        self.number
+    }
+
+    /// Whether it has a pending call: one that is neither answered nor abandoned. A resume goes on with that call
+    /// (`round_in`).
+    pub fn is_pending(&self) -> bool
+        ensures { IsTrue result ↔ IsSome self.now.pending }
+    {
+        self.pending.is_some()
+    }
+
+    /// Its floor: the greatest answer step that it has seen, or 0.
+    pub fn floor(&self) -> Stamp
+        ensures { result ≡ self.now.floor }
+    {
+        self.floor
+    }
+
+    /// How many rounds of its calls were made with `asks_again`.
+    pub fn asked(&self) -> u64
+        ensures { result ≡ self.now.asked }
+    {
+        self.asked
+    }
+
+    /// Counts a round that was made with `asks_again`.
+    pub(crate) fn note_asked(&mut self)
+        ensures { self.new ≡ asked_once self.old }
+    {
+        self.asked = self.asked.wrapping_add(1);
+    }
+
+    /// Sees another seat's receipt. The floor rises to its answer step, unless it is higher already, so calls of this
+    /// seat begin later than that step from now on. It allocates no memory.
+    pub fn learn(&mut self, receipt: &Receipt)
+        ensures { self.new ≡ learnt self.old receipt.now }
+    {
+        let answered = receipt.answered;
+        self.floor = self.floor.max(answered);
+    }
+
+    /// Gives up the pending call, if there is one. Its record stays, without a receipt. It allocates no memory.
+    pub fn abandon(&mut self)
+        ensures { self.new ≡ abandoned self.old }
+    {
+        if let Some(record) = self.pending.take() {
+            self.records.push_reserved(record);
+        }
+    }
+
+    /// Answers the pending call with a receipt. The seat keeps a copy of the receipt with this copy of the value. It
+    /// allocates no memory.
+    pub(crate) fn settle(&mut self, receipt: &Receipt, value: Option<Bytes>)
+        requires pending { IsSome self.old.pending }
+        requires call { IsOf self.old.pending receipt.now }
+        requires later { receipt.now.called < receipt.now.answered }
+        requires floor { self.old.floor < receipt.now.answered }
+        requires value { value ≡ receipt.now.value }
+        ensures { Settles self.old.pending self.old receipt.now self.new }
+    {
+        let kept = Receipt {
+            object: receipt.object,
+            kind: receipt.kind,
+            call: receipt.call,
+            called: receipt.called,
+            answered: receipt.answered,
+            value,
+        };
+        self.floor = self.floor.max(receipt.answered);
+        if let Some(mut record) = self.pending.take() {
+            record.receipt = Some(kept);
+            self.records.push_reserved(record);
+        }
+    }
+
+    /// Makes room for the record of a call of an object of this name, so that `begin_in` need not grow the seat under
+    /// the lock. It does nothing where a call is pending. `NoMemory` is the only refusal.
+    pub fn make_room(&mut self, name: &str) -> Result<(), Refusal>
+        ensures same { self.new ≡ self.old }
+        ensures refused { IfErr result (λ r. r ≡ NoMemory) }
+    {
+        if self.is_pending() {
+            return Ok(());
+        }
+        hold(&mut self.name, name)?;
+        self.records.reserve(1)?;
+        Ok(())
+    }
+}
+
+/// A seat without calls. It allocates no memory.
+pub(crate) fn empty_seat<L: StoreName>(alloc: Global, number: u32, share: Share<L>) -> Seat<L>
+    requires parts { share.parts ≡ 1 }
+    requires amount { share.amount ≡ 0 }
+    ensures { result ≡ new_seat number }
+{
+    Seat {
+        number,
+        floor: 0,
+        asked: 0,
+        records: Vec::new(alloc),
+        pending: None,
+        name: String::new(alloc),
+        share,
+    }
+}
+
+/// Copies `text` into `kept`, where they differ. `NoMemory` is the only refusal.
+pub(crate) fn hold(kept: &mut String, text: &str) -> Result<(), Refusal>
+    ensures copy { OnOk result (string_bytes kept.new ≡ text.now) }
+    ensures refused { IfErr result (λ r. r ≡ NoMemory) }
+{
+    if kept.as_str() != text {
+        kept.clear();
+        kept.push_str(text)?;
+    }
+    Ok(())
+}

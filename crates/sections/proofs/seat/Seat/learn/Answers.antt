@@ -1,8 +1,0 @@
-use Rattle.std.proofs.Common.{arith}
-use Rattle.sections.proofs.Rising.{rising_higher}
-use Rattle.sections.proofs.seat.Seat.learn.Goals as goal
-
-pub invariant_of-self : goal.invariant_of-self
-invariant_of-self g c =
-    let h = c.self.invariant in
-    (h.0, h.1, rising_higher _ _ _ _ h.2 (omega arith), h.3, h.4)
