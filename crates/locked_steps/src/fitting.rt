@@ -3,7 +3,8 @@ ghost use Rattle.std.specs.Prelude.{◌≡◌, ◌+◌, ◌^◌, ◌<◌, ◌==�
 ghost use Rattle.std.specs.Prelude.{length, map, vec_len};
 ghost use Rattle.std.specs.List.{AllByRecursion};
 ghost use Rattle.tag.specs.declared.refusal.Refusal.TheVariants.{NoMemory};
-ghost use Rattle.locked_steps.specs.Closing.{AllStand, AreNumbered, Fit, all_records, are_distinct, key_of, receipts_of};
+ghost use Rattle.locked_steps.specs.Closing.{AllStand, AreNumbered, Fit};
+ghost use Rattle.locked_steps.specs.Closing.{all_records, are_distinct, key_of, receipts_of};
 ghost use Rattle.locked_steps.specs.Seats.{IsRising, records_of};
 
 use crate::booked::StoreName;

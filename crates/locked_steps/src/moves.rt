@@ -8,7 +8,8 @@ ghost use Rattle.cluster.specs.Steps.{moved};
 ghost use Rattle.locked_steps.specs.Calls.{client_calls};
 ghost use Rattle.locked_steps.specs.Course.{GoesOn, IsStateOf};
 ghost use Rattle.locked_steps.specs.Seats.{call_count};
-ghost use Rattle.locked_steps.specs.Orders.{MoveGoes, MoveGoesNot, MoveLeaves, begin_move_cause, move_begun, move_cause_of};
+ghost use Rattle.locked_steps.specs.Orders.{MoveGoes, MoveGoesNot, MoveLeaves};
+ghost use Rattle.locked_steps.specs.Orders.{begin_move_cause, move_begun, move_cause_of};
 
 use crate::admin::Admin;
 use crate::booked::{Booked, StoreName};
