@@ -4,8 +4,8 @@
 
 pub use cluster::{Accounts, Cluster, LayoutId};
 pub use phase::Took;
-pub use record::Entry;
-pub use register::{Receipt, Want};
+pub use record::{Entry, Want};
+pub use register::Receipt;
 pub use tag::CallId;
 
 mod cluster;
