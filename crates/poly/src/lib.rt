@@ -2,7 +2,7 @@
 #![tactic(auto)]
 
 pub use quotient::value_at;
-pub use rows::Rows;
+pub use rows::{Rows, basis};
 
 mod product;
 mod quotient;

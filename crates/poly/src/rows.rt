@@ -1,4 +1,5 @@
 ghost use Rattle.std.specs.Prelude.{◌≡◌, ◌<◌, ◌≤◌, length};
+ghost use Rattle.arrayvec.specs.ArrayVec.{array_vec_len};
 ghost use Rattle.gf256.specs.Polynomial.{AreDistinct, IsBasisRow};
 
 use crate::product::{MOST_COEFFICIENTS, product_over};
@@ -53,4 +54,20 @@ impl Rows {
         let value = value_at(row, point);
         scale(row, inv(value));
     }
+}
+
+/// Row `i` by itself: the coefficients of the polynomial that is 1 at point `i` and 0 at the other points, the constant
+/// one first. Several rows of the same points cost less by `Rows`, which computes what they share only once.
+pub fn basis(points: &[u8], i: usize) -> ArrayVec<u8, MOST_MEMBERS>
+    requires distinct { AreDistinct points.now }
+    requires fits { length points.now ≤ MOST_MEMBERS }
+    requires place { i < length points.now }
+    ensures len { array_vec_len result ≡ length points.now }
+    ensures row { IsBasisRow points.now i result.items }
+{
+    let Ok(mut row) = ArrayVec::try_from(points) else {
+        unreachable!()
+    };
+    Rows::new(points).row(i, row.as_mut_slice());
+    row
 }

@@ -4,7 +4,7 @@ ghost use Rattle.gf256.specs.Polynomial.{AreDistinct};
 ghost use Rattle.std.specs.Prelude.{◌≤◌, length};
 
 use crate::same::assert_same;
-use poly::Rows;
+use poly::basis;
 use std::process::Abort;
 
 fn assert_rows(rt: &impl Abort, points: &[u8], expected: &[&[u8]])
@@ -12,13 +12,9 @@ fn assert_rows(rt: &impl Abort, points: &[u8], expected: &[&[u8]])
     requires few { length points.now ≤ 3 }
 {
     assert_same(rt, "how many rows", expected.len(), points.len());
-    let rows = Rows::new(points);
     for (i, row) in expected.iter().enumerate() {
         assert!(rt; i < points.len());
-        let mut room = [0u8; 3];
-        let written = &mut room[..points.len()];
-        rows.row(i, written);
-        assert_same(rt, "the row", (i, &*written), (i, *row));
+        assert_same(rt, "the row", (i, basis(points, i).as_slice()), (i, *row));
     }
 }
 
