@@ -1,5 +1,5 @@
 /* Measures the coding library of this repository against Intel ISA-L: first it compares all bytes, then it times, and
-   prints seven tables. README.md says what is measured, and what is in and out. */
+   prints eight tables. README.md says what is measured, and what is in and out. */
 #include "peers.h"
 #include <stdio.h>
 #include <stdlib.h>
@@ -241,6 +241,7 @@ int main(void) {
               0);
   print_table(fresh, "ISA-L", 0, 1, OWN_FRESH, ISAL_FRESH, 1);
   print_table("Ours in fresh memory, ISA-L in warm buffers.", "ISA-L", 0, 1, OWN_FRESH, ISAL, 1);
+  print_table("Ours in fresh memory and in the caller's buffers.", "in buffers", 0, 1, OWN_FRESH, OWN_INTO, 0);
   print_table("Jerasure's systematic code, in the caller's buffers.", "Jerasure", 0, 1, OWN_INTO, PEER, 0);
   print_table("A lost fragment.", "ISA-L", 2, 2, OWN_INTO, ISAL, 0);
   print_table("A lost fragment, and the same with the value.", "with the value", 2, 2, OWN_INTO, WITH_VALUE, 0);

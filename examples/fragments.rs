@@ -19,5 +19,6 @@ fn main() -> Result<(), Refused> {
     if let Err(refused) = coding::decode(4, &[5, 0, 3, 3], &left, &mut back) {
         println!("one point twice: {refused}");
     }
+    println!("a level of the processor: {}", coding::processor().starts_with("x86-64-v"));
     Ok(())
 }

@@ -1,16 +1,10 @@
-/* Makes each call of the library once where it is done, and where it is refused, and compares the answers, their texts
-   and the buffers. ISA-L gives the fragments of "hello", with k = 2 and n = 4, as 68656c 040a6c b0bb6c dcd46c. */
+/* calls LEVEL: makes each call of the library once where it is done, and where it is refused, and compares the answers,
+   their texts and the buffers. ISA-L gives the fragments of "hello", with k = 2 and n = 4, as 68656c 040a6c b0bb6c
+   dcd46c. Last it compares the level that the library chose with LEVEL, such as x86-64-v2. */
 #include <coding.h>
 #include <stdio.h>
 #include <stdlib.h>
 #include <string.h>
-
-/* Two calls that the header does not name: they take memory, and `bench` measures them. */
-uint8_t coding_exports_encode(uint8_t k, uint8_t n, const uint8_t *value, size_t value_length, uint32_t times,
-                              uint8_t point, uint8_t *room, size_t room_length);
-uint8_t coding_exports_decode(uint8_t k, uint32_t length, const uint8_t *points, size_t point_count,
-                              const uint8_t *fragments, size_t fragments_length, uint32_t times, uint8_t *room,
-                              size_t room_length);
 
 static const uint8_t HELLO[5] = "hello", FRAGMENTS[12] = "hel\x04\x0al\xb0\xbbl\xdc\xd4l", SAME[12] = "abcdefghijkl";
 static const struct coding_bytes ONE = {FRAGMENTS + 3, 3}, THREE = {FRAGMENTS + 9, 3};
@@ -62,8 +56,6 @@ static void refuses_and_changes_nothing(void) {
   is_refused(coding_repair_fragment(2, twice, 2, pieces, 2, 0, 5, other, 3), "15 BadPieces");
   is_refused(coding_repair_fragment(2, points, 2, wrong, 2, 0, 5, other, 3), "15 BadPieces");
   is_refused(coding_repair_fragment(0, points, 2, pieces, 2, 0, 5, other, 3), "15 BadPieces");
-  is_refused(coding_exports_encode(3, 2, HELLO, 5, 1, 0, other, 3), "2 BadLayout");
-  is_refused(coding_exports_decode(0, 3, (const uint8_t[2]){0, 0}, 2, SAME, 4, 1, other, 3), "15 BadPieces");
   expect(memcmp(room, SAME, 12) == 0 && memcmp(other, SAME, 3) == 0, "a refused call changes nothing");
 }
 
@@ -112,20 +104,11 @@ static void decodes_what_isa_l_coded(void) {
   is_done(coding_repair_fragment(3, points, 3, pieces, 3, 0, 26, fragment, 9), fragment, text, 9, "block 0 alone");
 }
 
-/* The two calls that take memory. */
-static void copies_hello(void) {
-  uint8_t fragment[3], value[5];
-  const uint8_t points[2] = {3, 1}, fragments[6] = "\xdc\xd4l\x04\x0al";
-
-  is_done(coding_exports_encode(2, 4, HELLO, 5, 3, 3, fragment, 3), fragment, FRAGMENTS + 9, 3, "a copy's fragment");
-  is_done(coding_exports_decode(2, 5, points, 2, fragments, 6, 3, value, 5), value, "hello", 5, "a copy's value");
-}
-
-int main(void) {
+int main(int argc, char **argv) {
   refuses_and_changes_nothing();
   gives_texts();
   codes_hello();
   decodes_what_isa_l_coded();
-  copies_hello();
+  expect(argc == 2 && strcmp(coding_processor(), argv[1]) == 0, "the level of the processor");
   return 0;
 }

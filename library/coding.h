@@ -11,14 +11,18 @@
    and several threads may call functions at once. A call uses about 16 KiB of stack; a decode or repair with k above 64
    uses about 80 KiB, and one with more than 16 fragments of a value above 1 MiB uses 132 KiB more.
 
-   The library is built for the processor that CODING_PROCESSOR names, and does not check on which one it runs. */
+   All output goes to buffers of the caller. Where speed counts, use the same buffers for many values: with memory that
+   is taken anew for each call, coding may take twice as long, and more. "What fresh memory costs" in bench/README.md,
+   in the source, has a table.
+
+   The library needs a processor of the level x86-64-v2 (SSE4.2). It has its functions twice, for this level and for
+   x86-64-v3 (AVX2), and the loader chooses by the processor that the program runs on. The functions of both levels are
+   proved. That choice, and the steps by which the two become one library, are tested and not proved. */
 #ifndef CODING_H
 #define CODING_H
 
 #include <stddef.h>
 #include <stdint.h>
-
-#define CODING_PROCESSOR "@processor@"
 
 /* The longest value, in bytes. */
 #define CODING_LONGEST_VALUE 16777216
@@ -74,8 +78,8 @@ uint8_t coding_repair(uint8_t k, const uint8_t *points, size_t point_count, cons
                       size_t fragment_count, uint8_t point, uint8_t *value, size_t value_length, uint8_t *fragment,
                       size_t fragment_length);
 
-/* Writes the fragment at `point` to `fragment`, as coding_repair does, but does not compute the value: this takes about a
-   k-th of the work of coding_decode, and no buffer of the value's length. Returns what coding_repair returns. */
+/* Writes the fragment at `point` to `fragment`, as coding_repair does, but does not compute the value: this takes about
+   a k-th of the work of coding_decode, and no buffer of the value's length. Returns what coding_repair returns. */
 uint8_t coding_repair_fragment(uint8_t k, const uint8_t *points, size_t point_count,
                                const struct coding_bytes *fragments, size_t fragment_count, uint8_t point,
                                size_t value_length, uint8_t *fragment, size_t fragment_length);
@@ -90,6 +94,9 @@ static inline const char *coding_string(uint8_t answer) {
   coding_text(answer, &text);
   return (const char *)text.bytes;
 }
+
+/* Returns the level of the processor whose functions are used: "x86-64-v2" or "x86-64-v3". */
+const char *coding_processor(void);
 
 #ifdef __cplusplus
 }

@@ -2,7 +2,7 @@
 //! with `-L native=PREFIX/lib -l static=coding`. `coding.h` beside it says what each function does.
 #![allow(dead_code)] // a program calls some of these
 
-use std::ffi::CStr;
+use std::ffi::{c_char, CStr};
 use std::fmt;
 use std::marker::PhantomData;
 
@@ -54,6 +54,7 @@ extern "C" {
     fn coding_repair_fragment(k: u8, points: *const u8, point_count: usize, fragments: *const Fragment<'_>,
         fragment_count: usize, point: u8, value_length: usize, out: *mut u8, out_length: usize) -> u8;
     fn coding_text(answer: u8, text: &mut Fragment<'static>);
+    fn coding_processor() -> *const c_char;
 }
 
 fn result(answer: u8) -> Result<(), Refused> {
@@ -104,4 +105,10 @@ pub fn repair_fragment(k: u8, points: &[u8], fragments: &[Fragment<'_>], point: 
         coding_repair_fragment(k, points.as_ptr(), points.len(), fragments.as_ptr(), fragments.len(), point,
             value_length, out.as_mut_ptr(), out.len())
     })
+}
+
+/// The level of the processor whose functions are used: `x86-64-v2` or `x86-64-v3`.
+pub fn processor() -> &'static str {
+    let text = unsafe { CStr::from_ptr(coding_processor()) };
+    text.to_str().unwrap_or_default()
 }
