@@ -98,6 +98,25 @@ rows_stored f old new sums rows size start width narrow are inside before known 
     subst Is place (inside r i hr (omega arith) ∙ ap (λ xs. get_or xs i 0) (are r hr) ∙ get_or-lanes_from (f r) start i (omega arith)))
     (cases_lt b start)
 
+-- the same of the bytes that there are
+pub rows_stored_within : (f : ℕ → ℕ → ℕ) (old new : List ℕ) (sums : List (List ℕ)) (rows size start width : ℕ) → width ≤ 32
+    → length new ≡ length old
+    → ((r : ℕ) → r < rows → get_or sums r [] ≡ lanes_from (f r) start)
+    → ((r i : ℕ) → r < rows → i < width → r * size + (start + i) < length old
+    → get_or new (r * size + (start + i)) 0 ≡ get_or (get_or sums r []) i 0)
+    → ((r b : ℕ) → r < rows → b < start → get_or new (r * size + b) 0 ≡ get_or old (r * size + b) 0)
+    → ((r b : ℕ) → r < rows → b < start → r * size + b < length old → get_or old (r * size + b) 0 ≡ f r b)
+    → (r b : ℕ) → r < rows → b < start + width → r * size + b < length new → get_or new (r * size + b) 0 ≡ f r b
+rows_stored_within f old new sums rows size start width narrow long are inside before known r b hr hb there =
+    ⊎_elim (λ low. before r b hr low ∙ known r b hr low (omega arith))
+    (λ high.
+    let i = b - start in
+    let place : start + i ≡ b = omega arith in
+    let Is : ℕ → Type 0 = λ n. get_or new (r * size + n) 0 ≡ f r n in
+    subst Is place (inside r i hr (omega arith) (omega arith) ∙ ap (λ xs. get_or xs i 0) (are r hr)
+    ∙ get_or-lanes_from (f r) start i (omega arith)))
+    (cases_lt b start)
+
 -- a sum of products is that of its coefficients, one by one
 pub dot_same : (f g : ℕ → ℕ) (sources : List (List ℕ)) (b : ℕ) → ((j : ℕ) → j < length sources → f j ≡ g j)
     → dot_byte f sources b ≡ dot_byte g sources b

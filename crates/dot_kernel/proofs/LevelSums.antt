@@ -1,6 +1,6 @@
 -- Sums of products whose coefficients sum up to a level, by the sources' differences from the first one.
-use Rattle.std.proofs.Common.{◌≡◌, ℕ, zero, suc, ◌+◌, ◌*◌, ◌<◌, ◌≤◌, ◌&&◌, ◌==◌, Bool, true, false, if◌then◌else◌, List, [], length, get_or}
-use Rattle.std.proofs.Common.{refl, sym, ap, ap₂, ◌∙◌, bit_xor, arith, set, replicate, ⊎_elim}
+use Rattle.std.proofs.Common.{◌≡◌, ℕ, zero, suc, ◌+◌, ◌*◌, ◌<◌, ◌&&◌, ◌==◌, Bool, true, false, if◌then◌else◌, List, [], length, get_or}
+use Rattle.std.proofs.Common.{sym, ap, ap₂, ◌∙◌, bit_xor, arith, set, replicate, ⊎_elim}
 use Rattle.std.specs.Int.Bits.{xor_assoc, xor_zero_r, xor_comm, xor_self}
 use Rattle.std.specs.List.{range_with_len}
 use Rattle.std.proofs.lemmas.Bool.{cases_lt, ne_eqb}

@@ -27,6 +27,12 @@ AreDots out coefficients rows sources size until =
     (r b : ℕ) → r < rows → b < until
     → slice_index out (r * size + b) ≡ dot_byte (row coefficients rows r) sources b
 
+-- the same of the bytes that `out` has
+abbrev pub AreDotsWithin : List ℕ → List ℕ → ℕ → List (List ℕ) → ℕ → ℕ → Type 0
+AreDotsWithin out coefficients rows sources size until =
+    (r b : ℕ) → r < rows → b < until → r * size + b < length out
+    → slice_index out (r * size + b) ≡ dot_byte (row coefficients rows r) sources b
+
 -- what f gives for the 32 numbers from start on
 unfoldable pub lanes_from : (ℕ → ℕ) → ℕ → List ℕ
 lanes_from f start = map (λ i. f (start + i)) (range_with_len 0 32)

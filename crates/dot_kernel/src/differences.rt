@@ -3,13 +3,13 @@
 //! The sum over the sources, each times its coefficient, is that over their differences from the first source, and the
 //! first one times the sum of all coefficients besides. A source's difference is read once for all rows.
 
-ghost use Rattle.std.specs.Prelude.{◌≡◌, ℕ, ◌+◌, ◌*◌, ◌<◌, ◌≤◌, [], length, slice_index, slice_index_or};
-ghost use Rattle.dot_kernel.specs.Dot.{AreDots, bytes_of, lanes_from};
+ghost use Rattle.std.specs.Prelude.{◌≡◌, ℕ, ◌+◌, ◌*◌, ◌^◌, ◌<◌, ◌≤◌, [], length, slice_index, slice_index_or};
+ghost use Rattle.dot_kernel.specs.Dot.{AreDots, AreDotsWithin, bytes_of, lanes_from};
 ghost use Rattle.dot_kernel.specs.Level.{HaveLevels, level};
 
 use crate::Tables;
 use crate::blocks::{BLOCK, load};
-use crate::dots::{MOST_ROWS, shortest, store_two_rows, write_rest};
+use crate::dots::{MOST_ROWS, shortest, store_two_rows, write_end};
 use std::simd::prelude::*;
 
 /// `dots_of`, where the coefficients of each row sum up to 0, but those of row 0 to 1 where `one` says so. It takes a
@@ -28,11 +28,36 @@ pub fn differences_of<const R: usize>(
     requires rows { length out.old ≡ R * size }
     ensures { AreDots out.new tables.now R (bytes_of sources.now) size size }
 {
-    let whole = shortest(sources, size) / BLOCK;
-    for two in 0..whole / 2 {
-        write_two_blocks::<R>(out, tables, sources, size, two * 2 * BLOCK, one);
+    differences_between::<R>(out, tables, sources, size, 0, size, one);
+}
+
+/// `differences_of` from byte `from` of each row up to byte `until`, as far as `out` goes: it may end before the rows
+/// do, as where the last one is cut short. The bytes before `from` are those that the caller has made.
+pub fn differences_between<const R: usize>(
+    out: &mut [u8],
+    tables: &[Tables],
+    sources: &[&[u8]],
+    size: usize,
+    from: usize,
+    until: usize,
+    one: bool,
+)
+    requires few { R ≤ MOST_ROWS }
+    requires some { 1 ≤ length sources.now }
+    requires coefficients { length tables.now ≡ length sources.now * R }
+    requires levels { HaveLevels tables.now R (length sources.now) one }
+    requires part { until ≤ size }
+    requires fits { R * size < 2 ^ 64 }
+    ensures { AreDotsWithin out.old tables.now R (bytes_of sources.now) size from
+        → AreDotsWithin out.new tables.now R (bytes_of sources.now) size until }
+{
+    let lacking = (R * size).saturating_sub(out.len());
+    let whole = shortest(sources, until.min(size.saturating_sub(lacking)));
+    let twos = whole.saturating_sub(from) / BLOCK / 2;
+    for two in 0..twos {
+        write_two_blocks::<R>(out, tables, sources, size, from + two * 2 * BLOCK, one);
     }
-    write_rest::<R>(out, tables, sources, size, whole / 2 * 2);
+    write_end::<R>(out, tables, sources, size, from + twos * 2 * BLOCK, until);
 }
 
 /// Makes the rows, whose bytes up to `start` are made, go on for two blocks.
@@ -49,12 +74,12 @@ fn write_two_blocks<const R: usize>(
     requires some { 1 ≤ length sources.now }
     requires coefficients { length tables.now ≡ length sources.now * R }
     requires levels { HaveLevels tables.now R (length sources.now) one }
-    requires rows { length out.old ≡ R * size }
     requires within { start + 2 * BLOCK ≤ size }
+    requires room { R * size + (start + 2 * BLOCK) ≤ length out.old + size }
     requires whole { (j : ℕ) → j < length sources.now
         → start + 2 * BLOCK ≤ length (slice_index_or (bytes_of sources.now) j []) }
-    ensures { AreDots out.old tables.now R (bytes_of sources.now) size start
-        → AreDots out.new tables.now R (bytes_of sources.now) size (start + 2 * BLOCK) }
+    ensures { AreDotsWithin out.old tables.now R (bytes_of sources.now) size start
+        → AreDotsWithin out.new tables.now R (bytes_of sources.now) size (start + 2 * BLOCK) }
 {
     let origin = sources[0];
     let near_origin = load(origin, start, true);

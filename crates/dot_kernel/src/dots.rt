@@ -1,11 +1,11 @@
 //! Sums of products, of several rows of coefficients in one pass over the sources.
 
-ghost use Rattle.std.specs.Prelude.{◌≡◌, ℕ, ◌+◌, ◌*◌, ◌<◌, ◌≤◌, [], length, slice_index, slice_index_or};
+ghost use Rattle.std.specs.Prelude.{◌≡◌, ℕ, ◌+◌, ◌*◌, ◌^◌, ◌<◌, ◌≤◌, [], length, slice_index, slice_index_or};
 ghost use Rattle.std.specs.Prelude.{EachIndex};
-ghost use Rattle.dot_kernel.specs.Dot.{AreDots, bytes_of, dot_byte, row, lanes_from};
+ghost use Rattle.dot_kernel.specs.Dot.{AreDots, AreDotsWithin, bytes_of, dot_byte, row, lanes_from};
 
 use crate::Tables;
-use crate::blocks::{BLOCK, load, store, store_two};
+use crate::blocks::{BLOCK, load, store_two, store_within};
 use std::simd::prelude::*;
 
 /// The most rows of one pass. With more than some six, their sums no longer fit the registers.
@@ -33,34 +33,33 @@ pub fn dots_of<const R: usize>(out: &mut [u8], tables: &[Tables], sources: &[&[u
     for two in 0..whole / 2 {
         write_two_blocks::<R>(out, tables, sources, size, two * 2 * BLOCK);
     }
-    write_rest::<R>(out, tables, sources, size, whole / 2 * 2);
+    write_end::<R>(out, tables, sources, size, whole / 2 * 2 * BLOCK, size);
 }
 
-/// Makes the rows, of which the first `blocks` blocks are made, go on to their end.
-pub(crate) fn write_rest<const R: usize>(
+/// Makes the rows, whose bytes up to `from` are made, go on up to byte `until`, each as far as `out` goes.
+pub(crate) fn write_end<const R: usize>(
     out: &mut [u8],
     tables: &[Tables],
     sources: &[&[u8]],
     size: usize,
-    blocks: usize,
+    from: usize,
+    until: usize,
 )
     requires few { R ≤ MOST_ROWS }
     requires coefficients { length tables.now ≡ length sources.now * R }
-    requires rows { length out.old ≡ R * size }
-    requires within { blocks * BLOCK ≤ size }
-    ensures { AreDots out.old tables.now R (bytes_of sources.now) size (blocks * BLOCK)
-        → AreDots out.new tables.now R (bytes_of sources.now) size size }
+    requires part { until ≤ size }
+    requires fits { R * size < 2 ^ 64 }
+    ensures { AreDotsWithin out.old tables.now R (bytes_of sources.now) size from
+        → AreDotsWithin out.new tables.now R (bytes_of sources.now) size until }
 {
-    if size < BLOCK {
-        write_block::<R>(out, tables, sources, size, 0, size);
-        return;
+    let blocks = until.saturating_sub(from) / BLOCK;
+    for block in 0..blocks {
+        write_block::<R>(out, tables, sources, size, from + block * BLOCK, BLOCK);
     }
-    for block in blocks..size / BLOCK {
-        write_block::<R>(out, tables, sources, size, block * BLOCK, BLOCK);
-    }
-    if size % BLOCK > 0 {
-        // It overlaps the one before it: `out` is written and never read.
-        write_block::<R>(out, tables, sources, size, size - BLOCK, BLOCK);
+    if from + blocks * BLOCK < until {
+        // It overlaps what stands before it: `out` is written and never read.
+        let start = until.saturating_sub(BLOCK);
+        write_block::<R>(out, tables, sources, size, start, until - start);
     }
 }
 
@@ -77,7 +76,7 @@ pub(crate) fn shortest(sources: &[&[u8]], most: usize) -> usize
     shortest
 }
 
-/// Makes the rows, whose bytes up to `start` are made, go on for `width` bytes.
+/// Makes the rows, whose bytes up to `start` are made, go on for `width` bytes, each as far as `out` goes.
 #[inline(always)]
 fn write_block<const R: usize>(
     out: &mut [u8],
@@ -89,11 +88,11 @@ fn write_block<const R: usize>(
 )
     requires few { R ≤ MOST_ROWS }
     requires coefficients { length tables.now ≡ length sources.now * R }
-    requires rows { length out.old ≡ R * size }
     requires block { width ≤ BLOCK }
     requires within { start + width ≤ size }
-    ensures { AreDots out.old tables.now R (bytes_of sources.now) size start
-        → AreDots out.new tables.now R (bytes_of sources.now) size (start + width) }
+    requires fits { R * size < 2 ^ 64 }
+    ensures { AreDotsWithin out.old tables.now R (bytes_of sources.now) size start
+        → AreDotsWithin out.new tables.now R (bytes_of sources.now) size (start + width) }
 {
     let sums = row_lanes::<R>(tables, sources, start);
     store_rows::<R>(out, size, start, width, sums);
@@ -151,7 +150,7 @@ fn row_lanes<const R: usize>(tables: &[Tables], sources: &[&[u8]], start: usize)
     sums
 }
 
-/// Writes the first `width` lanes of each row over its bytes from `start` on.
+/// Writes the first `width` lanes of each row over its bytes from `start` on, as far as `out` goes.
 #[inline(always)]
 pub(crate) fn store_rows<const R: usize>(
     out: &mut [u8],
@@ -163,14 +162,14 @@ pub(crate) fn store_rows<const R: usize>(
     requires few { R ≤ MOST_ROWS }
     requires block { width ≤ BLOCK }
     requires within { start + width ≤ size }
-    requires rows { length out.old ≡ R * size }
-    ensures inside { (r i : ℕ) → r < R → i < width
+    requires fits { R * size < 2 ^ 64 }
+    ensures inside { (r i : ℕ) → r < R → i < width → r * size + (start + i) < length out.old
         → slice_index out.new (r * size + (start + i)) ≡ slice_index (slice_index_or sums.entry r []) i }
     ensures before { (r b : ℕ) → r < R → b < start
         → slice_index out.new (r * size + b) ≡ slice_index out.old (r * size + b) }
 {
     for r in 0..R {
-        store(out, r * size + start, width, sums[r]);
+        store_within(out, r * size + start, width, sums[r]);
     }
 }
 
@@ -185,7 +184,7 @@ pub(crate) fn store_two_rows<const R: usize>(
 )
     requires few { R ≤ MOST_ROWS }
     requires within { start + 2 * BLOCK ≤ size }
-    requires rows { length out.old ≡ R * size }
+    requires room { R * size + (start + 2 * BLOCK) ≤ length out.old + size }
     ensures left { (r i : ℕ) → r < R → i < BLOCK
         → slice_index out.new (r * size + (start + i)) ≡ slice_index (slice_index_or left.entry r []) i }
     ensures right { (r i : ℕ) → r < R → i < BLOCK

@@ -26,12 +26,38 @@ pub fn powers_of<const R: usize>(out: &mut [u8], sources: &[&[u8]], size: usize,
     requires rows { length out.old ≡ R * size }
     ensures { ArePowers out.new R (bytes_of sources.now) size size first }
 {
+    powers_between::<R>(out, sources, size, first, 0, size);
+}
+
+/// `powers_of` from byte `from` of each row up to byte `until`. The bytes before `from` are those that the caller has
+/// made.
+pub fn powers_between<const R: usize>(
+    out: &mut [u8],
+    sources: &[&[u8]],
+    size: usize,
+    first: usize,
+    from: usize,
+    until: usize,
+)
+    requires few { R ≤ MOST_ROWS }
+    requires some { 1 ≤ length sources.now }
+    requires even { first % 2 ≡ 0 }
+    requires points { first + R ≤ 256 }
+    requires rows { length out.old ≡ R * size }
+    requires part { until ≤ size }
+    ensures { ArePowers out.old R (bytes_of sources.now) size from first
+        → ArePowers out.new R (bytes_of sources.now) size until first }
+{
     let points = points::<R>(first);
     let steps = steps::<R>(first);
     if first == 0 {
-        write_rows::<R>(out, &steps, &points, sources, size, first, true);
+        write_rows::<R>(
+            out, &steps, &points, sources, size, first, from, until, true,
+        );
     } else {
-        write_rows::<R>(out, &steps, &points, sources, size, first, false);
+        write_rows::<R>(
+            out, &steps, &points, sources, size, first, from, until, false,
+        );
     }
 }
 
@@ -64,7 +90,8 @@ fn steps<const R: usize>(first: usize) -> [Tables; R]
     steps
 }
 
-/// `powers_of`, where the tables are made. Where `first` is known to be 0, `zero` saves the products of the first pair.
+/// `powers_between`, where the tables are made. Where `first` is known to be 0, `zero` saves the products of the first
+/// pair.
 #[inline(always)]
 fn write_rows<const R: usize>(
     out: &mut [u8],
@@ -73,6 +100,8 @@ fn write_rows<const R: usize>(
     sources: &[&[u8]],
     size: usize,
     first: usize,
+    from: usize,
+    until: usize,
     zero: bool,
 )
     requires few { R ≤ MOST_ROWS }
@@ -80,54 +109,54 @@ fn write_rows<const R: usize>(
     requires zero { IsTrue zero → first ≡ 0 }
     requires pairs { ArePairs points.now steps.now R first }
     requires rows { length out.old ≡ R * size }
-    ensures { ArePowers out.new R (bytes_of sources.now) size size first }
+    requires part { until ≤ size }
+    ensures { ArePowers out.old R (bytes_of sources.now) size from first
+        → ArePowers out.new R (bytes_of sources.now) size until first }
 {
-    if size < BLOCK {
-        write_block::<R>(
-            out, steps, points, sources, size, first, 0, size, false, zero,
-        );
-        return;
+    let twos = shortest(sources, until).saturating_sub(from) / BLOCK / 2;
+    for two in 0..twos {
+        let start = from + two * 2 * BLOCK;
+        write_two_blocks::<R>(out, steps, points, sources, size, first, start, zero);
     }
-    let whole = shortest(sources, size) / BLOCK;
-    for two in 0..whole / 2 {
-        write_two_blocks::<R>(
-            out,
-            steps,
-            points,
-            sources,
-            size,
-            first,
-            two * 2 * BLOCK,
-            zero,
+    let start = from + twos * 2 * BLOCK;
+    write_end::<R>(out, steps, points, sources, size, first, start, until, zero);
+}
+
+/// Makes the rows, whose bytes up to `from` are made, go on up to byte `until`.
+#[inline(always)]
+fn write_end<const R: usize>(
+    out: &mut [u8],
+    steps: &[Tables; R],
+    points: &[Tables; R],
+    sources: &[&[u8]],
+    size: usize,
+    first: usize,
+    from: usize,
+    until: usize,
+    zero: bool,
+)
+    requires few { R ≤ MOST_ROWS }
+    requires some { 1 ≤ length sources.now }
+    requires zero { IsTrue zero → first ≡ 0 }
+    requires pairs { ArePairs points.now steps.now R first }
+    requires rows { length out.old ≡ R * size }
+    requires part { until ≤ size }
+    ensures { ArePowers out.old R (bytes_of sources.now) size from first
+        → ArePowers out.new R (bytes_of sources.now) size until first }
+{
+    let blocks = until.saturating_sub(from) / BLOCK;
+    for block in 0..blocks {
+        let start = from + block * BLOCK;
+        write_block::<R>(
+            out, steps, points, sources, size, first, start, BLOCK, false, zero,
         );
     }
-    for block in whole / 2 * 2..size / BLOCK {
+    if from + blocks * BLOCK < until {
+        // It overlaps what stands before it: `out` is written and never read.
+        let start = until.saturating_sub(BLOCK);
+        let width = until - start;
         write_block::<R>(
-            out,
-            steps,
-            points,
-            sources,
-            size,
-            first,
-            block * BLOCK,
-            BLOCK,
-            false,
-            zero,
-        );
-    }
-    if size % BLOCK > 0 {
-        // It overlaps the one before it: `out` is written and never read.
-        write_block::<R>(
-            out,
-            steps,
-            points,
-            sources,
-            size,
-            first,
-            size - BLOCK,
-            BLOCK,
-            false,
-            zero,
+            out, steps, points, sources, size, first, start, width, false, zero,
         );
     }
 }

@@ -1,10 +1,9 @@
-use Rattle.std.proofs.Common.{◌≡◌, ℕ, ◌+◌, ◌≤◌, length, get_or, ap, sym, ◌∙◌, refl, arith, zero-le}
+use Rattle.std.proofs.Common.{◌≡◌, ℕ, ◌+◌, length, ap, sym, refl, arith}
 use Rattle.std.proofs.lemmas.Nat.{mul-add-lt}
 use Rattle.std.proofs.lemmas.List.{get_or_read}
 use Rattle.dot_kernel.specs.Dot.{bytes_of, dot_byte, row}
-use Rattle.dot_kernel.proofs.LaneSums.{no_slice, length-bytes_of, bytes_at, rows_stored}
-use Rattle.dot_kernel.proofs.RowSums.{rows_next}
-use Rattle.dot_kernel.proofs.LevelSums.{level_lanes, level_first, level_more, level_all}
+use Rattle.dot_kernel.proofs.LaneSums.{no_slice, length-bytes_of, bytes_at, rows_stored_within}
+use Rattle.dot_kernel.proofs.LevelSums.{level_first, level_more, level_all}
 use Rattle.dot_kernel.proofs.differences.write_two_blocks.Goals as goal
 
 pub loop-j-init : goal.loop-j-init
@@ -62,7 +61,7 @@ loop-r-preserved g c =
     }
 
 pub returns : goal.returns
-returns g c known r b hr hb =
+returns g c known r b hr hb there =
     let start = c.args.start in
     let size = c.args.size in
     let tables = c.args.tables.now in
@@ -71,12 +70,13 @@ returns g c known r b hr hb =
     let byte : ℕ → ℕ → ℕ = λ r. dot_byte (row tables g.row.R r) sources in
     let stored = c.store_two_rows.ensures in
     let end : c.loop-j.j ≡ length sources = omega (arith, length-bytes_of c.args.sources.now) in
-    rows_stored byte new new c.loop-j.right g.row.R size (start + 32) 32 (omega arith)
+    let long : length new ≡ length c.args.out.now = omega arith in
+    rows_stored_within byte new new c.loop-j.right g.row.R size (start + 32) 32 (omega arith) refl
     (level_all c.loop-j.right g.row.R tables c.args.one sources (start + 32) c.loop-j.j (length c.args.sources.now)
     c.loop-j.invariant.right end c.requires.levels (sym (length-bytes_of c.args.sources.now)))
-    stored.right (λ r b hr hb. refl)
-    (rows_stored byte c.args.out.now new c.loop-j.left g.row.R size start 32 (omega arith)
+    (λ r i hr hi _. stored.right r i hr hi) (λ r b hr hb. refl)
+    (rows_stored_within byte c.args.out.now new c.loop-j.left g.row.R size start 32 (omega arith) long
     (level_all c.loop-j.left g.row.R tables c.args.one sources start c.loop-j.j (length c.args.sources.now)
     c.loop-j.invariant.left end c.requires.levels (sym (length-bytes_of c.args.sources.now)))
-    stored.left stored.before known)
-    r b hr (omega (arith, hb))
+    (λ r i hr hi _. stored.left r i hr hi) stored.before known)
+    r b hr (omega (arith, hb)) there

@@ -1,4 +1,4 @@
-use Rattle.std.proofs.Common.{length, get_or, arith}
+use Rattle.std.proofs.Common.{length, arith}
 use Rattle.std.proofs.lemmas.Nat.{mul-add-lt}
 use Rattle.std.proofs.lemmas.List.{get_or_read}
 use Rattle.dot_kernel.specs.Dot.{bytes_of}

@@ -1,11 +1,10 @@
-use Rattle.std.proofs.Common.{◌*◌}
+use Rattle.std.proofs.Common.{◌+◌, ◌*◌}
 use Rattle.dot_kernel.specs.Dot.{bytes_of}
 use Rattle.dot_kernel.specs.Line.{ArePowers}
 use Rattle.dot_kernel.proofs.powers.write_rows.Given as goal
 
--- the rows are made as far as the blocks so far go
+-- where the rows are made up to `from`, they are as far as the blocks so far go
 abbrev pub invariant-loop-two : goal.invariant-loop-two
-invariant-loop-two g l = ArePowers l.out g.row.R (bytes_of l.sources) l.size (l.two * 2 * 32) l.first
-
-abbrev pub invariant-loop-block : goal.invariant-loop-block
-invariant-loop-block g l = ArePowers l.out g.row.R (bytes_of l.sources) l.size (l.block * 32) l.first
+invariant-loop-two g l =
+    ArePowers l.initial.out g.row.R (bytes_of l.sources) l.size l.from l.first
+    → ArePowers l.out g.row.R (bytes_of l.sources) l.size (l.from + l.two * 2 * 32) l.first
