@@ -4,7 +4,6 @@ pub mod Cut
 pub mod Determined
 pub mod Interpolated
 pub mod Parts
-mod Striped
 pub mod Summed
 pub mod Table
 mod Weighted

@@ -1,7 +1,6 @@
 -- The contracts that docs/trusted.md lists do not depend on this file; other contracts and proofs do.
 -- Tables of Lagrange's rows, and the sums of fragments by their columns.
-use Rattle.std.specs.Prelude.{◌≡◌, ℕ, ◌+◌, ◌*◌, ◌<◌, List, length, slice_index, map, take, drop, true}
-use Rattle.std.specs.List.{range_with_len}
+use Rattle.std.specs.Prelude.{◌≡◌, ℕ, ◌+◌, ◌*◌, ◌<◌, List, length, slice_index, take, drop, true}
 use Rattle.gf256.specs.Polynomial.{IsBasisRow, evaluate}
 use Rattle.gf256.specs.Field.{field_sum}
 use Rattle.dot_kernel.specs.Dot.{dot_byte, row}
@@ -29,19 +28,18 @@ line_value table k x i = evaluate (take k (drop (i * k) table)) x
 abbrev pub block_byte : List ℕ → List (List ℕ) → ℕ → ℕ → ℕ
 block_byte table fragments j b = dot_byte (row table (length fragments) j) fragments b
 
--- in each of `rows` rows of `size` bytes each stand the sums of a block, from block `first` on
-abbrev pub AreBlockRows : List ℕ → ℕ → ℕ → List ℕ → List (List ℕ) → ℕ → Type 0
-AreBlockRows out rows size table fragments first =
-    (r b : ℕ) → r < rows → b < size → slice_index out (r * size + b) ≡ block_byte table fragments (first + r) b
+-- up to byte `until` each of `rows` rows of `size` bytes each has the sums of a block, from block `first` on, as far as
+-- `out` goes
+abbrev pub AreBlockRows : List ℕ → ℕ → ℕ → List ℕ → List (List ℕ) → ℕ → ℕ → Type 0
+AreBlockRows out rows size table fragments first until =
+    (r b : ℕ) → r < rows → b < until → r * size + b < length out
+    → slice_index out (r * size + b) ≡ block_byte table fragments (first + r) b
 
--- the first k pieces of the bytes, of `width` each
-unfoldable pub cut : ℕ → ℕ → List ℕ → List (List ℕ)
-cut k width bytes = map (λ j. take width (drop (j * width) bytes)) (range_with_len 0 k)
-
--- up to byte `until` each of `rows` rows of `size` bytes each has the sums of its block
-abbrev pub AreBlockRowsUntil : List ℕ → ℕ → ℕ → List ℕ → List (List ℕ) → ℕ → Type 0
-AreBlockRowsUntil out rows size table fragments until =
-    (r b : ℕ) → r < rows → b < until → slice_index out (r * size + b) ≡ block_byte table fragments r b
+-- up to byte `until` each of the first blocks, of `size` bytes each, has its sums, as far as `out` goes
+abbrev pub AreBlocksUntil : List ℕ → ℕ → ℕ → List ℕ → List (List ℕ) → ℕ → Type 0
+AreBlocksUntil out blocks size table fragments until =
+    (j b : ℕ) → j < blocks → b < until → j * size + b < length out
+    → slice_index out (j * size + b) ≡ block_byte table fragments j b
 
 -- these are the bytes of the blocks, of `size` bytes each, as far as they go
 abbrev pub AreBlockBytes : List ℕ → ℕ → List ℕ → List (List ℕ) → Type 0

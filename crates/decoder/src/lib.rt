@@ -16,7 +16,6 @@ mod past;
 mod repair;
 mod rooms;
 mod rows;
-mod stripes;
 mod sums;
 mod value;
 mod weights;

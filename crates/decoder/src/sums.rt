@@ -1,21 +1,20 @@
-//! Sums of fragments by the columns of a table, several columns in one pass over the fragments.
+//! Sums of fragments by the columns of a table, several columns in one pass over the fragments, and stripe by stripe: a
+//! stripe is what all fragments have from one byte on, and stays in the near caches while its passes are made.
 
-ghost use Rattle.std.specs.Prelude.{◌≡◌, ◌≢◌, ℕ, ◌+◌, ◌*◌, ◌<◌, ◌≤◌, [], length, slice_index, slice_index_or};
+ghost use Rattle.std.specs.Prelude.{◌≡◌, ◌≢◌, ℕ, ◌+◌, ◌*◌, ◌^◌, ◌<◌, ◌≤◌, length, slice_index};
 ghost use Rattle.dot_kernel.specs.Dot.{bytes_of};
-ghost use Rattle.decoder.specs.Rows.{AreBlockBytes, AreBlockRows, HaveColumnSums, block_byte};
+ghost use Rattle.decoder.specs.Rows.{AreBlockBytes, AreBlockRows, AreBlocksUntil, HaveColumnSums, block_byte};
 
-use crate::stripes::write_stripes;
-use dot_kernel::{Tables, differences_of};
-use tag::MOST_MEMBERS;
+use dot_kernel::{Tables, differences_between};
 
 /// The most blocks of one pass, whose sums fit the registers.
 const MOST_BLOCKS: usize = 6;
 
-/// As many fragments as passes over all of them read well where they stand.
-const FEW: usize = 16;
+/// As many bytes of all fragments as a stripe has.
+const STRIPE: usize = 131_072;
 
-/// The most bytes of a value whose fragments stay in the cache between passes.
-const LONG: usize = 1_048_576;
+/// Bytes of a line of the caches.
+const LINE: usize = 64;
 
 /// Makes `out` be the first bytes of the blocks, of `size` bytes each. A pass takes as many blocks as `room` has tables
 /// for.
@@ -31,72 +30,55 @@ pub(crate) fn write_blocks(
     requires sums { HaveColumnSums table.now (length fragments.now) }
     requires room { length fragments.now ≤ length room.old }
     requires within { length out.old ≤ length fragments.now * size }
-    requires most { length fragments.now ≤ MOST_MEMBERS }
-    requires lens { (j : ℕ) → j < length fragments.now
-        → length (slice_index_or (bytes_of fragments.now) j []) ≡ size }
+    requires fits { length fragments.now * size < 2 ^ 64 }
     ensures { AreBlockBytes out.new size table.now (bytes_of fragments.now) }
 {
-    if size == 0 {
-        return;
-    }
-    let whole = out.len() / size;
-    let rest = out.len() % size;
-    let is_cut = rest > 0;
-    write_all(out, room, table, fragments, size, whole);
-    if is_cut {
-        write_rows(out, whole * size, room, table, fragments, rest, whole, 1);
+    let width = stripe_width(fragments.len(), size);
+    let mut from = 0;
+    while from < size {
+        let until = from + width.min(size - from);
+        write_stripe(out, room, table, fragments, size, from, until);
+        from = until;
     }
 }
 
-/// `write_whole`, stripe by stripe where passes over all fragments would fetch them anew from beyond the caches.
-fn write_all(
-    out: &mut [u8],
-    room: &mut [Tables],
-    table: &[u8],
-    fragments: &[&[u8]],
-    size: usize,
-    n: usize,
-)
-    requires some { 1 ≤ length fragments.now }
-    requires most { length fragments.now ≤ MOST_MEMBERS }
-    requires table { length table.now ≡ length fragments.now * length fragments.now }
-    requires sums { HaveColumnSums table.now (length fragments.now) }
-    requires room { length fragments.now ≤ length room.old }
-    requires few { n ≤ length fragments.now }
-    requires within { n * size ≤ length out.old }
-    requires lens { (j : ℕ) → j < length fragments.now
-        → length (slice_index_or (bytes_of fragments.now) j []) ≡ size }
-    ensures { AreBlockRows out.new n size table.now (bytes_of fragments.now) 0 }
+/// How many bytes of each of `k` fragments a stripe has: all of them where one pass makes all blocks.
+fn stripe_width(k: usize, size: usize) -> usize
+    ensures { 1 ≤ result }
 {
-    if fragments.len() > FEW && out.len() > LONG {
-        write_stripes(out, room, table, fragments, size, n);
+    if k <= MOST_BLOCKS {
+        size.max(1)
     } else {
-        write_whole(out, room, table, fragments, size, n);
+        (STRIPE / k / LINE * LINE).max(LINE)
     }
 }
 
-/// `write_blocks` on the first `n` blocks, which are whole.
-pub(crate) fn write_whole(
+/// Makes the blocks, whose bytes up to `from` are made, go on up to byte `until`.
+fn write_stripe(
     out: &mut [u8],
     room: &mut [Tables],
     table: &[u8],
     fragments: &[&[u8]],
     size: usize,
-    n: usize,
+    from: usize,
+    until: usize,
 )
     requires some { 1 ≤ length fragments.now }
     requires table { length table.now ≡ length fragments.now * length fragments.now }
     requires sums { HaveColumnSums table.now (length fragments.now) }
     requires room { length fragments.now ≤ length room.old }
-    requires few { n ≤ length fragments.now }
-    requires within { n * size ≤ length out.old }
-    ensures { AreBlockRows out.new n size table.now (bytes_of fragments.now) 0 }
+    requires within { length out.old ≤ length fragments.now * size }
+    requires fits { length fragments.now * size < 2 ^ 64 }
+    requires part { until ≤ size }
+    ensures { AreBlocksUntil out.old (length fragments.now) size table.now (bytes_of fragments.now) from
+        → AreBlocksUntil out.new (length fragments.now) size table.now (bytes_of fragments.now) until }
 {
-    let most = (room.len() / fragments.len()).min(MOST_BLOCKS);
+    let k = fragments.len();
+    let most = (room.len() / k).min(MOST_BLOCKS);
     let mut done = 0;
-    while done < n {
-        let rows = blocks_at_once(n - done, most).min(n - done);
-        write_rows(out, done * size, room, table, fragments, size, done, rows);
+    while done * size < out.len() {
+        let rows = blocks_at_once(k - done, most).min(k - done);
+        write_rows(out, room, table, fragments, size, from, until, done, rows);
         done += rows;
     }
 }
@@ -111,14 +93,15 @@ fn blocks_at_once(left: usize, most: usize) -> usize
     left.div_ceil(passes).clamp(1, most)
 }
 
-/// `write_some` on the bytes of `out` from `start` on.
+/// `write_some` on the bytes of `out` that belong to block `first` and those after it.
 fn write_rows(
     out: &mut [u8],
-    start: usize,
     room: &mut [Tables],
     table: &[u8],
     fragments: &[&[u8]],
     size: usize,
+    from: usize,
+    until: usize,
     first: usize,
     rows: usize,
 )
@@ -128,29 +111,34 @@ fn write_rows(
     requires sums { HaveColumnSums table.now (length fragments.now) }
     requires room { length fragments.now * rows ≤ length room.old }
     requires few { first + rows ≤ length fragments.now }
-    requires within { start + rows * size ≤ length out.old }
-    ensures inside { (r b : ℕ) → r < rows → b < size → slice_index out.new (start + (r * size + b))
+    requires fits { length fragments.now * size < 2 ^ 64 }
+    requires start { first * size ≤ length out.old }
+    requires part { until ≤ size }
+    ensures inside { ((r b : ℕ) → r < rows → b < from → first * size + (r * size + b) < length out.old
+        → slice_index out.old (first * size + (r * size + b))
+        ≡ block_byte table.now (bytes_of fragments.now) (first + r) b)
+        → (r b : ℕ) → r < rows → b < until → first * size + (r * size + b) < length out.new
+        → slice_index out.new (first * size + (r * size + b))
         ≡ block_byte table.now (bytes_of fragments.now) (first + r) b }
-    ensures before { (n : ℕ) → n < start → slice_index out.new n ≡ slice_index out.old n }
+    ensures before { (n : ℕ) → n < first * size → slice_index out.new n ≡ slice_index out.old n }
+    ensures after { (n : ℕ) → first * size + rows * size ≤ n → slice_index out.new n ≡ slice_index out.old n }
 {
-    write_some(
-        &mut out[start..start + rows * size],
-        room,
-        table,
-        fragments,
-        size,
-        first,
-        rows,
-    );
+    let start = first * size;
+    let end = start + (rows * size).min(out.len() - start);
+    let part = &mut out[start..end];
+    write_some(part, room, table, fragments, size, from, until, first, rows);
 }
 
-/// Makes the `rows` rows of `out`, of `size` bytes each, be the sums of as many blocks, from block `first` on.
+/// Makes the `rows` rows of `out`, of `size` bytes each and made up to `from`, go on up to byte `until` of the sums of
+/// as many blocks, from block `first` on. The rows go as far as `out` does.
 fn write_some(
     out: &mut [u8],
     room: &mut [Tables],
     table: &[u8],
     fragments: &[&[u8]],
     size: usize,
+    from: usize,
+    until: usize,
     first: usize,
     rows: usize,
 )
@@ -160,16 +148,18 @@ fn write_some(
     requires sums { HaveColumnSums table.now (length fragments.now) }
     requires room { length fragments.now * rows ≤ length room.old }
     requires few { first + rows ≤ length fragments.now }
-    requires within { length out.old ≡ rows * size }
-    ensures { AreBlockRows out.new rows size table.now (bytes_of fragments.now) first }
+    requires fits { length fragments.now * size < 2 ^ 64 }
+    requires part { until ≤ size }
+    ensures { AreBlockRows out.old rows size table.now (bytes_of fragments.now) first from
+        → AreBlockRows out.new rows size table.now (bytes_of fragments.now) first until }
 {
     match rows {
-        1 => write_pass::<1>(out, room, table, fragments, size, first),
-        2 => write_pass::<2>(out, room, table, fragments, size, first),
-        3 => write_pass::<3>(out, room, table, fragments, size, first),
-        4 => write_pass::<4>(out, room, table, fragments, size, first),
-        5 => write_pass::<5>(out, room, table, fragments, size, first),
-        6 => write_pass::<6>(out, room, table, fragments, size, first),
+        1 => write_pass::<1>(out, room, table, fragments, size, from, until, first),
+        2 => write_pass::<2>(out, room, table, fragments, size, from, until, first),
+        3 => write_pass::<3>(out, room, table, fragments, size, from, until, first),
+        4 => write_pass::<4>(out, room, table, fragments, size, from, until, first),
+        5 => write_pass::<5>(out, room, table, fragments, size, from, until, first),
+        6 => write_pass::<6>(out, room, table, fragments, size, from, until, first),
         _ => {}
     }
 }
@@ -181,6 +171,8 @@ fn write_pass<const R: usize>(
     table: &[u8],
     fragments: &[&[u8]],
     size: usize,
+    from: usize,
+    until: usize,
     first: usize,
 )
     requires some { 1 ≤ length fragments.now }
@@ -189,12 +181,14 @@ fn write_pass<const R: usize>(
     requires sums { HaveColumnSums table.now (length fragments.now) }
     requires room { length fragments.now * R ≤ length room.old }
     requires few { first + R ≤ length fragments.now }
-    requires within { length out.old ≡ R * size }
-    ensures { AreBlockRows out.new R size table.now (bytes_of fragments.now) first }
+    requires fits { length fragments.now * size < 2 ^ 64 }
+    requires part { until ≤ size }
+    ensures { AreBlockRows out.old R size table.now (bytes_of fragments.now) first from
+        → AreBlockRows out.new R size table.now (bytes_of fragments.now) first until }
 {
     let tables = &mut room[..fragments.len() * R];
     fill_columns(tables, table, fragments.len(), first, R);
-    differences_of::<R>(out, tables, fragments, size, first == 0);
+    differences_between::<R>(out, tables, fragments, size, from, until, first == 0);
 }
 
 /// Fills in the tables of the columns from `first` on, those of one line side by side.

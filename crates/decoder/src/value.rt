@@ -1,6 +1,6 @@
 //! The value of lawful pieces: first whether there is one, then its bytes.
 
-ghost use Rattle.std.specs.Prelude.{◌≡◌, ◌*◌, ◌^◌, ◌<◌, ◌≤◌, ◌⊎◌, ℕ, List, [], length, slice_index_or};
+ghost use Rattle.std.specs.Prelude.{◌≡◌, ◌*◌, ◌^◌, ◌<◌, ◌≤◌, ◌⊎◌, ℕ, List, length};
 ghost use Rattle.std.specs.Prelude.{IfErr, IfOk, IsFalse, IsTrue, OnErr, OnOk};
 ghost use Rattle.dot_kernel.specs.Dot.{bytes_of};
 ghost use Rattle.encoder.specs.Fragment.{fragment_len};
@@ -13,7 +13,7 @@ use crate::rows::fill_rows;
 use crate::sums::write_blocks;
 use dot_kernel::Tables;
 use std::alloc::{AllocError, Global};
-use tag::{MOST_MEMBERS, Refusal};
+use tag::Refusal;
 
 /// Makes the value of `len` bytes of which these are lawful pieces. Memory is asked for only where there is such a
 /// value, so that bad pieces are always told.
@@ -43,7 +43,7 @@ pub(crate) fn make_with(
     Ok(made_blocks(alloc, tables, table, fragments, len, block_len)?)
 }
 
-/// The first `len` bytes of the blocks, of `size` bytes each. All are made whole, in as few passes, and then cut.
+/// The first `len` bytes of the blocks, of `size` bytes each.
 fn made_blocks(
     alloc: Global,
     tables: &mut [Tables],
@@ -58,15 +58,11 @@ fn made_blocks(
     requires room { length fragments.now ≤ length tables.old }
     requires within { len ≤ length fragments.now * size }
     requires fits { length fragments.now * size < 2 ^ 64 }
-    requires most { length fragments.now ≤ MOST_MEMBERS }
-    requires lens { (j : ℕ) → j < length fragments.now
-        → length (slice_index_or (bytes_of fragments.now) j []) ≡ size }
     ensures len { IfOk result (λ out. length out.items ≡ len) }
     ensures bytes { IfOk result (λ out. AreBlockBytes out.items size table.now (bytes_of fragments.now)) }
 {
-    let mut out = vec![in alloc; 0u8; fragments.len() * size]?;
+    let mut out = vec![in alloc; 0u8; len]?;
     write_blocks(&mut out, tables, table, fragments, size);
-    out.truncate(len);
     Ok(out)
 }
 

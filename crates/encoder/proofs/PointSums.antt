@@ -1,6 +1,6 @@
 -- Sums by the powers of points, and the fragments that they are.
 use Rattle.std.proofs.Common.{◌≡◌, ℕ, ◌+◌, ◌-◌, ◌*◌, ◌<◌, ◌≤◌, lit<, List}
-use Rattle.std.proofs.Common.{length, get_or, take, drop, sym, ap, subst, ◌∙◌, arith, ⊎_elim}
+use Rattle.std.proofs.Common.{length, get_or, take, drop, sym, ap, subst, ◌∙◌, arith, ⊎_elim, mul-le-mul_right}
 use Rattle.std.proofs.Common.{get_or-drop, get_or-take, length-take, length-drop}
 use Rattle.std.proofs.lemmas.Bool.{cases_lt}
 use Rattle.std.proofs.lemmas.Grind.{same_number_lists}
@@ -8,18 +8,19 @@ use Rattle.gf256.specs.Field.{field_product, field_power, field_sum}
 use Rattle.gf256.proofs.Sums.{field_sum_same}
 use Rattle.std.specs.List.{slice_range}
 use Rattle.dot_kernel.specs.Dot.{dot_byte, term}
+use Rattle.dot_kernel.specs.Line.{ArePowers}
 use Rattle.encoder.specs.Fragment.{fragment_len, fragment_byte, fragment}
 use Rattle.encoder.specs.Points.{AreBlocks, ArePoints, AreFragments}
 use Rattle.encoder.proofs.Columns.{length-fragment, get_or-fragment}
 use Rattle.encoder.proofs.Places.{rows_apart}
 
--- more rows below those that are made
-pub ArePoints-more : (old new : List ℕ) (done rows : ℕ) (sources : List (List ℕ)) (size first : ℕ)
-    → ((r b : ℕ) → r < rows → b < size
+-- more rows that are made up to `until`
+pub ArePowers-more : (old new : List ℕ) (done rows : ℕ) (sources : List (List ℕ)) (size until first : ℕ) → until ≤ size
+    → ((r b : ℕ) → r < rows → b < until
     → get_or new (done * size + (r * size + b)) 0 ≡ dot_byte (field_power (first + done + r)) sources b)
     → ((n : ℕ) → n < done * size → get_or new n 0 ≡ get_or old n 0)
-    → ArePoints old done sources size first → ArePoints new (done + rows) sources size first
-ArePoints-more old new done rows sources size first inside before known r b hr hb =
+    → ArePowers old done sources size until first → ArePowers new (done + rows) sources size until first
+ArePowers-more old new done rows sources size until first short inside before known r b hr hb =
     ⊎_elim (λ low. before (r * size + b) (omega (arith, rows_apart r done size low)) ∙ known r b low hb)
     (λ high.
     let q = r - done in
@@ -28,6 +29,31 @@ ArePoints-more old new done rows sources size first inside before known r b hr h
     let place : done * size + (q * size + b) ≡ r * size + b = omega (arith, ap (λ n. n * size) row) in
     ap (λ n. get_or new n 0) (sym place) ∙ inside q b (omega arith) hb ∙ ap (λ x. dot_byte (field_power x) sources b) point)
     (cases_lt r done)
+
+-- from row `done` on the rows have their sums up to `from`
+abbrev pub ArePowersLeft : List ℕ → ℕ → ℕ → List (List ℕ) → ℕ → ℕ → ℕ → Type 0
+ArePowersLeft out done rows sources size from first =
+    (r b : ℕ) → done ≤ r → r < rows → b < from → get_or out (r * size + b) 0 ≡ dot_byte (field_power (first + r)) sources b
+
+-- as the next pass finds its rows
+pub rows_left : (out : List ℕ) (done rows all : ℕ) (sources : List (List ℕ)) (size from first : ℕ) → done + rows ≤ all
+    → ArePowersLeft out done all sources size from first
+    → (r b : ℕ) → r < rows → b < from
+    → get_or out (done * size + (r * size + b)) 0 ≡ dot_byte (field_power (first + done + r)) sources b
+rows_left out done rows all sources size from first few known r b hr hb =
+    let split : (done + r) * size ≡ done * size + r * size = omega arith in
+    let place : done * size + (r * size + b) ≡ (done + r) * size + b = omega arith in
+    let point : first + (done + r) ≡ first + done + r = omega arith in
+    ap (λ n. get_or out n 0) place ∙ known (done + r) b (omega arith) (omega arith) hb
+    ∙ ap (λ x. dot_byte (field_power x) sources b) point
+
+-- and those behind it are as they were
+pub ArePowersLeft-less : (old new : List ℕ) (done rows all : ℕ) (sources : List (List ℕ)) (size from first : ℕ)
+    → ((n : ℕ) → done * size + rows * size ≤ n → get_or new n 0 ≡ get_or old n 0)
+    → ArePowersLeft old done all sources size from first → ArePowersLeft new (done + rows) all sources size from first
+ArePowersLeft-less old new done rows all sources size from first after known r b hd hr hb =
+    let split : (done + rows) * size ≡ done * size + rows * size = omega arith in
+    after (r * size + b) (omega (arith, mul-le-mul_right size hd)) ∙ known r b (omega arith) hr hb
 
 -- with a value's blocks as the sources they are its fragments
 pub AreFragments-points : (out : List ℕ) (n k size first : ℕ) (value : List ℕ) (sources : List (List ℕ))

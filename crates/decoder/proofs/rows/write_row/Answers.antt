@@ -1,7 +1,6 @@
 use Rattle.std.proofs.Common.{◌≡◌, ◌+◌, ◌*◌, ◌<◌, ◌≤◌, ◌-◌, length, get_or, sym, ap, ◌∙◌, arith}
 use borrow.Rule.Slice.PartMut.{put_mid}
-use Rattle.encoder.proofs.Places.{rows_apart}
-use Rattle.decoder.proofs.Table.{get_or-middle}
+use Rattle.encoder.proofs.Places.{get_or-middle, rows_apart}
 use Rattle.decoder.proofs.rows.write_row.Goals as goal
 
 pub returns-clause-row : goal.returns-clause-row

@@ -1,15 +1,15 @@
-use Rattle.std.proofs.Common.{◌≡◌, ◌<◌, ◌+◌, ◌*◌, ◌/◌, ◌%◌, length, arith, div-add-mod', mod-lt}
+use Rattle.std.proofs.Common.{length, arith}
 use Rattle.dot_kernel.specs.Dot.{bytes_of}
-use Rattle.decoder.proofs.Table.{AreBlockBytes-rest}
+use Rattle.decoder.proofs.Table.{AreBlockBytes-until}
 use Rattle.decoder.proofs.sums.write_blocks.Goals as goal
 
-pub returns-then-is_cut : goal.returns-then-is_cut
-returns-then-is_cut c =
-    let size = c.args.size in
-    let len = length c.args.out.now in
-    let some : 0 < size = omega arith in
-    let short = mod-lt len some in
-    let split : len / size * size + len % size ≡ len = div-add-mod' len size in
-    AreBlockBytes-rest c.write_all.new.out c.write_rows.new.out (len / size) (len % size) size c.args.table.now
-    (bytes_of c.args.fragments.now) (omega arith) (omega arith)
-    c.write_rows.ensures.inside c.write_rows.ensures.before c.write_all.ensures
+pub loop-from-init : goal.loop-from-init
+loop-from-init c = record { within = omega arith; blocks = λ j b hj hb there. absurd (omega arith) }
+
+pub loop-from-preserved : goal.loop-from-preserved
+loop-from-preserved c = record { within = omega arith; blocks = c.write_stripe.ensures c.loop-from.invariant.blocks }
+
+pub returns : goal.returns
+returns c =
+    AreBlockBytes-until c.loop-from.out (length c.args.fragments.now) c.args.size c.loop-from.from c.args.table.now
+    (bytes_of c.args.fragments.now) (omega arith) (omega arith) c.loop-from.invariant.blocks

@@ -2,7 +2,7 @@ use Rattle.std.proofs.Common.{◌≡◌, ℕ, ◌*◌, length, sym, ap, subst, �
 use Rattle.dot_kernel.specs.Dot.{bytes_of}
 use Rattle.dot_kernel.proofs.LaneSums.{length-bytes_of}
 use Rattle.decoder.specs.Rows.{AreBlockBytes, HaveColumnSums}
-use Rattle.decoder.proofs.Parts.{fragment_at-len, other_count}
+use Rattle.decoder.proofs.Parts.{other_count}
 use Rattle.decoder.proofs.Summed.{whole_fits, whole_holds}
 use Rattle.decoder.proofs.value.make_with.Goals as goal
 
@@ -51,21 +51,6 @@ made_blocks-requires-clause-fits c =
     ∙ other_count c.args.k c.args.len c.args.points.now (bytes_of fragments) c.requires.lawful in
     whole_fits c.args.k c.args.len c.args.points.now (bytes_of fragments) c.requires.lawful c.requires.bytes
     (length fragments) c.div_ceil-block_len.result is_k c.div_ceil-block_len.ensures
-
-pub made_blocks-requires-clause-most : goal.made_blocks-requires-clause-most
-made_blocks-requires-clause-most c =
-    let fragments = c.args.fragments.now in
-    let is_k = sym (length-bytes_of fragments)
-    ∙ other_count c.args.k c.args.len c.args.points.now (bytes_of fragments) c.requires.lawful in
-    let lawful = c.requires.lawful.lawful in
-    omega (arith, is_k, lawful.most)
-
-pub made_blocks-requires-clause-lens : goal.made_blocks-requires-clause-lens
-made_blocks-requires-clause-lens c j hj =
-    let fragments = c.args.fragments.now in
-    let same = length-bytes_of fragments in
-    fragment_at-len c.args.k c.args.len c.args.points.now (bytes_of fragments) c.requires.lawful j (omega arith)
-    ∙ sym c.div_ceil-block_len.ensures
 
 pub returns-clause-interpolated : goal.returns-clause-interpolated
 returns-clause-interpolated c =

@@ -2,8 +2,8 @@ use Rattle.std.proofs.Common.{◌≡◌, ℕ, ◌*◌, length, sym, ap, subst, �
 use Rattle.dot_kernel.specs.Dot.{bytes_of}
 use Rattle.dot_kernel.proofs.LaneSums.{length-bytes_of}
 use Rattle.decoder.specs.Rows.{AreBlockBytes, HaveColumnSums}
-use Rattle.decoder.proofs.Parts.{fragment_at-len, other_count}
-use Rattle.decoder.proofs.Summed.{whole_holds}
+use Rattle.decoder.proofs.Parts.{other_count}
+use Rattle.decoder.proofs.Summed.{whole_fits, whole_holds}
 use Rattle.decoder.proofs.value.write_with.Goals as goal
 
 pub write_blocks-requires-clause-some : goal.write_blocks-requires-clause-some
@@ -36,6 +36,14 @@ write_blocks-requires-clause-room c =
     ∙ other_count c.args.k (length c.args.out.now) c.args.points.now (bytes_of fragments) c.requires.lawful in
     omega (arith, is_k, c.requires.tables)
 
+pub write_blocks-requires-clause-fits : goal.write_blocks-requires-clause-fits
+write_blocks-requires-clause-fits c =
+    let fragments = c.args.fragments.now in
+    let is_k = sym (length-bytes_of fragments)
+    ∙ other_count c.args.k (length c.args.out.now) c.args.points.now (bytes_of fragments) c.requires.lawful in
+    whole_fits c.args.k (length c.args.out.now) c.args.points.now (bytes_of fragments) c.requires.lawful c.requires.bytes
+    (length fragments) c.div_ceil-block_len.result is_k c.div_ceil-block_len.ensures
+
 pub write_blocks-requires-clause-within : goal.write_blocks-requires-clause-within
 write_blocks-requires-clause-within c =
     let fragments = c.args.fragments.now in
@@ -43,21 +51,6 @@ write_blocks-requires-clause-within c =
     ∙ other_count c.args.k (length c.args.out.now) c.args.points.now (bytes_of fragments) c.requires.lawful in
     whole_holds c.args.k (length c.args.out.now) c.args.points.now (bytes_of fragments) c.requires.lawful c.requires.bytes
     (length fragments) c.div_ceil-block_len.result is_k c.div_ceil-block_len.ensures
-
-pub write_blocks-requires-clause-most : goal.write_blocks-requires-clause-most
-write_blocks-requires-clause-most c =
-    let fragments = c.args.fragments.now in
-    let is_k = sym (length-bytes_of fragments)
-    ∙ other_count c.args.k (length c.args.out.now) c.args.points.now (bytes_of fragments) c.requires.lawful in
-    let lawful = c.requires.lawful.lawful in
-    omega (arith, is_k, lawful.most)
-
-pub write_blocks-requires-clause-lens : goal.write_blocks-requires-clause-lens
-write_blocks-requires-clause-lens c j hj =
-    let fragments = c.args.fragments.now in
-    let same = length-bytes_of fragments in
-    fragment_at-len c.args.k (length c.args.out.now) c.args.points.now (bytes_of fragments) c.requires.lawful j (omega arith)
-    ∙ sym c.div_ceil-block_len.ensures
 
 pub returns-clause-interpolated : goal.returns-clause-interpolated
 returns-clause-interpolated c =

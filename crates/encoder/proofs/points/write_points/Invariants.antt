@@ -1,11 +1,12 @@
 use Rattle.std.proofs.Common.{◌-◌, ◌≤◌}
 use Rattle.dot_kernel.specs.Dot.{bytes_of}
-use Rattle.encoder.specs.Points.{ArePoints}
+use Rattle.dot_kernel.specs.Line.{ArePowers}
 use Rattle.encoder.proofs.points.write_points.Given as goal
 
--- the rows so far
-abbrev pub invariant-loop-done : goal.invariant-loop-done
-invariant-loop-done l = record { within : l.done ≤ l.n; rows : ArePoints l.out l.done (bytes_of l.sources) l.size l.first }
+-- the stripes so far
+abbrev pub invariant-loop-from : goal.invariant-loop-from
+invariant-loop-from l =
+    record { within : l.from ≤ l.size; rows : ArePowers l.out l.n (bytes_of l.sources) l.size l.from l.first }
 
-abbrev pub decreases-loop-done : goal.decreases-loop-done
-decreases-loop-done l = l.n - l.done
+abbrev pub decreases-loop-from : goal.decreases-loop-from
+decreases-loop-from l = l.size - l.from
