@@ -13,6 +13,7 @@ pub mod Leaving
 pub mod Least
 pub mod Lists
 pub mod Mails
+pub mod Mays
 pub mod Moved
 pub mod Moving
 pub mod Opened

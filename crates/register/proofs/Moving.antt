@@ -144,11 +144,11 @@ moved_is c now number from source layout is_last is =
         (found_map (λ (p : Position). p.layout) c.positions from is_last.position is_last.at)) ∙ sym is_last.same
 
 -- where no move is open
-no_open : (c : Contents) → IsKept c → c.is_moving ≡ false → NoOpenMove (state_of c).object
-no_open c kept none index call at kind = go call.answered refl
+pub none_open : (object : Object) → has_open_move object.calls ≡ false → NoOpenMove object
+none_open object none index call at kind = go call.answered refl
   where
     closed : is_open_move call ≡ false
-    closed = none_any is_open_move (state_of c).object.calls index call (sym kept.moving ∙ none) at
+    closed = none_any is_open_move object.calls index call none at
 
     go : (o : Option ℕ) → call.answered ≡ o → IsSome call.answered
     go None e = true_false (sym (ap (λ k. is_move k && not (is_some call.answered)) kind ∙ ap (λ (o : Option ℕ). not (is_some o)) e)
@@ -157,6 +157,9 @@ no_open c kept none index call at kind = go call.answered refl
         true_false : true ≡ false → IsSome call.answered
         true_false e = absurd (cc)
     go (Some step) e = ap (λ (o : Option ℕ). is_some o) e
+
+no_open : (c : Contents) → IsKept c → c.is_moving ≡ false → NoOpenMove (state_of c).object
+no_open c kept none = none_open (state_of c).object (sym kept.moving ∙ none)
 
 take_all : (calls : List Call) → moves_in (take (length calls) calls) ≡ moves_in calls
 take_all [] = refl

@@ -44,7 +44,7 @@ plain_phase (Some p) e = (p, refl, not_true (is_pre_write p.kind) e)
     not_true true e = absurd (cc)
     not_true false e = refl
 
-no_pre : (kind : Kind) → is_pre_write kind ≡ false → (tag : Tag) → kind ≡ PreWrite tag → ⊥
+pub no_pre : (kind : Kind) → is_pre_write kind ≡ false → (tag : Tag) → kind ≡ PreWrite tag → ⊥
 no_pre kind plain tag e = true_false (sym (ap is_pre_write e) ∙ plain)
   where
     true_false : true ≡ false → ⊥

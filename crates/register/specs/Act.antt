@@ -3,6 +3,9 @@
 use Rattle.std.specs.Prelude.{ℕ, suc, pred, Bool, true, false, length, Option, Some, option_map, Result}
 use Rattle.tag.specs.Refusal.{IsByCause, IsExactlyByCause}
 use Rattle.tag.specs.declared.refusal.Refusal.{Refusal}
+use Rattle.layout.specs.Layout.{IsLawful}
+use Rattle.decoder.specs.Decoded.{IsDecoded}
+use Rattle.record.specs.Fragments.{AreBytes}
 use Rattle.record.specs.Records.{Object}
 use Rattle.record.specs.Steps.{Step}
 use Rattle.register.specs.declared.act.Act.{Act}
@@ -29,6 +32,14 @@ step_of (act.Serve place) = Step.Serve place
 step_of (act.Take place) = Step.Take place
 step_of (act.Lose place) = Step.Lose place
 step_of (act.Repeat place) = Step.Repeat place
+
+-- the values of an act are as their types make them: the value of a write consists of bytes, the layout of a move is
+-- lawful, and the value of a settle was decoded
+abbrev pub HasLawfulValues : Act → Type 0
+HasLawfulValues (act.CallWrite value) = AreBytes value
+HasLawfulValues (act.CallMove layout) = IsLawful layout
+HasLawfulValues (act.Settle call decoded) = IsDecoded decoded
+HasLawfulValues _ = Unit {0}
 
 -- the cause of refusal of an act, if there is one
 abbrev pub act_cause : Act → (now : ℕ) → Object → Option Refusal

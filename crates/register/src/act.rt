@@ -1,7 +1,8 @@
 //! A step that a caller asks for, as one value.
 
 ghost use Rattle.std.specs.Prelude.{◌≡◌, ◌<◌, Some, IfOk, OnOk, OnErr};
-ghost use Rattle.register.specs.Act.{IsActCause, act_cause, answered_by, step_of};
+ghost use Rattle.record.specs.Fragments.{AreBytes};
+ghost use Rattle.register.specs.Act.{HasLawfulValues, IsActCause, act_cause, answered_by, step_of};
 ghost use Rattle.register.specs.State.{made};
 
 use crate::receipt::Receipt;
@@ -56,6 +57,32 @@ pub enum Answered {
     Took(Took),
     /// Any other act returns nothing.
     Nothing,
+}
+
+impl Act {
+    /// A law: the values of an act are as their types make them. It changes nothing and allocates no memory.
+    pub fn values_are_lawful(&self)
+        ensures { HasLawfulValues self.now }
+    {
+        // Reading a value gives the prover what its type promises.
+        match self {
+            Act::CallWrite(value) => are_bytes(value.as_slice()),
+            Act::CallMove(layout) => {
+                layout.k();
+            }
+            Act::Settle(_, decoded) => {
+                decoded.value();
+            }
+            _ => (),
+        }
+    }
+}
+
+// A law: a value consists of bytes.
+fn are_bytes(value: &[u8])
+    ensures { AreBytes value.now }
+{
+    let _ = value.len();
 }
 
 impl Register {

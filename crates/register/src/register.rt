@@ -11,6 +11,7 @@ use tag::{Refusal, Stamp};
 
 mod calls;
 mod coding;
+mod laws;
 mod messages;
 mod phases;
 mod retiring;

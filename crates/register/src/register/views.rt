@@ -8,9 +8,7 @@ ghost use Rattle.record.specs.Accounts.{stored, mailed};
 ghost use Rattle.record.specs.Journals.{entries, entry_of, stage_tag};
 ghost use Rattle.record.specs.Records.{base_of, layout_at};
 ghost use Rattle.record.specs.Wants.{fetched_or};
-ghost use Rattle.encoder.specs.Fragment.{fragment};
-ghost use Rattle.record.specs.Sound.{IsSound};
-ghost use Rattle.register.specs.Kept.{IsWithinLimits, has_open_move};
+ghost use Rattle.register.specs.Kept.{has_open_move};
 ghost use Rattle.register.specs.Causes.{call_at, number_cause};
 ghost use Rattle.register.specs.Position.{all_bytes};
 ghost use Rattle.register.specs.View.{view_at, value_at, phases_at, tag_at, bank_there};
@@ -28,15 +26,6 @@ use tag::{CallId, Refusal, Tag};
 use transfer::stage_tag;
 
 impl Register {
-    /// A law: the record is sound and within the limits of `tag`. It changes nothing and allocates no memory.
-    pub fn soundness(&self)
-        ensures sound { IsSound fragment self.now.object self.now.last }
-        ensures limits { IsWithinLimits self.now.object }
-    {
-        // Reading a field makes the invariant of the type known here.
-        let _ = &self.positions;
-    }
-
     /// Whether the object has a move that is not answered.
     pub fn is_moving(&self) -> bool
         ensures { result ≡ has_open_move self.now.object.calls }
