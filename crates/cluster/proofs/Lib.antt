@@ -5,6 +5,7 @@ pub mod Growing
 pub mod Keeping
 pub mod Laws
 pub mod Loading
+pub mod Mays
 pub mod Moves
 pub mod Opening
 pub mod Parts

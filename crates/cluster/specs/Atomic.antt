@@ -6,7 +6,7 @@ use Rattle.encoder.specs.Fragment.{fragment}
 use Rattle.bank.specs.Collect.{final_pieces}
 use Rattle.phase.specs.Phase.{Phase}
 use Rattle.record.specs.Atomic.{IsAtomic}
-use Rattle.record.specs.Fragments.{AreCoded, HasDropped, HasEnough, IsFetch}
+use Rattle.record.specs.Fragments.{AreCoded, HasDropped, HasEnough, IsFetch, kind_tag}
 use Rattle.record.specs.Lacking.{IsLackingFetch, IsOverlapped}
 use Rattle.record.specs.Journals.{entries, IsJournaled, ReadsJournaled}
 use Rattle.record.specs.Records.{Call, IsRetiredBy, Object, bank_at, layout_at}
@@ -24,8 +24,8 @@ AreSound cluster = AllByRecursion (λ o. IsSound fragment o.state.object o.state
 abbrev pub AreWithinLimits : Cluster → Type 0
 AreWithinLimits cluster = AllByRecursion (λ o. IsWithinLimits o.state.object) cluster.objects
 
--- each tag in a bank, message or phase is in its object's journal,
--- and each piece is its member's fragment of the journal's value
+-- each tag in a bank, a message or a taken reply is in its object's journal, and each piece is its member's fragment of
+-- the journal's value
 abbrev pub AreFragments : Cluster → Type 0
 AreFragments cluster = AllByRecursion (λ o. AreCoded fragment o.state.object) cluster.objects
 
@@ -41,6 +41,13 @@ FetchesHaveEnough object =
     (index place end : ℕ) (call : Call) (phase : Phase) → slice_get object.calls index ≡ Some call →
     slice_get call.phases place ≡ Some phase → (fetch : IsFetch phase.kind) → phase.end ≡ Some end →
     HasEnough object phase ⊎ HasDropped object phase fetch.0
+
+-- each tag that a phase carries, in a pre-write, a finalize or a fetch, is in the journal, even if no reply has come
+abbrev pub CarriesJournaled : Object → Type 0
+CarriesJournaled object =
+    (index place : ℕ) (call : Call) (phase : Phase) (tag : Tag) → slice_get object.calls index ≡ Some call →
+    slice_get call.phases place ≡ Some phase → kind_tag phase.kind ≡ Some tag →
+    (value : List ℕ) × IsJournaled object tag value
 
 -- the journal has one value for a tag
 abbrev pub HasOneValue : Object → Type 0
@@ -76,6 +83,10 @@ LackWhereOvertaken cluster = AllByRecursion (λ o. LacksWhereOvertaken o.state.o
 -- each answered read of each object returns the journal's value of its tag
 abbrev pub AreJournaled : Cluster → Type 0
 AreJournaled cluster = AllByRecursion (λ o. ReadsJournaled o.state.object) cluster.objects
+
+-- each tag that a phase of any object carries is in that object's journal
+abbrev pub CarryJournaled : Cluster → Type 0
+CarryJournaled cluster = AllByRecursion (λ o. CarriesJournaled o.state.object) cluster.objects
 
 -- the journal of each object has one value for a tag
 abbrev pub HaveOneValue : Cluster → Type 0

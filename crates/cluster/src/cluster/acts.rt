@@ -5,6 +5,7 @@ ghost use Rattle.register.specs.Act.{IsActCause, act_cause, answered_by, step_of
 ghost use Rattle.cluster.specs.Acts.{IsReady, begun_by};
 ghost use Rattle.cluster.specs.Causes.{next, object_cause};
 ghost use Rattle.cluster.specs.Cluster.{if_named, place_of};
+ghost use Rattle.cluster.specs.May.{MayMake};
 ghost use Rattle.cluster.specs.Steps.{stepped};
 
 use crate::cluster::Cluster;
@@ -17,6 +18,7 @@ impl Cluster {
     pub(crate) fn act(&mut self, name: &str, act: Act) -> Result<Answered, Refusal>
         requires ready { IsReady (length self.old.servers) act }
         ensures step { OnOk result (self.new ≡ stepped self.old name.entry.now (step_of act)) }
+        ensures may { OnOk result (MayMake self.old name.entry.now (step_of act)) }
         ensures answered { IfOk result (λ a. if_named self.old name.entry.now
             (answered_by act (place_of self.old.objects name.entry.now) (next self.old)) ≡ Some a) }
         ensures cause { IsActCause act (object_cause self.old name.entry.now (act_cause act (next self.old))) result }
@@ -27,7 +29,9 @@ impl Cluster {
         };
         let now = self.counter + 1;
         let begun = begun(&act);
+        act.values_are_lawful();
         let register = &mut self.objects[place];
+        register.allowed_steps_may_be_made();
         let waited = waiting(register);
         match register.act(act, place as u32, now) {
             Ok(answered) => {

@@ -1,15 +1,27 @@
 //! What holds of every cluster, whatever steps made it.
 
+ghost use Rattle.std.specs.Prelude.{◌≡◌, ℕ, List, None};
+ghost use Rattle.std.specs.List.{AllByRecursion};
+ghost use Rattle.layout.specs.Layout.{IsLawful};
+ghost use Rattle.record.specs.Steps.{Step};
+ghost use Rattle.register.specs.Act.{HasLawfulValues, act_cause, step_of};
+ghost use Rattle.register.specs.Retiring.{retire_cause};
+ghost use Rattle.register.specs.declared.act.Act.{Act};
 ghost use Rattle.cluster.specs.Accounts.{banks_all, calls};
 ghost use Rattle.cluster.specs.Atomic.{AreAtomic, AreFragments, AreJournaled, AreSound, AreSums, AreWithinLimits};
-ghost use Rattle.cluster.specs.Atomic.{HaveEnough, HaveOneValue, KeepFew, LackWhereOvertaken};
+ghost use Rattle.cluster.specs.Atomic.{CarryJournaled, HaveEnough, HaveOneValue, KeepFew, LackWhereOvertaken};
+ghost use Rattle.cluster.specs.Causes.{moving_cause, next, object_cause, serving_cause};
+ghost use Rattle.cluster.specs.Cluster.{layout_of};
 ghost use Rattle.cluster.specs.Kept.{IsKeptCluster};
+ghost use Rattle.cluster.specs.May.{MayMake};
 
 use crate::cluster::{Accounts, Cluster};
 use history::atomic;
+use layout::Layout;
 use record::{
     complete_fetches_have_enough, few_pieces_are_kept, fragments_are_a_code,
     journaled_values_are_unique, lacking_fetches_are_overlapped, reads_return_journaled_values,
+    sent_tags_are_journaled,
 };
 
 impl Cluster {
@@ -24,6 +36,8 @@ impl Cluster {
     /// - `few`: a bank of an object with `delta` keeps at most `delta` + 1 pieces of finalized tags.
     /// - `overtaken`: a read's fetch lacks pieces only where its position was retired, or at least `delta` + 1 newer
     ///   writes overtook it.
+    /// - `phases`: each tag that a phase carries, in a pre-write, a finalize or a fetch, is in the object's journal,
+    ///   even if no reply has come yet.
     /// - `reads`, `journal`: an answered read returns the journal's value of its tag, and the journal has one value for
     ///   a tag.
     /// - `accounts`: the accounts that are returned are the exact sums of the pieces' bytes.
@@ -33,6 +47,7 @@ impl Cluster {
         ensures enough { HaveEnough self.now }
         ensures few { KeepFew self.now }
         ensures overtaken { LackWhereOvertaken self.now }
+        ensures phases { CarryJournaled self.now }
         ensures reads { AreJournaled self.now }
         ensures journal { HaveOneValue self.now }
         ensures accounts { AreSums self.now result }
@@ -42,6 +57,7 @@ impl Cluster {
         complete_fetches_have_enough();
         few_pieces_are_kept();
         lacking_fetches_are_overlapped();
+        sent_tags_are_journaled();
         reads_return_journaled_values();
         journaled_values_are_unique();
         for register in self.objects.values() {
@@ -61,5 +77,39 @@ impl Cluster {
         for register in self.objects.values() {
             register.soundness();
         }
+    }
+
+    /// A law: a step of an object that no cause refuses may be made, as `record` defines it. It changes nothing and
+    /// allocates no memory. The causes are those in the contracts of the methods:
+    ///
+    /// - `acts`: of every method that makes a step of an object, but for the next three.
+    /// - `moves`, `serves`, `retires`: of `call_move`, `serve` and `retire`.
+    pub fn allowed_steps_may_be_made(&self)
+        ensures acts { (name : List ℕ) (act : Act) → HasLawfulValues act
+            → object_cause self.now name (act_cause act (next self.now)) ≡ None → MayMake self.now name (step_of act) }
+
+        ensures moves { (name : List ℕ) (id : ℕ) → object_cause self.now name (moving_cause self.now id) ≡ None
+            → MayMake self.now name (Step.CallMove (layout_of self.now id)) }
+
+        ensures serves { (name : List ℕ) (place : ℕ) → object_cause self.now name (serving_cause self.now place) ≡ None
+            → MayMake self.now name (Step.Serve place) }
+
+        ensures retires { (name : List ℕ) (position : ℕ)
+            → object_cause self.now name (λ object. retire_cause (next self.now) object position) ≡ None
+            → MayMake self.now name Step.Retire }
+    {
+        are_lawful(&self.layouts);
+        for register in self.objects.values() {
+            register.allowed_steps_may_be_made();
+        }
+    }
+}
+
+// A law: the layouts are lawful.
+fn are_lawful(layouts: &[Layout])
+    ensures { AllByRecursion IsLawful layouts.now }
+{
+    for layout in layouts {
+        layout.k();
     }
 }

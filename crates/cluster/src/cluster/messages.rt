@@ -7,6 +7,7 @@ ghost use Rattle.record.specs.Steps.{Step};
 ghost use Rattle.register.specs.Causes.{take_cause, lose_cause, repeat_cause};
 ghost use Rattle.register.specs.View.{took_at};
 ghost use Rattle.cluster.specs.Cluster.{Cluster as Store, if_named, is_reached};
+ghost use Rattle.cluster.specs.May.{MayMake};
 ghost use Rattle.cluster.specs.Steps.{stepped};
 ghost use Rattle.cluster.specs.Serving.{GoesTo, IsOf};
 ghost use Rattle.cluster.specs.Causes.{next, object_cause, serving_cause, can_handle, handled_at, place_cause};
@@ -27,6 +28,7 @@ impl Cluster {
     /// bytes of the request's piece and all that the cluster stores are together more than `MOST_BYTES`.
     pub fn serve(&mut self, name: &str, place: usize) -> Result<(), Refusal>
         ensures step { OnOk result (self.new ≡ stepped self.old name.entry.now (Step.Serve place)) }
+        ensures may { OnOk result (MayMake self.old name.entry.now (Step.Serve place)) }
         ensures cause { IsByCause (object_cause self.old name.entry.now (serving_cause self.old place)) result }
         ensures unchanged { OnErr result (self.new ≡ self.old) }
     {
@@ -34,6 +36,7 @@ impl Cluster {
             return Err(Refusal::NoObject);
         };
         let register = &mut self.objects[index];
+        register.allowed_steps_may_be_made();
         let server = match room_to_serve(
             &self.servers,
             register,
@@ -67,6 +70,7 @@ impl Cluster {
     /// is a request, and `Full` where the counter is at `MOST_STEPS`.
     pub fn take(&mut self, name: &str, place: usize) -> Result<Took, Refusal>
         ensures step { OnOk result (self.new ≡ stepped self.old name.entry.now (Step.Take place)) }
+        ensures may { OnOk result (MayMake self.old name.entry.now (Step.Take place)) }
         ensures took { IfOk result
             (λ t. if_named self.old name.entry.now (λ object. Some (took_at object place)) ≡ Some t) }
         ensures cause { IsExactlyByCause
@@ -86,6 +90,7 @@ impl Cluster {
     /// the counter is at `MOST_STEPS`.
     pub fn lose(&mut self, name: &str, place: usize) -> Result<(), Refusal>
         ensures step { OnOk result (self.new ≡ stepped self.old name.entry.now (Step.Lose place)) }
+        ensures may { OnOk result (MayMake self.old name.entry.now (Step.Lose place)) }
         ensures cause { IsExactlyByCause
             (object_cause self.old name.entry.now (λ object. lose_cause (next self.old) object place)) result }
         ensures unchanged { OnErr result (self.new ≡ self.old) }
@@ -102,6 +107,7 @@ impl Cluster {
     /// the counter is at `MOST_STEPS` or `MOST_MESSAGES` messages of the object wait.
     pub fn repeat(&mut self, name: &str, place: usize) -> Result<(), Refusal>
         ensures step { OnOk result (self.new ≡ stepped self.old name.entry.now (Step.Repeat place)) }
+        ensures may { OnOk result (MayMake self.old name.entry.now (Step.Repeat place)) }
         ensures cause { IsByCause
             (object_cause self.old name.entry.now (λ object. repeat_cause (next self.old) object place)) result }
         ensures unchanged { OnErr result (self.new ≡ self.old) }

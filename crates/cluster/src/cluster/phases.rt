@@ -7,6 +7,7 @@ ghost use Rattle.register.specs.Causes.{number_cause, advance_cause, again_cause
 ghost use Rattle.register.specs.Causes.{supply_cause, pieces_cause, settle_cause};
 ghost use Rattle.register.specs.View.{want_at, coding_at, pieces_at};
 ghost use Rattle.cluster.specs.Cluster.{if_named};
+ghost use Rattle.cluster.specs.May.{MayMake};
 ghost use Rattle.cluster.specs.Steps.{stepped};
 ghost use Rattle.cluster.specs.Causes.{next, object_cause};
 
@@ -40,6 +41,7 @@ impl Cluster {
     /// requests would make more than `MOST_MESSAGES` waiting messages of the object.
     pub fn advance(&mut self, name: &str, call: CallId) -> Result<(), Refusal>
         ensures step { OnOk result (self.new ≡ stepped self.old name.entry.now (Step.Advance (pred call))) }
+        ensures may { OnOk result (MayMake self.old name.entry.now (Step.Advance (pred call))) }
         ensures cause { IsByCause
             (object_cause self.old name.entry.now (λ object. advance_cause (next self.old) object call)) result }
         ensures unchanged { OnErr result (self.new ≡ self.old) }
@@ -57,6 +59,7 @@ impl Cluster {
     /// wants to be restarted, and `Full` as for `advance`.
     pub fn again(&mut self, name: &str, call: CallId) -> Result<(), Refusal>
         ensures step { OnOk result (self.new ≡ stepped self.old name.entry.now (Step.Again (pred call))) }
+        ensures may { OnOk result (MayMake self.old name.entry.now (Step.Again (pred call))) }
         ensures cause { IsByCause
             (object_cause self.old name.entry.now (λ object. again_cause (next self.old) object call)) result }
         ensures unchanged { OnErr result (self.new ≡ self.old) }
@@ -92,6 +95,7 @@ impl Cluster {
     /// object.
     pub fn supply(&mut self, name: &str, call: CallId, coded: Coded) -> Result<(), Refusal>
         ensures step { OnOk result (self.new ≡ stepped self.old name.entry.now (Step.Supply (pred call))) }
+        ensures may { OnOk result (MayMake self.old name.entry.now (Step.Supply (pred call))) }
         ensures cause { IsByCause
             (object_cause self.old name.entry.now (λ object. supply_cause (next self.old) object call coded)) result }
         ensures unchanged { OnErr result (self.new ≡ self.old) }
@@ -110,6 +114,7 @@ impl Cluster {
     /// the requests would make more than `MOST_MESSAGES` waiting messages of the object.
     pub fn post(&mut self, name: &str, call: CallId) -> Result<(), Refusal>
         ensures step { OnOk result (self.new ≡ stepped self.old name.entry.now (Step.Post (pred call))) }
+        ensures may { OnOk result (MayMake self.old name.entry.now (Step.Post (pred call))) }
         ensures cause { IsByCause
             (object_cause self.old name.entry.now (λ object. post_cause (next self.old) object call)) result }
         ensures unchanged { OnErr result (self.new ≡ self.old) }
@@ -144,6 +149,7 @@ impl Cluster {
     pub fn settle(&mut self, name: &str, call: CallId, decoded: Decoded) -> Result<(), Refusal>
         ensures step { OnOk result
             (self.new ≡ stepped self.old name.entry.now (Step.Settle (pred call) decoded.value)) }
+        ensures may { OnOk result (MayMake self.old name.entry.now (Step.Settle (pred call) decoded.value)) }
         ensures cause { IsExactlyByCause (object_cause self.old name.entry.now
             (λ object. settle_cause (next self.old) object call decoded)) result }
         ensures unchanged { OnErr result (self.new ≡ self.old) }

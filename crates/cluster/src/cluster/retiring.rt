@@ -8,6 +8,7 @@ ghost use Rattle.record.specs.Steps.{Step};
 ghost use Rattle.register.specs.Retiring.{retire_cause};
 ghost use Rattle.cluster.specs.Accounts.{stored_all};
 ghost use Rattle.cluster.specs.Causes.{next, object_cause};
+ghost use Rattle.cluster.specs.May.{MayMake};
 ghost use Rattle.cluster.specs.Steps.{stepped};
 
 use crate::cluster::Cluster;
@@ -24,6 +25,7 @@ impl Cluster {
     /// it was answered, and `Full` where the counter is at `MOST_STEPS`.
     pub fn retire(&mut self, name: &str, position: u64) -> Result<u64, Refusal>
         ensures step { OnOk result (self.new ≡ stepped self.old name.entry.now Step.Retire) }
+        ensures may { OnOk result (MayMake self.old name.entry.now Step.Retire) }
         ensures freed { IfOk result (λ bytes. stored_all self.new + bytes ≡ stored_all self.old) }
         ensures cause { IsExactlyByCause
             (object_cause self.old name.entry.now (λ object. retire_cause (next self.old) object position)) result }
@@ -35,6 +37,7 @@ impl Cluster {
         let now = self.counter + 1;
         let register = &mut self.objects[place];
         register.soundness();
+        register.allowed_steps_may_be_made();
         match register.may_retire(position, now) {
             Ok(()) => (),
             Err(refusal) => return Err(refusal),

@@ -1,10 +1,11 @@
-use Rattle.std.proofs.Common.{◌≡◌, suc, length, Ok, Err, subst, ap, sym, ◌∙◌}
+use Rattle.std.proofs.Common.{◌≡◌, suc, ◌+◌, length, Ok, Err, subst, ap, sym, ◌∙◌}
 use Rattle.register.specs.declared.act.Answered.{Answered}
 use Rattle.cluster.specs.Acts.{IsReady}
 use Rattle.register.specs.Act.{act_cause, answered_by, step_of}
 use Rattle.cluster.specs.Causes.{next}
 use Rattle.cluster.specs.Cluster.{Cluster, place_of}
 use Rattle.cluster.proofs.Acting.{act_at, act_by, act_none, act_some, no_more, no_less}
+use Rattle.cluster.proofs.Mays.{may_at}
 use Rattle.cluster.proofs.Places.{at_place, place_at}
 use Rattle.cluster.proofs.Stepping.{stepped_at, unchanged_at, last_before, cause_at, no_object, next_is, read_at}
 use Rattle.cluster.proofs.Summing.{part_mailed, refused_counted, summed_at}
@@ -48,6 +49,14 @@ returns-in-Ok-clause-step c =
     let at = at_place c.self.inside.objects.entries c.args.name.now c.in-Some.place c.index_mut-register.result.now c.in-Some.ensures.index
     c.index_mut-register.ensures.value in
     stepped_at c.self.view_is at (step_of c.args.act) c.in-Ok.ensures.step
+
+pub returns-in-Ok-clause-may : goal.returns-in-Ok-clause-may
+returns-in-Ok-clause-may c =
+    let at = at_place c.self.inside.objects.entries c.args.name.now c.in-Some.place c.index_mut-register.result.now c.in-Some.ensures.index
+    c.index_mut-register.ensures.value in
+    may_at c.self.view_is at (step_of c.args.act)
+    (c.allowed_steps_may_be_made.ensures.acts c.args.act (c.self.inside.counter + 1) c.values_are_lawful.ensures
+    (act_none c.in-Ok.answered c.args.act c.in-Ok.ensures.cause))
 
 pub returns-in-Ok-clause-cause : goal.returns-in-Ok-clause-cause
 returns-in-Ok-clause-cause c =

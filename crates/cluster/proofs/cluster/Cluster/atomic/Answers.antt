@@ -5,8 +5,8 @@ use Rattle.encoder.specs.Fragment.{fragment}
 use Rattle.record.specs.Atomic.{IsAtomic}
 use Rattle.record.specs.Fragments.{AreCoded}
 use Rattle.record.specs.Journals.{entries, ReadsJournaled}
-use Rattle.cluster.specs.Atomic.{AreAtomic, AreFragments, AreJournaled, FetchesHaveEnough, HasOneValue, HaveEnough, HaveOneValue}
-use Rattle.cluster.specs.Atomic.{KeepFew, KeepsFew, LackWhereOvertaken, LacksWhereOvertaken}
+use Rattle.cluster.specs.Atomic.{AreAtomic, AreFragments, AreJournaled, CarriesJournaled, CarryJournaled, FetchesHaveEnough}
+use Rattle.cluster.specs.Atomic.{HasOneValue, HaveEnough, HaveOneValue, KeepFew, KeepsFew, LackWhereOvertaken, LacksWhereOvertaken}
 use Rattle.cluster.proofs.Laws.{IsObjectAtomic, all_done, all_weaker}
 use Rattle.cluster.proofs.Places.{objects_of}
 use Rattle.cluster.proofs.cluster.Cluster.atomic.Goals as goal
@@ -53,6 +53,14 @@ returns-clause-overtaken c =
     (all_weaker IsObjectAtomic (λ s. LacksWhereOvertaken s.object)
     (λ s held index place end call phase tag lacking.
     c.lacking_fetches_are_overlapped.ensures fragment s.object s.last index place end call phase tag held.sound lacking)
+    (objects_of c.self.inside.objects.entries) (each c))
+
+pub returns-clause-phases : goal.returns-clause-phases
+returns-clause-phases c =
+    subst CarryJournaled c.self.view_is
+    (all_weaker IsObjectAtomic (λ s. CarriesJournaled s.object)
+    (λ s held index place call phase tag at within named.
+    c.sent_tags_are_journaled.ensures fragment s.object s.last index place call phase tag held.sound at within named)
     (objects_of c.self.inside.objects.entries) (each c))
 
 pub returns-clause-reads : goal.returns-clause-reads

@@ -2,6 +2,7 @@ use Rattle.std.proofs.Common.{◌+◌, ◌≤◌, refl, sym, ◌∙◌, arith}
 use Rattle.tag.specs.declared.limits.TheConstants.{MOST_STEPS}
 use Rattle.record.specs.Steps.{Step}
 use Rattle.register.specs.Retiring.{retire_cause}
+use Rattle.cluster.proofs.Mays.{may_at}
 use Rattle.cluster.proofs.Places.{at_place}
 use Rattle.cluster.proofs.Retiring.{past_retired, part_loaded, load_within, part_freed, retire_counted, freed_exactly}
 use Rattle.cluster.proofs.Stepping.{stepped_at, unchanged_at, last_before, cause_at, no_object}
@@ -78,6 +79,13 @@ returns-clause-step c =
     let at = at_place c.self.inside.objects.entries c.args.name.now c.in-Some.place c.index_mut-register.result.now c.in-Some.ensures.index
     c.index_mut-register.ensures.value in
     stepped_at c.self.view_is at Step.Retire c.in-Ok-retire.ensures.step
+
+pub returns-clause-may : goal.returns-clause-may
+returns-clause-may c =
+    let at = at_place c.self.inside.objects.entries c.args.name.now c.in-Some.place c.index_mut-register.result.now c.in-Some.ensures.index
+    c.index_mut-register.ensures.value in
+    may_at c.self.view_is at Step.Retire
+    (c.allowed_steps_may_be_made.ensures.retire c.args.position (c.self.inside.counter + 1) c.in-Ok-retire.ensures.cause)
 
 pub returns-clause-freed : goal.returns-clause-freed
 returns-clause-freed c =

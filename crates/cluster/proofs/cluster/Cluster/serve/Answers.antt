@@ -1,9 +1,11 @@
 use Rattle.std.proofs.Common.{◌+◌, ◌≤◌, inl, refl, ◌∙◌, arith}
 use Rattle.tag.specs.declared.limits.TheConstants.{MOST_STEPS}
 use Rattle.record.specs.Steps.{Step}
+use Rattle.register.specs.declared.act.Act.TheVariants as act
 use Rattle.cluster.specs.Causes.{serving_cause}
 use Rattle.cluster.proofs.Growing.{part_at}
 use Rattle.cluster.proofs.Loading.{served_exchanges, serve_counted}
+use Rattle.cluster.proofs.Mays.{may_at}
 use Rattle.cluster.proofs.Places.{at_place}
 use Rattle.cluster.proofs.Serving.{has_room, own_none, own_of, is_of, memory_left}
 use Rattle.cluster.proofs.Stepping.{cluster_of, stepped_at, unchanged_at, last_before, own_cause_at, no_object}
@@ -68,6 +70,13 @@ returns-in-Ok-serve-clause-step c =
     let at = at_place c.self.inside.objects.entries c.args.name.now c.in-Some.index c.index_mut-register.result.now c.in-Some.ensures.index
     c.index_mut-register.ensures.value in
     stepped_at c.self.view_is at (Step.Serve c.args.place) c.in-Ok-serve.ensures.step
+
+pub returns-in-Ok-serve-clause-may : goal.returns-in-Ok-serve-clause-may
+returns-in-Ok-serve-clause-may c =
+    let at = at_place c.self.inside.objects.entries c.args.name.now c.in-Some.index c.index_mut-register.result.now c.in-Some.ensures.index
+    c.index_mut-register.ensures.value in
+    may_at c.self.view_is at (Step.Serve c.args.place)
+    (c.allowed_steps_may_be_made.ensures.acts (act.Serve c.args.place) (c.self.inside.counter + 1) tt c.in-Ok-serve.ensures.cause)
 
 pub returns-in-Ok-serve-clause-cause : goal.returns-in-Ok-serve-clause-cause
 returns-in-Ok-serve-clause-cause c =
