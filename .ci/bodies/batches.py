@@ -31,6 +31,15 @@ def batches_of(edits):
     return batches
 
 
+def leave_answers(folder):
+    """Leaves a file without answers in the folder of a function's proofs, where it has none of its own: a check that
+    finds no file there prints what to write into it, which takes longer than to find that the function fails."""
+    if not any(os.path.exists(f"{folder}/{it}.antt") for it in ("Answers", "Proof")):
+        os.makedirs(folder, exist_ok=True)
+        with open(f"{folder}/Answers.antt", "w", encoding="utf-8"):
+            pass
+
+
 class Trial:
     """The checks of one crate with edits in it. What is proved in one of them is kept for the next."""
 
@@ -49,6 +58,8 @@ class Trial:
             for path, text in texts.items():
                 with open(f"{room}/{path}", "w", encoding="utf-8") as file:
                     file.write(text)
+            for folder in {it.proofs() for it in functions}:
+                leave_answers(f"{room}/{folder}")
             words = self.crate.words(["--jobs", str(self.jobs), *only], keeps=False)
             whole = [*rtlib.guarded(), rtlib.RATTLE, "check", *words, "--incremental", self.kept]
             run = subprocess.Popen(whole, cwd=room, stdin=subprocess.DEVNULL, stdout=said, stderr=subprocess.STDOUT)

@@ -1,9 +1,8 @@
 """The functions of a crate: where their bodies lie in the source files, and how a check names them."""
 import re
-import subprocess
-from dataclasses import dataclass
+from dataclasses import dataclass, replace
 
-from kit import rtlib
+from kit import rtlib, tokens_of
 
 
 @dataclass(frozen=True)
@@ -17,10 +16,15 @@ class Function:
     module: tuple  # the modules down to the item, without the crate
     owner: str  # of a method the type, and behind it the trait with the names of its arguments, where it has one
     name: str
+    home: tuple = ()  # the modules down to the type of a method, where the crate's own proofs of it stand
 
     def ending(self):
         """The end of the function's name, as a check prints it, behind the modules."""
         return f"{self.owner}::{self.name}" if self.owner else "::".join([*self.module, self.name])
+
+    def proofs(self):
+        """The folder of the function's own proofs."""
+        return "/".join(["proofs", *self.home, *([self.owner] if self.owner else []), self.name])
 
     def is_named(self, crate, printed):
         """Whether a check that prints this name speaks of the function, or of a closure in it."""
@@ -40,14 +44,12 @@ class Token:
 
 def code_tokens(folder, paths):
     """For each file its tokens of code, without those of clauses and comments, as the kit's own reader parts them."""
-    words = [rtlib.RATTLE, "fmt", "--tokens", *[f"{folder}/{path}" for path in paths]]
-    printed = subprocess.run(words, capture_output=True, check=True).stdout
     found = {}
-    for path, rows in zip(paths, re.split(rb"(?m)^file \d+\n", printed)[1:]):
+    for path, rows in zip(paths, tokens_of([f"{folder}/{path}" for path in paths])):
         with open(f"{folder}/{path}", "rb") as file:
             data = file.read()
-        spans = re.findall(rb"(?m)^\d+ (\d+) (\d+) (?:Code|Literal) ", rows)
-        found[path] = [Token(int(a), int(b), data[int(a) : int(b)].decode(errors="replace")) for a, b in spans]
+        of_code = [(start, end) for start, end, kind in rows if kind in ("Code", "Literal")]
+        found[path] = [Token(start, end, data[start:end].decode(errors="replace")) for start, end in of_code]
     return found
 
 
@@ -137,8 +139,22 @@ def functions_in(path, tokens):
     return found
 
 
+def homes_of(tokens):
+    """The modules of each type that the files with these tokens declare."""
+    homes = {}
+    for path, some in tokens.items():
+        for word, name in zip(some, some[1:]):
+            if word.text in ("struct", "enum", "trait"):
+                homes[name.text] = module_of(path)
+    return homes
+
+
 def functions_of(crate):
     """The functions of a crate's source files, by the path of the file."""
     files = [file.removeprefix(f"{crate.folder}/") for file in rtlib.files_of(crate.folder)]
-    paths = [path for path in files if path.startswith("src/") and path.endswith(".rt")]
-    return {path: functions_in(path, tokens) for path, tokens in code_tokens(crate.folder, paths).items()}
+    tokens = code_tokens(crate.folder, [it for it in files if it.startswith("src/") and it.endswith(".rt")])
+    homes = homes_of(tokens)
+    return {
+        path: [replace(it, home=homes.get(it.owner, it.module)) for it in functions_in(path, some)]
+        for path, some in tokens.items()
+    }

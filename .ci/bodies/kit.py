@@ -1,13 +1,15 @@
 """The kit's own programs, read as modules: which crates there are, and the words of a check of one.
 
-Written for the wording of `rattle-kit-13b`: a function's line in what a check prints ends in `proved`, in `not proved`
+Written for the wording of `rattle-kit-13f`: a function's line in what a check prints ends in `proved`, in `not proved`
 where its own proof fails, and in `no proof: it calls ..` where only that of a function below it does.
 """
 import importlib.machinery
 import importlib.util
 import os
 import pathlib
+import re
 import shutil
+import subprocess
 import sys
 
 sys.dont_write_bytecode = True
@@ -55,6 +57,18 @@ def crates_of(root):
 def build_below(crate):
     """Builds the libraries below the crate that do not stand built from these sources. Returns whether all stand."""
     return not any(below.build_rlib(["--jobs", "1"], anew=False) for below in crate.below())
+
+
+def tokens_of(paths):
+    """For each file of code or of definitions its tokens, which are never comments: where each begins and ends, and its
+    kind. A doc comment that a macro may read is a token too."""
+    if not paths:
+        return []
+    printed = subprocess.run([rtlib.RATTLE, "fmt", "--tokens", *paths], capture_output=True, check=True).stdout
+    return [
+        [(int(start), int(end), kind.decode()) for start, end, kind in re.findall(rb"(?m)^\d+ (\d+) (\d+) (\w+) ", rows)]
+        for rows in re.split(rb"(?m)^file \d+\n", printed)[1:]
+    ]
 
 
 def processors():
