@@ -9,7 +9,7 @@
    refusal, and then it has changed nothing. A pointer must not be null, even if the number of elements is 0. A buffer
    that a function writes to must not overlap any other argument. No function allocates memory or keeps its arguments,
    and several threads may call functions at once. A call uses about 16 KiB of stack; a decode or repair with k above 64
-   uses about 80 KiB, and one with more than 16 fragments of a value above 1 MiB uses 132 KiB more.
+   uses about 80 KiB.
 
    All output goes to buffers of the caller. Where speed counts, use the same buffers for many values: with memory that
    is taken anew for each call, coding may take twice as long, and more. "What fresh memory costs" in bench/README.md,
