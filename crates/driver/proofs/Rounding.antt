@@ -1,5 +1,5 @@
 -- What is handed out of a cluster to be coded or decoded.
-use Rattle.std.proofs.Common.{◌≡◌, ℕ, suc, ◌≤◌, inl, inr, List, Option, Some, None, Result, Ok, Err, sym, subst, ◌∙◌}
+use Rattle.std.proofs.Common.{◌≡◌, ℕ, suc, pred, ◌≤◌, inl, inr, List, Option, Some, None, Result, Ok, Err, OnOk, sym, subst, ◌∙◌}
 use Rattle.tag.specs.declared.refusal.Refusal.{Refusal}
 use Rattle.tag.specs.Refusal.{IsByCause}
 use Rattle.tag.specs.declared.limits.TheConstants.{MOST_STEPS}
@@ -9,15 +9,18 @@ use Rattle.decoder.specs.Decoded.{Decoding}
 use Rattle.decoder.specs.Pieces.{ArePiecesOf, IsInterpolated}
 use Rattle.decoder.proofs.Cut.{IsInterpolated-pieces_of}
 use Rattle.record.specs.Sound.{IsSound}
+use Rattle.record.specs.Steps.{Step}
 use Rattle.record.specs.declared.stage.Want.TheVariants as want
 use Rattle.register.specs.Causes.{supply_cause, supplying_cause, settle_cause, value_cause}
 use Rattle.register.specs.State.{State}
 use Rattle.register.specs.View.{want_at, coding_at, pieces_at}
 use Rattle.cluster.specs.Cluster.{Cluster, named, if_named}
 use Rattle.cluster.specs.Causes.{next, if_object, object_cause}
+use Rattle.cluster.specs.May.{MayMake}
+use Rattle.cluster.specs.Steps.{stepped}
 use Rattle.driver.specs.Coding.{settling_cause}
 use Rattle.driver.specs.Driver.{wanted}
-use Rattle.driver.specs.Rounds.{IsToEncode, IsToDecode}
+use Rattle.driver.specs.Rounds.{IsToEncode, IsToDecode, SettlesOwn}
 use Rattle.driver.proofs.Named.{read_there, cause_there, same_cause, one_state}
 use Rattle.driver.proofs.Fetched.{pieces_are}
 use Rattle.driver.proofs.Supplying.{codable, supply_is, value_refused}
@@ -75,6 +78,24 @@ module _ (cluster : Cluster) (name : List ℕ) (call : ℕ) where
       (λ state there. settle_is state.object call k len (next cluster) decoded
       (sym (read_there cluster name state (λ object. want_at object call) there) ∙ is.wants)
       same_k (same_pieces ∙ some_same _ _ (sym is.taken ∙ read_there cluster name state (λ object. Some (pieces_at object call)) there)))
+
+  -- the value that the pieces give was settled, or the settle was refused
+  pub settled_own : {T : Type 0} (r : Result T Refusal) (k len : ℕ) (pieces : List Piece) (value : List ℕ) (new : Cluster)
+      → IsToDecode cluster name call k len pieces → IsInterpolated k len pieces value
+      → OnOk r (MayMake cluster name (Step.Settle (pred call) value))
+      → OnOk r (new ≡ stepped cluster name (Step.Settle (pred call) value)) → OnOk r (SettlesOwn cluster name call new)
+  settled_own (Ok x) k len pieces value new is given may made = record {
+    k = k;
+    len = len;
+    wants = is.wants;
+    pieces = pieces;
+    taken = is.taken;
+    value = value;
+    given = given;
+    may = may;
+    made = made;
+  }
+  settled_own (Err e) k len pieces value new is given may made = tt
 
   -- the pieces give a value
   pub given_there : (old : State) (k len : ℕ) → named cluster.objects name ≡ Some old → IsSound fragment old.object old.last

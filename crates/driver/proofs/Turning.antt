@@ -13,6 +13,7 @@ use Rattle.register.specs.Causes.{supplying_cause}
 use Rattle.register.specs.View.{want_at, pieces_at}
 use Rattle.cluster.specs.Cluster.{Cluster}
 use Rattle.cluster.specs.Causes.{next, object_cause}
+use Rattle.cluster.specs.May.{MayMake}
 use Rattle.cluster.specs.Steps.{stepped}
 use Rattle.driver.specs.declared.round.Round.{Round}
 use Rattle.driver.specs.declared.round.Round.TheVariants as round
@@ -46,9 +47,10 @@ module _ {C : Type 0} (chooses : C → ℕ → ℕ → C → Type 0) (name : Lis
 
   made : (new : Cluster) (after : C) (step : Step) → IsDue chooses name call old again before after step
       → step ≢ Step.AnswerCall (pred call)
-      → turn_cause old name call step ≡ None → new ≡ stepped old name step → Made new after
-  made new after step due other room is =
-      let turn : IsTurn chooses name call again old before new after = record { step = step; due = due; room = room; made = is } in
+      → turn_cause old name call step ≡ None → MayMake old name step → new ≡ stepped old name step → Made new after
+  made new after step due other room may is =
+      let turn : IsTurn chooses name call again old before new after =
+      record { step = step; due = due; room = room; may = may; made = is } in
       (turn, turn_open chooses name call again old before new after turn (no_answer after step due other))
 
   no_supply : Step.Supply (pred call) ≢ Step.AnswerCall (pred call)
@@ -66,12 +68,14 @@ module _ {C : Type 0} (chooses : C → ℕ → ℕ → C → Type 0) (name : Lis
   module _ (middle : Cluster) (after : C) (o : Round) (made_by : IsRound chooses name call again old before middle after o) where
     pub encode_turn : (value : List ℕ) (k n : ℕ) (new : Cluster) → o ≡ round.Encode value k n
         → object_cause middle name (λ object. supplying_cause (next middle) object call) ≡ None
+        → MayMake middle name (Step.Supply (pred call))
         → new ≡ stepped middle name (Step.Supply (pred call)) → Made new after
-    encode_turn value k n new is room step =
+    encode_turn value k n new is room may step =
         let r = subst (λ o. IsRound chooses name call again old before middle after o) is made_by in
         made new after (Step.Supply (pred call))
         (subst (λ a. IsDue chooses name call old again before a (Step.Supply (pred call))) (sym r.1) r.2) no_supply
         (subst (λ (m : Cluster). object_cause m name (λ object. supplying_cause (next m) object call) ≡ None) r.0 room)
+        (subst (λ (m : Cluster). MayMake m name (Step.Supply (pred call))) r.0 may)
         (step ∙ ap (λ m. stepped m name (Step.Supply (pred call))) r.0)
 
     pub encode_refused : (value : List ℕ) (k n : ℕ) (refusal : Refusal) → o ≡ round.Encode value k n
@@ -96,7 +100,7 @@ module _ {C : Type 0} (chooses : C → ℕ → ℕ → C → Type 0) (name : Lis
         made new after (Step.Settle (pred call) own.value)
         (record { state = s.0; there = s.1; want = want.Settle own.k own.len; wants = s.2; next = (r.1, (own.value, refl, given)) })
         (no_settle own.value)
-        (subst (λ (m : Cluster). object_cause m name (λ object. settling_cause (next m) object call) ≡ None) r.0 room) own.made
+        (subst (λ (m : Cluster). object_cause m name (λ object. settling_cause (next m) object call) ≡ None) r.0 room) own.may own.made
 
     pub decode_refused : (pieces : Vec Piece Global) (k len : ℕ) (refusal : Refusal) → o ≡ round.Decode pieces k len
         → (object_cause middle name (λ object. settling_cause (next middle) object call) ≡ Some refusal)

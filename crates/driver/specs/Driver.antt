@@ -18,6 +18,7 @@ use Rattle.register.specs.View.{want_at, receipt_at}
 use Rattle.register.specs.declared.receipt.Receipt.{Receipt}
 use Rattle.cluster.specs.Cluster.{Cluster, named, if_named, place_of}
 use Rattle.cluster.specs.Causes.{next, object_cause}
+use Rattle.cluster.specs.May.{MayMake}
 use Rattle.cluster.specs.Steps.{stepped}
 use Rattle.driver.specs.Choices.{Picks, choices, handling, handling_cause}
 use Rattle.driver.specs.Coding.{settling_cause, Settles}
@@ -87,11 +88,12 @@ module _ {C : Type 0} (chooses : C → ℕ → ℕ → C → Type 0) (name : Lis
     pub wants : want_at state.object call ≡ Some want
     pub next : IsNext cluster state.object again before after step want
 
-  -- a turn: the next step is made, and nothing refuses it
+  -- a turn: the next step is made, nothing refuses it, and the record says that it may be made
   pub record IsTurn (again : Bool) (old : Cluster) (before : C) (new : Cluster) (after : C) : Type 0 where
     pub step : Step
     pub due : IsDue old again before after step
     pub room : turn_cause old name call step ≡ None
+    pub may : MayMake old name step
     pub made : new ≡ stepped old name step
 
   -- the turn that answers the call, with this receipt

@@ -10,6 +10,7 @@ use Rattle.register.specs.Causes.{supplying_cause}
 use Rattle.register.specs.View.{coding_at, pieces_at}
 use Rattle.cluster.specs.Cluster.{Cluster, if_named}
 use Rattle.cluster.specs.Causes.{next, object_cause}
+use Rattle.cluster.specs.May.{MayMake}
 use Rattle.cluster.specs.Steps.{stepped}
 use Rattle.driver.specs.declared.round.Round.{Round}
 use Rattle.driver.specs.declared.round.Round.TheVariants as round
@@ -29,7 +30,7 @@ pub record IsToDecode (cluster : Cluster) (name : List ℕ) (call k len : ℕ) (
   pub give : GiveBack k len pieces
   pub room : object_cause cluster name (λ object. settling_cause (next cluster) object call) ≡ None
 
--- the call settles the value that its own pieces give
+-- the call settles the value that its own pieces give, and the record says that this step may be made
 pub record SettlesOwn (old : Cluster) (name : List ℕ) (call : ℕ) (new : Cluster) : Type 0 where
   pub k : ℕ
   pub len : ℕ
@@ -38,6 +39,7 @@ pub record SettlesOwn (old : Cluster) (name : List ℕ) (call : ℕ) (new : Clus
   pub taken : if_named old name (λ object. Some (pieces_at object call)) ≡ Some pieces
   pub value : List ℕ
   pub given : IsInterpolated k len pieces value
+  pub may : MayMake old name (Step.Settle (pred call) value)
   pub made : new ≡ stepped old name (Step.Settle (pred call) value)
 
 module _ {C : Type 0} (chooses : C → ℕ → ℕ → C → Type 0) (name : List ℕ) (call : ℕ) where

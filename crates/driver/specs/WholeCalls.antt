@@ -7,8 +7,9 @@ use Rattle.record.specs.Steps.{Step}
 use Rattle.register.specs.Causes.{read_cause, write_cause}
 use Rattle.register.specs.declared.receipt.Receipt.{Receipt}
 use Rattle.cluster.specs.Causes.{next, object_cause, moving_cause}
-use Rattle.cluster.specs.Cluster.{Cluster, if_named}
-use Rattle.cluster.specs.Steps.{stepped, moved}
+use Rattle.cluster.specs.Cluster.{Cluster, if_named, layout_of}
+use Rattle.cluster.specs.May.{MayMake}
+use Rattle.cluster.specs.Steps.{stepped}
 use Rattle.driver.specs.declared.whole_call.NotAnswered.{NotAnswered}
 use Rattle.driver.specs.declared.whole_call.NotAnswered.TheVariants as unanswered
 use Rattle.driver.specs.Driver.{IsFinished, IsUnfinished}
@@ -19,30 +20,29 @@ next_number cluster name = if_named cluster name (λ object. Some (suc (length o
 
 module _ {C : Type 0} (chooses : C → ℕ → ℕ → C → Type 0) (name : List ℕ) (turns : ℕ) (old : Cluster) (before : C)
     (new : Cluster) (after : C) where
-  -- the call begins in the cluster `begun`, and the driver answers it or is refused; or the first step is refused, by
-  -- this cause or for want of memory, and nothing changes
-  abbrev pub IsWholeCall : (cause : Option Refusal) → (begun : Cluster) → Result Receipt NotAnswered → Type 0
-  IsWholeCall cause begun (Ok receipt) =
-      (call : ℕ) × (cause ≡ None) × (next_number old name ≡ Some call)
-      × IsFinished chooses name call false turns begun before new after receipt
-  IsWholeCall cause begun (Err (unanswered.Open call refusal)) =
-      (cause ≡ None) × (next_number old name ≡ Some call)
-      × IsUnfinished chooses name call false turns begun before new after refusal
-  IsWholeCall cause begun (Err (unanswered.NotCalled refusal)) =
+  -- the call begins with this step, which may be made, and the driver answers the call or is refused; or the first step
+  -- is refused, by this cause or for want of memory, and nothing changes
+  abbrev pub IsWholeCall : (cause : Option Refusal) → (step : Step) → Result Receipt NotAnswered → Type 0
+  IsWholeCall cause step (Ok receipt) =
+      (call : ℕ) × (cause ≡ None) × (next_number old name ≡ Some call) × MayMake old name step
+      × IsFinished chooses name call false turns (stepped old name step) before new after receipt
+  IsWholeCall cause step (Err (unanswered.Open call refusal)) =
+      (cause ≡ None) × (next_number old name ≡ Some call) × MayMake old name step
+      × IsUnfinished chooses name call false turns (stepped old name step) before new after refusal
+  IsWholeCall cause step (Err (unanswered.NotCalled refusal)) =
       ((cause ≡ Some refusal) ⊎ ((cause ≡ None) × (refusal ≡ NoMemory))) × (new ≡ old) × (after ≡ before)
 
   -- a whole read has this outcome
   abbrev pub IsWholeRead : Result Receipt NotAnswered → Type 0
   IsWholeRead answer =
-      IsWholeCall (object_cause old name (λ object. read_cause (next old) object)) (stepped old name Step.CallRead)
-      answer
+      IsWholeCall (object_cause old name (λ object. read_cause (next old) object)) Step.CallRead answer
 
   -- a whole write of this value has this outcome
   abbrev pub IsWholeWrite : (value : List ℕ) → Result Receipt NotAnswered → Type 0
   IsWholeWrite value answer =
-      IsWholeCall (object_cause old name (λ object. write_cause value (next old) object))
-      (stepped old name (Step.CallWrite value)) answer
+      IsWholeCall (object_cause old name (λ object. write_cause value (next old) object)) (Step.CallWrite value) answer
 
   -- a whole move to the layout of this number has this outcome
   abbrev pub IsWholeMove : (id : ℕ) → Result Receipt NotAnswered → Type 0
-  IsWholeMove id answer = IsWholeCall (object_cause old name (moving_cause old id)) (moved old name id) answer
+  IsWholeMove id answer =
+      IsWholeCall (object_cause old name (moving_cause old id)) (Step.CallMove (layout_of old id)) answer

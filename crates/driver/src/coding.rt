@@ -9,6 +9,7 @@ ghost use Rattle.register.specs.View.{pieces_at};
 ghost use Rattle.decoder.specs.Pieces.{IsInterpolated};
 ghost use Rattle.cluster.specs.Cluster.{named};
 ghost use Rattle.cluster.specs.Causes.{next, object_cause};
+ghost use Rattle.cluster.specs.May.{MayMake};
 ghost use Rattle.cluster.specs.Steps.{stepped};
 ghost use Rattle.driver.specs.Coding.{settling_cause};
 ghost use Rattle.driver.specs.Driver.{wanted};
@@ -30,6 +31,7 @@ use tag::{CallId, MOST_STEPS, Refusal};
 /// met.
 pub fn supply(alloc: Global, cluster: &mut Cluster, name: &str, call: CallId) -> Result<(), Refusal>
     ensures step { OnOk result (cluster.new ≡ stepped cluster.old name.entry.now (Step.Supply (pred call))) }
+    ensures may { OnOk result (MayMake cluster.old name.entry.now (Step.Supply (pred call))) }
     ensures cause { IsByCause
         (object_cause cluster.old name.entry.now (λ object. supplying_cause (next cluster.old) object call)) result }
     ensures unchanged { OnErr result (cluster.new ≡ cluster.old) }
@@ -108,6 +110,7 @@ pub(crate) fn supply_value(
 ) -> Result<(), Refusal>
     requires { IsToEncode cluster.old name.now call k n value }
     ensures step { OnOk result (cluster.new ≡ stepped cluster.old name.entry.now (Step.Supply (pred call))) }
+    ensures may { OnOk result (MayMake cluster.old name.entry.now (Step.Supply (pred call))) }
     ensures cause { IsByCause
         (object_cause cluster.old name.entry.now (λ object. supplying_cause (next cluster.old) object call)) result }
     ensures unchanged { OnErr result (cluster.new ≡ cluster.old) }

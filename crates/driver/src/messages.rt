@@ -4,6 +4,7 @@ ghost use Rattle.tag.specs.Refusal.{IsByCause, IsExactlyByCause};
 ghost use Rattle.record.specs.declared.stage.Want.TheVariants as want;
 ghost use Rattle.cluster.specs.Cluster.{if_named};
 ghost use Rattle.cluster.specs.Causes.{object_cause, place_cause};
+ghost use Rattle.cluster.specs.May.{MayMake};
 ghost use Rattle.cluster.specs.Steps.{stepped};
 ghost use Rattle.driver.specs.Choices.{Picks, choices, handled_at, handling_cause, request_at, step_of};
 ghost use Rattle.driver.specs.Driver.{wanted, IsTurn, IsRefused};
@@ -31,6 +32,7 @@ pub enum Handled {
 /// request to a server that is down, and `Full` as for `Cluster::serve` and `Cluster::take`.
 pub fn handle(cluster: &mut Cluster, name: &str, place: usize) -> Result<Handled, Refusal>
     ensures step { IfOk result (λ h. cluster.new ≡ stepped cluster.old name.entry.now (step_of place h)) }
+    ensures may { IfOk result (λ h. MayMake cluster.old name.entry.now (step_of place h)) }
     ensures handled { IfOk result (λ h. if_named cluster.old name.entry.now (handled_at place) ≡ Some h) }
     ensures cause { IsByCause (object_cause cluster.old name.entry.now (handling_cause cluster.old place)) result }
     ensures unchanged { OnErr result (cluster.new ≡ cluster.old) }
@@ -48,6 +50,7 @@ fn handle_as(
 ) -> Result<Handled, Refusal>
     requires { if_named cluster.old name.now (request_at place) ≡ Some is_request }
     ensures step { IfOk result (λ h. cluster.new ≡ stepped cluster.old name.entry.now (step_of place h)) }
+    ensures may { IfOk result (λ h. MayMake cluster.old name.entry.now (step_of place h)) }
     ensures handled { IfOk result (λ h. if_named cluster.old name.entry.now (handled_at place) ≡ Some h) }
     ensures cause { IsByCause (object_cause cluster.old name.entry.now (handling_cause cluster.old place)) result }
     ensures unchanged { OnErr result (cluster.new ≡ cluster.old) }

@@ -1,6 +1,12 @@
 use Rattle.driver.proofs.Named.{by_cause, exactly}
-use Rattle.driver.proofs.Rounding.{settle_same}
+use Rattle.driver.proofs.Rounding.{settle_same, settled_own}
 use Rattle.driver.proofs.coding.settle_pieces.Goals as goal
+
+pub returns-clause-step : goal.returns-clause-step
+returns-clause-step c =
+    settled_own c.args.cluster.now c.args.name.now c.args.call c.settle.result c.args.k c.args.len c.args.pieces.items
+    c.in_ok-decoded.decoded.value c.settle.new.self c.requires c.in_ok-decoded.ensures.interpolated c.settle.ensures.may
+    c.settle.ensures.step
 
 pub returns-clause-cause : goal.returns-clause-cause
 returns-clause-cause c =

@@ -14,7 +14,8 @@ returns-in_ok-supply_value-in-Encode-clause-turn g c =
     c.make_round.new.cluster c.make_round.new.chooser
     c.in_ok-make_round.field-0 c.in_ok-make_round.ensures.round c.in-Encode.value c.in-Encode.k c.in-Encode.n
     c.supply_value.new.cluster c.in-Encode.is
-    c.in_ok-supply_value-in-Encode.ensures.cause c.in_ok-supply_value-in-Encode.ensures.step
+    c.in_ok-supply_value-in-Encode.ensures.cause c.in_ok-supply_value-in-Encode.ensures.may
+    c.in_ok-supply_value-in-Encode.ensures.step
 
 pub returns-in_err-supply_value-in-Encode-clause-refused : goal.returns-in_err-supply_value-in-Encode-clause-refused
 returns-in_err-supply_value-in-Encode-clause-refused g c =
