@@ -1,6 +1,6 @@
 //! Which process makes which call.
-ghost use Rattle.std.specs.Prelude.{◌≡◌, ◌<◌, Some, IfOk, IfSome, slice_get};
-ghost use Rattle.exports.specs.Clients.{AreProcesses, TakesClient, TakesProcess, later};
+ghost use Rattle.std.specs.Prelude.{◌≡◌, ◌<◌, Some, IfNone, IfOk, IfSome, length, slice_get};
+ghost use Rattle.exports.specs.Clients.{AreBusy, AreProcesses, TakesClient, TakesProcess, later};
 
 use crate::event::Process;
 use record::{Entry, Operation};
@@ -49,7 +49,9 @@ fn take_client(clients: &mut Vec<Option<Stamp>>, entry: &Entry) -> Result<u64, A
 
 // The first client whose calls are all answered before a step, and the step by which they are answered.
 fn first_free(clients: &[Option<Stamp>], called: Stamp) -> Option<(usize, Stamp)>
-    ensures { IfSome result (λ free. (slice_get clients.now free.0 ≡ Some (Some free.1)) × (free.1 < called)) }
+    ensures free { IfSome result (λ free. (slice_get clients.now free.0 ≡ Some (Some free.1)) × (free.1 < called)) }
+    ensures first { IfSome result (λ free. AreBusy called clients.now free.0) }
+    ensures none { IfNone result (AreBusy called clients.now (length clients.now)) }
 {
     for (client, last) in clients.iter().enumerate() {
         if let Some(since) = *last
