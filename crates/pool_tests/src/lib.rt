@@ -4,6 +4,8 @@
 #[cfg(test)]
 mod coding;
 #[cfg(test)]
+mod crowd;
+#[cfg(test)]
 mod hold;
 #[cfg(test)]
 mod log;

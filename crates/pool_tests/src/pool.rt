@@ -1,6 +1,7 @@
 //! Values that many workers code.
 
 use crate::coding::{code, has_fragments};
+use crate::crowd::Crowd;
 use crate::hold::Hold;
 use crate::log::Log;
 use bytes::Bytes;
@@ -23,6 +24,20 @@ fn works_beside_a_held_one<R: Threads + Wait + Abort + Sync>(rt: &R, alloc: Glob
 #[test]
 fn a_held_worker_stops_no_other(rt: HostRuntime) {
     works_beside_a_held_one(&rt, rt.alloc());
+}
+
+// There is a job for each of 64 workers.
+fn all_work_at_once<R: Threads + Wait + Abort + Sync>(rt: &R, alloc: Global, workers: usize) {
+    let gate = Crowd::new(workers);
+    code(rt, alloc, workers, &gate, 2, 64, b"hello");
+    assert!(rt; gate.has_met(), "{workers}");
+}
+
+#[test]
+fn as_many_work_at_once_as_were_asked_for(rt: HostRuntime) {
+    for workers in [1, 2, 3, 5, 64] {
+        all_work_at_once(&rt, rt.alloc(), workers);
+    }
 }
 
 /// What Intel ISA-L's `ec_encode_data` gives for 4 of 7 pieces of the value below.
