@@ -1,4 +1,4 @@
-//! Scripts and command lines whose files, readers and writers fail: tests alone. They stand in a crate of their own, so
+//! Scripts and command lines whose arguments, files, readers and writers fail: tests alone. They stand in a crate of their own, so
 //! that the crates which they play are proved once and not twice.
 #![tactic(auto)]
 

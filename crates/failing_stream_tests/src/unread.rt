@@ -1,5 +1,6 @@
-//! Scripts that cannot be read, whose files cannot be opened or whose readers fail.
+//! Scripts and arguments that cannot be read, and files that cannot be opened.
 use crate::failing_reader::FailingReader;
+use coding_commands::Fault;
 use commands::run_opened;
 use player::{report_unread, run_script};
 use std::io;
@@ -41,6 +42,20 @@ fn files_that_cannot_be_opened(rt: HostRuntime) {
         assert_unopened(&rt, *error, *wanted, said);
         assert_told(&rt, *error, *wanted, said);
     }
+}
+
+/// What is told of arguments that could not be read for this reason.
+fn assert_no_arguments<R: AllocGlobal + Abort>(rt: &R, error: ErrorKind, wanted: u8, said: &[u8]) {
+    let mut err = Vec::new(rt.alloc());
+    let status = Fault::from_arguments(io::Error::from(error)).report(&mut err);
+    assert!(rt; status == wanted && err.as_slice() == said);
+}
+
+/// An argument that is not UTF-8 is `InvalidData`.
+#[test]
+fn arguments_that_cannot_be_read(rt: HostRuntime) {
+    assert_no_arguments(&rt, ErrorKind::OutOfMemory, 1, b"refused 1 NoMemory\n");
+    assert_no_arguments(&rt, ErrorKind::InvalidData, 2, b"");
 }
 
 /// Plays the script where the reader takes so many calls and then fails so.

@@ -137,7 +137,7 @@ fn tagged(
 {
     TaggedCall {
         call,
-        kind: operation,
+        kind,
         tag,
         called,
         is_answered,

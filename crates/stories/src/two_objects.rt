@@ -35,6 +35,16 @@ fn assert_stored(rt: &impl Abort, cluster: &Cluster) {
     }
 }
 
+/// Two bytes of the one object and one of the other at each of three servers, and none at a fourth.
+fn assert_stored_apart(rt: &impl Abort, cluster: &Cluster) {
+    let one = cluster.register("a").expect(rt, "an object");
+    let other = cluster.register("b").expect(rt, "an object");
+    for server in 0..3u8 {
+        assert!(rt; one.stored(server) == 2 && other.stored(server) == 1);
+    }
+    assert!(rt; one.stored(3) == 0 && other.stored(3) == 0);
+}
+
 /// Three bytes at each of three servers, as the law tells them.
 fn assert_told(rt: &impl Abort, told: &Accounts) {
     assert!(rt; told.servers.as_slice() == [3, 3, 3].as_slice());
@@ -53,6 +63,7 @@ fn reads_one_of_two_objects(rt: HostRuntime) {
     assert!(rt; cluster.calls() == 3 && cluster.counter() == answered.answered);
     assert!(rt; entries_count(&rt, &cluster, "b") == 2);
     assert_stored(&rt, &cluster);
+    assert_stored_apart(&rt, &cluster);
     cluster.soundness();
     assert_told(&rt, &cluster.atomic());
 }

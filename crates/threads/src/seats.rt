@@ -64,16 +64,19 @@ fn calls_apart<L: StoreName + Send + Sync, R: Threads + Wait + Sync>(
     answer
 }
 
-// One seat writes; the other learns the receipt and reads. Each does so in a thread of its own.
+// One seat writes; the other learns the receipt and reads. Each does so in a thread of its own. Its floor is then the
+// greatest answer step that it has seen.
 fn pass_on<L: StoreName + Send + Sync, R: Threads + Wait + Abort + Sync>(
     rt: &R,
     store: &Store<L>,
     first: &mut Seat<L>,
     second: &mut Seat<L>,
 ) {
+    assert!(rt; first.floor() == 0 && second.floor() == 0);
     let written = receipt_of(rt, calls_apart(rt, store, first, None));
+    assert!(rt; first.floor() == written.answered && second.floor() == 0);
     let called = called_with(rt, calls_apart(rt, store, second, Some(&written)), HELLO);
-    assert!(rt; written.answered < called);
+    assert!(rt; written.answered < called && called < second.floor());
 }
 
 pub(crate) fn learns<L: StoreName + Send + Sync, R: Threads + Wait + Abort + Sync>(
