@@ -11,12 +11,7 @@ use words::Hexadecimal;
 // More tries than one refused request takes.
 const TRIES: u32 = 3;
 
-/// The bytes from 0 to 63.
-const VALUE: &[u8] = &[
-    0, 1, 2, 3, 4, 5, 6, 7, 8, 9, 10, 11, 12, 13, 14, 15, 16, 17, 18, 19, 20, 21, 22, 23, 24, 25,
-    26, 27, 28, 29, 30, 31, 32, 33, 34, 35, 36, 37, 38, 39, 40, 41, 42, 43, 44, 45, 46, 47, 48, 49,
-    50, 51, 52, 53, 54, 55, 56, 57, 58, 59, 60, 61, 62, 63,
-];
+const VALUE: &[u8] = b"hello";
 
 /// Prints the pieces as the caller makes them, and then as one worker does, with what it tells its gate. Answers
 /// whether both were made.
