@@ -1,12 +1,14 @@
 -- The contracts that docs/trusted.md lists do not depend on this file; other contracts and proofs do.
 -- What the administrator does in one section.
-use Rattle.std.specs.Prelude.{◌≡◌, ℕ, suc, not, Bool, is_some, List, length, Option, Some, None}
+use Rattle.std.specs.Prelude.{◌≡◌, ℕ, suc, not, ◌&&◌, ◌==◌, Bool, false, is_some, List, length, Option, Some, None}
 use Rattle.tag.specs.declared.refusal.Refusal.{Refusal}
 use Rattle.tag.specs.declared.refusal.Refusal.TheVariants.{NoCall, MovePending}
+use Rattle.record.specs.Legal.{is_move}
+use Rattle.record.specs.Records.{Call}
 use Rattle.record.specs.Steps.{Step}
-use Rattle.register.specs.Causes.{unless}
+use Rattle.register.specs.Causes.{call_at, unless}
 use Rattle.register.specs.Retiring.{retire_cause}
-use Rattle.cluster.specs.Cluster.{Cluster, named}
+use Rattle.cluster.specs.Cluster.{Cluster, if_named, named, place_of}
 use Rattle.cluster.specs.Causes.{next, object_cause, layout_cause, create_cause, server_cause, moving_cause}
 use Rattle.cluster.specs.Steps.{stepped, with_layout, with_server, created, moved}
 use Rattle.locked_steps.specs.Moves.{Moving, AdminState, Ends, asked_if, has_asked, ordered_by}
@@ -53,13 +55,29 @@ begin_move_cause cluster pending name id =
 abbrev pub move_begun : Cluster → AdminState → (name : List ℕ) → (id : ℕ) → AdminState
 move_begun cluster a name id =
     record (ordered_by a (moved cluster name id)) {
-      moving = Some (record { name = name; call = suc (call_count (named cluster.objects name)) });
+      moving = Some (record {
+        name = name;
+        object = place_of cluster.objects name;
+        call = suc (call_count (named cluster.objects name));
+        called = next cluster;
+      });
     }
 
--- why no round of the pending move is made; NoCall where none is pending
+-- whether there is a call, and it is a move that began at this step
+abbrev pub is_move_begun : Option Call → (step : ℕ) → Bool
+is_move_begun None step = false
+is_move_begun (Some call) step = is_move call.kind && call.called == step
+
+-- whether the cluster has this move: its object is at its place, and the call of its number is a move that began then
+abbrev pub has_move : Cluster → Moving → Bool
+has_move cluster m =
+    place_of cluster.objects m.name == m.object
+    && is_move_begun (if_named cluster m.name (λ object. call_at object m.call)) m.called
+
+-- why no round of the pending move is made; NoCall where none is pending, or the cluster has no such move
 abbrev pub move_cause_of : Cluster → Option Moving → (turns : ℕ) → Option Refusal
 move_cause_of cluster None turns = Some NoCall
-move_cause_of cluster (Some m) turns = going_cause cluster m.name m.call turns
+move_cause_of cluster (Some m) turns = unless (has_move cluster m) NoCall (going_cause cluster m.name m.call turns)
 
 module _ {C : Type 0} (chooses : C → ℕ → ℕ → C → Type 0) where
   -- a round of the pending move

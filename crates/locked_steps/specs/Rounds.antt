@@ -1,6 +1,6 @@
 -- The contracts that docs/trusted.md lists do not depend on this file; other contracts and proofs do.
 -- What a round of a call does in a section.
-use Rattle.std.specs.Prelude.{◌≡◌, ◌≢◌, ℕ, pred, ◌<◌, nat_lt, not, Bool, false, is_some, List, Option, Some, None}
+use Rattle.std.specs.Prelude.{◌≡◌, ◌≢◌, ℕ, pred, ◌<◌, nat_lt, Bool, false, is_some, List, Option, Some, None}
 use Rattle.tag.specs.Cause.{IsRefusalBy}
 use Rattle.tag.specs.declared.refusal.Refusal.{Refusal}
 use Rattle.tag.specs.declared.refusal.Refusal.TheVariants.{NoCall, NotNow, GaveUp}

@@ -12,14 +12,14 @@ use register::Receipt;
 use std::alloc::Global;
 use std::marker::{Model, PhantomData};
 use std::snapshot::Snapshot;
-use tag::Refusal;
+use tag::{CallId, Refusal, Stamp};
 
 /// The one administrator of a store: the right to add layouts, to create and move objects, to retire positions, and to
 /// take servers up and down. It has at most one move that is not answered.
 #[derive(Drop)]
 pub struct Admin<L: StoreName> {
-    // The number of the move that is not answered, and the name of its object.
-    pub(crate) pending: Option<u64>,
+    // The move that is not answered, and the name of its object.
+    pub(crate) pending: Option<PendingMove>,
     pub(crate) name: String,
     // How many orders were carried out. It never wraps, since a store has fewer steps.
     pub(crate) orders: u64,
@@ -28,6 +28,17 @@ pub struct Admin<L: StoreName> {
     // The cluster as the last order left it. Only contracts see it.
     pub(crate) left: Snapshot<Cluster>,
     pub(crate) of: PhantomData<L>,
+}
+
+/// A move that the administrator began and that is not answered.
+#[derive(Clone, Copy, Debug)]
+pub(crate) struct PendingMove {
+    /// The object's place in the order of creation, from 0.
+    pub(crate) object: u32,
+    /// The move's number among the object's calls, from 1.
+    pub(crate) call: CallId,
+    /// The number of the step that began the move.
+    pub(crate) called: Stamp,
 }
 
 /// An order that the administrator carries out in one step.
@@ -103,7 +114,7 @@ impl<L: StoreName> Admin<L> {
         self.asked
     }
 
-    /// Copies the name of the object that is to be moved, so that `begin_move_in` need not do it under the lock. It
+    /// Copies the name of the object that is to be moved, so that `begin_move_in` does not do it under the lock. It
     /// does nothing where a move is pending. `NoMemory` is the only refusal.
     pub fn make_room(&mut self, name: &str) -> Result<(), Refusal>
         ensures same { self.new ≡ self.old }

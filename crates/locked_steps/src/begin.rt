@@ -1,6 +1,6 @@
 //! How calls of seats begin.
 
-ghost use Rattle.std.specs.Prelude.{◌≡◌, ◌↔◌, ◌<◌, ◌+◌, suc, vec_len, vec_capacity, IfOk, IsTrue, OnOk, OnErr};
+ghost use Rattle.std.specs.Prelude.{◌≡◌, ◌+◌, suc, IfOk, OnOk, OnErr};
 ghost use Rattle.tag.specs.Refusal.{IsByCause};
 ghost use Rattle.cluster.specs.Causes.{next, object_cause};
 ghost use Rattle.cluster.specs.Cluster.{named};
@@ -11,7 +11,7 @@ ghost use Rattle.locked_steps.specs.Seats.{begin_cause, begun, call_count, call_
 
 use crate::booked::{Booked, StoreName};
 use crate::call_record::{Begin, CallRecord};
-use crate::seat::Seat;
+use crate::seat::{Seat, make_room_for};
 use cluster::Cluster;
 use tag::{CallId, Refusal};
 
@@ -19,8 +19,8 @@ use tag::{CallId, Refusal};
 ///
 /// `Stranger` where the seat's floor is above the cluster's counter, `NoObject` where no object has this name, `NotNow`
 /// where the seat has a pending call, `TooLong` where the value is longer than `LONGEST_VALUE` bytes, and `Full` where
-/// the limit of steps, of the object's calls or of its waiting messages is met. Else `NoMemory`, also where
-/// `Seat::make_room` was not called for this name: the seat does not grow under the lock.
+/// the limit of steps, of the object's calls or of its waiting messages is met. Else `NoMemory`, where memory is
+/// refused. Without `Seat::make_room` for this name, the seat grows under the lock, before the step.
 pub fn begin_in<L: StoreName>(
     booked: &mut Booked<L>,
     seat: &mut Seat<L>,
@@ -44,9 +44,7 @@ pub fn begin_in<L: StoreName>(
         return Err(Refusal::NotNow);
     }
     booked.cluster.may_call(name, what.len())?;
-    if seat.name.as_str() != name || !has_room(&seat.records) {
-        return Err(Refusal::NoMemory);
-    }
+    make_room_for(&mut seat.name, &mut seat.records, name)?;
     let operation = what.operation();
     let written = what.written()?;
     let call = begin_call(&mut booked.cluster, name, what)?;
@@ -61,13 +59,6 @@ pub fn begin_in<L: StoreName>(
         receipt: None,
     });
     Ok(())
-}
-
-// Whether there is room for one more record.
-fn has_room(records: &Vec<CallRecord>) -> bool
-    ensures { IsTrue result ↔ (vec_len records.now < vec_capacity records.now) }
-{
-    records.len() < records.capacity()
 }
 
 // Makes the step that begins the call, and returns the call's number.

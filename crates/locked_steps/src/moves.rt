@@ -2,28 +2,33 @@
 
 ghost use Rattle.std.specs.Prelude.{◌≡◌, ◌⊎◌, suc, None, Some, IfOk, IfErr, OnOk, OnErr, MatchResult};
 ghost use Rattle.tag.specs.Refusal.{IsByCause};
+ghost use Rattle.register.specs.Causes.{call_at};
 ghost use Rattle.cluster.specs.Causes.{moving_cause, object_cause};
 ghost use Rattle.cluster.specs.Cluster.{named};
 ghost use Rattle.cluster.specs.Steps.{moved};
 ghost use Rattle.locked_steps.specs.Calls.{client_calls};
 ghost use Rattle.locked_steps.specs.Course.{GoesOn, IsStateOf};
 ghost use Rattle.locked_steps.specs.Seats.{call_count};
-ghost use Rattle.locked_steps.specs.Orders.{MoveGoes, MoveGoesNot, MoveLeaves};
-ghost use Rattle.locked_steps.specs.Orders.{begin_move_cause, move_begun, move_cause_of};
+ghost use Rattle.locked_steps.specs.Moves.{moving};
+ghost use Rattle.locked_steps.specs.Orders.{MoveGoes, MoveGoesNot, MoveLeaves, begin_move_cause, has_move};
+ghost use Rattle.locked_steps.specs.Orders.{is_move_begun, move_begun, move_cause_of};
 
-use crate::admin::Admin;
+use crate::admin::{Admin, PendingMove};
 use crate::booked::{Booked, StoreName};
 use crate::rounds::{Hand, round_with_copy};
+use crate::seat::hold;
 use cluster::{Cluster, LayoutId};
 use driver::{Chooser, Round};
-use tag::{CallId, Refusal};
+use record::Operation;
+use register::Register;
+use tag::{CallId, Refusal, Stamp};
 
 /// Begins a move of an object to the layout of this number: one step, which counts as an order.
 ///
 /// `NoObject` where no object has this name, `MovePending` where the object or the administrator has a move that is not
 /// answered, `BadLayout` where there is no layout of this number, and `Full` where the limit of steps, of the object's
-/// positions, of its calls or of its waiting messages is met. Else `NoMemory`, also where `Admin::make_room` was not
-/// called for this name.
+/// positions, of its calls or of its waiting messages is met. Else `NoMemory`, where memory is refused. Without
+/// `Admin::make_room` for this name, the administrator copies the name under the lock, before the step.
 pub fn begin_move_in<L: StoreName>(
     booked: &mut Booked<L>,
     admin: &mut Admin<L>,
@@ -39,16 +44,19 @@ pub fn begin_move_in<L: StoreName>(
     ensures kept { OnErr result (admin.new ≡ admin.old) }
 {
     booked.cluster.keeping();
-    booked.cluster.place(name)?;
+    let object = booked.cluster.place(name)?;
     if admin.pending.is_some() {
         return Err(Refusal::MovePending);
     }
     booked.cluster.may_move(name, layout)?;
-    if admin.name.as_str() != name {
-        return Err(Refusal::NoMemory);
-    }
+    hold(&mut admin.name, name)?;
     let call = call_move(&mut booked.cluster, name, layout)?;
-    admin.pending = Some(call);
+    let pending = PendingMove {
+        object,
+        call,
+        called: booked.cluster.counter(),
+    };
+    admin.pending = Some(pending);
     admin.note_order(&booked.cluster);
     Ok(())
 }
@@ -66,9 +74,11 @@ fn call_move(cluster: &mut Cluster, name: &str, layout: LayoutId) -> Result<Call
 }
 
 /// Makes one round of the administrator's pending move, as `round_in` makes one of a seat's call. It counts a round
-/// that is made with `asks_again`. Where the round answers the move, none is pending any more.
+/// that is made with `asks_again`. Where the round answers the move, none is pending any more, and the receipt names
+/// the move's object, its number and its steps, and brings no value.
 ///
-/// `NoCall` where no move is pending, and else refused as `round_in`, but never as `Stranger`.
+/// `NoCall` where no move is pending, or the cluster has no such move: its object is at another place, or the call of
+/// its number is no move or began at another step. Else refused as `round_in`, but never as `Stranger`.
 pub fn move_round_in<L: StoreName, C: Chooser>(
     booked: &mut Booked<L>,
     admin: &mut Admin<L>,
@@ -77,6 +87,7 @@ pub fn move_round_in<L: StoreName, C: Chooser>(
     asks_again: bool,
     turns: u64,
 ) -> Result<Round, Refusal>
+    ensures state { IsStateOf L.first booked.old }
     ensures steps { IfOk result
         (λ r. MoveGoes C.chooses admin.old.moving hand asks_again booked.old chooser.old booked.new chooser.new r) }
     ensures admin { IfOk result (λ r. MoveLeaves asks_again admin.old r admin.new) }
@@ -88,13 +99,17 @@ pub fn move_round_in<L: StoreName, C: Chooser>(
     ensures unchanged { OnErr result (booked.new ≡ booked.old) }
     ensures kept { OnErr result (admin.new ≡ admin.old) }
 {
-    let Some(call) = admin.pending else {
+    booked.cluster.keeping();
+    let Some(pending) = admin.pending else {
         return Err(Refusal::NoCall);
     };
+    if !has_move(&booked.cluster, admin.name.as_str(), pending) {
+        return Err(Refusal::NoCall);
+    }
     let (round, _copy) = round_with_copy(
         &mut booked.cluster,
         admin.name.as_str(),
-        call,
+        pending.call,
         hand,
         asks_again,
         turns,
@@ -107,4 +122,34 @@ pub fn move_round_in<L: StoreName, C: Chooser>(
         admin.end_move(receipt);
     }
     Ok(round)
+}
+
+// Whether the cluster has this move of the object of this name.
+fn has_move(cluster: &Cluster, name: &str, pending: PendingMove) -> bool
+    ensures { result ≡ has_move cluster.now (moving name.now pending) }
+{
+    let Ok(register) = cluster.register(name) else {
+        return false;
+    };
+    let Ok(place) = cluster.place(name) else {
+        return false;
+    };
+    place == pending.object && is_move_begun(register, pending.call, pending.called)
+}
+
+// Whether the call of this number is a move that began at this step. A call's first phase begins at the call's step.
+fn is_move_begun(register: &Register, call: CallId, step: Stamp) -> bool
+    ensures { result ≡ is_move_begun (call_at register.now.object call) step }
+{
+    register.soundness();
+    let Ok(view) = register.call_view(call) else {
+        return false;
+    };
+    let Some(phase) = register.phases_view(call).first() else {
+        return false;
+    };
+    if view.kind != Operation::Move {
+        return false;
+    }
+    phase.steps().0 == step
 }

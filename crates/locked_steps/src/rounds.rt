@@ -9,7 +9,7 @@ ghost use Rattle.register.specs.State.{State};
 ghost use Rattle.register.specs.View.{value_at};
 ghost use Rattle.cluster.specs.Cluster.{if_named, named};
 ghost use Rattle.locked_steps.specs.Calls.{client_calls};
-ghost use Rattle.locked_steps.specs.Course.{GoesOn};
+ghost use Rattle.locked_steps.specs.Course.{GoesOn, IsStateOf};
 ghost use Rattle.driver.specs.Driver.{wanted};
 ghost use Rattle.locked_steps.specs.Rounds.{Copies, Goes, GoesNot, SeatGoes, SeatGoesNot, SeatLeaves, going_cause};
 ghost use Rattle.locked_steps.specs.Rounds.{round_cause, tells};
@@ -64,6 +64,7 @@ pub fn round_in<L: StoreName, C: Chooser>(
     asks_again: bool,
     turns: u64,
 ) -> Result<Round, Refusal>
+    ensures state { IsStateOf L.first booked.old }
     ensures steps { IfOk result
         (λ r. SeatGoes C.chooses seat.old.pending hand asks_again booked.old chooser.old booked.new chooser.new r) }
     ensures seat { IfOk result (λ r. SeatLeaves asks_again seat.old r seat.new) }
@@ -75,6 +76,7 @@ pub fn round_in<L: StoreName, C: Chooser>(
     ensures unchanged { OnErr result (booked.new ≡ booked.old) }
     ensures kept { OnErr result (seat.new ≡ seat.old) }
 {
+    booked.cluster.keeping();
     if seat.floor > booked.cluster.counter() {
         return Err(Refusal::Stranger);
     }

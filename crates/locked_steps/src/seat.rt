@@ -1,6 +1,6 @@
 //! A client's seat: its calls with their receipts, and what it has seen.
 
-ghost use Rattle.std.specs.Prelude.{◌≡◌, ◌<◌, ◌↔◌, IsTrue, IsSome, IfErr, OnOk};
+ghost use Rattle.std.specs.Prelude.{◌≡◌, ◌<◌, ◌≤◌, ◌↔◌, IsTrue, IsSome, IfErr, OnOk, vec_len, vec_capacity};
 ghost use Rattle.std.specs.String.{string_bytes};
 ghost use Rattle.tag.specs.declared.refusal.Refusal.TheVariants.{NoMemory};
 ghost use Rattle.locked_steps.specs.Seats.{IsOf, Settles, abandoned, asked_once, learnt, new_seat};
@@ -132,7 +132,7 @@ impl<L: StoreName> Seat<L> {
         }
     }
 
-    /// Makes room for the record of a call of an object of this name, so that `begin_in` need not grow the seat under
+    /// Makes room for the record of a call of an object of this name, so that `begin_in` does not grow the seat under
     /// the lock. It does nothing where a call is pending. `NoMemory` is the only refusal.
     pub fn make_room(&mut self, name: &str) -> Result<(), Refusal>
         ensures same { self.new ≡ self.old }
@@ -141,9 +141,7 @@ impl<L: StoreName> Seat<L> {
         if self.is_pending() {
             return Ok(());
         }
-        hold(&mut self.name, name)?;
-        self.records.reserve(1)?;
-        Ok(())
+        make_room_for(&mut self.name, &mut self.records, name)
     }
 }
 
@@ -162,6 +160,25 @@ pub(crate) fn empty_seat<L: StoreName>(alloc: Global, number: u32, share: Share<
         name: String::new(alloc),
         share,
     }
+}
+
+/// Copies the name of an object into `kept`, and makes room for one more record. It allocates only where the name
+/// differs or there is no room. `NoMemory` is the only refusal.
+pub(crate) fn make_room_for(
+    kept: &mut String,
+    records: &mut Vec<CallRecord>,
+    name: &str,
+) -> Result<(), Refusal>
+    ensures copy { OnOk result (string_bytes kept.new ≡ name.now) }
+    ensures room { OnOk result (vec_len records.new < vec_capacity records.new) }
+    ensures capacity { vec_capacity records.old ≤ vec_capacity records.new }
+    ensures len { vec_len records.new ≡ vec_len records.old }
+    ensures same { records.new.items ≡ records.old.items }
+    ensures refused { IfErr result (λ r. r ≡ NoMemory) }
+{
+    hold(kept, name)?;
+    records.reserve(1)?;
+    Ok(())
 }
 
 /// Copies `text` into `kept`, where they differ. `NoMemory` is the only refusal.

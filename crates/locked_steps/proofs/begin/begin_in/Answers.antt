@@ -5,8 +5,8 @@ use Rattle.locked_steps.specs.declared.call_record.CallRecord.{CallRecord}
 use Rattle.locked_steps.proofs.Rising.{rising_begun, length_begun}
 use Rattle.locked_steps.proofs.begin.begin_in.Goals as goal
 
-pub invariant_of-seat : goal.invariant_of-seat
-invariant_of-seat g c =
+pub invariant_of-seat-2 : goal.invariant_of-seat-2
+invariant_of-seat-2 g c =
     let h = c.seat.invariant in
     let r : CallRecord = record {
       object = c.in_ok-object.object;
@@ -19,14 +19,15 @@ invariant_of-seat g c =
     } in
     let none : is_some c.seat.inside.pending ≡ false = search rules in
     let name = string_bytes c.seat.inside.name in
-    let n = length_begun name c.seat.inside.records.items c.seat.inside.records.items c.seat.inside.pending r refl none in
+    let same = c.make_room_for.ensures.same in
+    let n = length_begun name c.seat.inside.records.items c.make_room_for.new.records.items c.seat.inside.pending r same none in
     let low : c.seat.inside.floor ≤ c.booked.inside.cluster.counter = omega (arith, c.counter.ensures, c.if-seat-counter.false) in
     let next : c.counter-2.result ≡ suc c.booked.inside.cluster.counter = search rules in
-    let room : vec_len c.seat.inside.records < vec_capacity c.seat.inside.records = c.has_room.ensures.0 c.if-not-has_room.false in
+    let room : vec_len c.make_room_for.new.records < vec_capacity c.make_room_for.new.records = c.in_ok-make_room_for.ensures.room in
     let called : c.seat.inside.floor < c.counter-2.result = omega (arith, low, next) in (
       omega (arith, c.add.ensures.parts, h.0),
       omega (arith, c.add.ensures.amount, h.1, n),
-      rising_begun name _ _ c.seat.inside.pending _ r refl none h.2 refl called refl,
+      rising_begun name _ _ c.seat.inside.pending _ r same none h.2 refl called refl,
       refl,
       omega (arith, room),
     )
