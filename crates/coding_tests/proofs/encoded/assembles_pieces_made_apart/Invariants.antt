@@ -1,6 +1,6 @@
 use Rattle.std.proofs.Common.{◌≡◌, length}
 use Rattle.encoder.specs.Coded.{ArePieces}
-use Rattle.vectors.proofs.encoded.assembles_pieces_made_apart.Given as goal
+use Rattle.coding_tests.proofs.encoded.assembles_pieces_made_apart.Given as goal
 
 -- the pieces so far
 abbrev pub invariant-loop-i : goal.invariant-loop-i

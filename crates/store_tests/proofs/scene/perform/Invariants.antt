@@ -1,4 +1,4 @@
-use Rattle.threads.proofs.scene.perform.Given as goal
+use Rattle.store_tests.proofs.scene.perform.Given as goal
 
 abbrev pub ghosts-perform_named-L-Ledger : goal.ghosts-perform_named-L-Ledger
 ghosts-perform_named-L-Ledger g a = record { name = a.blank.name; parts = a.blank.parts }

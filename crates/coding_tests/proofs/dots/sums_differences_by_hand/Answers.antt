@@ -3,7 +3,7 @@ use Rattle.gf256.specs.Field.{field_sum}
 use Rattle.gf256.specs.Field as field
 use Rattle.dot_kernel.specs.Dot.{row}
 use Rattle.dot_kernel.specs.Level.{level}
-use Rattle.vectors.proofs.dots.sums_differences_by_hand.Goals as goal
+use Rattle.coding_tests.proofs.dots.sums_differences_by_hand.Goals as goal
 
 first_row : field_sum 2 (row (3 ∷ 2 ∷ []) 1 0) ≡ level true 0
 unfolding field.field_sum

@@ -1,4 +1,4 @@
-use Rattle.threads.proofs.limits.gives.Given as goal
+use Rattle.store_tests.proofs.limits.gives.Given as goal
 
 abbrev pub ghosts-seats_named-L-Ledger : goal.ghosts-seats_named-L-Ledger
 ghosts-seats_named-L-Ledger g a = record { name = a.blank.name; parts = a.blank.parts }
