@@ -1,3 +1,4 @@
 pub mod Opening
 pub mod Locked
 pub mod Callers
+pub mod Refusals

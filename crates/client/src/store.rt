@@ -1,6 +1,7 @@
 //! The store that client threads share.
 
-ghost use Rattle.std.specs.Prelude.{◌≡◌, ◌+◌, ◌⊎◌, ◌<◌, None, Some, IfOk, IfErr, MatchResult, if◌then◌else◌};
+ghost use Rattle.std.specs.Prelude.{◌≡◌, ◌+◌, ◌⊎◌, ◌<◌, ◌≤◌, None, Some, IfOk, IfErr, MatchResult, if◌then◌else◌};
+ghost use Rattle.tag.specs.declared.limits.TheConstants.{MOST_WORKERS};
 ghost use Rattle.tag.specs.Refusal.{IsByCause};
 ghost use Rattle.locked_steps.specs.Closing.{Fit, IsAccounted, all_records, receipts_of};
 ghost use Rattle.locked_steps.specs.Course.{HasBecome};
@@ -30,6 +31,8 @@ pub struct Store<L: StoreName> {
     booked: Mutex<Booked<L>>,
     workers: usize,
     alloc: Global,
+    // The workers are few enough for the coding of each value.
+    ghost few: { workers ≤ MOST_WORKERS },
 }
 
 /// A store with its seats and its administrator.

@@ -1,12 +1,16 @@
 //! Who makes the rounds of a call: a seat or the administrator.
 
-ghost use Rattle.std.specs.Prelude.{◌≡◌, ◌⊎◌, None, IfErr, IfOk, OnErr, OnOk};
+ghost use Rattle.std.specs.Prelude.{◌≡◌, IfErr, IfOk, OnErr};
 ghost use Rattle.tag.specs.declared.refusal.Refusal.{Refusal as RefusalOf};
-ghost use Rattle.tag.specs.declared.refusal.Refusal.TheVariants.{NoCall, Stranger};
+ghost use Rattle.tag.specs.declared.refusal.Refusal.TheVariants.{NoMemory};
 ghost use Rattle.register.specs.declared.receipt.Receipt.{Receipt as ReceiptOf};
+ghost use Rattle.cluster.specs.Cluster.{Cluster as ClusterOf};
+ghost use Rattle.locked_steps.specs.Course.{IsStateOf};
 ghost use Rattle.locked_steps.specs.Moves.{Ends, asked_if, has_asked};
 ghost use Rattle.locked_steps.specs.Seats.{Settles, asked_once};
-ghost use Rattle.client.specs.Callers.{LeavesBy};
+ghost use Rattle.locked_steps.specs.declared.rounds.Hand.{Hand as HandOf};
+ghost use Rattle.client.specs.Callers.{CanBeCoded, IsCodedFrom, IsUnanswered, LeavesBy};
+ghost use Rattle.client.specs.Refusals.{IsMovingHand, IsMovingRefused, IsPendingHand, IsSeatRefused};
 
 use driver::{Chooser, Round};
 use locked_steps::{Admin, Booked, Hand, Seat, StoreName, move_round_in, round_in};
@@ -20,11 +24,11 @@ pub(crate) trait Caller<L: StoreName> {
     /// The caller after a round made with `asks_again`, apart from an answer.
     ghost asks: { Self → Self };
 
-    /// The caller has no pending call.
-    ghost is_free: { Self → Type 0 };
+    /// What is handed in was coded for the caller's pending call.
+    ghost holds: { Self → HandOf → Type 0 };
 
-    /// The refusals of a caller that has no pending call.
-    ghost refused_free: { RefusalOf → Type 0 };
+    /// Why a round of the caller's pending call is refused in this state of the store.
+    ghost is_refused: { ClusterOf → Self → RefusalOf → Type 0 };
 
     /// Makes one round of the caller's pending call.
     fn round<C: Chooser>(
@@ -35,10 +39,14 @@ pub(crate) trait Caller<L: StoreName> {
         asks_again: bool,
         turns: u64,
     ) -> Result<Round, Refusal>
+        requires { holds self.old hand }
+        ensures state { IsStateOf L.first booked.old }
         ensures leaves { IfOk result (λ r. LeavesBy ends (asked_if asks asks_again self.old) r self.new) }
-        ensures called { OnOk result (is_free self.old → ⊥) }
+        ensures codes { IfOk result (λ r. CanBeCoded r) }
+        ensures hands { IfOk result (λ r. (next : HandOf) → IsCodedFrom r next → holds self.new next) }
+        ensures memory { IfOk result (λ r. IsUnanswered r → is_refused booked.old self.new NoMemory) }
         ensures kept { OnErr result (self.new ≡ self.old) }
-        ensures free { IfErr result (λ e. is_free self.old → refused_free e) };
+        ensures refused { IfErr result (λ e. is_refused booked.old self.old e) };
 }
 
 impl<L: StoreName> Caller<L> for Seat<L> {
@@ -46,9 +54,9 @@ impl<L: StoreName> Caller<L> for Seat<L> {
 
     ghost asks = { λ seat. asked_once seat };
 
-    ghost is_free = { λ seat. seat.pending ≡ None };
+    ghost holds = { λ seat hand. IsPendingHand L.first seat.pending hand };
 
-    ghost refused_free = { λ e. (e ≡ NoCall) ⊎ (e ≡ Stranger) };
+    ghost is_refused = { λ cluster seat e. IsSeatRefused L.first cluster seat e };
 
     fn round<C: Chooser>(
         &mut self,
@@ -67,9 +75,9 @@ impl<L: StoreName> Caller<L> for Admin<L> {
 
     ghost asks = { λ admin. has_asked admin };
 
-    ghost is_free = { λ admin. admin.moving ≡ None };
+    ghost holds = { λ admin hand. IsMovingHand L.first admin.moving hand };
 
-    ghost refused_free = { λ e. e ≡ NoCall };
+    ghost is_refused = { λ cluster admin e. IsMovingRefused L.first cluster admin.moving e };
 
     fn round<C: Chooser>(
         &mut self,

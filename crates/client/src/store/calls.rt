@@ -1,8 +1,9 @@
 //! Whole reads and writes.
 
 ghost use Rattle.std.specs.Prelude.{◌≡◌, ◌⊎◌, None, IfErr, IfOk, OnErr};
-ghost use Rattle.locked_steps.specs.Seats.{AddsAnswered, AddsPending, BeginsNot, Settles, asked_once};
+ghost use Rattle.locked_steps.specs.Seats.{AddsAnswered, BeginsNot, Settles, asked_once};
 ghost use Rattle.locked_steps.specs.declared.call_record.Begin.TheVariants as begins;
+ghost use Rattle.client.specs.Refusals.{IsFreeRefused, LeavesPending, SeatIsRefused};
 
 use crate::store::Store;
 use bytes::Bytes;
@@ -35,7 +36,7 @@ impl<L: StoreName> Store<L> {
             (λ receipt. AddsAnswered L.first seat.old name.now (begins.Write value) receipt seat.new) }
         ensures err { IfErr result
             (λ r. ((seat.new ≡ seat.old) × BeginsNot L.first seat.old name.now (begins.Write value) r)
-            ⊎ AddsPending L.first seat.old name.now (begins.Write value) seat.new) }
+            ⊎ LeavesPending L.first seat.old name.now (begins.Write value) seat.new r) }
     {
         self.call(rt, &NoGate, seat, name, Begin::Write(value), chooser, turns)
     }
@@ -52,7 +53,7 @@ impl<L: StoreName> Store<L> {
     ) -> Result<Receipt, Refusal>
         ensures ok { IfOk result (λ receipt. AddsAnswered L.first seat.old name.now begins.Read receipt seat.new) }
         ensures err { IfErr result (λ r. ((seat.new ≡ seat.old) × BeginsNot L.first seat.old name.now begins.Read r)
-            ⊎ AddsPending L.first seat.old name.now begins.Read seat.new) }
+            ⊎ LeavesPending L.first seat.old name.now begins.Read seat.new r) }
     {
         self.call(rt, &NoGate, seat, name, Begin::Read, chooser, turns)
     }
@@ -79,8 +80,9 @@ impl<L: StoreName> Store<L> {
         ensures ok { IfOk result
             (λ receipt. Settles seat.old.pending (asked_once seat.old) receipt seat.new) }
         ensures err { OnErr result ((seat.new ≡ seat.old) ⊎ (seat.new ≡ asked_once seat.old)) }
+        ensures refused { IfErr result (λ r. SeatIsRefused L.first seat.new r) }
         ensures without_call { IfErr result
-            (λ r. (seat.old.pending ≡ None) → (r ≡ Refusal.NoCall) ⊎ (r ≡ Refusal.Stranger)) }
+            (λ r. (seat.old.pending ≡ None) → IsFreeRefused L.first seat.old.floor r) }
     {
         self.finish(rt, &NoGate, seat, true, chooser, turns)
     }
@@ -100,7 +102,7 @@ impl<L: StoreName> Store<L> {
     ) -> Result<Receipt, Refusal>
         ensures ok { IfOk result (λ receipt. AddsAnswered L.first seat.old name.now what receipt seat.new) }
         ensures err { IfErr result (λ r. ((seat.new ≡ seat.old) × BeginsNot L.first seat.old name.now what r)
-            ⊎ AddsPending L.first seat.old name.now what seat.new) }
+            ⊎ LeavesPending L.first seat.old name.now what seat.new r) }
     {
         let _ = seat.make_room(name);
         begin_in(&mut *self.booked.lock(rt), seat, name, what)?;

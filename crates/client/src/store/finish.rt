@@ -1,8 +1,11 @@
 //! Whole calls through the lock.
 
-ghost use Rattle.std.specs.Prelude.{IfErr, IfOk, OnErr};
-ghost use Rattle.client.specs.Callers.{StaysOpen};
+ghost use Rattle.std.specs.Prelude.{◌≡◌, IfErr, IfOk, OnErr};
+ghost use Rattle.tag.specs.declared.refusal.Refusal.TheVariants.{NoMemory};
+ghost use Rattle.client.specs.Callers.{CanBeCoded, IsCodedFrom, IsUnanswered, StaysOpen};
+ghost use Rattle.client.specs.Refusals.{IsRefusedThen};
 ghost use Rattle.locked_steps.specs.Moves.{asked_if};
+ghost use Rattle.locked_steps.specs.declared.rounds.Hand.TheVariants as hands;
 
 use crate::store::Store;
 use crate::store::caller::Caller;
@@ -26,10 +29,11 @@ impl<L: StoreName> Store<L> {
         chooser: &mut C,
         turns: u64,
     ) -> Result<Receipt, Refusal>
+        requires { K.holds caller.old hands.Empty }
         ensures ok { IfOk result
             (λ receipt. K.ends (asked_if K.asks resumed caller.old) receipt caller.new) }
         ensures err { OnErr result (StaysOpen K.asks resumed caller.old caller.new) }
-        ensures free { IfErr result (λ e. K.is_free caller.old → K.refused_free e) }
+        ensures refused { IfErr result (λ e. IsRefusedThen L.first K.is_refused caller.new e) }
     {
         let mut asks_again = resumed;
         let mut left = turns;
@@ -55,7 +59,11 @@ impl<L: StoreName> Store<L> {
         rt: &R,
         gate: &G,
         round: Round,
-    ) -> Result<Hand, Refusal> {
+    ) -> Result<Hand, Refusal>
+        requires { CanBeCoded round }
+        ensures coded { IfOk result (λ hand. IsUnanswered round → IsCodedFrom round hand) }
+        ensures refused { IfErr result (λ e. e ≡ NoMemory) }
+    {
         match round {
             Round::Encode { value, k, n } => {
                 let coded = encode_all(rt, self.alloc, self.workers, gate, k, n, value)?;

@@ -1,7 +1,8 @@
 //! What the administrator does through the lock.
 
 ghost use Rattle.std.specs.Prelude.{◌≡◌, ◌⊎◌, None, IfErr, IfOk, OnErr};
-ghost use Rattle.client.specs.Locked.{AddsLayout, BeginsMove, Creates, Moves, MovesNot, Retires, SetsServer};
+ghost use Rattle.client.specs.Locked.{AddsLayout, Creates, Moves, MovesNot, Retires, SetsServer};
+ghost use Rattle.client.specs.Refusals.{LeavesMoving, MoveIsRefused};
 ghost use Rattle.locked_steps.specs.Moves.{Ends, has_asked};
 
 use crate::store::Store;
@@ -128,7 +129,7 @@ impl<L: StoreName> Store<L> {
     ) -> Result<Receipt, Refusal>
         ensures ok { IfOk result (λ receipt. Moves L.first admin.old name.now layout receipt admin.new) }
         ensures err { IfErr result (λ r. ((admin.new ≡ admin.old) × MovesNot L.first admin.old name.now layout r)
-            ⊎ BeginsMove L.first admin.old name.now layout admin.new) }
+            ⊎ LeavesMoving L.first admin.old name.now layout admin.new r) }
     {
         let _ = admin.make_room(name);
         begin_move_in(&mut *self.booked.lock(rt), admin, name, layout)?;
@@ -146,6 +147,7 @@ impl<L: StoreName> Store<L> {
     ) -> Result<Receipt, Refusal>
         ensures ok { IfOk result (λ receipt. Ends (has_asked admin.old) receipt admin.new) }
         ensures err { OnErr result ((admin.new ≡ admin.old) ⊎ (admin.new ≡ has_asked admin.old)) }
+        ensures refused { IfErr result (λ r. MoveIsRefused L.first admin.new r) }
         ensures without_move { IfErr result (λ r. (admin.old.moving ≡ None) → r ≡ Refusal.NoCall) }
     {
         self.finish(rt, &NoGate, admin, true, chooser, turns)

@@ -7,5 +7,5 @@ abbrev pub invariant-loop : goal.invariant-loop
 invariant-loop g l = record {
   asked : asked_if g.K.Caller.asks l.asks_again l.caller ≡ asked_if g.K.Caller.asks l.resumed l.initial.caller;
   stays : StaysOpen g.K.Caller.asks l.resumed l.initial.caller l.caller;
-  free : g.K.Caller.is_free l.initial.caller → g.K.Caller.is_free l.caller;
+  holds : g.K.Caller.holds l.caller l.hand;
 }
