@@ -1,5 +1,6 @@
 pub mod Begins
 pub mod Booking
+pub mod Sound
 pub mod Becoming
 pub mod Rising
 pub mod Counted

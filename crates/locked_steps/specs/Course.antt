@@ -1,18 +1,24 @@
--- Which clusters a store can have: those that steps lead to.
-use Rattle.std.specs.Prelude.{◌≡◌, ◌⊎◌, ℕ, zero, suc, Bool, List, Option}
-use Rattle.layout.specs.Layout.{Layout}
+-- Which clusters a store can have: those that steps lead to, each of which may be made.
+use Rattle.std.specs.Prelude.{◌≡◌, ◌≤◌, ◌⊎◌, ℕ, zero, suc, Bool, List, Option, None}
+use Rattle.std.specs.List.{AllByRecursion}
+use Rattle.layout.specs.Layout.{Layout, IsLawful}
 use Rattle.record.specs.Steps.{Step}
-use Rattle.cluster.specs.Cluster.{Cluster}
+use Rattle.cluster.specs.Atomic.{AreSound}
+use Rattle.cluster.specs.Causes.{layout_cause, create_cause, server_cause}
+use Rattle.cluster.specs.Cluster.{Cluster, layout_of}
 use Rattle.cluster.specs.Kept.{IsKeptCluster}
+use Rattle.cluster.specs.May.{MayMake}
 use Rattle.cluster.specs.Steps.{stepped, with_layout, with_server, created}
 
--- one step leads from the one cluster to the other: of an object, or of the cluster itself
+-- one step leads from the one cluster to the other, and may be made: a step of an object, which its record allows, or a
+-- step of the cluster itself, with a lawful layout, that no cause refuses
 abbrev pub IsStep : (old new : Cluster) → Type 0
 IsStep old new =
-    ((name : List ℕ) × ((step : Step) × (new ≡ stepped old name step)))
-    ⊎ (((layout : Layout) × (new ≡ with_layout old layout))
-    ⊎ (((name : List ℕ) × ((id : ℕ) × ((delta : Option ℕ) × (new ≡ created old name id delta))))
-    ⊎ ((server : ℕ) × ((up : Bool) × (new ≡ with_server old server up)))))
+    ((name : List ℕ) × ((step : Step) × (MayMake old name step × (new ≡ stepped old name step))))
+    ⊎ (((layout : Layout) × (IsLawful layout × ((layout_cause old layout ≡ None) × (new ≡ with_layout old layout))))
+    ⊎ (((name : List ℕ) × ((id : ℕ) × ((delta : Option ℕ) × ((create_cause old name id ≡ None)
+    × (IsLawful (layout_of old id) × (new ≡ created old name id delta))))))
+    ⊎ ((server : ℕ) × ((up : Bool) × ((server_cause old server ≡ None) × (new ≡ with_server old server up))))))
 
 -- this many steps lead from the one cluster to the other
 abbrev pub Leads : (count : ℕ) → (first now : Cluster) → Type 0
@@ -23,10 +29,19 @@ Leads (suc count) first now = (before : Cluster) × (Leads count first before ×
 abbrev pub HasBecome : (first now : Cluster) → Type 0
 HasBecome first now = (count : ℕ) × Leads count first now
 
--- steps that lead to the old cluster can be continued to the new one
-abbrev pub GoesOn : (old new : Cluster) → Type 0
-GoesOn old new = (first : Cluster) → HasBecome first old → HasBecome first new
+-- the record of each object is sound, and its last step is not later than the cluster's
+pub record IsSoundCluster (cluster : Cluster) : Type 0 where
+  pub records : AreSound cluster
+  pub past : AllByRecursion (λ o. o.state.last ≤ cluster.counter) cluster.objects
 
--- a state of a store that was opened with `first`: steps lead to it, and it has what every step keeps
+-- steps that lead to the old cluster can be continued to the new one, which is sound where the old one is
+abbrev pub GoesOn : (old new : Cluster) → Type 0
+GoesOn old new =
+    ((first : Cluster) → HasBecome first old → HasBecome first new) × (IsSoundCluster old → IsSoundCluster new)
+
+-- a state of a store that was opened with `first`: steps that may be made lead to it, it is sound, and it has what
+-- every step keeps
 abbrev pub IsStateOf : (first now : Cluster) → Type 0
-IsStateOf first now = HasBecome first now × ((bytes : ℕ) × ((count : ℕ) × IsKeptCluster now bytes count))
+IsStateOf first now =
+    HasBecome first now
+    × (IsSoundCluster now × ((bytes : ℕ) × ((count : ℕ) × IsKeptCluster now bytes count)))

@@ -4,6 +4,7 @@ ghost use Rattle.std.specs.Prelude.{◌≡◌, ◌+◌, ℕ, []};
 ghost use Rattle.locked_steps.specs.Calls.{client_calls};
 ghost use Rattle.cluster.specs.Accounts.{calls};
 ghost use Rattle.cluster.specs.Cluster.{Cluster as Store};
+ghost use Rattle.locked_steps.specs.Course.{IsSoundCluster};
 
 use cluster::Cluster;
 use std::marker::{Brand, Model};
@@ -27,8 +28,8 @@ impl StoreName for Brand {
 
 /// A cluster with the book of its calls, as it lies under the lock.
 ///
-/// The book's total is the number of the cluster's reads and writes. Steps lead from the cluster that the store was
-/// opened with to this one.
+/// The book's total is the number of the cluster's reads and writes. Steps that may be made lead from the cluster that
+/// the store was opened with to this one, and it is sound.
 #[derive(Drop)]
 pub struct Booked<L: StoreName> {
     pub(crate) cluster: Cluster,
@@ -42,7 +43,7 @@ impl<L: StoreName> Model for Booked<L> {
     ghost use Rattle.cluster.specs.contracts.cluster.Cluster as whole;
     ghost use Rattle.cluster.specs.Cluster.{Cluster as Store};
     ghost use Rattle.locked_steps.specs.Calls.{client_calls};
-    ghost use Rattle.locked_steps.specs.Course.{HasBecome};
+    ghost use Rattle.locked_steps.specs.Course.{HasBecome, IsSoundCluster};
 
     ghost Value = { Store };
 
@@ -51,14 +52,15 @@ impl<L: StoreName> Model for Booked<L> {
     ghost view = { λ b. b.cluster };
 
     ghost invariant = { λ b. (b.book.total ≡ client_calls b.cluster) × (b.own.parts ≡ 1) × (b.own.amount ≡ 0)
-        × (b.seats ≡ L.seats) × (L.parts ≡ L.seats + 1) × HasBecome L.first b.cluster };
+        × (b.seats ≡ L.seats) × (L.parts ≡ L.seats + 1) × HasBecome L.first b.cluster × IsSoundCluster b.cluster };
 }
 
 impl<L: StoreName> Booked<L> {
-    /// A cluster without calls, with an empty book for this many seats.
+    /// A sound cluster without calls, with an empty book for this many seats.
     pub(crate) fn new(cluster: Cluster, book: Book<L>, own: Share<L>, seats: u32) -> Booked<L>
         requires calls { calls cluster.objects ≡ 0 }
         requires first { cluster ≡ L.first }
+        requires sound { IsSoundCluster cluster }
         requires book { book.total ≡ 0 }
         requires own { (own.parts ≡ 1) × (own.amount ≡ 0) }
         requires seats { (seats ≡ L.seats) × (L.parts ≡ L.seats + 1) }

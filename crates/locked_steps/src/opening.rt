@@ -43,6 +43,8 @@ pub fn open_in<L: StoreName>(
         list.push_reserved(empty_seat(alloc, number, share));
     }
     let admin = Admin::new(alloc, &cluster);
+    // A law: the cluster is sound.
+    cluster.soundness();
     let booked = Booked::new(cluster, book, own, seats);
     Ok((booked, list, admin))
 }

@@ -1,7 +1,11 @@
 //! The orders that the administrator carries out in one step.
 
-ghost use Rattle.std.specs.Prelude.{◌≡◌, IfOk, OnOk, OnErr};
+ghost use Rattle.std.specs.Prelude.{◌≡◌, Some, IfOk, OnOk, OnErr};
 ghost use Rattle.tag.specs.Refusal.{IsByCause};
+ghost use Rattle.encoder.specs.Fragment.{fragment};
+ghost use Rattle.record.specs.Sound.{IsSound};
+ghost use Rattle.register.specs.State.{State};
+ghost use Rattle.cluster.specs.Cluster.{named};
 ghost use Rattle.locked_steps.specs.Calls.{client_calls};
 ghost use Rattle.locked_steps.specs.Course.{GoesOn, IsStateOf};
 ghost use Rattle.locked_steps.specs.Moves.{ordered_by};
@@ -49,18 +53,34 @@ fn carry_out(cluster: &mut Cluster, order: Order) -> Result<Option<LayoutId>, Re
     ensures course { GoesOn cluster.old cluster.new }
 {
     match order {
-        Order::AddLayout(layout) => Ok(Some(cluster.add_layout(layout)?)),
+        Order::AddLayout(layout) => {
+            // A law: the layout is lawful.
+            layout.k();
+            Ok(Some(cluster.add_layout(layout)?))
+        }
         Order::Create {
             name,
             layout,
             delta,
         } => {
             cluster.create_with(name, layout, delta)?;
+            record_is_sound(cluster, name);
             Ok(None)
         }
         Order::SetServer { server, up } => {
             cluster.set_server(server, up)?;
             Ok(None)
         }
+    }
+}
+
+// A law: the record of the object of this name is sound. It changes nothing.
+fn record_is_sound(cluster: &Cluster, name: &str)
+    ensures { (state : State) → named cluster.now.objects name.now ≡ Some state
+        → IsSound fragment state.object state.last }
+{
+    match cluster.register(name) {
+        Ok(register) => register.soundness(),
+        Err(_) => {}
     }
 }

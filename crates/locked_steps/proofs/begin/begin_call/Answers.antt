@@ -21,10 +21,10 @@ returns-in-Write-clause-number c = numbered_ok c.call_write.result c.args.cluste
 
 pub returns-in-Read-clause-course : goal.returns-in-Read-clause-course
 returns-in-Read-clause-course c =
-    goes_on_both c.call_read.result c.args.cluster.now c.call_read.new.self c.args.name.now Step.CallRead c.call_read.ensures.step
-    c.call_read.ensures.unchanged
+    goes_on_both c.call_read.result c.args.cluster.now c.call_read.new.self c.args.name.now Step.CallRead c.call_read.ensures.may
+    c.call_read.ensures.step c.call_read.ensures.unchanged
 
 pub returns-in-Write-clause-course : goal.returns-in-Write-clause-course
 returns-in-Write-clause-course c =
     goes_on_both c.call_write.result c.args.cluster.now c.call_write.new.self c.args.name.now (Step.CallWrite c.in-Write.value)
-    c.call_write.ensures.step c.call_write.ensures.unchanged
+    c.call_write.ensures.may c.call_write.ensures.step c.call_write.ensures.unchanged

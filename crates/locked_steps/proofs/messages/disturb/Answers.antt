@@ -78,9 +78,9 @@ returns-in_ok-repeat-clause-count g c =
 pub returns-in_ok-lose-clause-course : goal.returns-in_ok-lose-clause-course
 returns-in_ok-lose-clause-course g c =
     goes_on_step c.args.cluster.now c.lose.new.self c.args.name.now (Step.Lose (c.choose.result % c.len-count.result))
-    c.in_ok-lose.ensures.step
+    c.in_ok-lose.ensures.may c.in_ok-lose.ensures.step
 
 pub returns-in_ok-repeat-clause-course : goal.returns-in_ok-repeat-clause-course
 returns-in_ok-repeat-clause-course g c =
     goes_on_step c.args.cluster.now c.repeat.new.self c.args.name.now (Step.Repeat (c.choose.result % c.len-count.result))
-    c.in_ok-repeat.ensures.step
+    c.in_ok-repeat.ensures.may c.in_ok-repeat.ensures.step

@@ -36,4 +36,4 @@ returns-clause-count g c =
 
 pub returns-clause-course : goal.returns-clause-course
 returns-clause-course g c =
-    goes_on_step c.args.cluster.now c.handle.new.cluster c.args.name.now _ c.in_ok-handle.ensures.step
+    goes_on_step c.args.cluster.now c.handle.new.cluster c.args.name.now _ c.in_ok-handle.ensures.may c.in_ok-handle.ensures.step

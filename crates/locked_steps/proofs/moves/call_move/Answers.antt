@@ -15,4 +15,4 @@ pub returns-clause-course : goal.returns-clause-course
 returns-clause-course c =
     goes_on_both c.call_move.result c.args.cluster.now c.call_move.new.self c.args.name.now
     (Step.CallMove (layout_of c.args.cluster.now c.args.layout))
-    c.call_move.ensures.step c.call_move.ensures.unchanged
+    c.call_move.ensures.may c.call_move.ensures.step c.call_move.ensures.unchanged

@@ -11,5 +11,5 @@ returns-clause-count c =
 
 pub returns-clause-course : goal.returns-clause-course
 returns-clause-course c =
-    goes_on_both c.retire.result c.args.cluster.now c.retire.new.self c.args.name.now Step.Retire c.retire.ensures.step
-    c.retire.ensures.unchanged
+    goes_on_both c.retire.result c.args.cluster.now c.retire.new.self c.args.name.now Step.Retire c.retire.ensures.may
+    c.retire.ensures.step c.retire.ensures.unchanged

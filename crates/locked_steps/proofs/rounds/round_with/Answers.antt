@@ -27,9 +27,10 @@ returns-in-Ok-clause-course g c =
 
 pub returns-in-Ok-supply-clause-course : goal.returns-in-Ok-supply-clause-course
 returns-in-Ok-supply-clause-course g c =
-    goes_on_step c.args.cluster.now c.supply.new.self c.args.name.now (Step.Supply (pred c.args.call)) c.in-Ok-supply.ensures.step
+    goes_on_step c.args.cluster.now c.supply.new.self c.args.name.now (Step.Supply (pred c.args.call)) c.in-Ok-supply.ensures.may
+    c.in-Ok-supply.ensures.step
 
 pub returns-in-Ok-settle-clause-course : goal.returns-in-Ok-settle-clause-course
 returns-in-Ok-settle-clause-course g c =
     goes_on_step c.args.cluster.now c.settle.new.self c.args.name.now (Step.Settle (pred c.args.call) c.in-Decoded.decoded.value)
-    c.in-Ok-settle.ensures.step
+    c.in-Ok-settle.ensures.may c.in-Ok-settle.ensures.step

@@ -10,4 +10,5 @@ invariant_of-result g c = (
   c.requires.seats.0,
   c.requires.seats.1,
   (0, c.requires.first),
+  c.requires.sound,
 )
