@@ -1,4 +1,3 @@
--- The contracts that docs/trusted.md lists do not depend on this file; other contracts and proofs do.
 -- Why each step is refused: the first refusal that applies, in the order of refusals. `NoMemory` comes after these.
 use Rattle.std.specs.Prelude.{ℕ, suc, ◌+◌, Bool, true, not, nat_le, nat_lt, is_some}
 use Rattle.std.specs.Prelude.{List, length, Option, Some, None, option_map, slice_get}

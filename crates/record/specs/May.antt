@@ -1,4 +1,3 @@
--- The contracts that docs/trusted.md lists do not depend on this file; other contracts and proofs do.
 -- When each step may be made, as far as the record says.
 use Rattle.std.specs.Prelude.{◌≡◌, ◌⊎◌, ℕ, suc, List, [], ◌∷◌, Some, IsSome, slice_get}
 use Rattle.tag.specs.declared.tag.Tag.{Tag}
