@@ -1,5 +1,5 @@
 -- What the run of a script comes to, line by line.
-use Rattle.std.proofs.Common.{◌≡◌, ◌+◌, ◌<◌, ◌≤◌, Bor, map, get_or, ℕ, zero, suc, List, [], ◌∷◌, ◌++◌}
+use Rattle.std.proofs.Common.{◌≡◌, ◌+◌, ◌<◌, ◌≤◌, ◌⊎◌, Bor, map, get_or, ℕ, zero, suc, List, [], ◌∷◌, ◌++◌}
 use Rattle.std.proofs.Common.{length, take, drop, Option, Some, None, Result, Ok, Err, refl, sym, ap, ◌∙◌, subst, inl, inr, arith}
 use Rattle.std.specs.Prelude.{option_map, slice_get, MatchResult}
 use Rattle.std.specs.Result.{IsErrAnd}
@@ -84,6 +84,7 @@ module _ (all : List (List ℕ)) (count : ℕ) (words : List ℕ) (at : slice_ge
   pub last_line : (script : List ℕ) (state : Option Cluster) (old middle new : Contents) (why : End) → all ≡ lines script →
       IsPlayedSoFar all count state old middle → EndsLine (count + 1) state words middle new why → EndsAt script old new why
   last_line script state old middle new end.Unread is so_far ends = ends
+  last_line script state old middle new end.NoRoom is so_far ends = ends
   last_line script state old middle new end.NoMemory is so_far (inl ends) = inl (record {
     front = take count all;
     words = words;
@@ -129,11 +130,15 @@ stopped (Err y) why Done P is holds = subst P (sym is) holds
 
 -- The script
 
-pub unread : (remaining old : Contents) (why : End) → IsUnread why → EndsBy remaining old old why
+pub unread : (remaining old : Contents) (why : End) → IsUnread why ⊎ (why ≡ end.NoRoom) → EndsBy remaining old old why
 unread remaining old end.Unread is = Keeps-refl old
-unread remaining old end.NoMemory is = inl (Keeps-refl old)
-unread remaining old (end.BadLine number) is = absurd is
-unread remaining old end.OutputLost is = absurd is
+unread remaining old end.NoRoom is = Keeps-refl old
+unread remaining old end.NoMemory (inl is) = absurd is
+unread remaining old end.NoMemory (inr is) = absurd (cc)
+unread remaining old (end.BadLine number) (inl is) = absurd is
+unread remaining old (end.BadLine number) (inr is) = absurd (cc)
+unread remaining old end.OutputLost (inl is) = absurd is
+unread remaining old end.OutputLost (inr is) = absurd (cc)
 
 pub plays_script : (remaining old new : Contents) (script : List ℕ) → IsScriptOf remaining script → IsPlayedThrough script old new →
     PlaysScript remaining old new
@@ -143,6 +148,7 @@ plays_script remaining old new script read through =
 pub ends_script : (remaining old new : Contents) (script : List ℕ) (why : End) → IsScriptOf remaining script →
     EndsAt script old new why → EndsBy remaining old new why
 ends_script remaining old new script end.Unread read ends = absurd ends
-ends_script remaining old new script end.NoMemory read ends = inr (script, read, ends)
+ends_script remaining old new script end.NoRoom read ends = absurd ends
+ends_script remaining old new script end.NoMemory read ends = (script, read, ends)
 ends_script remaining old new script (end.BadLine number) read ends = (script, read, ends)
 ends_script remaining old new script end.OutputLost read ends = (script, read, ends)

@@ -11,7 +11,7 @@ use Rattle.script.specs.declared.error.LineError.TheVariants as line_error
 use Rattle.script.specs.Line.{IsLine, IsErrorOfLine}
 use Rattle.cluster.specs.Cluster.{Cluster}
 use Rattle.player.specs.declared.run.End.{End}
-use Rattle.player.specs.declared.run.End.TheVariants.{Unread, NoMemory, BadLine, OutputLost}
+use Rattle.player.specs.declared.run.End.TheVariants.{Unread, NoRoom, NoMemory, BadLine, OutputLost}
 use Rattle.player.specs.Play.{Contents, Plays, IsBadAt}
 
 -- a line is skipped and changes nothing, or it spells a command, which is played and prints this text
@@ -88,6 +88,7 @@ IsPlayedFrom old words new before after = (text : List ℕ) × PlaysLine old wor
 -- why the run ends at the line of this number, and what was done
 abbrev pub EndsLine : (number : ℕ) → Option Cluster → (line : List ℕ) → (before after : Contents) → End → Type 0
 EndsLine number state words before after Unread = ⊥
+EndsLine number state words before after NoRoom = ⊥
 EndsLine number state words before after NoMemory =
     (IsErrorOfLine words line_error.NoMemory × Keeps before after) ⊎ LosesLine state words
 EndsLine number state words before after (BadLine at) = (at ≡ number) × IsBadLine state words × Keeps before after
@@ -101,23 +102,23 @@ IsPlayedThrough script old new =
 -- why the run of a script ends early at one of its lines, and what was done
 abbrev pub EndsAt : (script : List ℕ) → (old new : Contents) → End → Type 0
 EndsAt script old new Unread = ⊥
+EndsAt script old new NoRoom = ⊥
 EndsAt script old new NoMemory = LacksMemory script old new ⊎ LosesOutput script
 EndsAt script old new (BadLine number) = StopsAt script old new number
 EndsAt script old new OutputLost = LosesOutput script
 
--- these are the reasons why a script cannot be read
+-- the script cannot be read
 abbrev pub IsUnread : End → Type 0
 IsUnread Unread = ⊤
-IsUnread NoMemory = ⊤
 IsUnread _ = ⊥
 
--- why a run ends early, and what was done; where memory is refused, nothing was printed, or it was refused for a line
--- or for the text of a command that was carried out
+-- why a run ends early, and what was done: a script that is not read, or for which there is no room, is not played;
+-- otherwise the run ends at one of its lines
 abbrev pub EndsBy : (remaining old new : Contents) → End → Type 0
 EndsBy remaining old new Unread = Keeps old new
+EndsBy remaining old new NoRoom = Keeps old new
 EndsBy remaining old new NoMemory =
-    Keeps old new
-    ⊎ ((script : List ℕ) × IsScriptOf remaining script × (LacksMemory script old new ⊎ LosesOutput script))
+    (script : List ℕ) × IsScriptOf remaining script × (LacksMemory script old new ⊎ LosesOutput script)
 EndsBy remaining old new (BadLine number) =
     (script : List ℕ) × IsScriptOf remaining script × StopsAt script old new number
 EndsBy remaining old new OutputLost = (script : List ℕ) × IsScriptOf remaining script × LosesOutput script
@@ -134,6 +135,7 @@ pub record PlaysScript (remaining old new : Contents) : Type 0 where
 -- the exit status of a run that ends early
 abbrev pub status_of : End → ℕ
 status_of Unread = 2
+status_of NoRoom = 1
 status_of NoMemory = 1
 status_of (BadLine number) = 2
 status_of OutputLost = 1

@@ -1,9 +1,9 @@
 //! The run of a whole script, over any reader and two writers.
-ghost use Rattle.std.specs.Prelude.{◌≡◌, ℕ, List, map, IfErr, MatchResult};
+ghost use Rattle.std.specs.Prelude.{◌≡◌, ◌⊎◌, ℕ, List, map, IfErr, MatchResult};
 ghost use Rattle.std.specs.Str.Lines.{lines as lines_of};
 ghost use Rattle.std.specs.IoError.{error_kind};
 ghost use Rattle.player.specs.Script.{Runs, PlaysScript, EndsBy, EndsAt, EndsLine, IsScriptOf, IsUnread};
-ghost use Rattle.player.specs.declared.run.End.TheVariants.{BadLine};
+ghost use Rattle.player.specs.declared.run.End.TheVariants.{BadLine, NoRoom};
 ghost use Rattle.player.specs.Script.{IsPlayedFrom, IsPlayedThrough, status_of, unread_status};
 
 use crate::player::{Stop, play};
@@ -18,7 +18,10 @@ use std::{fmt, io};
 pub enum End {
     /// The script cannot be read. No command was carried out.
     Unread,
-    /// Memory is refused for the script, for a line of it or for a line of output.
+    /// Memory is refused for the script as a whole: for its bytes or for the list of its lines. No command was carried
+    /// out.
+    NoRoom,
+    /// Memory is refused for a line of the script or for a line of output. The commands before it were carried out.
     NoMemory,
     /// The line of this number, from 1, is bad. The commands before it were carried out.
     BadLine(usize),
@@ -54,7 +57,7 @@ pub fn report_unread<E: Write>(error: &io::Error, name: &str, err: &mut E) -> u8
     ensures { result ≡ unread_status (error_kind error.now) }
 {
     match error.kind() {
-        ErrorKind::OutOfMemory => report_end(End::NoMemory, name, err),
+        ErrorKind::OutOfMemory => report_end(End::NoRoom, name, err),
         _ => report_end(End::Unread, name, err),
     }
 }
@@ -67,7 +70,7 @@ pub fn report_end<E: Write>(end: End, name: &str, err: &mut E) -> u8
     let _ = err.writeln(EndText { end, name });
     match end {
         End::Unread | End::BadLine(_) => 2,
-        End::NoMemory | End::OutputLost => 1,
+        End::NoRoom | End::NoMemory | End::OutputLost => 1,
     }
 }
 
@@ -82,7 +85,7 @@ impl fmt::Display for EndText<'_> {
     fn fmt<W: fmt::Write>(&self, f: &mut fmt::Formatter<W>) -> fmt::Result {
         match self.end {
             End::Unread => write!(f, "cannot read {}", self.name),
-            End::NoMemory => f.write_str("refused 1 NoMemory"),
+            End::NoRoom | End::NoMemory => f.write_str("refused 1 NoMemory"),
             End::BadLine(line) => write!(f, "line {line}: bad"),
             End::OutputLost => f.write_str("cannot write the output"),
         }
@@ -98,19 +101,20 @@ fn play_script<R: Read, O: Write>(alloc: Global, reader: &mut R, out: &mut O) ->
         Err(end) => return Err(end),
     };
     let Ok(lines) = split_lines(alloc, &text) else {
-        return Err(End::NoMemory);
+        return Err(End::NoRoom);
     };
     play_lines(alloc, &lines, out)
 }
 
-/// All bytes that the reader gives. `NoMemory` where memory is refused for them, and `Unread` for any other error.
+/// All bytes that the reader gives. `NoRoom` where memory is refused for them, and `Unread` for any other error.
 pub fn read_script<R: Read>(alloc: Global, reader: &mut R) -> Result<Vec<u8>, End>
-    ensures { MatchResult result (λ text. IsScriptOf (R.remaining reader.old) text.items) IsUnread }
+    ensures { MatchResult result (λ text. IsScriptOf (R.remaining reader.old) text.items)
+        (λ end. IsUnread end ⊎ (end ≡ NoRoom)) }
 {
     let mut text = Vec::new(alloc);
     match reader.read_to_end(&mut text) {
         Ok(_) => Ok(text),
-        Err(error) if error.kind() == ErrorKind::OutOfMemory => Err(End::NoMemory),
+        Err(error) if error.kind() == ErrorKind::OutOfMemory => Err(End::NoRoom),
         Err(_) => Err(End::Unread),
     }
 }

@@ -3,7 +3,7 @@
 use Rattle.std.specs.Prelude.{◌≡◌, ◌⊎◌, ℕ, List, Option, None, Result, Ok, Err}
 use Rattle.std.specs.Io.KnownBytes.{Keeps}
 use Rattle.cluster.specs.Cluster.{Cluster}
-use Rattle.player.specs.declared.run.End.TheVariants.{NoMemory, Unread}
+use Rattle.player.specs.declared.run.End.TheVariants.{NoRoom, Unread}
 use Rattle.trace.specs.declared.fault.Fault.{Fault}
 use Rattle.trace.specs.declared.fault.Fault.TheVariants as fault
 use Rattle.trace.specs.declared.request.Form.{Form}
@@ -15,7 +15,7 @@ use Rattle.trace.specs.Shown.{Shows}
 -- the file could not be opened, and nothing is written
 abbrev pub IsUnopened : (old new : Option (List ℕ)) → Result Unit Fault → Type 0
 IsUnopened old new result =
-    ((result ≡ Err (fault.Ended NoMemory)) ⊎ (result ≡ Err (fault.Ended Unread))) × Keeps old new
+    ((result ≡ Err (fault.Ended NoRoom)) ⊎ (result ≡ Err (fault.Ended Unread))) × Keeps old new
 
 -- playing the script ends early, and nothing is written; or it is played to its end, and the object is shown or not
 abbrev pub Carries : (given : Option (List ℕ)) → Form → (name : Word) → (old new : Option (List ℕ))

@@ -35,7 +35,7 @@ pub fn play_script<R: Read>(alloc: Global, reader: &mut R, name: &str) -> Result
         Err(end) => return Err(Fault::Ended(end)),
     };
     let Ok(lines) = split_lines(alloc, &text) else {
-        return Err(Fault::Ended(End::NoMemory));
+        return Err(Fault::Ended(End::NoRoom));
     };
     play_lines(alloc, &lines, name)
 }

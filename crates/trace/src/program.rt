@@ -55,7 +55,7 @@ fn show_opened<F: Read + Drop, O: Write>(
 {
     match opened {
         Ok(mut file) => show_file(alloc, &mut file, request, out),
-        Err(error) if error.kind() == ErrorKind::OutOfMemory => Err(Fault::Ended(End::NoMemory)),
+        Err(error) if error.kind() == ErrorKind::OutOfMemory => Err(Fault::Ended(End::NoRoom)),
         Err(_) => Err(Fault::Ended(End::Unread)),
     }
 }
