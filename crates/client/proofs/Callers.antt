@@ -13,7 +13,7 @@ use Rattle.locked_steps.specs.Moves.{AdminState, Moving, asked_if, has_asked}
 use Rattle.locked_steps.specs.Orders.{MoveGoesNot, MoveLeaves, has_move, move_cause_of}
 use Rattle.locked_steps.specs.Rounds.{SeatGoesNot, going_cause, pending_cause, round_cause}
 use Rattle.locked_steps.specs.Seats.{SeatState, Pending}
-use Rattle.locked_steps.specs.declared.rounds.Hand.{Hand}
+use Rattle.locked_steps.specs.declared.rounds.HandedIn.{HandedIn}
 use Rattle.client.specs.Callers.{IsUnanswered}
 use Rattle.client.specs.Refusals.{IsMovingHand, IsMovingRefused, IsPendingHand, IsPendingRefused, IsSeatRefused}
 use Rattle.client.proofs.Stopping.{same_refusal, held_going, refused_goes}
@@ -59,13 +59,13 @@ module _ (first cluster : Cluster) (turns : ℕ) where
       pick false is c = absurd (cc)
 
 module _ {C : Type 0} (chooses : C → ℕ → ℕ → C → Type 0) (first cluster : Cluster) (turns : ℕ) (before after : C) where
-  pending_goes_not : (p : Option Pending) (h : Hand) (again : Bool) (e : Refusal) → IsPendingHand first p h
+  pending_goes_not : (p : Option Pending) (h : HandedIn) (again : Bool) (e : Refusal) → IsPendingHand first p h
       → SeatGoesNot chooses p h again cluster before after e → IsPendingRefused first cluster p e
   pending_goes_not None h again e coded r = absurd r
   pending_goes_not (Some p) h again e coded r = refused_goes chooses p.name p.kept.call cluster before after first e again h coded r
 
   -- why a round of a seat is refused
-  pub seat_stops : (s : SeatState) (h : Hand) (again : Bool) (e : Refusal) → IsPendingHand first s.pending h
+  pub seat_stops : (s : SeatState) (h : HandedIn) (again : Bool) (e : Refusal) → IsPendingHand first s.pending h
       → ((round_cause cluster s turns ≡ Some e) × (after ≡ before))
       ⊎ ((round_cause cluster s turns ≡ None) × SeatGoesNot chooses s.pending h again cluster before after e)
       → IsSeatRefused first cluster s e
@@ -116,7 +116,7 @@ module _ (first cluster : Cluster) (turns : ℕ) where
       subst (λ o. IsMovingRefused first cluster o refusal.NoMemory) (sym (open_move again a r t stays left ∙ goes.1)) (inr (goes.2, inl tt))
 
 module _ {C : Type 0} (chooses : C → ℕ → ℕ → C → Type 0) (first cluster : Cluster) (turns : ℕ) (before after : C) where
-  moving_goes_not : (o : Option Moving) (h : Hand) (again : Bool) (e : Refusal) → IsMovingHand first o h
+  moving_goes_not : (o : Option Moving) (h : HandedIn) (again : Bool) (e : Refusal) → IsMovingHand first o h
       → move_cause_of cluster o turns ≡ None → MoveGoesNot chooses o h again cluster before after e → IsMovingRefused first cluster o e
   moving_goes_not None h again e coded c r = absurd r
   moving_goes_not (Some m) h again e coded c r =
@@ -132,7 +132,7 @@ module _ {C : Type 0} (chooses : C → ℕ → ℕ → C → Type 0) (first clus
           same a b e = cc
 
   -- why a round of the administrator's move is refused
-  pub move_stops : (o : Option Moving) (h : Hand) (again : Bool) (e : Refusal) → IsMovingHand first o h
+  pub move_stops : (o : Option Moving) (h : HandedIn) (again : Bool) (e : Refusal) → IsMovingHand first o h
       → ((move_cause_of cluster o turns ≡ Some e) × (after ≡ before))
       ⊎ ((move_cause_of cluster o turns ≡ None) × MoveGoesNot chooses o h again cluster before after e)
       → IsMovingRefused first cluster o e

@@ -18,8 +18,8 @@ use Rattle.cluster.specs.Cluster.{Cluster, named}
 use Rattle.driver.specs.Driver.{wanted, IsDue, IsNext, IsRefused}
 use Rattle.driver.proofs.Named.{cause_there, read_there}
 use Rattle.locked_steps.specs.Rounds.{GoesNot, going_cause, hand_cause, open_cause}
-use Rattle.locked_steps.specs.declared.rounds.Hand.{Hand}
-use Rattle.locked_steps.specs.declared.rounds.Hand.TheVariants as hand
+use Rattle.locked_steps.specs.declared.rounds.HandedIn.{HandedIn}
+use Rattle.locked_steps.specs.declared.rounds.HandedIn.TheVariants as hand
 use Rattle.client.specs.Refusals.{Anyhow, IsCodedFor, IsHeldUp, IsRefusedIn}
 
 pub same_refusal : (a b : Refusal) → Some a ≡ Some b → a ≡ b
@@ -115,12 +115,12 @@ module _ {C : Type 0} (chooses : C → ℕ → ℕ → C → Type 0) (name : Lis
   held_refused again refusal.Stranger r = absurd r
 
   module _ (first : Cluster) (e : Refusal) where
-    by_hand : (h : Hand) → IsCodedFor first name call h → IsRefusalBy (hand_cause cluster name call h) e
+    by_hand : (h : HandedIn) → IsCodedFor first name call h → IsRefusalBy (hand_cause cluster name call h) e
         → IsRefusedIn first name call cluster e
     by_hand h coded (inl is) = inr (h, (coded, is))
     by_hand h coded (inr none) = inl (subst (IsHeldUp name call cluster) (sym none.1) tt)
 
-    pub refused_goes : (again : Bool) (h : Hand) → IsCodedFor first name call h
+    pub refused_goes : (again : Bool) (h : HandedIn) → IsCodedFor first name call h
         → GoesNot chooses name call h again cluster before after e → IsRefusedIn first name call cluster e
     refused_goes again hand.Empty coded r = inl (held_refused again e r)
     refused_goes again (hand.Coded c) coded r = by_hand (hand.Coded c) coded r.2

@@ -6,8 +6,8 @@ use Rattle.register.specs.declared.receipt.Receipt.{Receipt}
 use Rattle.driver.specs.Coding.{GiveBack}
 use Rattle.driver.specs.declared.round.Round.{Round}
 use Rattle.driver.specs.declared.round.Round.TheVariants as round
-use Rattle.locked_steps.specs.declared.rounds.Hand.{Hand}
-use Rattle.locked_steps.specs.declared.rounds.Hand.TheVariants as hand
+use Rattle.locked_steps.specs.declared.rounds.HandedIn.{HandedIn}
+use Rattle.locked_steps.specs.declared.rounds.HandedIn.TheVariants as hand
 
 -- the state after a round: an answer ends the call, and any other round leaves the state as it is
 abbrev pub LeavesBy : {S : Type 0} → (S → Receipt → S → Type 0) → S → Round → S → Type 0
@@ -31,7 +31,7 @@ CanBeCoded (round.Decode pieces k len) = GiveBack k len pieces.items
 CanBeCoded _ = Unit {0}
 
 -- this is handed in after a round: the encoded value, or the value of the decoded pieces, or nothing
-abbrev pub IsCodedFrom : Round → Hand → Type 0
+abbrev pub IsCodedFrom : Round → HandedIn → Type 0
 IsCodedFrom (round.Encode value k n) (hand.Coded coded) = coded ≡ record { k = k; n = n; value = value }
 IsCodedFrom (round.Decode pieces k len) (hand.Decoded decoded) =
     (decoded.k ≡ k) × (decoded.pieces ≡ pieces.items) × (length decoded.value ≡ len)

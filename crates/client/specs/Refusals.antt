@@ -18,8 +18,8 @@ use Rattle.locked_steps.specs.Orders.{has_move}
 use Rattle.locked_steps.specs.Rounds.{hand_cause}
 use Rattle.locked_steps.specs.Seats.{SeatState, Pending, AddsPending}
 use Rattle.locked_steps.specs.declared.call_record.Begin.{Begin}
-use Rattle.locked_steps.specs.declared.rounds.Hand.{Hand}
-use Rattle.locked_steps.specs.declared.rounds.Hand.TheVariants as hand
+use Rattle.locked_steps.specs.declared.rounds.HandedIn.{HandedIn}
+use Rattle.locked_steps.specs.declared.rounds.HandedIn.TheVariants as hand
 use Rattle.client.specs.Locked.{BeginsMove}
 
 -- a chooser that may choose anything
@@ -54,7 +54,7 @@ module _ (name : List ℕ) (call : ℕ) where
 
 module _ (first : Cluster) (name : List ℕ) (call : ℕ) where
   -- what is handed in, if anything, was encoded or decoded for the call, as it wanted in some state of the store
-  abbrev pub IsCodedFor : Hand → Type 0
+  abbrev pub IsCodedFor : HandedIn → Type 0
   IsCodedFor hand.Empty = Unit {0}
   IsCodedFor (hand.Coded coded) =
       (cluster : Cluster) × (IsStateOf first cluster × IsToEncode cluster name call coded.k coded.n coded.value)
@@ -66,15 +66,15 @@ module _ (first : Cluster) (name : List ℕ) (call : ℕ) where
   abbrev pub IsRefusedIn : Cluster → Refusal → Type 0
   IsRefusedIn cluster r =
       IsHeldUp name call cluster r
-      ⊎ ((h : Hand) × (IsCodedFor h × (hand_cause cluster name call h ≡ Some r)))
+      ⊎ ((h : HandedIn) × (IsCodedFor h × (hand_cause cluster name call h ≡ Some r)))
 
 -- what is handed in was coded for the pending call; where none is pending, it may be anything
-abbrev pub IsPendingHand : (first : Cluster) → Option Pending → Hand → Type 0
+abbrev pub IsPendingHand : (first : Cluster) → Option Pending → HandedIn → Type 0
 IsPendingHand first None h = Unit {0}
 IsPendingHand first (Some p) h = IsCodedFor first p.name p.kept.call h
 
 -- what is handed in was coded for the pending move; where none is pending, it may be anything
-abbrev pub IsMovingHand : (first : Cluster) → Option Moving → Hand → Type 0
+abbrev pub IsMovingHand : (first : Cluster) → Option Moving → HandedIn → Type 0
 IsMovingHand first None h = Unit {0}
 IsMovingHand first (Some m) h = IsCodedFor first m.name m.call h
 

@@ -4,7 +4,7 @@ ghost use Rattle.std.specs.Prelude.{◌≡◌, ◌+◌, ◌⊎◌, ◌<◌, ◌�
 ghost use Rattle.tag.specs.declared.limits.TheConstants.{MOST_WORKERS};
 ghost use Rattle.tag.specs.Refusal.{IsByCause};
 ghost use Rattle.locked_steps.specs.Closing.{Fit, IsAccounted, all_records, receipts_of};
-ghost use Rattle.locked_steps.specs.Course.{HasBecome};
+ghost use Rattle.locked_steps.specs.Course.{IsReachable};
 ghost use Rattle.locked_steps.specs.Moves.{new_admin};
 ghost use Rattle.locked_steps.specs.Seats.{new_seats};
 ghost use Rattle.client.specs.Locked.{DisturbsNotThen, DisturbsThen, StirsNotThen, StirsThen};
@@ -113,8 +113,8 @@ impl<L: StoreName> Store<L> {
     /// `Stranger` where the seats are not those of the store, or their records do not fit its history. `NoMemory` may
     /// come before that is known. Both give the cluster and the seats back.
     pub fn close(self, seats: Vec<Seat<L>>) -> Result<Closed, NotClosed<L>>
-        ensures course { MatchResult result (λ closed. HasBecome L.first closed.cluster)
-            (λ e. HasBecome L.first e.cluster) }
+        ensures course { MatchResult result (λ closed. IsReachable L.first closed.cluster)
+            (λ e. IsReachable L.first e.cluster) }
         ensures accounted { IfOk result (λ closed. IsAccounted closed.cluster seats.items) }
         ensures fit { IfOk result (λ closed. Fit L.seats closed.cluster seats.items) }
         ensures receipts { IfOk result (λ closed. closed.receipts ≡ receipts_of (all_records seats.items)) }

@@ -8,7 +8,7 @@ use Rattle.tag.specs.declared.refusal.Refusal.{Refusal}
 use Rattle.tag.specs.declared.refusal.Refusal.TheVariants.{NoMemory}
 use Rattle.encoder.specs.Fragment.{piece_of}
 use Rattle.encoder.specs.declared.fragment.Piece.{Piece}
-use Rattle.coding_pool.specs.declared.worker.Errand.{Errand}
+use Rattle.coding_pool.specs.declared.worker.CodingJob.{CodingJob}
 use Rattle.coding_pool.specs.declared.worker.Worker.{Worker}
 use Rattle.coding_pool.specs.Jobs.{times, once_below}
 
@@ -21,22 +21,22 @@ abbrev pub IsEach : ℕ → List Piece → Type 0
 IsEach n pieces = (job : ℕ) → times job (map point_of pieces) ≡ once_below n job
 
 -- the value of the errand may be encoded: k is at least 1, and the value is within the limit
-pub record IsErrand (errand : Errand) : Type 0 where
+pub record IsErrand (errand : CodingJob) : Type 0 where
   pub some : 1 ≤ errand.k
   pub longest : length errand.value.now ≤ LONGEST_VALUE
 
 -- a worker of the errand: its pass is of the errand's queue, and it has the value's pieces for the jobs that it popped
-pub record IsWorker (errand : Errand) (w : Worker) : Type 0 where
+pub record IsWorker (errand : CodingJob) (w : Worker) : Type 0 where
   pub pass : IsPassOf errand.jobs.now w.pass
   pub popped : (view w.pass).popped ≡ map point_of w.pieces.items
   pub made : All (λ p. p ≡ piece_of errand.value.now errand.k p.point) w.pieces.items
 
 -- a worker of the errand that has one part, and pushed no job
-pub record IsHand (errand : Errand) (w : Worker) : Type 0 where
+pub record IsHand (errand : CodingJob) (w : Worker) : Type 0 where
   pub worker : IsWorker errand w
   pub parts : (view w.pass).parts ≡ 1
   pub pushed : (view w.pass).pushed ≡ 0
 
 -- what a thread may hand back: a worker with one part, or NoMemory
-abbrev pub IsAnswer : Errand → Result Worker Refusal → Type 0
+abbrev pub IsAnswer : CodingJob → Result Worker Refusal → Type 0
 IsAnswer errand answer = MatchResult answer (IsHand errand) (λ r. r ≡ NoMemory)

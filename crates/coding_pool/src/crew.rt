@@ -4,7 +4,7 @@ ghost use Rattle.tag.specs.declared.refusal.Refusal.TheVariants.{NoMemory};
 ghost use Rattle.coding_pool.specs.Worker.{IsHand, IsErrand, IsAnswer};
 
 use crate::gate::Gate;
-use crate::worker::{Answer, Errand, Worker};
+use crate::worker::{Answer, CodingJob, Worker};
 use std::sync::Wait;
 use std::sync::atomic::{AtomicUsize, Ordering};
 use std::thread;
@@ -15,7 +15,7 @@ use tag::Refusal;
 /// worker for which no thread can be started takes no job. `NoMemory` is the only refusal.
 pub fn work_all<G: Gate, R: Threads + Wait + Sync>(
     rt: &R,
-    errand: Errand,
+    errand: CodingJob,
     gate: &G,
     crew: Vec<Worker>,
 ) -> Result<Vec<Answer>, Refusal>
@@ -26,7 +26,7 @@ pub fn work_all<G: Gate, R: Threads + Wait + Sync>(
     ensures refused { IfErr result (λ r. r ≡ NoMemory) }
 {
     let unstarted = AtomicUsize::new(usize::MAX);
-    let Errand {
+    let CodingJob {
         alloc,
         jobs,
         k,
@@ -44,7 +44,7 @@ pub fn work_all<G: Gate, R: Threads + Wait + Sync>(
                 (λ a. IsAnswer (record { alloc = alloc; jobs = jobs.entry; k = k; value = value.entry }) a) v.items) }
             ensures refused { IfErr result (λ r. r ≡ NoMemory) }
         {
-            let errand = Errand {
+            let errand = CodingJob {
                 alloc,
                 jobs,
                 k,
@@ -59,7 +59,7 @@ pub fn work_all<G: Gate, R: Threads + Wait + Sync>(
 fn work_in<'s, E, G: Gate, R: Threads + Wait + Sync>(
     scope: &Scope<'s, E>,
     rt: &'s R,
-    errand: Errand<'s>,
+    errand: CodingJob<'s>,
     gate: &'s G,
     unstarted: &'s AtomicUsize,
     mut crew: Vec<Worker>,
@@ -88,19 +88,19 @@ fn work_in<'s, E, G: Gate, R: Threads + Wait + Sync>(
 /// of the worker, which has taken no job.
 fn start<'s, E, G: Gate, R: Wait + Sync>(
     scope: &Scope<'s, E>,
-    errand: Errand<'s>,
+    errand: CodingJob<'s>,
     gate: &'s G,
     rt: &'s R,
     unstarted: &'s AtomicUsize,
     place: usize,
     worker: Worker,
-) -> Result<PromisedHandle<Answer, Errand<'s>>, Answer>
+) -> Result<PromisedHandle<Answer, CodingJob<'s>>, Answer>
     requires errand { IsErrand errand }
     requires worker { IsHand errand worker }
     ensures started { IfOk result (λ handle. handle.promise ≡ errand.entry) }
     ensures refused { IfErr result (λ answer. IsAnswer errand.entry answer) }
 {
-    let Errand {
+    let CodingJob {
         alloc,
         jobs,
         k,
@@ -114,7 +114,7 @@ fn start<'s, E, G: Gate, R: Wait + Sync>(
         if unstarted.load(Ordering::SeqCst) == place {
             return Ok(worker);
         }
-        let errand = Errand {
+        let errand = CodingJob {
             alloc,
             jobs,
             k,

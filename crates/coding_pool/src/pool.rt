@@ -12,7 +12,7 @@ ghost use Rattle.coding_pool.specs.Worker.{IsWorker, IsHand, IsErrand, IsAnswer}
 use crate::crew::work_all;
 use crate::gate::{Gate, NoGate};
 use crate::jobs::{Cut, JobPass, Jobs, push_all};
-use crate::worker::{Answer, Errand, Worker};
+use crate::worker::{Answer, CodingJob, Worker};
 use bytes::Bytes;
 use encoder::{Coded, Piece, assemble};
 use std::alloc::Global;
@@ -70,7 +70,7 @@ fn all_pieces<G: Gate, R: Threads + Wait + Sync>(
 {
     let (jobs, mut pass) = Jobs::ruled(alloc, n as usize)?;
     push_all(rt, &jobs, &mut pass, n);
-    let errand = Errand {
+    let errand = CodingJob {
         alloc,
         jobs: &jobs,
         k,
@@ -88,7 +88,7 @@ fn all_pieces<G: Gate, R: Threads + Wait + Sync>(
 }
 
 /// `workers` new workers, each with one part of `pass`. `NoMemory` is the only refusal.
-fn hire(errand: Errand, pass: &mut JobPass, workers: usize) -> Result<Vec<Worker>, Refusal>
+fn hire(errand: CodingJob, pass: &mut JobPass, workers: usize) -> Result<Vec<Worker>, Refusal>
     requires pass { IsPassOf errand.jobs.now pass.old }
     requires workers { workers ≤ MOST_WORKERS }
     requires first { view pass.old ≡ known PARTS (view pass.old).pushed (view pass.old).popped }
@@ -108,7 +108,7 @@ fn hire(errand: Errand, pass: &mut JobPass, workers: usize) -> Result<Vec<Worker
 
 /// Takes over the passes and the pieces of all workers of the crew. `NoMemory` is the only refusal: a worker's, or the
 /// caller's own.
-fn gather(errand: Errand, mut caller: Worker, mut answers: Vec<Answer>) -> Answer
+fn gather(errand: CodingJob, mut caller: Worker, mut answers: Vec<Answer>) -> Answer
     requires caller { IsWorker errand caller }
     requires part { 0 < (view caller.pass).parts }
     requires answers { All (λ a. IsAnswer errand a) answers.items }

@@ -15,7 +15,7 @@ use tag::Refusal;
 
 /// What all workers of one value share.
 #[derive(Clone, Copy)]
-pub struct Errand<'a> {
+pub struct CodingJob<'a> {
     /// Allocates the pieces.
     pub alloc: Global,
     /// The queue of the jobs that are left.
@@ -38,7 +38,7 @@ pub struct Worker {
 /// What a thread hands back: its worker, or `NoMemory`.
 pub type Answer = Result<Worker, Refusal>;
 
-impl<'a> Promise<Answer> for Errand<'a> {
+impl<'a> Promise<Answer> for CodingJob<'a> {
     ghost use Rattle.coding_pool.specs.Worker.{IsAnswer};
 
     ghost kept_by = { IsAnswer };
@@ -46,7 +46,7 @@ impl<'a> Promise<Answer> for Errand<'a> {
 
 impl Worker {
     /// A worker that has taken no job. It allocates no memory.
-    pub fn new(errand: Errand, pass: JobPass) -> Worker
+    pub fn new(errand: CodingJob, pass: JobPass) -> Worker
         requires pass { IsPassOf errand.jobs.now pass }
         requires popped { (view pass).popped ≡ [] }
         ensures worker { IsWorker errand.entry result }
@@ -59,7 +59,7 @@ impl Worker {
     }
 
     /// Takes jobs until none is left, and makes their pieces. `NoMemory` is the only refusal.
-    pub fn work<G: Gate, R: Wait>(mut self, rt: &R, errand: Errand, gate: &G) -> Answer
+    pub fn work<G: Gate, R: Wait>(mut self, rt: &R, errand: CodingJob, gate: &G) -> Answer
         requires errand { IsErrand errand }
         requires worker { IsWorker errand self }
         requires part { 0 < (view self.pass).parts }
@@ -83,7 +83,7 @@ impl Worker {
     }
 
     /// Takes over the pass and the pieces of another worker. `NoMemory` is the only refusal.
-    pub fn take_over(mut self, errand: Errand, other: Worker) -> Answer
+    pub fn take_over(mut self, errand: CodingJob, other: Worker) -> Answer
         requires worker { IsWorker errand self }
         requires other { IsHand errand other }
         requires part { 0 < (view self.pass).parts }

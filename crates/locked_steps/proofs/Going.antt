@@ -33,8 +33,8 @@ use Rattle.driver.specs.Rounds.{IsRound}
 use Rattle.locked_steps.specs.Rounds.{Goes, Copies, tells}
 use Rattle.driver.specs.declared.round.Round.{Round}
 use Rattle.driver.specs.declared.round.Round.TheVariants as round
-use Rattle.locked_steps.specs.declared.rounds.Hand.{Hand}
-use Rattle.locked_steps.specs.declared.rounds.Hand.TheVariants as hand
+use Rattle.locked_steps.specs.declared.rounds.HandedIn.{HandedIn}
+use Rattle.locked_steps.specs.declared.rounds.HandedIn.TheVariants as hand
 use Rattle.locked_steps.proofs.Begins.{begins}
 use Rattle.locked_steps.proofs.Booking.{calls_kept}
 use Rattle.driver.proofs.Named.{read_there, cause_there, is_there}
@@ -156,7 +156,7 @@ module _ {C : Type 0} (chooses : C → ℕ → ℕ → C → Type 0) (name : Lis
   room : IsTurn chooses name call again old before new after → new.counter ≤ MOST_STEPS → old.counter < MOST_STEPS
   room t few = let is = ap (λ (k : Cluster). k.counter) t.made in omega (arith, is, few)
 
-  pub copies : (h : Hand) (r : Round) (w : Want) (copy : Option (List ℕ)) → Goes chooses name call h again old before new after r
+  pub copies : (h : HandedIn) (r : Round) (w : Want) (copy : Option (List ℕ)) → Goes chooses name call h again old before new after r
       → wanted old name call ≡ Some w
       → (w ≡ want.Answer → h ≡ hand.Empty → old.counter < MOST_STEPS → copy ≡ if_named old name (λ object. value_at object call))
       → (w ≡ want.Answer → ArePast old name)

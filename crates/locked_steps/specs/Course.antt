@@ -26,8 +26,8 @@ Leads zero first now = now ≡ first
 Leads (suc count) first now = (before : Cluster) × (Leads count first before × IsStep before now)
 
 -- some number of steps leads from the one cluster to the other
-abbrev pub HasBecome : (first now : Cluster) → Type 0
-HasBecome first now = (count : ℕ) × Leads count first now
+abbrev pub IsReachable : (first now : Cluster) → Type 0
+IsReachable first now = (count : ℕ) × Leads count first now
 
 -- the record of each object is sound, and its last step is not later than the cluster's
 pub record IsSoundCluster (cluster : Cluster) : Type 0 where
@@ -35,13 +35,13 @@ pub record IsSoundCluster (cluster : Cluster) : Type 0 where
   pub past : AllByRecursion (λ o. o.state.last ≤ cluster.counter) cluster.objects
 
 -- steps that lead to the old cluster can be continued to the new one, which is sound where the old one is
-abbrev pub GoesOn : (old new : Cluster) → Type 0
-GoesOn old new =
-    ((first : Cluster) → HasBecome first old → HasBecome first new) × (IsSoundCluster old → IsSoundCluster new)
+abbrev pub PreservesReachable : (old new : Cluster) → Type 0
+PreservesReachable old new =
+    ((first : Cluster) → IsReachable first old → IsReachable first new) × (IsSoundCluster old → IsSoundCluster new)
 
 -- a state of a store that was opened with `first`: steps that may be made lead to it, it is sound, and it has what
 -- every step keeps
 abbrev pub IsStateOf : (first now : Cluster) → Type 0
 IsStateOf first now =
-    HasBecome first now
+    IsReachable first now
     × (IsSoundCluster now × ((bytes : ℕ) × ((count : ℕ) × IsKeptCluster now bytes count)))

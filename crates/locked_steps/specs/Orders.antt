@@ -17,7 +17,7 @@ use Rattle.locked_steps.specs.declared.admin.Order.{Order}
 use Rattle.locked_steps.specs.declared.admin.Order.TheVariants as order
 use Rattle.driver.specs.declared.round.Round.{Round}
 use Rattle.driver.specs.declared.round.Round.TheVariants as round
-use Rattle.locked_steps.specs.declared.rounds.Hand.{Hand}
+use Rattle.locked_steps.specs.declared.rounds.HandedIn.{HandedIn}
 use Rattle.locked_steps.specs.Rounds.{going_cause, Goes, GoesNot}
 
 -- the cluster after an order is carried out
@@ -81,13 +81,13 @@ move_cause_of cluster (Some m) turns = unless (has_move cluster m) NoCall (going
 
 module _ {C : Type 0} (chooses : C → ℕ → ℕ → C → Type 0) where
   -- a round of the pending move
-  abbrev pub MoveGoes : Option Moving → Hand → (again : Bool) → (old : Cluster) → (before : C) → (new : Cluster)
+  abbrev pub MoveGoes : Option Moving → HandedIn → (again : Bool) → (old : Cluster) → (before : C) → (new : Cluster)
       → (after : C) → Round → Type 0
   MoveGoes None h again old before new after r = ⊥
   MoveGoes (Some m) h again old before new after r = Goes chooses m.name m.call h again old before new after r
 
   -- why a round of the pending move is refused, where no cause above forbids the round
-  abbrev pub MoveGoesNot : Option Moving → Hand → (again : Bool) → (old : Cluster) → (before after : C) → Refusal
+  abbrev pub MoveGoesNot : Option Moving → HandedIn → (again : Bool) → (old : Cluster) → (before after : C) → Refusal
       → Type 0
   MoveGoesNot None h again old before after r = ⊥
   MoveGoesNot (Some m) h again old before after r = GoesNot chooses m.name m.call h again old before after r

@@ -18,8 +18,8 @@ use Rattle.driver.specs.Rounds.{IsRound}
 use Rattle.locked_steps.specs.Seats.{SeatState, Pending, Settles, asked_once, unless_stranger}
 use Rattle.driver.specs.declared.round.Round.{Round}
 use Rattle.driver.specs.declared.round.Round.TheVariants as round
-use Rattle.locked_steps.specs.declared.rounds.Hand.{Hand}
-use Rattle.locked_steps.specs.declared.rounds.Hand.TheVariants as hand
+use Rattle.locked_steps.specs.declared.rounds.HandedIn.{HandedIn}
+use Rattle.locked_steps.specs.declared.rounds.HandedIn.TheVariants as hand
 
 -- why a call that wants this makes no round: there is no such call, it is answered, or no turns are left
 abbrev pub open_cause : (turns : ℕ) → Option Want → Option Refusal
@@ -41,7 +41,7 @@ abbrev pub round_cause : Cluster → SeatState → (turns : ℕ) → Option Refu
 round_cause cluster s turns = unless_stranger cluster s (pending_cause cluster s.pending turns)
 
 -- why the cluster refuses what is handed in; nothing is refused where nothing is handed in
-abbrev pub hand_cause : Cluster → (name : List ℕ) → (call : ℕ) → Hand → Option Refusal
+abbrev pub hand_cause : Cluster → (name : List ℕ) → (call : ℕ) → HandedIn → Option Refusal
 hand_cause cluster name call hand.Empty = None
 hand_cause cluster name call (hand.Coded coded) =
     object_cause cluster name (λ object. supply_cause (next cluster) object call coded)
@@ -61,7 +61,7 @@ IsOvertaken cause old before new after = (cause ≡ Some NotNow) × (new ≡ old
 
 module _ {C : Type 0} (chooses : C → ℕ → ℕ → C → Type 0) where
   -- a round of a call: one of the driver where nothing is handed in; otherwise the call is supplied or settled
-  abbrev pub Goes : (name : List ℕ) → (call : ℕ) → Hand → (again : Bool)
+  abbrev pub Goes : (name : List ℕ) → (call : ℕ) → HandedIn → (again : Bool)
       → (old : Cluster) → (before : C) → (new : Cluster) → (after : C) → Round → Type 0
   Goes name call hand.Empty again old before new after r = IsRound chooses name call again old before new after r
   Goes name call (hand.Coded coded) again old before new after round.Late =
@@ -72,7 +72,7 @@ module _ {C : Type 0} (chooses : C → ℕ → ℕ → C → Type 0) where
       HandsIn name (Step.Settle (pred call) decoded.value) old before new after r
 
   -- why a round that nothing above forbids is refused; an encoded value that came too late is not refused
-  abbrev pub GoesNot : (name : List ℕ) → (call : ℕ) → Hand → (again : Bool) → (old : Cluster) → (before after : C)
+  abbrev pub GoesNot : (name : List ℕ) → (call : ℕ) → HandedIn → (again : Bool) → (old : Cluster) → (before after : C)
       → Refusal → Type 0
   GoesNot name call hand.Empty again old before after r = IsRefused chooses name call old again before after r
   GoesNot name call (hand.Coded coded) again old before after r =
@@ -81,13 +81,13 @@ module _ {C : Type 0} (chooses : C → ℕ → ℕ → C → Type 0) where
       (after ≡ before) × IsRefusalBy (hand_cause old name call (hand.Decoded decoded)) r
 
   -- a round of a seat's pending call
-  abbrev pub SeatGoes : Option Pending → Hand → (again : Bool) → (old : Cluster) → (before : C) → (new : Cluster)
+  abbrev pub SeatGoes : Option Pending → HandedIn → (again : Bool) → (old : Cluster) → (before : C) → (new : Cluster)
       → (after : C) → Round → Type 0
   SeatGoes None h again old before new after r = ⊥
   SeatGoes (Some p) h again old before new after r = Goes p.name p.kept.call h again old before new after r
 
   -- why a round of a seat's pending call is refused, where nothing above forbids it
-  abbrev pub SeatGoesNot : Option Pending → Hand → (again : Bool) → (old : Cluster) → (before after : C) → Refusal
+  abbrev pub SeatGoesNot : Option Pending → HandedIn → (again : Bool) → (old : Cluster) → (before after : C) → Refusal
       → Type 0
   SeatGoesNot None h again old before after r = ⊥
   SeatGoesNot (Some p) h again old before after r = GoesNot p.name p.kept.call h again old before after r

@@ -6,7 +6,7 @@ ghost use Rattle.cluster.specs.Causes.{next, object_cause};
 ghost use Rattle.cluster.specs.Cluster.{named};
 ghost use Rattle.cluster.specs.Steps.{stepped};
 ghost use Rattle.locked_steps.specs.Calls.{client_calls};
-ghost use Rattle.locked_steps.specs.Course.{GoesOn, IsStateOf};
+ghost use Rattle.locked_steps.specs.Course.{PreservesReachable, IsStateOf};
 ghost use Rattle.locked_steps.specs.Seats.{begin_cause, begun, call_count, call_step, calling_cause, with_pending};
 
 use crate::booked::{Booked, StoreName};
@@ -66,7 +66,7 @@ fn begin_call(cluster: &mut Cluster, name: &str, what: Begin) -> Result<CallId, 
     ensures step { OnOk result (cluster.new ≡ stepped cluster.old name.entry.now (call_step what)) }
     ensures number { IfOk result (λ n. n ≡ suc (call_count (named cluster.old.objects name.entry.now))) }
     ensures count { OnOk result (client_calls cluster.new ≡ client_calls cluster.old + 1) }
-    ensures course { GoesOn cluster.old cluster.new }
+    ensures course { PreservesReachable cluster.old cluster.new }
     ensures cause { IsByCause
         (object_cause cluster.old name.entry.now (λ object. calling_cause what (next cluster.old) object)) result }
     ensures unchanged { OnErr result (cluster.new ≡ cluster.old) }

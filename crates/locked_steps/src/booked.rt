@@ -43,7 +43,7 @@ impl<L: StoreName> Model for Booked<L> {
     ghost use Rattle.cluster.specs.contracts.cluster.Cluster as whole;
     ghost use Rattle.cluster.specs.Cluster.{Cluster as Store};
     ghost use Rattle.locked_steps.specs.Calls.{client_calls};
-    ghost use Rattle.locked_steps.specs.Course.{HasBecome, IsSoundCluster};
+    ghost use Rattle.locked_steps.specs.Course.{IsReachable, IsSoundCluster};
 
     ghost Value = { Store };
 
@@ -52,7 +52,7 @@ impl<L: StoreName> Model for Booked<L> {
     ghost view = { λ b. b.cluster };
 
     ghost invariant = { λ b. (b.book.total ≡ client_calls b.cluster) × (b.own.parts ≡ 1) × (b.own.amount ≡ 0)
-        × (b.seats ≡ L.seats) × (L.parts ≡ L.seats + 1) × HasBecome L.first b.cluster × IsSoundCluster b.cluster };
+        × (b.seats ≡ L.seats) × (L.parts ≡ L.seats + 1) × IsReachable L.first b.cluster × IsSoundCluster b.cluster };
 }
 
 impl<L: StoreName> Booked<L> {

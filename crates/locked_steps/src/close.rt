@@ -1,7 +1,7 @@
 //! The close of a store: the seats' records are compared with the history.
 ghost use Rattle.std.specs.Prelude.{◌≡◌, ◌⊎◌, IfOk, IfErr, MatchResult};
 ghost use Rattle.locked_steps.specs.Closing.{Fit, IsAccounted, all_records, receipts_of};
-ghost use Rattle.locked_steps.specs.Course.{HasBecome};
+ghost use Rattle.locked_steps.specs.Course.{IsReachable};
 
 use crate::booked::{Booked, StoreName};
 use crate::fitting::{account, fit, receipts};
@@ -42,8 +42,8 @@ pub fn close_in<L: StoreName>(
 ) -> Result<Closed, NotClosed<L>>
     ensures cluster { MatchResult result (λ closed. closed.cluster ≡ booked)
         (λ e. (e.cluster ≡ booked) × (e.seats.items ≡ seats.items)) }
-    ensures course { MatchResult result (λ closed. HasBecome L.first closed.cluster)
-        (λ e. HasBecome L.first e.cluster) }
+    ensures course { MatchResult result (λ closed. IsReachable L.first closed.cluster)
+        (λ e. IsReachable L.first e.cluster) }
     ensures accounted { IfOk result (λ closed. IsAccounted booked seats.items) }
     ensures fit { IfOk result (λ closed. Fit L.seats booked seats.items) }
     ensures stranger { IfErr result

@@ -15,7 +15,7 @@ pub use moves::{begin_move_in, move_round_in};
 pub use opening::{Parts, open_in};
 pub use orders::admin_in;
 pub use retiring::retire_in;
-pub use rounds::{Hand, round_in};
+pub use rounds::{HandedIn, round_in};
 pub use seat::Seat;
 
 mod admin;

@@ -2,7 +2,7 @@
 
 ghost use Rattle.std.specs.Prelude.{◌≡◌, IfOk, IfErr, OnErr};
 ghost use Rattle.locked_steps.specs.Calls.{client_calls};
-ghost use Rattle.locked_steps.specs.Course.{GoesOn, IsStateOf};
+ghost use Rattle.locked_steps.specs.Course.{PreservesReachable, IsStateOf};
 ghost use Rattle.locked_steps.specs.Messages.{Disturbs, DisturbsNot, Stirs, StirsNot};
 
 use crate::booked::{Booked, StoreName};
@@ -34,7 +34,7 @@ fn stir<C: Chooser>(cluster: &mut Cluster, name: &str, chooser: &mut C) -> Resul
     ensures refused { IfErr result (λ e. StirsNot C.chooses name.entry.now cluster.old chooser.old chooser.new e) }
     ensures unchanged { OnErr result (cluster.new ≡ cluster.old) }
     ensures count { client_calls cluster.new ≡ client_calls cluster.old }
-    ensures course { GoesOn cluster.old cluster.new }
+    ensures course { PreservesReachable cluster.old cluster.new }
 {
     let register = cluster.register(name)?;
     let Some(place) = choose(cluster, register, Among::Every, 0, chooser) else {
@@ -71,7 +71,7 @@ fn disturb<C: Chooser>(cluster: &mut Cluster, name: &str, chooser: &mut C) -> Re
     ensures refused { IfErr result (λ e. DisturbsNot C.chooses name.entry.now cluster.old chooser.old chooser.new e) }
     ensures unchanged { OnErr result (cluster.new ≡ cluster.old) }
     ensures count { client_calls cluster.new ≡ client_calls cluster.old }
-    ensures course { GoesOn cluster.old cluster.new }
+    ensures course { PreservesReachable cluster.old cluster.new }
 {
     let count = cluster.register(name)?.mail_view().len();
     if count == 0 {

@@ -7,7 +7,7 @@ ghost use Rattle.cluster.specs.Causes.{moving_cause, object_cause};
 ghost use Rattle.cluster.specs.Cluster.{named};
 ghost use Rattle.cluster.specs.Steps.{moved};
 ghost use Rattle.locked_steps.specs.Calls.{client_calls};
-ghost use Rattle.locked_steps.specs.Course.{GoesOn, IsStateOf};
+ghost use Rattle.locked_steps.specs.Course.{PreservesReachable, IsStateOf};
 ghost use Rattle.locked_steps.specs.Seats.{call_count};
 ghost use Rattle.locked_steps.specs.Moves.{moving};
 ghost use Rattle.locked_steps.specs.Orders.{MoveGoes, MoveGoesNot, MoveLeaves, begin_move_cause, has_move};
@@ -15,7 +15,7 @@ ghost use Rattle.locked_steps.specs.Orders.{is_move_begun, move_begun, move_caus
 
 use crate::admin::{Admin, PendingMove};
 use crate::booked::{Booked, StoreName};
-use crate::rounds::{Hand, round_with_copy};
+use crate::rounds::{HandedIn, round_with_copy};
 use crate::seat::hold;
 use cluster::{Cluster, LayoutId};
 use driver::{Chooser, Round};
@@ -66,7 +66,7 @@ fn call_move(cluster: &mut Cluster, name: &str, layout: LayoutId) -> Result<Call
     ensures step { OnOk result (cluster.new ≡ moved cluster.old name.entry.now layout) }
     ensures number { IfOk result (λ n. n ≡ suc (call_count (named cluster.old.objects name.entry.now))) }
     ensures count { client_calls cluster.new ≡ client_calls cluster.old }
-    ensures course { GoesOn cluster.old cluster.new }
+    ensures course { PreservesReachable cluster.old cluster.new }
     ensures cause { IsByCause (object_cause cluster.old name.entry.now (moving_cause cluster.old layout)) result }
     ensures unchanged { OnErr result (cluster.new ≡ cluster.old) }
 {
@@ -83,7 +83,7 @@ pub fn move_round_in<L: StoreName, C: Chooser>(
     booked: &mut Booked<L>,
     admin: &mut Admin<L>,
     chooser: &mut C,
-    hand: Hand,
+    hand: HandedIn,
     asks_again: bool,
     turns: u64,
 ) -> Result<Round, Refusal>

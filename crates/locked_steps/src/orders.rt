@@ -7,7 +7,7 @@ ghost use Rattle.record.specs.Sound.{IsSound};
 ghost use Rattle.register.specs.State.{State};
 ghost use Rattle.cluster.specs.Cluster.{named};
 ghost use Rattle.locked_steps.specs.Calls.{client_calls};
-ghost use Rattle.locked_steps.specs.Course.{GoesOn, IsStateOf};
+ghost use Rattle.locked_steps.specs.Course.{PreservesReachable, IsStateOf};
 ghost use Rattle.locked_steps.specs.Moves.{ordered_by};
 ghost use Rattle.locked_steps.specs.Orders.{order_cause, ordered, ordered_id};
 
@@ -50,7 +50,7 @@ fn carry_out(cluster: &mut Cluster, order: Order) -> Result<Option<LayoutId>, Re
     ensures cause { IsByCause (order_cause cluster.old order.entry) result }
     ensures unchanged { OnErr result (cluster.new ≡ cluster.old) }
     ensures count { client_calls cluster.new ≡ client_calls cluster.old }
-    ensures course { GoesOn cluster.old cluster.new }
+    ensures course { PreservesReachable cluster.old cluster.new }
 {
     match order {
         Order::AddLayout(layout) => {

@@ -4,7 +4,7 @@ ghost use Rattle.std.specs.Prelude.{◌≡◌, ◌+◌, IfOk, OnOk, OnErr};
 ghost use Rattle.tag.specs.Refusal.{IsExactlyByCause};
 ghost use Rattle.cluster.specs.Accounts.{stored_all};
 ghost use Rattle.locked_steps.specs.Calls.{client_calls};
-ghost use Rattle.locked_steps.specs.Course.{GoesOn, IsStateOf};
+ghost use Rattle.locked_steps.specs.Course.{PreservesReachable, IsStateOf};
 ghost use Rattle.locked_steps.specs.Moves.{ordered_by};
 ghost use Rattle.locked_steps.specs.Orders.{retired, retiring_cause};
 
@@ -49,7 +49,7 @@ fn retire(cluster: &mut Cluster, name: &str, position: u64) -> Result<u64, Refus
     ensures cause { IsExactlyByCause (retiring_cause cluster.old name.entry.now position) result }
     ensures unchanged { OnErr result (cluster.new ≡ cluster.old) }
     ensures count { client_calls cluster.new ≡ client_calls cluster.old }
-    ensures course { GoesOn cluster.old cluster.new }
+    ensures course { PreservesReachable cluster.old cluster.new }
 {
     cluster.retire(name, position)
 }

@@ -9,11 +9,11 @@ ghost use Rattle.register.specs.State.{State};
 ghost use Rattle.register.specs.View.{value_at};
 ghost use Rattle.cluster.specs.Cluster.{if_named, named};
 ghost use Rattle.locked_steps.specs.Calls.{client_calls};
-ghost use Rattle.locked_steps.specs.Course.{GoesOn, IsStateOf};
+ghost use Rattle.locked_steps.specs.Course.{PreservesReachable, IsStateOf};
 ghost use Rattle.driver.specs.Driver.{wanted};
 ghost use Rattle.locked_steps.specs.Rounds.{Copies, Goes, GoesNot, SeatGoes, SeatGoesNot, SeatLeaves, going_cause};
 ghost use Rattle.locked_steps.specs.Rounds.{round_cause, tells};
-ghost use Rattle.locked_steps.specs.declared.rounds.Hand.TheVariants as hands;
+ghost use Rattle.locked_steps.specs.declared.rounds.HandedIn.TheVariants as hands;
 
 use crate::booked::{Booked, StoreName};
 use crate::seat::Seat;
@@ -27,7 +27,7 @@ use tag::{CallId, MOST_STEPS, Refusal};
 
 /// What a thread hands in at a round: what it encoded or decoded for an earlier round, if that handed out anything.
 #[derive(Debug, Drop)]
-pub enum Hand {
+pub enum HandedIn {
     /// Nothing is handed in.
     Empty,
     /// The encoded value.
@@ -36,13 +36,13 @@ pub enum Hand {
     Decoded(Decoded),
 }
 
-impl Hand {
+impl HandedIn {
     /// Whether nothing is handed in.
     pub(crate) fn is_empty(&self) -> bool
         ensures { IsTrue result ↔ (self.now ≡ hands.Empty) }
     {
         match self {
-            Hand::Empty => true,
+            HandedIn::Empty => true,
             _ => false,
         }
     }
@@ -60,7 +60,7 @@ pub fn round_in<L: StoreName, C: Chooser>(
     booked: &mut Booked<L>,
     seat: &mut Seat<L>,
     chooser: &mut C,
-    hand: Hand,
+    hand: HandedIn,
     asks_again: bool,
     turns: u64,
 ) -> Result<Round, Refusal>
@@ -107,7 +107,7 @@ pub(crate) fn round_with_copy<C: Chooser>(
     cluster: &mut Cluster,
     name: &str,
     call: CallId,
-    hand: Hand,
+    hand: HandedIn,
     asks_again: bool,
     turns: u64,
     chooser: &mut C,
@@ -122,7 +122,7 @@ pub(crate) fn round_with_copy<C: Chooser>(
 
     ensures unchanged { OnErr result (cluster.new ≡ cluster.old) }
     ensures count { client_calls cluster.new ≡ client_calls cluster.old }
-    ensures course { GoesOn cluster.old cluster.new }
+    ensures course { PreservesReachable cluster.old cluster.new }
 {
     let want = want_to_go(cluster, name, call, turns)?;
     let copy = copy_to_keep(cluster, name, call, want, &hand)?;
@@ -139,7 +139,7 @@ fn copy_to_keep(
     name: &str,
     call: CallId,
     due: Want,
-    hand: &Hand,
+    hand: &HandedIn,
 ) -> Result<Option<Bytes>, Refusal>
     requires { wanted cluster.now name.now call ≡ Some due }
     ensures value { due ≡ want.Answer → hand.now ≡ hands.Empty → cluster.now.counter < MOST_STEPS
@@ -221,7 +221,7 @@ fn round_with<C: Chooser>(
     name: &str,
     call: CallId,
     due: Want,
-    hand: Hand,
+    hand: HandedIn,
     asks_again: bool,
     chooser: &mut C,
 ) -> Result<Round, Refusal>
@@ -232,19 +232,19 @@ fn round_with<C: Chooser>(
         (λ e. GoesNot C.chooses name.entry.now call hand asks_again cluster.old chooser.old chooser.new e) }
     ensures unchanged { OnErr result (cluster.new ≡ cluster.old) }
     ensures count { client_calls cluster.new ≡ client_calls cluster.old }
-    ensures course { GoesOn cluster.old cluster.new }
+    ensures course { PreservesReachable cluster.old cluster.new }
 {
     match hand {
-        Hand::Empty => match make_round(cluster, name, call, due, asks_again, chooser) {
+        HandedIn::Empty => match make_round(cluster, name, call, due, asks_again, chooser) {
             Ok(round) => Ok(round),
             Err(refusal) => Err(refusal),
         },
-        Hand::Coded(coded) => match cluster.supply(name, call, coded) {
+        HandedIn::Coded(coded) => match cluster.supply(name, call, coded) {
             Ok(()) => Ok(Round::Stepped),
             Err(Refusal::NotNow) => Ok(Round::Late),
             Err(refusal) => Err(refusal),
         },
-        Hand::Decoded(decoded) => match cluster.settle(name, call, decoded) {
+        HandedIn::Decoded(decoded) => match cluster.settle(name, call, decoded) {
             Ok(()) => Ok(Round::Stepped),
             Err(refusal) => Err(refusal),
         },

@@ -8,12 +8,12 @@ ghost use Rattle.cluster.specs.Cluster.{Cluster as ClusterOf};
 ghost use Rattle.locked_steps.specs.Course.{IsStateOf};
 ghost use Rattle.locked_steps.specs.Moves.{Ends, asked_if, has_asked};
 ghost use Rattle.locked_steps.specs.Seats.{Settles, asked_once};
-ghost use Rattle.locked_steps.specs.declared.rounds.Hand.{Hand as HandOf};
+ghost use Rattle.locked_steps.specs.declared.rounds.HandedIn.{HandedIn as HandOf};
 ghost use Rattle.client.specs.Callers.{CanBeCoded, IsCodedFrom, IsUnanswered, LeavesBy};
 ghost use Rattle.client.specs.Refusals.{IsMovingHand, IsMovingRefused, IsPendingHand, IsSeatRefused};
 
 use driver::{Chooser, Round};
-use locked_steps::{Admin, Booked, Hand, Seat, StoreName, move_round_in, round_in};
+use locked_steps::{Admin, Booked, HandedIn, Seat, StoreName, move_round_in, round_in};
 use tag::Refusal;
 
 /// A client's seat, or the administrator.
@@ -35,7 +35,7 @@ pub(crate) trait Caller<L: StoreName> {
         &mut self,
         booked: &mut Booked<L>,
         chooser: &mut C,
-        hand: Hand,
+        hand: HandedIn,
         asks_again: bool,
         turns: u64,
     ) -> Result<Round, Refusal>
@@ -62,7 +62,7 @@ impl<L: StoreName> Caller<L> for Seat<L> {
         &mut self,
         booked: &mut Booked<L>,
         chooser: &mut C,
-        hand: Hand,
+        hand: HandedIn,
         asks_again: bool,
         turns: u64,
     ) -> Result<Round, Refusal> {
@@ -83,7 +83,7 @@ impl<L: StoreName> Caller<L> for Admin<L> {
         &mut self,
         booked: &mut Booked<L>,
         chooser: &mut C,
-        hand: Hand,
+        hand: HandedIn,
         asks_again: bool,
         turns: u64,
     ) -> Result<Round, Refusal> {

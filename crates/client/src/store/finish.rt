@@ -5,14 +5,14 @@ ghost use Rattle.tag.specs.declared.refusal.Refusal.TheVariants.{NoMemory};
 ghost use Rattle.client.specs.Callers.{CanBeCoded, IsCodedFrom, IsUnanswered, StaysOpen};
 ghost use Rattle.client.specs.Refusals.{IsRefusedThen};
 ghost use Rattle.locked_steps.specs.Moves.{asked_if};
-ghost use Rattle.locked_steps.specs.declared.rounds.Hand.TheVariants as hands;
+ghost use Rattle.locked_steps.specs.declared.rounds.HandedIn.TheVariants as hands;
 
 use crate::store::Store;
 use crate::store::caller::Caller;
 use coding_pool::{Gate, encode_all};
 use decoder::decode;
 use driver::{Chooser, Round};
-use locked_steps::{Hand, StoreName};
+use locked_steps::{HandedIn, StoreName};
 use register::Receipt;
 use std::sync::Wait;
 use std::thread::Threads;
@@ -37,7 +37,7 @@ impl<L: StoreName> Store<L> {
     {
         let mut asks_again = resumed;
         let mut left = turns;
-        let mut hand = Hand::Empty;
+        let mut hand = HandedIn::Empty;
         for _ in rt.forever() {
             let round = caller.round(&mut *self.booked.lock(rt), chooser, hand, asks_again, left)?;
             asks_again = false;
@@ -45,7 +45,7 @@ impl<L: StoreName> Store<L> {
                 Round::Answered(receipt) => return Ok(receipt),
                 Round::Stepped => {
                     left = left.saturating_sub(1);
-                    hand = Hand::Empty;
+                    hand = HandedIn::Empty;
                 }
                 other => hand = self.coded(rt, gate, other)?,
             }
@@ -59,7 +59,7 @@ impl<L: StoreName> Store<L> {
         rt: &R,
         gate: &G,
         round: Round,
-    ) -> Result<Hand, Refusal>
+    ) -> Result<HandedIn, Refusal>
         requires { CanBeCoded round }
         ensures coded { IfOk result (λ hand. IsUnanswered round → IsCodedFrom round hand) }
         ensures refused { IfErr result (λ e. e ≡ NoMemory) }
@@ -67,15 +67,15 @@ impl<L: StoreName> Store<L> {
         match round {
             Round::Encode { value, k, n } => {
                 let coded = encode_all(rt, self.alloc, self.workers, gate, k, n, value)?;
-                Ok(Hand::Coded(coded))
+                Ok(HandedIn::Coded(coded))
             }
             Round::Decode { pieces, k, len } => {
                 gate.enter(0);
                 let decoded = decode(self.alloc, k, len, pieces);
                 gate.leave(0);
-                Ok(Hand::Decoded(decoded?))
+                Ok(HandedIn::Decoded(decoded?))
             }
-            _ => Ok(Hand::Empty),
+            _ => Ok(HandedIn::Empty),
         }
     }
 }
