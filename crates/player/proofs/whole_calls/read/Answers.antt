@@ -1,5 +1,6 @@
+use Rattle.record.specs.Steps.{Step}
 use Rattle.player.proofs.Whole.{told}
 use Rattle.player.proofs.whole_calls.read.Goals as goal
 
 pub returns : goal.returns
-returns c = told _ _ _ _ _ _ _ _ c.read.result _ c.read.ensures c.of_whole.ensures
+returns c = told _ _ _ _ _ _ _ Step.CallRead c.read.result _ c.read.ensures c.of_whole.ensures
