@@ -25,6 +25,8 @@ mod kept;
 #[cfg(test)]
 mod limits;
 #[cfg(test)]
+mod moved;
+#[cfg(test)]
 mod resumed;
 #[cfg(test)]
 mod retired;
@@ -38,5 +40,7 @@ mod servers;
 mod tally;
 #[cfg(test)]
 mod turns;
+#[cfg(test)]
+mod unprepared;
 #[cfg(test)]
 mod varied;

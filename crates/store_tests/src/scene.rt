@@ -11,6 +11,7 @@ use crate::disturbed::endures;
 use crate::ends::{Closing, close};
 use crate::greatest::chooses_the_greatest;
 use crate::kept::keeps_few;
+use crate::moved::tells_of_a_move;
 use crate::resumed::administers;
 use crate::retired::{retires, stores_the_last_alone};
 use crate::seats::{abandons, has_both, learns, strangers};
@@ -40,6 +41,7 @@ pub(crate) enum Scene {
     LeavesTheLockFree { writes: bool },
     Retires,
     Strangers,
+    TellsOfAMove,
 }
 
 /// A store with so many seats and coding workers, what is done at it, what its close is to tell, and how many calls
@@ -112,6 +114,7 @@ fn act<L: StoreName + Send + Sync, R: Threads + Wait + Abort + Sync>(
         Scene::LeavesTheLockFree { writes } => leaves_the_lock_free(rt, store, seats, writes),
         Scene::Retires => retires(rt, alloc, store, admin, seats, tally),
         Scene::Strangers => strangers(rt, store, seats),
+        Scene::TellsOfAMove => tells_of_a_move(rt, store, admin, seats),
     }
 }
 

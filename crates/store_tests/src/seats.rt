@@ -111,6 +111,17 @@ const LEFT: &[u8] = b"left";
 
 const MADE: &[u8] = b"made";
 
+// A seat without a call has none to resume.
+fn resumes_nothing<L: StoreName, R: Threads + Wait + Abort + Sync>(
+    rt: &R,
+    store: &Store<L>,
+    seat: &mut Seat<L>,
+    refusal: Refusal,
+) {
+    is_refused(rt, resume(rt, store, seat, &mut First, TURNS), refusal);
+    assert!(rt; !seat.is_pending());
+}
+
 // A write is left open after three turns and abandoned, and another is made. It answers when that is answered.
 fn leaves_and_writes<L: StoreName, R: Threads + Wait + Abort + Sync>(
     rt: &R,
@@ -151,7 +162,9 @@ pub(crate) fn abandons<L: StoreName, R: Threads + Wait + Abort + Sync>(
     tally: &Tally,
 ) {
     let mut seat = take_seat(rt, seats);
+    resumes_nothing(rt, store, &mut seat, Refusal::NoCall);
     tally.note_answered(leaves_and_writes(rt, store, &mut seat));
+    resumes_nothing(rt, store, &mut seat, Refusal::NoCall);
     put_seat(rt, seats, seat);
 }
 
@@ -205,6 +218,8 @@ pub(crate) fn strangers<L: StoreName, R: Threads + Wait + Abort + Sync>(
 ) {
     let mut seat = take_seat(rt, seats);
     is_a_stranger(rt, store, &mut seat);
+    seat.abandon();
+    resumes_nothing(rt, store, &mut seat, Refusal::Stranger);
 }
 
 #[test]

@@ -15,6 +15,8 @@ pub(crate) enum Servers {
     Collect { delta: u32 },
     /// There is a layout more, of three servers with k 1.
     TwoLayouts,
+    /// Two servers in place of four, with a layout of each alone, and the object `b` before `a`.
+    Single,
 }
 
 pub(crate) fn cluster_of(rt: &impl Abort, alloc: Global, servers: Servers) -> Cluster {
@@ -23,6 +25,7 @@ pub(crate) fn cluster_of(rt: &impl Abort, alloc: Global, servers: Servers) -> Cl
         Servers::KeepAll => four_servers(rt, alloc, None),
         Servers::Collect { delta } => four_servers(rt, alloc, Some(delta)),
         Servers::TwoLayouts => two_layouts(rt, alloc),
+        Servers::Single => single_servers(rt, alloc),
     }
 }
 
@@ -44,5 +47,15 @@ pub(crate) fn four_servers(rt: &impl Abort, alloc: Global, delta: Option<u32>) -
 fn two_layouts(rt: &impl Abort, alloc: Global) -> Cluster {
     let mut cluster = four_servers(rt, alloc, None);
     add_layout(rt, &mut cluster, 1, &[1, 2, 3]);
+    cluster
+}
+
+// Four steps.
+fn single_servers(rt: &impl Abort, alloc: Global) -> Cluster {
+    let mut cluster = Cluster::new(alloc, 2);
+    let layout = add_layout(rt, &mut cluster, 1, &[0]);
+    add_layout(rt, &mut cluster, 1, &[1]);
+    cluster.create("b", layout).expect(rt, "an object");
+    cluster.create("a", layout).expect(rt, "another object");
     cluster
 }
