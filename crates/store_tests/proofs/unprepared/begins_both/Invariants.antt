@@ -1,4 +1,4 @@
-use Rattle.threads.proofs.unprepared.begins_both.Given as goal
+use Rattle.store_tests.proofs.unprepared.begins_both.Given as goal
 
 abbrev pub ghosts-begins_named-L-Ledger : goal.ghosts-begins_named-L-Ledger
 ghosts-begins_named-L-Ledger g a = record { name = a.blank.name; parts = a.blank.parts }
