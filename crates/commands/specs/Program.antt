@@ -5,6 +5,7 @@ use Rattle.std.specs.Io.KnownBytes.{Appends, Keeps}
 use Rattle.std.specs.declared.io.ErrorKind.{ErrorKind}
 use Rattle.player.specs.Script.{Runs, unread_status}
 use Rattle.soak.specs.Closed.{IsOfClosed}
+use Rattle.soak.specs.Setting.{setting}
 use Rattle.soak.specs.Summary.{summary_text}
 use Rattle.soak.specs.Summary.{status_of as status_of_summary}
 use Rattle.soak.specs.declared.plan.Plan.{Plan}
@@ -28,13 +29,14 @@ RunsFile old new status = ((kind : ErrorKind) × IsUnopened kind old new status)
     ⊎ ((given : Option (List ℕ)) × Runs given old new status)
 
 -- a soak is run: the lines of its summary are written, and the status is the summary's; or it is refused, and nothing
--- is written; or such lines are lost. A summary is of a closed store with as many seats as the plan has clients
+-- is written; or such lines are lost. A summary is of a store that was opened with the setting, with as many seats as
+-- the plan has clients, in which the calls and the moves of the plan were made, and which was then closed
 abbrev pub Soaks : Plan → Contents → Contents → ℕ → Type 0
 Soaks plan old new status =
-    ((summary : Summary) × IsOfClosed plan.clients plan.calls summary × (status ≡ status_of_summary summary)
+    ((summary : Summary) × IsOfClosed setting plan summary × (status ≡ status_of_summary summary)
     × Appends old new (summary_text summary ++ 10 ∷ []))
     ⊎ (((status ≡ 1) × Keeps old new)
-    ⊎ ((status ≡ 1) × ((summary : Summary) × IsOfClosed plan.clients plan.calls summary)))
+    ⊎ ((status ≡ 1) × ((summary : Summary) × IsOfClosed setting plan summary)))
 
 -- one of four: the words spell a coding request, and it is answered; they spell no request, the status says why, and
 -- nothing is written; they are `run FILE`, and the status is that of the run; they spell a soak, and the status is that

@@ -1,5 +1,5 @@
-//! Scripts and command lines whose arguments, files, readers and writers fail: tests alone. They stand in a crate of their own, so
-//! that the crates which they play are proved once and not twice.
+//! Scripts and command lines whose arguments, files, readers and writers fail: tests alone. They stand in a crate of
+//! their own, so that the crates which they play are proved once and not twice.
 #![tactic(auto)]
 
 #[cfg(test)]

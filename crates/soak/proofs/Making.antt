@@ -1,4 +1,4 @@
--- What a client's calls leave in its seat, and how many receipts that are.
+-- What a client's calls leave in its seat, how many receipts that are, and what the administrator's moves leave.
 use Rattle.std.proofs.Common.{◌≡◌, ℕ, zero, suc, ◌+◌, ◌*◌, List, [], ◌∷◌, ◌++◌, length, Option, Some, None, Result, Ok, Err, IfOk, refl}
 use Rattle.std.proofs.Common.{sym, ap, ◌∙◌, subst, arith}
 use Rattle.std.specs.Prelude.{cond, is_some}
@@ -9,18 +9,29 @@ use Rattle.std.proofs.lemmas.List.Sums.{sum_by-append}
 use Rattle.tag.specs.declared.refusal.Refusal.{Refusal}
 use Rattle.register.specs.declared.receipt.Receipt.{Receipt}
 use Rattle.locked_steps.specs.declared.call_record.CallRecord.{CallRecord}
+use Rattle.cluster.specs.Cluster.{Cluster}
 use Rattle.locked_steps.specs.Closing.{all_records, receipts_of}
+use Rattle.locked_steps.specs.Moves.{AdminState}
 use Rattle.locked_steps.specs.Seats.{SeatState, Settles, begun, listed, new_seat, new_seats, records_of, with_pending}
 use Rattle.locked_steps.proofs.Accounts.{all_append, all_back, all_front}
 use Rattle.soak.specs.Call.{object_of}
-use Rattle.soak.specs.Closed.{IsOfClosed}
-use Rattle.soak.specs.Made.{HasMade, IsNew, Makes, MakesAll, begin_of}
+use Rattle.soak.specs.Closed.{IsClosed, IsOfClosed}
+use Rattle.soak.specs.Made.{HasMade, IsNew, Makes, MakesAll, MakesMove, MovesAll, begin_of}
+use Rattle.soak.specs.Summary.{IsSummaryOf}
+use Rattle.soak.specs.declared.plan.Plan.{Plan}
 use Rattle.soak.specs.declared.summary.Summary.{Summary}
 
 -- one call more
-pub MakesAll-more : (n : ℕ) (s between t : SeatState) → MakesAll n s between → Makes n between t → MakesAll (n + 1) s t
-MakesAll-more n s between t first last =
-    let next : suc n ≡ n + 1 = omega arith in subst (λ k. MakesAll k s t) next (between, first, last)
+pub MakesAll-more : (first : Cluster) (n : ℕ) (s between t : SeatState) → MakesAll first n s between → Makes first n between t
+    → MakesAll first (n + 1) s t
+MakesAll-more first n s between t before last =
+    let next : suc n ≡ n + 1 = omega arith in subst (λ k. MakesAll first k s t) next (between, before, last)
+
+-- one move more
+pub MovesAll-more : (first : Cluster) (n : ℕ) (a between b : AdminState) → MovesAll first n a between
+    → MakesMove first n between b → MovesAll first (n + 1) a b
+MovesAll-more first n a between b before last =
+    let next : suc n ≡ n + 1 = omega arith in subst (λ k. MovesAll first k a b) next (between, before, last)
 
 -- the last of a list is taken off
 pub all_popped : {X : Type 0} (P : X → Type 0) (xs rest : List X) (x : X) → xs ≡ rest ++ x ∷ [] → AllByRecursion P xs
@@ -56,38 +67,49 @@ settles-counts n number s t r p name was settles =
     ap (λ (u : SeatState). receipts_of u.records) is in
     record { receipts = omega (arith, one, before, after); settled = ap (λ (u : SeatState). u.pending) is }
 
-MakesAll-counts : (n number : ℕ) (t : SeatState) → MakesAll n (new_seat number) t → Counts n t
-MakesAll-counts zero number t is =
+MakesAll-counts : (first : Cluster) (n number : ℕ) (t : SeatState) → MakesAll first n (new_seat number) t → Counts n t
+MakesAll-counts first zero number t is =
     record { receipts = ap (λ (u : SeatState). receipts_of u.records) is; settled = ap (λ (u : SeatState). u.pending) is }
-MakesAll-counts (suc n) number t (s, first, (opened, (receipt, (b, (cluster, (state, none, is)), settles)))) =
+MakesAll-counts first (suc n) number t (s, before, (receipt, (b, (cluster, (state, none, is)), settles))) =
     let call = begun cluster (object_of n) s.floor (begin_of s.number n) in
-    let more = settles-counts n number s t receipt call (object_of n) (MakesAll-counts n number s first)
+    let more = settles-counts n number s t receipt call (object_of n) (MakesAll-counts first n number s before)
     (subst (λ (u : SeatState). Settles u.pending u receipt t) is settles) in
     let next : n + 1 ≡ suc n = omega arith in
     subst (λ k. Counts k t) next more
 
-HasMade-receipts : (n : ℕ) (t : SeatState) → HasMade n t → receipts_of (records_of t) ≡ n
-HasMade-receipts n t (number, made) =
-    let counts = MakesAll-counts n number t made in
+HasMade-receipts : (first : Cluster) (n : ℕ) (t : SeatState) → HasMade first n t → receipts_of (records_of t) ≡ n
+HasMade-receipts first n t (number, made) =
+    let counts = MakesAll-counts first n number t made in
     ap (λ (o : Option _). receipts_of (t.records ++ listed o)) counts.settled ∙ ap receipts_of (append-nil t.records) ∙ counts.receipts
 
 -- each seat has so many receipts
-pub all-receipts : (n : ℕ) (seats : List SeatState) → AllByRecursion (HasMade n) seats → receipts_of (all_records seats) ≡ length seats * n
-all-receipts n [] made = let none : 0 * n ≡ 0 = omega arith in sym none
-all-receipts n (s ∷ seats) made =
-    let here = HasMade-receipts n s made.0 in
-    let rest = all-receipts n seats made.1 in
+pub all-receipts : (first : Cluster) (n : ℕ) (seats : List SeatState) → AllByRecursion (HasMade first n) seats
+    → receipts_of (all_records seats) ≡ length seats * n
+all-receipts first n [] made = let none : 0 * n ≡ 0 = omega arith in sym none
+all-receipts first n (s ∷ seats) made =
+    let here = HasMade-receipts first n s made.0 in
+    let rest = all-receipts first n seats made.1 in
     let both = receipts-append (records_of s) (all_records seats) in
     let step : suc (length seats) * n ≡ length seats * n + n = suc-mul (length seats) n in
     omega (arith, both, here, rest, step)
 
 -- so a store that was closed gave each call of each client its receipt
-pub IsOfClosed-receipts : (client_count call_count : ℕ) (summary : Summary) → IsOfClosed client_count call_count summary
-    → summary.receipts ≡ client_count * call_count
-IsOfClosed-receipts client_count call_count summary closed =
-    closed.sums_up.receipts ∙ all-receipts call_count closed.seats closed.made ∙ ap (λ k. k * call_count) closed.fit.numbered.length
+pub closed-receipts : (first : Cluster) (plan : Plan) (cluster : Cluster) (receipts : ℕ) → IsClosed first plan cluster receipts
+    → receipts ≡ plan.clients * plan.calls
+closed-receipts first plan cluster receipts closed =
+    closed.counted ∙ all-receipts first plan.calls closed.seats closed.made ∙ ap (λ k. k * plan.calls) closed.fit.numbered.length
 
-pub receipts-ok : (client_count call_count : ℕ) (result : Result Summary Refusal) → IfOk result (IsOfClosed client_count call_count)
-    → IfOk result (λ summary. summary.receipts ≡ client_count * call_count)
-receipts-ok client_count call_count (Ok summary) closed = IsOfClosed-receipts client_count call_count summary closed
-receipts-ok client_count call_count (Err refusal) closed = tt
+-- a summary of such a store
+pub summed_up : (first : Cluster) (plan : Plan) (cluster : Cluster) (receipts : ℕ) (result : Result Summary Refusal)
+    → IsClosed first plan cluster receipts → IfOk result (λ s. IsSummaryOf cluster receipts s)
+    → IfOk result (λ s. IsOfClosed first plan s)
+summed_up first plan cluster receipts (Ok s) closed sums =
+    record { cluster = cluster; receipts = receipts; closed = closed; sums_up = sums }
+summed_up first plan cluster receipts (Err refusal) closed sums = tt
+
+pub summed_up-receipts : (first : Cluster) (plan : Plan) (cluster : Cluster) (receipts : ℕ) (result : Result Summary Refusal)
+    → IsClosed first plan cluster receipts → IfOk result (λ s. IsSummaryOf cluster receipts s)
+    → IfOk result (λ s. s.receipts ≡ plan.clients * plan.calls)
+summed_up-receipts first plan cluster receipts (Ok s) closed sums =
+    sums.receipts ∙ closed-receipts first plan cluster receipts closed
+summed_up-receipts first plan cluster receipts (Err refusal) closed sums = tt

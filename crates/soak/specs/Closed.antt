@@ -1,20 +1,33 @@
 -- The contracts that docs/trusted.md lists do not depend on this file; other contracts and proofs do.
--- What the summary of a soak is of.
-use Rattle.std.specs.Prelude.{ℕ, List}
+-- How the store of a soak was closed, and what the summary is of.
+use Rattle.std.specs.Prelude.{◌≡◌, ℕ, List}
 use Rattle.std.specs.List.{AllByRecursion}
 use Rattle.cluster.specs.Cluster.{Cluster}
 use Rattle.locked_steps.specs.Closing.{Fit, IsAccounted, all_records, receipts_of}
+use Rattle.locked_steps.specs.Course.{IsReachable}
+use Rattle.locked_steps.specs.Moves.{AdminState}
 use Rattle.locked_steps.specs.Seats.{SeatState}
-use Rattle.soak.specs.Made.{HasMade}
+use Rattle.soak.specs.Made.{HasMade, HasMoved}
 use Rattle.soak.specs.Summary.{IsSummaryOf}
+use Rattle.soak.specs.declared.plan.Plan.{Plan}
 use Rattle.soak.specs.declared.summary.Summary.{Summary}
 
--- a store of this cluster was closed with a seat for each client, and each seat made this many calls; the summary is of
--- that cluster and of the seats' receipts, so it counts the reads and writes that the seats recorded, each once
-pub record IsOfClosed (client_count call_count : ℕ) (summary : Summary) : Type 0 where
-  pub cluster : Cluster
+-- a store was opened with `first`; each seat made the calls of the plan, and the administrator its moves and nothing
+-- else; the store was closed with a seat for each client; steps had led from `first` to its cluster, whose reads and
+-- writes are those that the seats recorded, each once; and the receipts are those of the seats
+pub record IsClosed (first : Cluster) (plan : Plan) (cluster : Cluster) (receipts : ℕ) : Type 0 where
   pub seats : List SeatState
-  pub fit : Fit client_count cluster seats
-  pub made : AllByRecursion (HasMade call_count) seats
+  pub admin : AdminState
+  pub course : IsReachable first cluster
+  pub fit : Fit plan.clients cluster seats
+  pub made : AllByRecursion (HasMade first plan.calls) seats
+  pub moved : HasMoved first plan.moves admin
   pub accounted : IsAccounted cluster seats
-  pub sums_up : IsSummaryOf cluster (receipts_of (all_records seats)) summary
+  pub counted : receipts ≡ receipts_of (all_records seats)
+
+-- the summary is of the cluster and of the receipts of a store that was so opened, used and closed
+pub record IsOfClosed (first : Cluster) (plan : Plan) (summary : Summary) : Type 0 where
+  pub cluster : Cluster
+  pub receipts : ℕ
+  pub closed : IsClosed first plan cluster receipts
+  pub sums_up : IsSummaryOf cluster receipts summary

@@ -29,7 +29,7 @@ pub(crate) fn make_calls<L: StoreName, R: Threads + Wait + Sync>(
     counts: &Counts,
 ) -> Ended<L>
     requires { IsNew seat }
-    ensures { IfOk result (λ seat. HasMade plan.calls seat) }
+    ensures { IfOk result (λ seat. HasMade L.first plan.calls seat) }
 {
     let mut chooser = Congruential::new(plan.choices, seat.number() as u64);
     for call in 0..plan.calls {
@@ -49,7 +49,7 @@ fn make_call<L: StoreName, R: Threads + Wait + Sync>(
     call: u64,
     chooser: &mut Congruential,
 ) -> Result<(), Refusal>
-    ensures { OnOk result (Makes call seat.old seat.new) }
+    ensures { OnOk result (Makes L.first call seat.old seat.new) }
 {
     let name = object_of(call);
     if call % 2 == 0 {

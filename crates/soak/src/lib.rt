@@ -9,7 +9,7 @@ pub use load::{Cost, Load, run_load};
 pub use moves::{layout_after, object_moved};
 pub use plan::Plan;
 pub use progress::Progress;
-pub use run::run_plan;
+pub use run::{run_plan, run_store};
 pub use setting::make_setting;
 pub use summary::Summary;
 

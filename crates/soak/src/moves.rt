@@ -1,5 +1,7 @@
 //! The moves of the administrator, by their numbers, and the thread that makes them.
-ghost use Rattle.std.specs.Prelude.{◌≡◌, ◌<◌};
+ghost use Rattle.std.specs.Prelude.{◌≡◌, ◌<◌, IfOk, OnOk};
+ghost use Rattle.locked_steps.specs.Moves.{new_admin};
+ghost use Rattle.soak.specs.Made.{HasMoved, MakesMove};
 ghost use Rattle.soak.specs.Moves.{layout_after, object_moved};
 
 use crate::chooser::Congruential;
@@ -30,6 +32,9 @@ pub fn layout_after(number: u64) -> LayoutId
     ((number / 2 + 1) % 3) as u32
 }
 
+/// What the thread of the administrator returns: the administrator, or the refusal of one of its moves.
+pub(crate) type Moved<L> = Result<Admin<L>, Refusal>;
+
 /// Makes the administrator's moves, one after another.
 pub(crate) fn make_moves<L: StoreName, R: Threads + Wait + Sync>(
     rt: &R,
@@ -37,18 +42,29 @@ pub(crate) fn make_moves<L: StoreName, R: Threads + Wait + Sync>(
     mut admin: Admin<L>,
     plan: Plan,
     counts: &Counts,
-) -> Result<(), Refusal> {
+) -> Moved<L>
+    requires { admin ≡ new_admin L.first }
+    ensures { IfOk result (λ admin. HasMoved L.first plan.moves admin) }
+{
     let mut chooser = Congruential::new(plan.choices, MOST_CLIENTS);
     for number in 0..plan.moves {
-        store.move_object(
-            rt,
-            &mut admin,
-            object_moved(number),
-            layout_after(number),
-            &mut chooser,
-            TURNS,
-        )?;
+        make_move(rt, store, &mut admin, number, &mut chooser)?;
         counts.add_move();
     }
+    Ok(admin)
+}
+
+// Makes the move of this number.
+fn make_move<L: StoreName, R: Threads + Wait + Sync>(
+    rt: &R,
+    store: &Store<L>,
+    admin: &mut Admin<L>,
+    number: u64,
+    chooser: &mut Congruential,
+) -> Result<(), Refusal>
+    ensures { OnOk result (MakesMove L.first number admin.old admin.new) }
+{
+    let name = object_moved(number);
+    store.move_object(rt, admin, name, layout_after(number), chooser, TURNS)?;
     Ok(())
 }

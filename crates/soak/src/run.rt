@@ -1,12 +1,13 @@
 //! A whole soak.
 ghost use Rattle.std.specs.Prelude.{◌≡◌, ◌+◌, ◌*◌, IfOk};
-ghost use Rattle.soak.specs.Closed.{IsOfClosed};
+ghost use Rattle.soak.specs.Closed.{IsClosed, IsOfClosed};
+ghost use Rattle.soak.specs.Setting.{setting};
 
 use crate::crew::work_all;
 use crate::plan::Plan;
 use crate::setting::make_setting;
 use crate::summary::Summary;
-use client::{Store, StoreName};
+use client::{Closed, Store, StoreName};
 use cluster::Cluster;
 use std::alloc::Global;
 use std::io::Write;
@@ -35,18 +36,25 @@ pub fn run_plan<R: Threads + Wait + Clock + Sync, E: Write>(
     plan: Plan,
     screen: Option<&mut E>,
 ) -> Result<Summary, Refusal>
-    ensures closed { IfOk result (λ summary. IsOfClosed plan.clients plan.calls summary) }
+    ensures closed { IfOk result (λ summary. IsOfClosed setting plan summary) }
     ensures receipts { IfOk result (λ summary. summary.receipts ≡ plan.clients * plan.calls) }
 {
+    let closed = run_store(rt, alloc, plan, screen)?;
+    Summary::of(alloc, &closed.cluster, closed.receipts)
+}
+
+/// Runs the soak of a plan as `run_plan` does, and returns the closed store. It is refused as `run_plan` is.
+pub fn run_store<R: Threads + Wait + Clock + Sync, E: Write>(
+    rt: &R,
+    alloc: Global,
+    plan: Plan,
+    screen: Option<&mut E>,
+) -> Result<Closed, Refusal>
+    ensures { IfOk result (λ closed. IsClosed setting plan closed.cluster closed.receipts) }
+{
+    let cluster = make_setting(alloc)?;
     let parts = plan.clients as u64 + 1;
-    soak_named::<Brand, R, E>(
-        rt,
-        alloc,
-        Blank::new(parts),
-        make_setting(alloc)?,
-        plan,
-        screen,
-    )
+    soak_named::<Brand, R, E>(rt, alloc, Blank::new(parts), cluster, plan, screen)
 }
 
 // Runs the soak in a store of this name.
@@ -57,16 +65,16 @@ fn soak_named<L: StoreName + Send + Sync, R: Threads + Wait + Clock + Sync, E: W
     cluster: Cluster,
     plan: Plan,
     screen: Option<&mut E>,
-) -> Result<Summary, Refusal>
+) -> Result<Closed, Refusal>
     requires first { cluster ≡ L.first }
     requires name { blank.name ≡ L.name }
     requires parts { (blank.parts ≡ L.parts) × (blank.parts ≡ L.seats + 1) × (plan.clients ≡ L.seats) }
-    ensures { IfOk result (λ summary. IsOfClosed plan.clients plan.calls summary) }
+    ensures { IfOk result (λ closed. IsClosed L.first plan closed.cluster closed.receipts) }
 {
     let (store, seats, admin) = Store::<L>::open(alloc, blank, cluster, plan.clients, WORKERS)?;
-    let seats = work_all(rt, alloc, &store, seats, admin, plan, screen)?;
+    let (seats, _admin) = work_all(rt, alloc, &store, seats, admin, plan, screen)?;
     match store.close(seats) {
-        Ok(closed) => Summary::of(alloc, &closed.cluster, closed.receipts),
+        Ok(closed) => Ok(closed),
         Err(not_closed) => Err(not_closed.refusal),
     }
 }

@@ -3,4 +3,5 @@ use Rattle.soak.proofs.client_thread.make_calls.Goals as goal
 
 pub loop-call-preserved : goal.loop-call-preserved
 loop-call-preserved g c =
-    MakesAll-more c.loop-call.call c.args.seat c.loop-call.seat c.make_call.new.seat c.loop-call.invariant c.in_ok-make_call.ensures
+    MakesAll-more g.L.StoreName.first c.loop-call.call c.args.seat c.loop-call.seat c.make_call.new.seat
+    c.loop-call.invariant c.in_ok-make_call.ensures

@@ -8,7 +8,7 @@ abbrev pub invariant-loop-client : goal.invariant-loop-client
 invariant-loop-client g l =
     (calls : ℕ) → AllByRecursion (λ client. IfOk client (λ handle. handle.promise.0 ≡ calls)) l.initial.started.items
     → AllByRecursion (λ client. IfOk client (λ handle. handle.promise.0 ≡ calls)) l.started.items
-    × AllByRecursion (HasMade calls) l.seats.items
+    × AllByRecursion (HasMade g.L.StoreName.first calls) l.seats.items
 
 abbrev pub decreases-loop-client : goal.decreases-loop-client
 decreases-loop-client g l = vec_len l.started

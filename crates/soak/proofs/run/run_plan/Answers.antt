@@ -1,5 +1,10 @@
-use Rattle.soak.proofs.Making.{receipts-ok}
+use Rattle.soak.specs.Setting.{setting}
+use Rattle.soak.proofs.Making.{summed_up, summed_up-receipts}
 use Rattle.soak.proofs.run.run_plan.Goals as goal
 
+pub returns-clause-closed : goal.returns-clause-closed
+returns-clause-closed g c = summed_up setting c.args.plan _ _ c.of.result c.in_ok-closed.ensures c.of.ensures.summary
+
 pub returns-clause-receipts : goal.returns-clause-receipts
-returns-clause-receipts g c = receipts-ok c.args.plan.clients c.args.plan.calls c.soak_named.result c.soak_named.ensures
+returns-clause-receipts g c =
+    summed_up-receipts setting c.args.plan _ _ c.of.result c.in_ok-closed.ensures c.of.ensures.summary

@@ -1,4 +1,4 @@
-use Rattle.soak.proofs.run.run_plan.Given as goal
+use Rattle.soak.proofs.run.run_store.Given as goal
 
 abbrev pub ghosts-soak_named-L-Ledger : goal.ghosts-soak_named-L-Ledger
 ghosts-soak_named-L-Ledger g a = record { name = a.blank.name; parts = a.blank.parts }
