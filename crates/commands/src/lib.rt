@@ -2,7 +2,7 @@
 #![tactic(auto)]
 
 pub use file::run_opened;
-pub use program::run_words;
+pub use program::{run_words, run_words_on};
 
 mod arguments;
 mod file;

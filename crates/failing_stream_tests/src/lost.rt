@@ -74,7 +74,7 @@ fn run<R: AllocGlobal + Files + Threads + Wait + Clock + Sync + Abort>(
         Deed::Script(script) => run_script(rt.alloc(), "a story", &mut &*script, out, err),
         Deed::Words(text) => {
             let words = words_of(rt, rt.alloc(), text);
-            run_words(rt, words.as_slice(), out, err, false)
+            run_words(rt, words.as_slice(), out, err)
         }
     }
 }

@@ -29,7 +29,7 @@ impl Run {
                 let mut reader = script.as_slice();
                 run_script(rt.alloc(), "story", &mut reader, &mut out, &mut err)
             }
-            Deed::Words(words) => run_words(rt, words.as_slice(), &mut out, &mut err, false),
+            Deed::Words(words) => run_words(rt, words.as_slice(), &mut out, &mut err),
         };
         Run { out, err, status }
     }
