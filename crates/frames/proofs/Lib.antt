@@ -1,0 +1,9 @@
+pub mod Lengths
+pub mod Filled
+pub mod Parts
+pub mod Numbers
+pub mod Frames
+pub mod Steps
+pub mod ReadingSteps
+pub mod Strings
+pub mod Written

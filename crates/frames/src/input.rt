@@ -1,0 +1,105 @@
+//! Bytes of a reader.
+ghost use Rattle.std.specs.Prelude.{◌≡◌, ◌<◌, ◌≤◌, ◌+◌, ◌∷◌, [], IfOk, MatchOption, length, take, drop};
+ghost use Rattle.std.specs.Io.KnownBytes.{Consumes, IsAtEnd, Keeps, ReadConsumes};
+ghost use Rattle.std.specs.Io.{ReadsAtMost};
+ghost use Rattle.frames.specs.Reading.{Gives, byte_at, wanted_at, line_end_at, taken_at};
+ghost use Rattle.frames.specs.declared.error.Fault.TheVariants.{NoLineEnd};
+
+use crate::error::{Fault, FrameError};
+use std::io;
+use std::io::{ErrorKind, Read};
+
+/// One byte.
+pub(crate) fn read_byte<R: Read>(reader: &mut R) -> Result<u8, FrameError>
+    ensures { Gives (λ byte. byte) byte_at (R.remaining reader.old) (R.remaining reader.new) result }
+{
+    match next_byte(reader) {
+        Ok(Some(byte)) => Ok(byte),
+        Ok(None) => Err(FrameError::Fault(Fault::Ended)),
+        Err(error) => Err(FrameError::Failed(error)),
+    }
+}
+
+/// This byte, or this fault at another.
+pub(crate) fn read_wanted<R: Read>(
+    reader: &mut R,
+    wanted: u8,
+    fault: Fault,
+) -> Result<u8, FrameError>
+    ensures { Gives (λ byte. byte) (wanted_at wanted fault) (R.remaining reader.old) (R.remaining reader.new) result }
+{
+    let byte = read_byte(reader)?;
+    if byte != wanted {
+        return Err(FrameError::Fault(fault));
+    }
+    Ok(byte)
+}
+
+/// CR LF.
+pub(crate) fn read_line_end<R: Read>(reader: &mut R) -> Result<u8, FrameError>
+    ensures { Gives (λ byte. byte) line_end_at (R.remaining reader.old) (R.remaining reader.new) result }
+{
+    read_wanted(reader, b'\r', Fault::NoLineEnd)?;
+    read_wanted(reader, b'\n', Fault::NoLineEnd)
+}
+
+/// The next byte, or none at the end of the input.
+pub(crate) fn next_byte<R: Read>(reader: &mut R) -> io::Result<Option<u8>>
+    ensures { IfOk result (λ found. MatchOption found
+        (IsAtEnd (R.remaining reader.old) × Keeps (R.remaining reader.old) (R.remaining reader.new))
+        (λ byte. Consumes (R.remaining reader.old) (R.remaining reader.new) (byte ∷ []))) }
+{
+    let mut room = [0];
+    let count = read_some(reader, &mut room)?;
+    if count == 0 {
+        return Ok(None);
+    }
+    Ok(Some(room[0]))
+}
+
+/// Fills the buffer.
+pub(crate) fn read_full<R: Read>(reader: &mut R, buf: &mut [u8]) -> Result<(), FrameError>
+    ensures same { length buf.new ≡ length buf.old }
+    ensures exact { Gives (λ _. buf.new) (taken_at (length buf.old)) (R.remaining reader.old) (R.remaining reader.new) result }
+{
+    let mut filled = 0;
+    while filled < buf.len() {
+        match read_at(reader, buf, filled) {
+            Ok(0) => return Err(FrameError::Fault(Fault::Ended)),
+            Ok(count) => filled += count,
+            Err(error) => return Err(FrameError::Failed(error)),
+        }
+    }
+    Ok(())
+}
+
+// One read of bytes to the part of the buffer from `at` on.
+fn read_at<R: Read>(reader: &mut R, buf: &mut [u8], at: usize) -> io::Result<usize>
+    requires { at < length buf.old }
+    ensures same { length buf.new ≡ length buf.old }
+    ensures front { take at buf.new ≡ take at buf.old }
+    ensures fits { IfOk result (λ count. at + count ≤ length buf.new) }
+    ensures bytes { IfOk result (λ count.
+        Consumes (R.remaining reader.old) (R.remaining reader.new) (take count (drop at buf.new))) }
+    ensures end { IfOk result (λ count. count ≡ 0 → IsAtEnd (R.remaining reader.new)) }
+{
+    read_some(reader, &mut buf[at..])
+}
+
+// One read, again where a signal interrupts it.
+fn read_some<R: Read>(reader: &mut R, buf: &mut [u8]) -> io::Result<usize>
+    ensures bound { ReadsAtMost result buf.new }
+    ensures bytes { ReadConsumes (R.remaining reader.old) (R.remaining reader.new) result buf.new }
+{
+    for _ in 0..u64::MAX {
+        match reader.read(buf) {
+            Ok(count) => return Ok(count),
+            Err(error) => {
+                if error.kind() != ErrorKind::Interrupted {
+                    return Err(error);
+                }
+            }
+        }
+    }
+    Err(io::Error::from(ErrorKind::TimedOut))
+}
