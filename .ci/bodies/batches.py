@@ -7,6 +7,7 @@ from dataclasses import dataclass
 
 from edits import edited_texts, read
 from kit import rtlib
+from stubs import Stubs
 from verdicts import Report, Verdict
 
 
@@ -43,13 +44,15 @@ def leave_answers(folder):
 class Trial:
     """The checks of one crate with edits in it. What is proved in one of them is kept for the next."""
 
-    def __init__(self, crate, jobs):
+    def __init__(self, crate, functions, jobs, with_stubs):
         self.crate, self.jobs = crate, jobs
+        self.stubs = Stubs(crate, functions) if with_stubs else None
         self.seconds, self.checks = 0.0, 0
         self.kept = None
 
-    def check(self, texts, functions):
-        """Checks a copy of the crate with these texts: the functions and what they call, or all where none is named."""
+    def check(self, texts, functions, stubbed=()):
+        """Checks a copy of the crate with these texts: the functions and what they call, or all where none is named. Of
+        the functions that have a stub in the texts it assumes the contracts."""
         only = [word for it in functions for word in ("--only", it.ending())]
         with tempfile.TemporaryDirectory(prefix="wrong-bodies-") as room, tempfile.TemporaryFile() as said:
             for part in rtlib.PARTS:
@@ -60,14 +63,17 @@ class Trial:
                     file.write(text)
             for folder in {it.proofs() for it in functions}:
                 leave_answers(f"{room}/{folder}")
-            words = self.crate.words(["--jobs", str(self.jobs), *only], keeps=False)
-            whole = [*rtlib.guarded(), rtlib.RATTLE, "check", *words, "--incremental", self.kept]
+            for it in stubbed:
+                self.stubs.leave_hole(room, it)
+            words = self.crate.words(["--jobs", str(self.jobs), *only, *(["--allow-holes"] * bool(stubbed))], keeps=False)
+            kept = f"{self.kept}/{'stubs' if stubbed else 'whole'}"
+            whole = [*rtlib.guarded(), rtlib.RATTLE, "check", *words, "--incremental", kept]
             run = subprocess.Popen(whole, cwd=room, stdin=subprocess.DEVNULL, stdout=said, stderr=subprocess.STDOUT)
             _, status, used = os.wait4(run.pid, 0)
             run.returncode = os.waitstatus_to_exitcode(status)
             self.seconds += used.ru_utime + used.ru_stime
             self.checks += 1
-            if only and run.returncode == 2:
+            if only and run.returncode == 2 and not stubbed:
                 # One of the names fits no function, or several.
                 return self.check(texts, [])
             said.seek(0)
@@ -79,6 +85,29 @@ class Trial:
     def refused(self, report, edit):
         rows, is_weak = report.reasons(edit, self.line_of)
         return Result(edit, Verdict.REFUSED, rows[0] if rows else "", is_weak)
+
+    def refused_beside_stubs(self, edits):
+        """The results of those edits that one check refuses in which every other function is a stub."""
+        stubbed = self.stubs.beside(edits)
+        texts = edited_texts(self.crate.folder, [*edits, self.stubs.edit_of(stubbed)])
+        report = self.check(texts, [it for edit in edits for it in edit.functions], stubbed)
+        if not report.reached_the_prover() or report.unread(texts) or report.fails_alone(edits, stubbed):
+            return []
+        if report.errors_elsewhere(edits, stubbed):
+            return []
+        found = [self.refused(report, it) for it in edits if report.verdict(it) is Verdict.REFUSED]
+        return [it for it in found if it.why and not it.is_weak]
+
+    def try_beside_stubs(self, edits):
+        """Tries the edits beside stubs, as long as that refuses some. Returns their results, and the edits that are left:
+        one that calls a function with an edit may be refused only once that function has its stub too."""
+        results, left, is_more = [], edits, True
+        while left and is_more:
+            found = [it for some in batches_of(left) for it in self.refused_beside_stubs(some)]
+            refused = {it.edit.name for it in found}
+            results += found
+            left, is_more = [it for it in left if it.name not in refused], bool(found)
+        return results, left
 
     def try_batch(self, edits):
         """Tries the edits by one check. Returns the results, and the edits that have to be tried alone."""
@@ -122,8 +151,12 @@ class Trial:
         results = [Result(it, Verdict.UNJUDGED, it.problem) for it in edits if it.problem]
         good = [it for it in edits if not it.problem]
         alone = [it for it in good if not it.is_inside]
+        inside = [it for it in good if it.is_inside]
         with tempfile.TemporaryDirectory(prefix="wrong-bodies-kept-") as self.kept:
-            for some in batches_of([it for it in good if it.is_inside]):
+            if self.stubs:
+                found, inside = self.try_beside_stubs(inside)
+                results += found
+            for some in batches_of(inside):
                 judged, left = self.try_batch(some) if len(some) > 1 else ([], some)
                 results += judged
                 alone += left

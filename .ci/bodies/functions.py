@@ -17,6 +17,7 @@ class Function:
     owner: str  # of a method the type, and behind it the trait with the names of its arguments, where it has one
     name: str
     home: tuple = ()  # the modules down to the type of a method, where the crate's own proofs of it stand
+    is_of_trait: bool = False  # whether it is written in a trait, or in its impl for a type
 
     def ending(self):
         """The end of the function's name, as a check prints it, behind the modules."""
@@ -114,17 +115,18 @@ def owner_of(words):
 
 def functions_in(path, tokens):
     """The functions of a file. One that lies in another's body counts as a part of that one."""
-    found, scopes, at = [], [(len(tokens), module_of(path), "")], 0
+    found, scopes, at = [], [(len(tokens), module_of(path), "", False)], 0
     while at < len(tokens):
         while at >= scopes[-1][0]:
             scopes.pop()
         text, behind = tokens[at].text, tokens[at + 1].text if at + 1 < len(tokens) else ""
-        _, module, owner = scopes[-1]
+        _, module, owner, is_of_trait = scopes[-1]
         if text == "fn" and re.fullmatch(r"\w+", behind):
             body = opening(tokens, at)
             if tokens[body].text == "{":
                 end = closing(tokens, body)
-                found.append(Function(path, tokens[at].start, tokens[body].start, tokens[end].end, module, owner, behind))
+                bounds = tokens[at].start, tokens[body].start, tokens[end].end
+                found.append(Function(path, *bounds, module, owner, behind, is_of_trait=is_of_trait))
                 at = end
             else:
                 at = body
@@ -133,7 +135,8 @@ def functions_in(path, tokens):
             if tokens[body].text == "{":
                 words = [it.text for it in tokens[at + 1 : body]]
                 inner = owner_of(words) if text == "impl" else behind if text == "trait" else owner
-                scopes.append((closing(tokens, body), module + (behind,) if text == "mod" else module, inner))
+                of_trait = text == "trait" or (text == "impl" and "for" in words)
+                scopes.append((closing(tokens, body), module + (behind,) if text == "mod" else module, inner, of_trait))
             at = body
         at += 1
     return found

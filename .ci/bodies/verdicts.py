@@ -27,7 +27,9 @@ def line_kind(said):
         return Line.PROVED
     if said.startswith("not proved") or "`search` did not prove" in said:
         return Line.FAILS
-    return Line.CALLS if said.startswith("no proof: it calls ") else Line.UNCLEAR
+    # Beside stubs a function that holds says that it depends on the hole which stands for a callee's proof.
+    is_calls = said.startswith(("no proof: it calls ", "depends on a hole in "))
+    return Line.CALLS if is_calls else Line.UNCLEAR
 
 
 class Report:
@@ -67,10 +69,24 @@ class Report:
     def kinds_of(self, edit):
         return {self.of_functions[name] for it in edit.functions for name in self.names_of(it)}
 
-    def fails_alone(self, edits):
-        """The functions without an edit whose own proof fails."""
-        edited = {name for edit in edits for it in edit.functions for name in self.names_of(it)}
-        return [it for it, kind in self.of_functions.items() if kind is Line.FAILS and it not in edited]
+    def fails_alone(self, edits, stubbed=()):
+        """The functions without an edit, and without a stub, whose own proof fails."""
+        others = [*stubbed, *(it for edit in edits for it in edit.functions)]
+        known = {name for it in others for name in self.names_of(it)}
+        return [it for it, kind in self.of_functions.items() if kind is Line.FAILS and it not in known]
+
+    def errors_elsewhere(self, edits, stubbed):
+        """The errors in files of proofs and definitions that belong to no edited function, but for the holes of stubs."""
+        own = tuple(f"{it.proofs()}/" for edit in edits for it in edit.functions)
+        holes = {f"{it.proofs()}/Proof.antt" for it in stubbed}
+        found = []
+        for row in self.lines:
+            at = re.match(r"(?:\./)?((?:proofs|specs)/\S+?):\d+:\d+: (.*)", row)
+            if not at or at[1].startswith(own) or at[2].startswith("warning"):
+                continue
+            if at[1] not in holes or not re.match(r"`\S+` is not admitted: has-holes$|goal \? in ", at[2]):
+                found.append(row)
+        return found
 
     def reasons(self, edit, line_of):
         """The lines that say why the edit's functions fail, those that name more than what went away first."""
