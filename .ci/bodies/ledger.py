@@ -1,14 +1,15 @@
-"""The ledger of wrong bodies that were tried: a line for each crate, with a sum over all that the verdicts rest on.
+"""The ledger of wrong bodies that were tried: a line for each crate, with a sum over all that the verdicts rest on, and
+the kits by which all wrong bodies of the crate were refused.
 
-The sum is over the kit's line, the crate's own sources, definitions, proofs and wrong bodies, and of each library below
-its interface and its definitions. Lines that are only a comment count nowhere, and neither does a changed body below.
+The sum is over the crate's own sources, definitions, proofs and wrong bodies, and of each library below its interface
+and its definitions. Lines that are only a comment count nowhere, and neither does a changed body below.
 """
 import hashlib
 import os
 import re
 from functools import cache
 
-from kit import KIT_LINE, rtlib, tokens_of
+from kit import KIT_NAME, rtlib, tokens_of
 
 
 def files_below(folder):
@@ -48,7 +49,7 @@ def texts_below(folder, parts):
 
 def sum_of(crate):
     """The sum of a crate whose libraries below stand built."""
-    total = hashlib.sha256(KIT_LINE.encode())
+    total = hashlib.sha256()
 
     def add(texts):
         total.update(repr(sorted(texts.items())).encode())
@@ -70,23 +71,27 @@ def sum_of(crate):
 
 class Ledger:
     def __init__(self, path):
-        self.path, self.sums = path, {}
+        self.path, self.lines = path, {}
         if os.path.isfile(path):
             with open(path, encoding="utf-8") as file:
                 rows = [line.split() for line in file if line.strip() and not line.startswith("#")]
-            self.sums = {name: total for name, total in rows}
+            self.lines = {name: (total, kits) for name, total, *kits in rows}
 
     def has(self, crate):
-        return self.sums.get(crate.name) == sum_of(crate)
+        total, kits = self.lines.get(crate.name, ("", []))
+        return KIT_NAME in kits and total == sum_of(crate)
 
     def enter(self, crate, is_well):
-        """Notes that all wrong bodies of the crate were refused, or takes out what was noted."""
-        self.sums.pop(crate.name, None)
+        """Notes that this kit refused all wrong bodies of the crate, or takes out what was noted."""
+        known, kits = self.lines.pop(crate.name, ("", []))
         if is_well:
-            self.sums[crate.name] = sum_of(crate)
+            total = sum_of(crate)
+            self.lines[crate.name] = total, sorted({KIT_NAME, *(kits if known == total else [])})
 
     def write(self, names):
         """Writes the lines of the crates that have wrong bodies, in the order of their names."""
         with open(self.path, "w", encoding="utf-8") as file:
-            file.write(f"# Written by .ci/wrong-bodies: crates all of whose wrong bodies were refused, by {KIT_LINE}.\n")
-            file.writelines(f"{it} {self.sums[it]}\n" for it in sorted(names) if it in self.sums)
+            file.write("# Written by .ci/wrong-bodies: crates, their sums, and the kits that refused all of their wrong bodies.\n")
+            file.writelines(
+                " ".join([it, self.lines[it][0], *self.lines[it][1]]) + "\n" for it in sorted(names) if it in self.lines
+            )
