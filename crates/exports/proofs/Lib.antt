@@ -1,3 +1,4 @@
 pub mod ClientLemmas
+pub mod FollowsLemmas
 pub mod ListLemmas
 pub mod TextLemmas

@@ -1,5 +1,5 @@
 use Rattle.std.proofs.Common.{◌≡◌, length}
-use Rattle.exports.proofs.ClientLemmas.{Follows}
+use Rattle.exports.proofs.FollowsLemmas.{Follows}
 use Rattle.exports.proofs.clients.assign.Given as goal
 
 abbrev pub invariant-loop-entry : goal.invariant-loop-entry
