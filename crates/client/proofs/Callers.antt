@@ -13,7 +13,7 @@ use Rattle.locked_steps.specs.Moves.{AdminState, Moving, asked_if, has_asked}
 use Rattle.locked_steps.specs.Orders.{MoveGoesNot, MoveLeaves, has_move, move_cause_of}
 use Rattle.locked_steps.specs.Rounds.{SeatGoesNot, going_cause, pending_cause, round_cause}
 use Rattle.locked_steps.specs.Seats.{SeatState, Pending}
-use Rattle.locked_steps.specs.declared.rounds.HandedIn.{HandedIn}
+use Rattle.locked_steps.specs.declared.handed_in.HandedIn.{HandedIn}
 use Rattle.client.specs.Callers.{IsUnanswered}
 use Rattle.client.specs.Refusals.{IsMovingHand, IsMovingRefused, IsPendingHand, IsPendingRefused, IsSeatRefused}
 use Rattle.client.proofs.Stopping.{same_refusal, held_going, refused_goes}

@@ -18,8 +18,8 @@ use Rattle.cluster.specs.Cluster.{Cluster, named}
 use Rattle.driver.specs.Driver.{wanted, IsDue, IsNext, IsRefused}
 use Rattle.driver.proofs.Named.{cause_there, read_there}
 use Rattle.locked_steps.specs.Rounds.{GoesNot, going_cause, hand_cause, open_cause}
-use Rattle.locked_steps.specs.declared.rounds.HandedIn.{HandedIn}
-use Rattle.locked_steps.specs.declared.rounds.HandedIn.TheVariants as hand
+use Rattle.locked_steps.specs.declared.handed_in.HandedIn.{HandedIn}
+use Rattle.locked_steps.specs.declared.handed_in.HandedIn.TheVariants as hand
 use Rattle.client.specs.Refusals.{Anyhow, IsCodedFor, IsHeldUp, IsRefusedIn}
 
 pub same_refusal : (a b : Refusal) → Some a ≡ Some b → a ≡ b

@@ -6,8 +6,8 @@ use Rattle.register.specs.declared.receipt.Receipt.{Receipt}
 use Rattle.driver.specs.Coding.{GiveBack}
 use Rattle.driver.specs.declared.round.Round.{Round}
 use Rattle.driver.specs.declared.round.Round.TheVariants as round
-use Rattle.locked_steps.specs.declared.rounds.HandedIn.{HandedIn}
-use Rattle.locked_steps.specs.declared.rounds.HandedIn.TheVariants as hand
+use Rattle.locked_steps.specs.declared.handed_in.HandedIn.{HandedIn}
+use Rattle.locked_steps.specs.declared.handed_in.HandedIn.TheVariants as hand
 
 -- the state after a round: an answer ends the call, and any other round leaves the state as it is
 abbrev pub LeavesBy : {S : Type 0} → (S → Receipt → S → Type 0) → S → Round → S → Type 0

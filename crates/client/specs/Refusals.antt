@@ -18,8 +18,8 @@ use Rattle.locked_steps.specs.Orders.{has_move}
 use Rattle.locked_steps.specs.Rounds.{hand_cause}
 use Rattle.locked_steps.specs.Seats.{SeatState, Pending, AddsPending}
 use Rattle.locked_steps.specs.declared.call_record.Begin.{Begin}
-use Rattle.locked_steps.specs.declared.rounds.HandedIn.{HandedIn}
-use Rattle.locked_steps.specs.declared.rounds.HandedIn.TheVariants as hand
+use Rattle.locked_steps.specs.declared.handed_in.HandedIn.{HandedIn}
+use Rattle.locked_steps.specs.declared.handed_in.HandedIn.TheVariants as hand
 use Rattle.client.specs.Locked.{BeginsMove}
 
 -- a chooser that may choose anything

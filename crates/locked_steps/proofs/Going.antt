@@ -33,8 +33,8 @@ use Rattle.driver.specs.Rounds.{IsRound}
 use Rattle.locked_steps.specs.Rounds.{Goes, Copies, tells}
 use Rattle.driver.specs.declared.round.Round.{Round}
 use Rattle.driver.specs.declared.round.Round.TheVariants as round
-use Rattle.locked_steps.specs.declared.rounds.HandedIn.{HandedIn}
-use Rattle.locked_steps.specs.declared.rounds.HandedIn.TheVariants as hand
+use Rattle.locked_steps.specs.declared.handed_in.HandedIn.{HandedIn}
+use Rattle.locked_steps.specs.declared.handed_in.HandedIn.TheVariants as hand
 use Rattle.locked_steps.proofs.Begins.{begins}
 use Rattle.locked_steps.proofs.Booking.{calls_kept}
 use Rattle.driver.proofs.Named.{read_there, cause_there, is_there}

@@ -17,7 +17,7 @@ use Rattle.locked_steps.specs.declared.admin.Order.{Order}
 use Rattle.locked_steps.specs.declared.admin.Order.TheVariants as order
 use Rattle.driver.specs.declared.round.Round.{Round}
 use Rattle.driver.specs.declared.round.Round.TheVariants as round
-use Rattle.locked_steps.specs.declared.rounds.HandedIn.{HandedIn}
+use Rattle.locked_steps.specs.declared.handed_in.HandedIn.{HandedIn}
 use Rattle.locked_steps.specs.Rounds.{going_cause, Goes, GoesNot}
 
 -- the cluster after an order is carried out

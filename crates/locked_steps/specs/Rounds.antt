@@ -18,8 +18,8 @@ use Rattle.driver.specs.Rounds.{IsRound}
 use Rattle.locked_steps.specs.Seats.{SeatState, Pending, Settles, asked_once, unless_stranger}
 use Rattle.driver.specs.declared.round.Round.{Round}
 use Rattle.driver.specs.declared.round.Round.TheVariants as round
-use Rattle.locked_steps.specs.declared.rounds.HandedIn.{HandedIn}
-use Rattle.locked_steps.specs.declared.rounds.HandedIn.TheVariants as hand
+use Rattle.locked_steps.specs.declared.handed_in.HandedIn.{HandedIn}
+use Rattle.locked_steps.specs.declared.handed_in.HandedIn.TheVariants as hand
 
 -- why a call that wants this makes no round: there is no such call, it is answered, or no turns are left
 abbrev pub open_cause : (turns : ℕ) → Option Want → Option Refusal

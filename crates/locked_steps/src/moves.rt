@@ -15,7 +15,8 @@ ghost use Rattle.locked_steps.specs.Orders.{is_move_begun, move_begun, move_caus
 
 use crate::admin::{Admin, PendingMove};
 use crate::booked::{Booked, StoreName};
-use crate::rounds::{HandedIn, round_with_copy};
+use crate::handed_in::HandedIn;
+use crate::rounds::round_with_copy;
 use crate::seat::hold;
 use cluster::{Cluster, LayoutId};
 use driver::{Chooser, Round};

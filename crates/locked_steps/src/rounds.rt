@@ -1,5 +1,5 @@
 //! The rounds of a seat's call.
-ghost use Rattle.std.specs.Prelude.{◌≡◌, ◌⊎◌, ◌<◌, ◌≤◌, ◌↔◌, None, Some, is_some, if◌then◌else◌, IsTrue, IfOk, IfErr};
+ghost use Rattle.std.specs.Prelude.{◌≡◌, ◌⊎◌, ◌<◌, ◌≤◌, None, Some, is_some, if◌then◌else◌, IfOk, IfErr};
 ghost use Rattle.std.specs.Prelude.{OnOk, OnErr, MatchResult};
 ghost use Rattle.std.specs.List.{AllByRecursion};
 ghost use Rattle.tag.specs.declared.limits.TheConstants.{MOST_STEPS};
@@ -13,40 +13,16 @@ ghost use Rattle.locked_steps.specs.Course.{PreservesReachable, IsStateOf};
 ghost use Rattle.driver.specs.Driver.{wanted};
 ghost use Rattle.locked_steps.specs.Rounds.{Copies, Goes, GoesNot, SeatGoes, SeatGoesNot, SeatLeaves, going_cause};
 ghost use Rattle.locked_steps.specs.Rounds.{round_cause, tells};
-ghost use Rattle.locked_steps.specs.declared.rounds.HandedIn.TheVariants as hands;
+ghost use Rattle.locked_steps.specs.declared.handed_in.HandedIn.TheVariants as hands;
 
 use crate::booked::{Booked, StoreName};
+use crate::handed_in::HandedIn;
 use crate::seat::Seat;
 use bytes::Bytes;
 use cluster::Cluster;
-use decoder::Decoded;
 use driver::{Chooser, Round, make_round};
-use encoder::Coded;
 use record::Want;
 use tag::{CallId, MOST_STEPS, Refusal};
-
-/// What a thread hands in at a round: what it encoded or decoded for an earlier round, if that handed out anything.
-#[derive(Debug, Drop)]
-pub enum HandedIn {
-    /// Nothing is handed in.
-    Empty,
-    /// The encoded value.
-    Coded(Coded),
-    /// The decoded value.
-    Decoded(Decoded),
-}
-
-impl HandedIn {
-    /// Whether nothing is handed in.
-    pub(crate) fn is_empty(&self) -> bool
-        ensures { IsTrue result ↔ (self.now ≡ hands.Empty) }
-    {
-        match self {
-            HandedIn::Empty => true,
-            _ => false,
-        }
-    }
-}
 
 /// Makes one round of the seat's pending call. With an empty `hand` it is the round of `driver::make_round`: one step,
 /// or no step and a copy of what is to be encoded or decoded before the next round. With an encoded value in `hand` it

@@ -8,7 +8,7 @@ ghost use Rattle.cluster.specs.Cluster.{Cluster as ClusterOf};
 ghost use Rattle.locked_steps.specs.Course.{IsStateOf};
 ghost use Rattle.locked_steps.specs.Moves.{Ends, asked_if, has_asked};
 ghost use Rattle.locked_steps.specs.Seats.{Settles, asked_once};
-ghost use Rattle.locked_steps.specs.declared.rounds.HandedIn.{HandedIn as HandOf};
+ghost use Rattle.locked_steps.specs.declared.handed_in.HandedIn.{HandedIn as HandOf};
 ghost use Rattle.client.specs.Callers.{CanBeCoded, IsCodedFrom, IsUnanswered, LeavesBy};
 ghost use Rattle.client.specs.Refusals.{IsMovingHand, IsMovingRefused, IsPendingHand, IsSeatRefused};
 

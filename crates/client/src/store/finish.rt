@@ -5,7 +5,7 @@ ghost use Rattle.tag.specs.declared.refusal.Refusal.TheVariants.{NoMemory};
 ghost use Rattle.client.specs.Callers.{CanBeCoded, IsCodedFrom, IsUnanswered, StaysOpen};
 ghost use Rattle.client.specs.Refusals.{IsRefusedThen};
 ghost use Rattle.locked_steps.specs.Moves.{asked_if};
-ghost use Rattle.locked_steps.specs.declared.rounds.HandedIn.TheVariants as hands;
+ghost use Rattle.locked_steps.specs.declared.handed_in.HandedIn.TheVariants as hands;
 
 use crate::store::Store;
 use crate::store::caller::Caller;
