@@ -40,8 +40,9 @@ pub type Opened<L> = (Store<L>, Vec<Seat<L>>, Admin<L>);
 
 impl<L: StoreName> Store<L> {
     /// A store over a cluster without calls, with `seats` seats, numbered from 0. For each value that is encoded,
-    /// `workers` threads make the pieces; with 0 workers the thread of the seat makes them. The blank must have one
-    /// part for each seat and one for the store.
+    /// `workers` threads make the pieces; with 0 workers the thread of the seat makes them. The store's book is made
+    /// from `blank`, which must have one part for each seat and one for the store. The cluster must be the one that the
+    /// store's name has as its member `first`.
     ///
     /// `NotNow` where the cluster has a call, and `Full` above `MOST_SEATS` seats or `MOST_WORKERS` workers.
     pub fn open(
@@ -75,7 +76,8 @@ impl<L: StoreName> Store<L> {
     }
 
     /// Handles one message of an object, the one that `chooser` chooses among those that can be handled: a request to a
-    /// server that is up is served, and a reply is taken. False, and no step, where no message can be handled.
+    /// server that is up is served, and a reply is taken. Returns false, and makes no step, where no message can be
+    /// handled.
     ///
     /// `NoObject` where no object has this name, and `Full` where the limit of steps or of stored bytes is met.
     pub fn stir<R: Wait, C: Chooser>(
@@ -91,7 +93,8 @@ impl<L: StoreName> Store<L> {
     }
 
     /// Loses or repeats one waiting message of an object. `chooser` first chooses the message among all that wait, and
-    /// then among two: an even number loses it, an odd one repeats it. False, and no step, where no message waits.
+    /// then what happens to it: with an even number the message is lost, with an odd one it is repeated. Returns false,
+    /// and makes no step, where no message waits.
     ///
     /// `NoObject` where no object has this name, and `Full` where the limit of steps or of the object's waiting
     /// messages is met.

@@ -7,7 +7,7 @@ use cluster::Cluster;
 use mail::Message;
 use register::Register;
 
-/// Which messages of an object a choice is made among.
+/// Among which messages of an object a choice is made.
 #[derive(Clone, Copy, Debug)]
 pub enum Among {
     /// All that wait for the object.
@@ -16,9 +16,10 @@ pub enum Among {
     Call(u64),
 }
 
-/// The place of the chosen message. Of the messages that `among` names and that can be handled, from place `from` of
-/// the mail on and in mail order, it is the one at the chooser's number modulo their count. A message can be handled if
-/// it is a reply, or a request to a server that is up. None, and no choice is made, where there is no such message.
+/// The place of the chosen message. The choice is made among the messages that `among` names and that can be handled,
+/// from place `from` of the mail on. Of these, in mail order, it is the message at the number that the chooser returns,
+/// modulo their count. A message can be handled if it is a reply, or a request to a server that is up. None, and no
+/// choice is made, where there is no such message.
 pub fn choose<C: Chooser>(
     cluster: &Cluster,
     register: &Register,
@@ -44,8 +45,8 @@ pub fn choose<C: Chooser>(
     )
 }
 
-/// The place of the message at index `skipped`, from 0, among those that `among` names and that can be handled, from
-/// place `from` of the mail on and in mail order. None where there are not so many.
+/// The place of one of the messages that `among` names and that can be handled, from place `from` of the mail on: in
+/// mail order, the message at index `skipped`, from 0. None where there are not so many.
 pub fn choice_at(
     cluster: &Cluster,
     register: &Register,

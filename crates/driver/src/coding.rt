@@ -23,8 +23,8 @@ use record::Want;
 use std::alloc::Global;
 use tag::{CallId, MOST_STEPS, Refusal};
 
-/// Encodes the value that the call of this number is to send, and supplies the call with it: one step. Whatever else
-/// refuses the step is found before the value is copied and encoded.
+/// Encodes the value that the call of this number is to send, and supplies the call with it: one step. Every cause of
+/// refusal but `NoMemory` is checked before the value is copied and encoded.
 ///
 /// `NoObject` where no object has this name, `NoCall` where it has no call of this number, and `NotNow` where the call
 /// has no pieces to send. `Full` where the limit of steps, of the call's phases or of the object's waiting messages is

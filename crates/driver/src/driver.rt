@@ -15,8 +15,8 @@ use tag::{CallId, Refusal};
 /// replies, one of its messages is handled, the one that `chooser` chooses; otherwise it is the step that the call
 /// wants.
 ///
-/// With `resumed` the first turn of a call that wants replies resends its current phase's requests instead, and the
-/// first turn of a call whose fetch lacks pieces restarts it.
+/// With `resumed`, the first turn differs in two cases. If the call wants replies, the turn resends the requests of the
+/// current phase instead. If the call's fetch lacks pieces, the turn restarts the call.
 ///
 /// - `NoObject` where no object has this name, `NoCall` where it has no call of this number, and `NotNow` where the
 ///   call is answered. Nothing has changed then.
@@ -25,7 +25,7 @@ use tag::{CallId, Refusal};
 /// - `Collected` where the call's fetch lacks pieces, except in the first turn with `resumed`.
 /// - `Full` where the step that comes next meets a limit.
 ///
-/// After the last four, and after `NoMemory`, the turns before stay made and the call stays open.
+/// After the last four, and after `NoMemory`, the steps of the earlier turns stay made, and the call stays open.
 pub fn finish<C: Chooser>(
     alloc: Global,
     cluster: &mut Cluster,

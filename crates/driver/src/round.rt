@@ -14,7 +14,8 @@ use record::Want;
 use register::Receipt;
 use tag::{CallId, Refusal};
 
-/// What a round came to: its step was made, or it is still to be made, once a value is encoded or decoded.
+/// The result of a round: its step was made, or the step is still to be made, once the caller has encoded or decoded a
+/// value.
 #[derive(Debug, Drop)]
 pub enum Round {
     /// The step was made, and the call is still open.

@@ -15,7 +15,7 @@ use std::snapshot::Snapshot;
 use tag::{CallId, Refusal, Stamp};
 
 /// The one administrator of a store: the right to add layouts, to create and move objects, to retire positions, and to
-/// take servers up and down. It has at most one move that is not answered.
+/// bring servers up and take them down. It has at most one move that is not answered.
 #[derive(Drop)]
 pub struct Admin<L: StoreName> {
     // The move that is not answered, and the name of its object.
@@ -53,7 +53,7 @@ pub enum Order<'a> {
         layout: LayoutId,
         delta: Option<u32>,
     },
-    /// Takes a server up or down.
+    /// Brings a server up or takes it down.
     SetServer {
         server: u8,
         up: bool,
@@ -92,7 +92,7 @@ impl<L: StoreName> Admin<L> {
         }
     }
 
-    /// Whether it has a move that is not answered. A resume goes on with that move (`move_round_in`).
+    /// Whether it has a move that is not answered. A resume continues that move (`move_round_in`).
     pub fn is_pending(&self) -> bool
         ensures { IsTrue result ↔ IsSome self.now.moving }
     {

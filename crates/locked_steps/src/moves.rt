@@ -79,7 +79,7 @@ fn call_move(cluster: &mut Cluster, name: &str, layout: LayoutId) -> Result<Call
 /// the move's object, its number and its steps, and brings no value.
 ///
 /// `NoCall` where no move is pending, or the cluster has no such move: its object is at another place, or the call of
-/// its number is no move or began at another step. Else refused as `round_in`, but never as `Stranger`.
+/// its number is no move or began at another step. Else it is refused as `round_in` is, but never as `Stranger`.
 pub fn move_round_in<L: StoreName, C: Chooser>(
     booked: &mut Booked<L>,
     admin: &mut Admin<L>,

@@ -24,14 +24,16 @@ use driver::{Chooser, Round, make_round};
 use record::Want;
 use tag::{CallId, MOST_STEPS, Refusal};
 
-/// Makes one round of the seat's pending call. With an empty `hand` it is the round of `driver::make_round`: one step,
-/// or no step and a copy of what is to be encoded or decoded before the next round. With an encoded value in `hand` it
-/// supplies the call, and with a decoded value it settles it; where an encoded value comes too late, it makes no step
-/// and returns `Round::Late`. The seat counts each round made with `asks_again`, and keeps the receipt of the answer.
-/// `turns` is how many turns the call has left; a round needs one.
+/// Makes one round of the seat's pending call. With an empty `hand`, this is the round of `driver::make_round`: it
+/// makes one step, or it makes no step and returns a copy of what is to be encoded or decoded before the next round.
+/// With an encoded value in `hand`, the round supplies the call with it. If the encoded value comes too late, the round
+/// makes no step and returns `Round::Late`. With a decoded value in `hand`, the call settles the value. The seat counts
+/// each round made with `asks_again`, and keeps the receipt of the answer. `turns` is how many turns the call has left;
+/// a round needs one.
 ///
 /// `Stranger` if the seat's floor is above the cluster's counter, `NoCall` if the seat has no pending call, `NotNow` if
-/// it is answered, `GaveUp` if `turns` is 0. Else refused as `make_round`, `Cluster::supply` or `Cluster::settle`.
+/// the call is answered, `GaveUp` if `turns` is 0. Else it is refused as `make_round`, `Cluster::supply` or
+/// `Cluster::settle` is.
 pub fn round_in<L: StoreName, C: Chooser>(
     booked: &mut Booked<L>,
     seat: &mut Seat<L>,

@@ -60,7 +60,7 @@ impl<L: StoreName> Seat<L> {
         self.number
     }
 
-    /// Whether it has a pending call: one that is neither answered nor abandoned. A resume goes on with that call
+    /// Whether it has a pending call: one that is neither answered nor abandoned. A resume continues that call
     /// (`round_in`).
     pub fn is_pending(&self) -> bool
         ensures { IsTrue result ↔ IsSome self.now.pending }
@@ -89,8 +89,8 @@ impl<L: StoreName> Seat<L> {
         self.asked = self.asked.wrapping_add(1);
     }
 
-    /// Sees another seat's receipt. The floor rises to its answer step, unless it is higher already, so calls of this
-    /// seat begin later than that step from now on. It allocates no memory.
+    /// Learns another seat's receipt. The floor rises to the receipt's answer step, unless the floor is higher already.
+    /// So later calls of this seat begin after that step. It allocates no memory.
     pub fn learn(&mut self, receipt: &Receipt)
         ensures { self.new ≡ learnt self.old receipt.now }
     {

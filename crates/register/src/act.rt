@@ -60,7 +60,7 @@ pub enum Answered {
 }
 
 impl Act {
-    /// A law: the values of an act are as their types make them. It changes nothing and allocates no memory.
+    /// A law: the values in an act satisfy the invariants of their types. It changes nothing and allocates no memory.
     pub fn values_are_lawful(&self)
         ensures { HasLawfulValues self.now }
     {

@@ -22,7 +22,7 @@ impl<L: StoreName> Store<L> {
     /// Where the call does not begin, the seat is unchanged: `Stranger` where its floor is above the store's counter,
     /// `NoObject` where no object has this name, `NotNow` where it has a pending call, `TooLong` where the value is too
     /// long, `Full` where the limit of steps, of the object's calls or of its waiting messages is met, and else
-    /// `NoMemory`. A later refusal leaves the call pending in the seat, and comes as of `resume`.
+    /// `NoMemory`. A later refusal leaves the call pending in the seat, and is one of those of `resume`.
     pub fn write<R: Threads + Wait + Sync, C: Chooser>(
         &self,
         rt: &R,
@@ -41,8 +41,8 @@ impl<L: StoreName> Store<L> {
         self.call(rt, &NoGate, seat, name, Begin::Write(value), chooser, turns)
     }
 
-    /// Reads an object, in at most `turns` steps beside the one that begins the call. It is refused as `write`, except
-    /// for the value.
+    /// Reads an object, in at most `turns` steps beside the one that begins the call. It is refused as `write` is, but
+    /// never for the value.
     pub fn read<R: Threads + Wait + Sync, C: Chooser>(
         &self,
         rt: &R,
@@ -58,8 +58,8 @@ impl<L: StoreName> Store<L> {
         self.call(rt, &NoGate, seat, name, Begin::Read, chooser, turns)
     }
 
-    /// Goes on with the seat's pending call, in at most `turns` steps. The first round resends the requests of the
-    /// call's current phase where it wants replies, and restarts a call whose fetch lacks pieces.
+    /// Continues the seat's pending call, in at most `turns` steps. The first round resends the requests of the current
+    /// phase of a call that wants replies, and restarts a call whose fetch lacks pieces.
     ///
     /// - `Stranger` where the seat's floor is above the store's counter.
     /// - `NoCall` where the seat has no pending call.
@@ -69,7 +69,7 @@ impl<L: StoreName> Store<L> {
     /// - `Collected` where the call's fetch lacks pieces after the first round; the next resume restarts the call.
     /// - `NoMemory` where an allocation is refused.
     ///
-    /// The call then stays pending in the seat.
+    /// After a refusal, a pending call stays pending in the seat.
     pub fn resume<R: Threads + Wait + Sync, C: Chooser>(
         &self,
         rt: &R,
@@ -87,9 +87,9 @@ impl<L: StoreName> Store<L> {
         self.finish(rt, &NoGate, seat, true, chooser, turns)
     }
 
-    /// A whole read or write, as `read` and `write` make it. A gate is told when each piece that a worker makes begins
-    /// and ends, by the piece's number, and when a decoding on the thread of the seat begins and ends, by 0. The seat
-    /// grows before the lock is taken, where there is memory for it.
+    /// Makes a whole read or write, as `read` and `write` do. The gate is called when a worker begins and when it ends
+    /// to make a piece, with the number of the piece, and when the thread of the seat begins and ends a decoding, with
+    /// 0. The room for the call's record is made before the lock is taken, if there is memory for it.
     pub fn call<G: Gate, R: Threads + Wait + Sync, C: Chooser>(
         &self,
         rt: &R,

@@ -74,7 +74,7 @@ impl<L: StoreName> Store<L> {
         Ok(())
     }
 
-    /// Takes a server up or down.
+    /// Brings a server up or takes it down.
     ///
     /// `BadLayout` where there is no server of this number, and `Full` where the limit of steps is met.
     pub fn set_server<R: Wait>(
@@ -117,7 +117,7 @@ impl<L: StoreName> Store<L> {
     /// Where the move does not begin, the administrator is unchanged: `NoObject` where no object has this name,
     /// `MovePending` where the object or the administrator has a move that is not answered, `BadLayout` where there is
     /// no layout of this number, `Full` where a limit is met, and else `NoMemory`. A later refusal leaves the move
-    /// pending, and comes as of `resume_move`.
+    /// pending, and is one of those of `resume_move`.
     pub fn move_object<R: Threads + Wait + Sync, C: Chooser>(
         &self,
         rt: &R,
@@ -136,8 +136,10 @@ impl<L: StoreName> Store<L> {
         self.finish(rt, &NoGate, admin, false, chooser, turns)
     }
 
-    /// Goes on with the administrator's pending move, in at most `turns` steps. `NoCall` where no move is pending, and
-    /// else refused as `resume`, but never as `Stranger`. The move then stays pending.
+    /// Continues the administrator's pending move, in at most `turns` steps.
+    ///
+    /// `NoCall` where no move is pending. Else it is refused as `resume` is, but never as `Stranger`, and the move
+    /// stays pending.
     pub fn resume_move<R: Threads + Wait + Sync, C: Chooser>(
         &self,
         rt: &R,

@@ -27,7 +27,8 @@ pub struct Accounts {
 }
 
 impl Cluster {
-    /// How many bytes of pieces a server stores, over all objects.
+    /// How many bytes of pieces a server stores, over all objects. `server` must be the number of a server of the
+    /// cluster.
     pub fn stored(&self, server: u8) -> u64
         requires { server < length self.now.servers }
         ensures { result ≡ stored self.now server }

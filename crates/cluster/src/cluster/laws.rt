@@ -34,12 +34,12 @@ impl Cluster {
     /// - `enough`: a complete fetch has pieces of at least k members, or one of its replies was made by a bank that had
     ///   dropped its own.
     /// - `few`: a bank of an object with `delta` keeps at most `delta` + 1 pieces of finalized tags.
-    /// - `overtaken`: a read's fetch lacks pieces only where its position was retired, or at least `delta` + 1 newer
-    ///   writes overtook it.
+    /// - `overtaken`: a read's fetch lacks pieces only where its position was retired, or where at least `delta` + 1
+    ///   newer writes overlap the read.
     /// - `phases`: each tag that a phase carries, in a pre-write, a finalize or a fetch, is in the object's journal,
     ///   even if no reply has come yet.
     /// - `reads`, `journal`: an answered read returns the journal's value of its tag, and the journal has one value for
-    ///   a tag.
+    ///   each tag.
     /// - `accounts`: the accounts that are returned are the exact sums of the pieces' bytes.
     pub fn atomic(&self) -> Accounts
         ensures atomic { AreAtomic self.now }
@@ -80,10 +80,10 @@ impl Cluster {
     }
 
     /// A law: a step of an object that no cause refuses may be made, as `record` defines it. It changes nothing and
-    /// allocates no memory. The causes are those in the contracts of the methods:
+    /// allocates no memory. The causes are those in the contracts of the methods.
     ///
-    /// - `acts`: of every method that makes a step of an object, but for the next three.
-    /// - `moves`, `serves`, `retires`: of `call_move`, `serve` and `retire`.
+    /// - `moves`, `serves` and `retires` are about `call_move`, `serve` and `retire`.
+    /// - `acts` is about every other method that makes a step of an object.
     pub fn allowed_steps_may_be_made(&self)
         ensures acts { (name : List ℕ) (act : Act) → HasLawfulValues act
             → object_cause self.now name (act_cause act (next self.now)) ≡ None → MayMake self.now name (step_of act) }

@@ -21,7 +21,7 @@ use register::{Act, Answered, Register};
 use tag::{MOST_BYTES, MOST_STEPS, Refusal, Stamp};
 
 impl Cluster {
-    /// The server that the request at a place is for serves it. Its reply takes the place of the request.
+    /// The server to which the request at a place is sent serves the request. Its reply takes the place of the request.
     ///
     /// `NoObject` where no object has this name, `NoMessage` where there is no message at this place, `Down` where the
     /// server is down, and `NotNow` where the message is a reply. `Full` where the counter is at `MOST_STEPS`, or the
@@ -63,8 +63,8 @@ impl Cluster {
         }
     }
 
-    /// The call that the reply at a place names takes it, and returns what it did with it. The message leaves the mail,
-    /// and later ones move down by one place. It allocates no memory.
+    /// The call that the reply at a place names takes the reply. Returns what the call did with it. The message leaves
+    /// the mail, and later ones move down by one place. It allocates no memory.
     ///
     /// `NoObject` where no object has this name, `NoMessage` where there is no message at this place, `NotNow` where it
     /// is a request, and `Full` where the counter is at `MOST_STEPS`.

@@ -52,8 +52,8 @@ impl Cluster {
         }
     }
 
-    /// Restarts the call of this number, whose fetch lacks pieces: a read with a first reading, which begins at the
-    /// base of this step, and a move with its query. The numbers of its phases go on.
+    /// Restarts the call of this number, whose fetch lacks pieces. A read restarts with a first reading, which begins
+    /// at the object's base, and a move restarts with its query. The numbers of the call's phases continue.
     ///
     /// `NoObject` where no object has this name, `NoCall` where it has no call of this number, `NotNow` unless the call
     /// wants to be restarted, and `Full` as for `advance`.
@@ -71,7 +71,7 @@ impl Cluster {
     }
 
     /// The value whose pieces the call of this number is to send, with the k and the n of the layout that gets them.
-    /// The value is a copy that shares its bytes. It is no step.
+    /// The value is a copy that shares its bytes. Asking for it is no step.
     ///
     /// `NoObject` where no object has this name, and `NoCall` where it has no call of this number. `NotNow` unless the
     /// phase that is due sends pieces, or the current phase sends them and has no quorum of replies yet.
@@ -85,9 +85,9 @@ impl Cluster {
         }
     }
 
-    /// Hands in the encoded value of the call of this number. Its n pieces begin the phase that is due. Where that
-    /// phase has begun already, they are sent again to each member that has no recorded reply and no waiting message of
-    /// the phase.
+    /// Hands in the encoded value of the call of this number. The phase that is due begins, and sends the n pieces.
+    /// Where that phase has begun already, its pieces are sent again to each member that has no recorded reply and no
+    /// waiting message of the phase.
     ///
     /// `NoObject`, `NoCall` and `NotNow` as for `value_to_code`, and `WrongCode` unless `coded` has the value, the k
     /// and the n that `value_to_code` gives. `Full` where the counter is at `MOST_STEPS`, the call has `MOST_PHASES`
@@ -125,8 +125,8 @@ impl Cluster {
         }
     }
 
-    /// The pieces that the call of this number is to decode: the k of least points among those that its current phase
-    /// took, by rising point. It is no step.
+    /// The pieces that the call of this number is to decode. Of the pieces that its current phase took, these are the k
+    /// with the least points, in the order of their points. Asking for them is no step.
     ///
     /// `NoObject` where no object has this name, `NoCall` where it has no call of this number, `NotNow` unless the call
     /// wants to settle a value, and `Collected` where its fetch lacks pieces, so that it wants to be restarted.

@@ -82,7 +82,7 @@ impl Cluster {
         Ok(())
     }
 
-    /// Takes a server up or down. It is a step even where the server is so already. It allocates no memory.
+    /// Brings a server up or takes it down. It is a step even if this changes nothing. It allocates no memory.
     ///
     /// `BadLayout` where there is no server of this number, and `Full` where the counter is at `MOST_STEPS`.
     pub fn set_server(&mut self, server: u8, up: bool) -> Result<(), Refusal>

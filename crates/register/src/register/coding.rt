@@ -55,7 +55,7 @@ impl Register {
     ///
     /// `NoCall` and `NotNow` as for `value_to_code`. `Full` where `now` is above `MOST_STEPS`, the call has
     /// `MOST_PHASES` phases and would begin one more, or the requests would make more than `MOST_MESSAGES` waiting
-    /// messages. For every coded value that is not refused as `WrongCode`, `supply` has the same cause.
+    /// messages. `supply` has the same cause of refusal for every encoded value that it does not refuse as `WrongCode`.
     pub fn may_supply(&self, call: CallId, now: Stamp) -> Result<(), Refusal>
         requires after { self.now.last < now }
         ensures cause { IsExactlyByCause (supplying_cause now self.now.object call) result }
@@ -81,9 +81,9 @@ impl Register {
         }
     }
 
-    /// Hands in the encoded value of the call of this number. Its n pieces begin the phase that is due. Where that
-    /// phase has begun already, they are sent again to each member that has no recorded reply and no waiting message of
-    /// the phase.
+    /// Hands in the encoded value of the call of this number. The phase that is due begins, and sends the n pieces.
+    /// Where that phase has begun already, its pieces are sent again to each member that has no recorded reply and no
+    /// waiting message of the phase.
     ///
     /// `NoCall` and `NotNow` as for `value_to_code`, `WrongCode` unless `coded` has the value, the k and the n that
     /// `value_to_code` gives, and `Full` as for `may_supply`.
@@ -130,8 +130,8 @@ impl Register {
         }
     }
 
-    /// The pieces that the call of this number is to decode: the k of least points among those that its current phase
-    /// took, by rising point.
+    /// The pieces that the call of this number is to decode. Of the pieces that its current phase took, these are the k
+    /// with the least points, in the order of their points.
     ///
     /// `NoCall` where there is no call of this number, `NotNow` unless the call wants to settle a value, and
     /// `Collected` where its fetch lacks pieces, so that it wants to be restarted.

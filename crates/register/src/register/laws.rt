@@ -22,8 +22,8 @@ impl Register {
         let _ = &self.positions;
     }
 
-    /// A law: a step that no cause refuses may be made, as `record` defines it. This is so of every act and of retiring
-    /// any position, whatever the number of the step. It changes nothing and allocates no memory.
+    /// A law: a step that no cause refuses may be made, as `record` defines it. This holds for every act and for
+    /// retiring any position, whatever the number of the step. It changes nothing and allocates no memory.
     pub fn allowed_steps_may_be_made(&self)
         ensures acts { (act : Act) (now : ℕ) → HasLawfulValues act → act_cause act now self.now.object ≡ None
             → MayStep fragment self.now.object (step_of act) }

@@ -13,7 +13,7 @@ use phase::Took;
 use tag::{MOST_BYTES, MOST_STEPS, Refusal, Stamp};
 
 impl Register {
-    /// The member that the request at a place is for serves it. Its reply takes the place of the request.
+    /// The member to which the request at a place is sent serves the request. Its reply takes the place of the request.
     ///
     /// `NoMessage` where there is no message at this place, `NotNow` where it is a reply, and `Full` where `now` is
     /// above `MOST_STEPS`, or the bytes of the request's piece and all that the object stores are together more than
@@ -50,8 +50,8 @@ impl Register {
         Ok(())
     }
 
-    /// The call that the reply at a place names takes it, and returns what it did with it. The message leaves the mail,
-    /// and later ones move down by one place. It allocates no memory.
+    /// The call that the reply at a place names takes the reply. Returns what the call did with it. The message leaves
+    /// the mail, and later ones move down by one place. It allocates no memory.
     ///
     /// `NoMessage` where there is no message at this place, `NotNow` where it is a request, and `Full` where `now` is
     /// above `MOST_STEPS`.

@@ -1,4 +1,4 @@
-//! What calls want, and how they go on.
+//! What calls want, and how they continue.
 
 ghost use Rattle.std.specs.Prelude.{◌≡◌, ◌≤◌, ◌⊎◌, ◌<◌, suc, pred, [], length, option_copied, OnOk, OnErr, IfOk, IfErr};
 ghost use Rattle.std.specs.Prelude.{Some, None};
@@ -52,8 +52,8 @@ impl Register {
         self.begin_due(call, false, now)
     }
 
-    /// Restarts the call of this number, whose fetch lacks pieces: a read with a first reading, which begins at the
-    /// base of this step, and a move with its query. The numbers of its phases go on.
+    /// Restarts the call of this number, whose fetch lacks pieces. A read restarts with a first reading, which begins
+    /// at the object's base, and a move restarts with its query. The numbers of the call's phases continue.
     ///
     /// `NoCall` where there is no call of this number, `NotNow` unless the call wants to be restarted, and `Full` as
     /// for `advance`.
