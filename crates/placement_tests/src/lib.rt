@@ -1,5 +1,5 @@
-//! Tests of `placement`, with layouts that were computed by another program. They stand in a crate of their own, since a
-//! crate with tests is proved twice.
+//! Tests of `placement`, with layouts that were computed by another program. They stand in a crate of their own, since
+//! a crate with tests is proved twice.
 #![tactic(auto)]
 
 #[cfg(test)]
