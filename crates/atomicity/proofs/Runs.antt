@@ -1,5 +1,5 @@
 -- A sound record is atomic; so is every run from an opened object.
-use Rattle.std.proofs.Common.{◌≡◌, ℕ, suc, ◌+◌, List, length, Option}
+use Rattle.std.proofs.Common.{ℕ, suc, ◌+◌, List, length, Option}
 use Rattle.layout.specs.Layout.{Layout, IsLawful}
 use Rattle.record.specs.Records.{Object}
 use Rattle.record.specs.Legal.{IsLegal}
