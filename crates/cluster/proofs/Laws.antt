@@ -3,9 +3,9 @@ use Rattle.std.proofs.Common.{◌≡◌, List, [], ◌∷◌, sym, subst}
 use Rattle.std.specs.List.{AllByRecursion}
 use Rattle.std.specs.Map.{values_of}
 use Rattle.encoder.specs.Fragment.{fragment}
-use Rattle.record.specs.Atomic.{IsAtomic}
+use Rattle.atomicity.specs.Atomic.{IsAtomic}
 use Rattle.record.specs.Journals.{entries}
-use Rattle.record.specs.Sound.{IsSound}
+use Rattle.soundness.specs.Sound.{IsSound}
 use Rattle.register.specs.Kept.{IsWithinLimits}
 use Rattle.register.specs.State.{State}
 use Rattle.cluster.specs.Cluster.{Named}

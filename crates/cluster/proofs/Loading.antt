@@ -15,9 +15,9 @@ use Rattle.mail.specs.declared.message.Body.{Body}
 use Rattle.record.specs.Accounts.{for_server, some_bytes, stored_by, stored_by_body, freed_by, freed_by_body}
 use Rattle.record.specs.Accounts as of
 use Rattle.record.specs.Records.{Object, layout_at, bank_at, no_layout}
-use Rattle.record.specs.Sound.{IsSound}
+use Rattle.soundness.specs.Sound.{IsSound}
 use Rattle.record.specs.Steps.{Step, stepped}
-use Rattle.record.proofs.Accounting.StoredBySteps.{stored-changed}
+use Rattle.soundness.proofs.Accounting.StoredBySteps.{stored-changed}
 use Rattle.register.specs.Position.{all_bytes}
 use Rattle.register.specs.State.{State, made}
 use Rattle.register.proofs.Lists.{all_found, found_or, length_set}

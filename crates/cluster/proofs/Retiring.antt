@@ -12,10 +12,10 @@ use Rattle.bank.specs.Collect.{retired_bank}
 use Rattle.record.specs.Accounts.{base_bytes, base_bytes_of}
 use Rattle.record.specs.Accounts as of
 use Rattle.record.specs.Records.{Object, base_of}
-use Rattle.record.specs.Sound.{IsSound}
+use Rattle.soundness.specs.Sound.{IsSound}
 use Rattle.record.specs.Steps.{Step, stepped}
-use Rattle.record.proofs.Accounting.StoredBySteps.{stored-changed}
-use Rattle.record.proofs.Sound.Due.{base_there}
+use Rattle.soundness.proofs.Accounting.StoredBySteps.{stored-changed}
+use Rattle.soundness.proofs.Sound.Due.{base_there}
 use Rattle.tag.specs.declared.refusal.Refusal.TheVariants.{NotNow}
 use Rattle.register.specs.Causes.{if_step}
 use Rattle.register.specs.Retiring.{is_retirable, retire_cause}

@@ -7,10 +7,10 @@ use Rattle.indexmap.specs.IndexMap.{set_value_at}
 use Rattle.layout.specs.Layout.{Layout}
 use Rattle.encoder.specs.Fragment.{fragment}
 use Rattle.record.specs.Accounts as of
-use Rattle.record.specs.Sound.{IsSound}
+use Rattle.soundness.specs.Sound.{IsSound}
 use Rattle.record.specs.Steps.{Step, opened_object}
-use Rattle.record.proofs.Accounting.Mailed.{stored-opened}
-use Rattle.record.proofs.Accounting.StoredBySteps.{stored-changed}
+use Rattle.soundness.proofs.Accounting.Mailed.{stored-opened}
+use Rattle.soundness.proofs.Accounting.StoredBySteps.{stored-changed}
 use Rattle.register.specs.State.{State, made}
 use Rattle.register.proofs.Lists.{all_pushed}
 use Rattle.cluster.specs.Accounts.{object_sum}

@@ -10,7 +10,7 @@ use Rattle.mail.specs.Mail.{mail_bytes}
 use Rattle.record.specs.Accounts.{member_sum}
 use Rattle.record.specs.Accounts as of
 use Rattle.record.specs.Records.{Object}
-use Rattle.record.specs.Sound.{IsSound}
+use Rattle.soundness.specs.Sound.{IsSound}
 use Rattle.register.proofs.Short.{mail_short}
 use Rattle.cluster.specs.Accounts.{object_sum}
 use Rattle.cluster.specs.Cluster.{Cluster}

@@ -5,12 +5,12 @@ use Rattle.tag.specs.declared.tag.Tag.{Tag}
 use Rattle.encoder.specs.Fragment.{fragment}
 use Rattle.bank.specs.Collect.{final_pieces}
 use Rattle.phase.specs.Phase.{Phase}
-use Rattle.record.specs.Atomic.{IsAtomic}
+use Rattle.atomicity.specs.Atomic.{IsAtomic}
 use Rattle.record.specs.Fragments.{AreCoded, HasDropped, HasEnough, IsFetch, kind_tag}
-use Rattle.record.specs.Lacking.{IsLackingFetch, IsOverlapped}
+use Rattle.atomicity.specs.Lacking.{IsLackingFetch, IsOverlapped}
 use Rattle.record.specs.Journals.{entries, IsJournaled, ReadsJournaled}
 use Rattle.record.specs.Records.{Call, IsRetiredBy, Object, bank_at, layout_at}
-use Rattle.record.specs.Sound.{IsSound}
+use Rattle.soundness.specs.Sound.{IsSound}
 use Rattle.register.specs.Kept.{IsWithinLimits}
 use Rattle.cluster.specs.Accounts as of
 use Rattle.cluster.specs.Cluster.{Cluster}

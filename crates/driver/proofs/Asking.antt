@@ -11,7 +11,7 @@ use Rattle.mail.specs.Mail.{mail_cause}
 use Rattle.phase.specs.Phase.{Phase}
 use Rattle.record.specs.Records.{Call, Object}
 use Rattle.record.specs.Legal.{BeginsAt, due_of}
-use Rattle.record.specs.Sound.{IsSound}
+use Rattle.soundness.specs.Sound.{IsSound}
 use Rattle.record.specs.Steps.{Step, stepped}
 use Rattle.record.specs.Wants.{current_phase, want_of}
 use Rattle.record.specs.declared.stage.Want.TheVariants as want

@@ -15,7 +15,7 @@ use Rattle.phase.specs.Phase.{members_of}
 use Rattle.record.specs.Records.{Object, layout_at}
 use Rattle.record.specs.Fragments.{IsValue, IfCoded, answer_piece, answer_tag}
 use Rattle.record.specs.Journals.{IsJournaled}
-use Rattle.record.specs.Sound.{IsSound}
+use Rattle.soundness.specs.Sound.{IsSound}
 use Rattle.record.specs.Wants.{value_len, len_or}
 use Rattle.register.specs.Coding.{piece_by, listed, pieces_below}
 

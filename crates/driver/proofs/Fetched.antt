@@ -19,17 +19,17 @@ use Rattle.record.specs.Records.{Call, Object, layout_at}
 use Rattle.record.specs.Fragments.{IsValue, IfCoded, answer_piece, answer_tag, TookPiece, HasEnough}
 use Rattle.record.specs.Journals.{IsJournaled}
 use Rattle.record.specs.Knowledge.{IsTruePhase, IsTrueReply}
-use Rattle.record.specs.Sound.{IsSound}
+use Rattle.soundness.specs.Sound.{IsSound}
 use Rattle.record.specs.Legal.{due_of}
 use Rattle.record.specs.Wants.{current_phase, is_fetch, value_len, want_for, want_after, want_of}
 use Rattle.record.specs.declared.stage.Want.{Want}
 use Rattle.record.specs.declared.stage.Want.TheVariants as want
-use Rattle.record.proofs.Sound.Enough.Counting.{not_lacking_enough}
-use Rattle.record.proofs.Lists.{all_get}
-use Rattle.record.proofs.Atomic.Quorums.Meeting.{lawful_at}
-use Rattle.record.proofs.Atomic.Values.Coded.{journal_unique}
-use Rattle.record.proofs.Sound.Waiting.{Unsettled, last_at}
-use Rattle.record.proofs.Sound.Wanting.{unsettled_of}
+use Rattle.soundness.proofs.Sound.Enough.Counting.{not_lacking_enough}
+use Rattle.soundness.proofs.Lists.{all_get}
+use Rattle.soundness.proofs.Quorums.Meeting.{lawful_at}
+use Rattle.soundness.proofs.Values.Coded.{journal_unique}
+use Rattle.soundness.proofs.Sound.Waiting.{Unsettled, last_at}
+use Rattle.soundness.proofs.Sound.Wanting.{unsettled_of}
 use Rattle.register.specs.Coding.{piece_by, pieces_below, least_of}
 use Rattle.register.specs.View.{want_at, pieces_at, pieces_of}
 use Rattle.driver.proofs.Counting.{count_below}

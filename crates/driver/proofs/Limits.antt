@@ -16,7 +16,7 @@ use Rattle.record.specs.Steps.{Step, stepped}
 use Rattle.record.specs.Wants.{current_phase, want_of}
 use Rattle.record.specs.declared.stage.Want.{Want}
 use Rattle.record.specs.declared.stage.Want.TheVariants as want
-use Rattle.record.proofs.Sound.Sending.{supply_counts}
+use Rattle.soundness.proofs.Sound.Sending.{supply_counts}
 use Rattle.register.specs.Causes.{call_at, if_call, if_step, unless, wants_due, due_step, due_cause, is_answer, is_replied, if_settle}
 use Rattle.register.specs.Causes.{advance_cause, again_cause, answer_cause, value_cause, new_phase_cause}
 use Rattle.register.specs.Causes.{supply_room_cause, supplying_cause}

@@ -8,7 +8,7 @@ use Rattle.encoder.specs.declared.fragment.Piece.{Piece}
 use Rattle.decoder.specs.Decoded.{Decoding}
 use Rattle.decoder.specs.Pieces.{ArePiecesOf, IsInterpolated}
 use Rattle.decoder.proofs.Cut.{IsInterpolated-pieces_of}
-use Rattle.record.specs.Sound.{IsSound}
+use Rattle.soundness.specs.Sound.{IsSound}
 use Rattle.record.specs.Steps.{Step}
 use Rattle.record.specs.declared.stage.Want.TheVariants as want
 use Rattle.register.specs.Causes.{supply_cause, supplying_cause, settle_cause, value_cause}

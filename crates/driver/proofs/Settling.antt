@@ -13,8 +13,8 @@ use Rattle.record.specs.Records.{Object, layout_at}
 use Rattle.record.specs.Fragments.{answer_piece}
 use Rattle.record.specs.Wants.{current_phase, value_len, want_of}
 use Rattle.record.specs.declared.stage.Want.TheVariants as want
-use Rattle.record.proofs.Sound.Waiting.{Unsettled}
-use Rattle.record.proofs.Sound.Wanting.{unsettled_of}
+use Rattle.soundness.proofs.Sound.Waiting.{Unsettled}
+use Rattle.soundness.proofs.Sound.Wanting.{unsettled_of}
 use Rattle.register.specs.Causes.{if_call, if_step, unless, if_settle, is_decoded_in}
 use Rattle.register.specs.Causes.{settle_cause}
 use Rattle.register.specs.Coding.{same_piece, has_piece, is_recorded, piece_by, listed}

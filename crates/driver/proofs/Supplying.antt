@@ -14,15 +14,15 @@ use Rattle.record.specs.declared.call.CallKind.TheVariants.{Read, Write, Move}
 use Rattle.record.specs.Records.{Call, Object, layout_at}
 use Rattle.record.specs.Knowledge.{IsTruePhase}
 use Rattle.record.specs.Legal.{due_of}
-use Rattle.record.specs.Sound.{IsSound}
+use Rattle.soundness.specs.Sound.{IsSound}
 use Rattle.record.specs.Sending.{sent_value, value_or_empty}
 use Rattle.record.specs.Wants.{current_phase, want_of}
 use Rattle.record.specs.declared.stage.Want.{Want}
 use Rattle.record.specs.declared.stage.Want.TheVariants as want
-use Rattle.record.proofs.Sound.Due.{due_there}
-use Rattle.record.proofs.Lists.{all_get}
-use Rattle.record.proofs.Atomic.Quorums.Meeting.{lawful_at}
-use Rattle.record.proofs.Sound.Waiting.{last_at}
+use Rattle.soundness.proofs.Sound.Due.{due_there}
+use Rattle.soundness.proofs.Lists.{all_get}
+use Rattle.soundness.proofs.Quorums.Meeting.{lawful_at}
+use Rattle.soundness.proofs.Sound.Waiting.{last_at}
 use Rattle.register.specs.Causes.{call_at, if_call, unless, supply_cause, supplied_cause, supplying_cause}
 use Rattle.register.specs.Causes.{supply_room_cause, value_cause}
 use Rattle.register.specs.Coding.{bytes_eq, pieces_position, pieces_due, is_coded_for}

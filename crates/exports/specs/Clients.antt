@@ -4,7 +4,7 @@ use Rattle.std.specs.Prelude.{◌≡◌, ◌≢◌, ◌<◌, ◌≤◌, ◌⊎�
 use Rattle.std.specs.Prelude.{⊤, get_or, slice_get, slice_set}
 use Rattle.record.specs.declared.call.Entry.{Entry}
 use Rattle.record.specs.declared.call.Operation.TheVariants as operation
-use Rattle.record.specs.Atomic.{IsAnsweredBefore, no_entry}
+use Rattle.atomicity.specs.Atomic.{IsAnsweredBefore, no_entry}
 use Rattle.exports.specs.declared.event.Process.{Process}
 use Rattle.exports.specs.declared.event.Process.TheVariants as process
 

@@ -13,7 +13,7 @@ use Rattle.layout.proofs.Distinct.{has-head}
 use Rattle.record.specs.declared.call.Entry.{Entry}
 use Rattle.record.specs.declared.call.Operation.{Operation}
 use Rattle.record.specs.declared.call.Operation.TheVariants as operation
-use Rattle.record.specs.Atomic.{no_entry, entry_at}
+use Rattle.atomicity.specs.Atomic.{no_entry, entry_at}
 use Rattle.history.specs.Check.{MayAllStand, named, must_stand_as, must_stand}
 use Rattle.history.proofs.Pairs.{is_call}
 

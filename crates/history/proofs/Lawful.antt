@@ -7,7 +7,7 @@ use Rattle.record.specs.declared.call.CallKind.{CallKind}
 use Rattle.record.specs.declared.call.CallKind.TheVariants as kind
 use Rattle.record.specs.declared.call.Entry.{Entry}
 use Rattle.record.specs.Records.{Call, Object}
-use Rattle.record.specs.Atomic.{MayStand}
+use Rattle.atomicity.specs.Atomic.{MayStand}
 use Rattle.record.specs.Journals.{ReadsJournaled, operation_of, entry_value, entry_of, entries_from, entries}
 use Rattle.history.specs.Check.{AreLawful}
 

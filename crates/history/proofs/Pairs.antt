@@ -7,7 +7,7 @@ use Rattle.std.proofs.lemmas.List.{get_or_past, get_or_default}
 use Rattle.std.proofs.lemmas.Map.Keys.{apart_from_distinct, IsDistinct-from_apart}
 use Rattle.std.proofs.lemmas.Option.{slice_get-get_or}
 use Rattle.record.specs.declared.call.Entry.{Entry}
-use Rattle.record.specs.Atomic.{no_entry, entry_at, IsAnsweredBefore, KeepsOrder, MayStand}
+use Rattle.atomicity.specs.Atomic.{no_entry, entry_at, IsAnsweredBefore, KeepsOrder, MayStand}
 use Rattle.history.specs.Check.{AreLawful, MayAllStand, named}
 
 -- the entry of the call at a place of the list

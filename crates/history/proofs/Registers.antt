@@ -4,7 +4,7 @@ use Rattle.std.proofs.Common.{length, drop, Option, Some, refl, ap, sym, ◌∙�
 use Rattle.record.specs.declared.call.Entry.{Entry}
 use Rattle.record.specs.declared.call.Operation.{Operation}
 use Rattle.record.specs.declared.call.Operation.TheVariants as operation
-use Rattle.record.specs.Atomic.{Leaves, IsRegister}
+use Rattle.atomicity.specs.Atomic.{Leaves, IsRegister}
 use Rattle.history.specs.Check.{named}
 use Rattle.history.proofs.Pairs.{at}
 

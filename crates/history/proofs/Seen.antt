@@ -2,7 +2,7 @@
 use Rattle.std.proofs.Common.{◌≡◌, ℕ, ◌+◌, ◌<◌, ◌≤◌, ◌⊎◌, max, List, Option, Some, inl, inr, subst, arith}
 use Rattle.std.proofs.lemmas.Bool.{cases_lt}
 use Rattle.record.specs.declared.call.Entry.{Entry}
-use Rattle.record.specs.Atomic.{IsAnsweredBefore}
+use Rattle.atomicity.specs.Atomic.{IsAnsweredBefore}
 use Rattle.history.proofs.Pairs.{at, KeepsPlaces}
 
 -- after so many places: they keep the order, and `latest` is the greatest step at which one of them was called

@@ -4,7 +4,7 @@ use Rattle.std.specs.List.{AllByRecursion}
 use Rattle.record.specs.declared.call.Entry.{Entry}
 use Rattle.record.specs.declared.call.Operation.{Operation}
 use Rattle.record.specs.declared.call.Operation.TheVariants as operation
-use Rattle.record.specs.Atomic.{MayStand, entry_at}
+use Rattle.atomicity.specs.Atomic.{MayStand, entry_at}
 
 -- entry i, counted from 1, is that of call i, and each write and each answered read has a value
 abbrev pub AreLawful : List Entry → Type 0

@@ -4,7 +4,7 @@ ghost use Rattle.std.specs.Prelude.{length, slice_index, count_by, Some, IsSome,
 ghost use Rattle.std.specs.List.{IsDistinct};
 ghost use Rattle.layout.specs.Quorum.{has};
 ghost use Rattle.record.specs.declared.call.Operation.TheVariants as operation;
-ghost use Rattle.record.specs.Atomic.{IsSequence, IsRegister, KeepsOrder, MayStand, entry_at};
+ghost use Rattle.atomicity.specs.Atomic.{IsSequence, IsRegister, KeepsOrder, MayStand, entry_at};
 ghost use Rattle.history.specs.Check.{AreLawful, MayAllStand, must_stand, named};
 
 use record::{Entry, Operation};

@@ -1,11 +1,11 @@
 //! Laws of the entries of a sound record: they are lawful, and the order that the tags define is a sequence of them.
 ghost use Rattle.std.specs.Prelude.{ℕ, List};
-ghost use Rattle.record.specs.Atomic.{IsSequence};
+ghost use Rattle.atomicity.specs.Atomic.{IsSequence};
 ghost use Rattle.record.specs.Fragments.{Code, IsCode};
 ghost use Rattle.record.specs.Journals.{entries};
 ghost use Rattle.record.specs.Records.{Object};
-ghost use Rattle.record.specs.Sequence.{IsTagOrder};
-ghost use Rattle.record.specs.Sound.{IsSound};
+ghost use Rattle.atomicity.specs.Sequence.{IsTagOrder};
+ghost use Rattle.soundness.specs.Sound.{IsSound};
 ghost use Rattle.record.specs.declared.call.TaggedCall.{TaggedCall as Tagged};
 ghost use Rattle.history.specs.Calls.{AreCallsOf, AreInTurn};
 ghost use Rattle.history.specs.Check.{AreLawful};

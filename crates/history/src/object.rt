@@ -4,9 +4,9 @@
 //! the unanswered writes, follow one register in an order that keeps answer before call.
 ghost use Rattle.std.specs.Prelude.{◌≡◌, IfOk, IfErr, map};
 ghost use Rattle.tag.specs.declared.refusal.Refusal.TheVariants.{NoMemory};
-ghost use Rattle.record.specs.Atomic.{IsAtomic, IsSequence};
+ghost use Rattle.atomicity.specs.Atomic.{IsAtomic, IsSequence};
 ghost use Rattle.record.specs.Journals.{entries};
-ghost use Rattle.record.specs.Sequence.{IsTagSequence};
+ghost use Rattle.atomicity.specs.Sequence.{IsTagSequence};
 ghost use Rattle.history.specs.Calls.{AreCallsOf, tagged_entry};
 
 use crate::order::order_by_tags;

@@ -7,11 +7,11 @@ use Rattle.tag.specs.declared.refusal.Refusal.{Refusal}
 use Rattle.tag.specs.declared.refusal.Refusal.TheVariants.{ObjectExists}
 use Rattle.layout.specs.Layout.{IsLawful}
 use Rattle.encoder.specs.Fragment.{fragment}
-use Rattle.record.specs.Sound.{IsSound}
+use Rattle.soundness.specs.Sound.{IsSound}
 use Rattle.record.specs.Steps.{Step, opened_object}
-use Rattle.record.proofs.Atomic.Values.Determined.{fragments_are_code}
-use Rattle.record.proofs.Sound.Opening.{opening_sound}
-use Rattle.record.proofs.Sound.Running.{step_sound}
+use Rattle.register.proofs.Determined.{fragments_are_code}
+use Rattle.soundness.proofs.Sound.Opening.{opening_sound}
+use Rattle.soundness.proofs.Sound.Running.{step_sound}
 use Rattle.register.specs.Causes.{unless}
 use Rattle.register.specs.State.{State, made}
 use Rattle.register.proofs.Lists.{all_pushed, all_weaker}

@@ -3,7 +3,7 @@
 ghost use Rattle.std.specs.Prelude.{◌≡◌, Some, IfOk, OnOk, OnErr};
 ghost use Rattle.tag.specs.Refusal.{IsByCause};
 ghost use Rattle.encoder.specs.Fragment.{fragment};
-ghost use Rattle.record.specs.Sound.{IsSound};
+ghost use Rattle.soundness.specs.Sound.{IsSound};
 ghost use Rattle.register.specs.State.{State};
 ghost use Rattle.cluster.specs.Cluster.{named};
 ghost use Rattle.locked_steps.specs.Calls.{client_calls};

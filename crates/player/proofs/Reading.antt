@@ -11,7 +11,7 @@ use Rattle.layout.specs.Layout.{Layout, IsLawful}
 use Rattle.bank.specs.Bank.{Bank}
 use Rattle.encoder.specs.Fragment.{fragment}
 use Rattle.record.specs.Records.{Object, no_layout}
-use Rattle.record.specs.Sound.{IsSound}
+use Rattle.soundness.specs.Sound.{IsSound}
 use Rattle.register.specs.Kept.{IsWithinLimits}
 use Rattle.register.specs.State.{State}
 use Rattle.register.specs.View.{bank_there}

@@ -13,10 +13,10 @@ use Rattle.record.specs.declared.stage.Want.{Want}
 use Rattle.record.specs.declared.stage.Want.TheVariants as want
 use Rattle.record.specs.Records.{Call, Object}
 use Rattle.record.specs.Legal.{due_of}
-use Rattle.record.specs.Sound.{IsSound}
+use Rattle.soundness.specs.Sound.{IsSound}
 use Rattle.record.specs.Sending.{sent_value, value_or_empty}
 use Rattle.record.specs.Wants.{current_phase, want_of}
-use Rattle.record.proofs.Sound.Sending.{supply_counts}
+use Rattle.soundness.proofs.Sound.Sending.{supply_counts}
 use Rattle.register.proofs.Rooms.{is_lt, not_lt}
 use Rattle.register.specs.Causes.{call_at, if_call, unless, number_cause, supply_cause, supplied_cause, supply_room_cause}
 use Rattle.register.specs.Causes.{supplying_cause}

@@ -5,9 +5,9 @@ use Rattle.std.specs.Prelude.{length, Option, Some, None, option_map, is_some, I
 use Rattle.std.specs.List.{list_all, range_with_len}
 use Rattle.tag.specs.Cause.{IsRefusalBy}
 use Rattle.tag.specs.declared.refusal.Refusal.{Refusal}
-use Rattle.record.specs.Atomic.{IsSequence}
+use Rattle.atomicity.specs.Atomic.{IsSequence}
 use Rattle.record.specs.Journals.{entries}
-use Rattle.record.specs.Sequence.{IsTagSequence}
+use Rattle.atomicity.specs.Sequence.{IsTagSequence}
 use Rattle.history.specs.Check.{AreLawful}
 use Rattle.register.specs.Causes.{call_at, number_cause}
 use Rattle.register.specs.State.{State}

@@ -1,12 +1,3 @@
-pub mod Accounting
-pub mod Atomic
-pub mod Bases
 pub mod Begins
-pub mod Examples
-pub mod Overlapping
-pub mod Lists
 pub mod Phases
-pub mod Sound
-pub mod Starts
-pub mod Statuses
 pub mod Tags

@@ -4,6 +4,7 @@ pub mod Attempts
 pub mod Backward
 pub mod Begun
 pub mod Finishes
+pub mod Late
 pub mod Moves
 pub mod Orderly
 pub mod Paths

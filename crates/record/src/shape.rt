@@ -1,16 +1,11 @@
 //! The order of phases is defined as a table of stages and as a shape of whole calls. Both definitions agree.
-ghost use Rattle.std.specs.Prelude.{◌≡◌, ◌≢◌, ◌<◌, ℕ, List, length, Some, slice_get};
+ghost use Rattle.std.specs.Prelude.{◌≡◌, ◌≢◌, ℕ, List, Some};
 ghost use Rattle.tag.specs.declared.tag.Tag.{Tag};
-ghost use Rattle.bank.specs.declared.kind.Kind.{Kind};
 ghost use Rattle.phase.specs.Phase.{Phase};
 ghost use Rattle.record.specs.Courses.{IsCourse, stage_after};
-ghost use Rattle.record.specs.Fragments.{Code};
 ghost use Rattle.record.specs.Grammar.{FindsTag};
 ghost use Rattle.record.specs.Shape.{AnsweredAreWhole, CoursesAreBeginnings, FinishedAreWhole};
 ghost use Rattle.record.specs.Journals.{stage_tag};
-ghost use Rattle.record.specs.Legal.{due_of};
-ghost use Rattle.record.specs.Records.{Call, Object};
-ghost use Rattle.record.specs.Sound.{IsSound};
 ghost use Rattle.record.specs.declared.call.CallKind.{CallKind as Kinds};
 ghost use Rattle.record.specs.declared.call.CallKind.TheVariants.{Move};
 ghost use Rattle.record.specs.declared.stage.Stage.TheVariants.{ReadBegin};
@@ -21,13 +16,6 @@ pub fn readings_come_before_tags()
     ensures { (kind : Kinds) (number : ℕ) (phases : List Phase) (tag : Tag) → kind ≢ Move
         → IsCourse kind number ReadBegin phases
         → stage_tag (stage_after kind number ReadBegin phases) ≡ Some tag → FindsTag kind number phases tag }
-{}
-
-/// A law: in a sound record each phase that is due is due at a position that exists.
-pub fn due_positions_are_there()
-    ensures { (fragment : Code) (object : Object) (last index position : ℕ) (call : Call) (kind : Kind)
-        → IsSound fragment object last → slice_get object.calls index ≡ Some call
-        → due_of object index call ≡ Some (kind, position) → position < length object.layouts }
 {}
 
 /// A law: the table of stages and the shape of whole calls agree for finished calls. The phases of a call are those

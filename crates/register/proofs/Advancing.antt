@@ -20,8 +20,8 @@ use Rattle.record.specs.May.{MayStep}
 use Rattle.record.specs.Wants.{Wants}
 use Rattle.record.specs.Steps.{stepped, on_call, advanced_object, begun_object}
 use Rattle.record.specs.Sending.{sent_pieces}
-use Rattle.record.proofs.Sound.Wanting.{Plain, advance_ready, lacking_of}
-use Rattle.record.proofs.Sound.Anew.{anew_due}
+use Rattle.soundness.proofs.Sound.Wanting.{Plain, advance_ready, lacking_of}
+use Rattle.soundness.proofs.Sound.Anew.{anew_due}
 use Rattle.transfer.specs.Limits.{IsBelowLimit}
 use Rattle.register.specs.Causes.{unless, wants_due, due_step, due_cause, new_phase_cause}
 use Rattle.register.specs.Coding.{piece_from, HavePieces}

@@ -6,8 +6,8 @@ use Rattle.std.proofs.lemmas.Option.{same_Some}
 use Rattle.tag.specs.declared.limits.TheConstants.{MOST_PHASES, MOST_STEPS}
 use Rattle.tag.specs.declared.refusal.Refusal.TheVariants.{NotNow, Full}
 use Rattle.encoder.specs.Fragment.{fragment}
-use Rattle.record.proofs.Lists.{all_get, get_set, set_here}
-use Rattle.record.proofs.Sound.Wanting.{answer_ready}
+use Rattle.soundness.proofs.Lists.{all_get, get_set, set_here}
+use Rattle.soundness.proofs.Sound.Wanting.{answer_ready}
 use Rattle.record.specs.declared.call.CallKind.{CallKind}
 use Rattle.record.specs.declared.call.CallKind.TheVariants.{Read, Write, Move}
 use Rattle.record.specs.declared.call.Operation.{Operation}
@@ -17,7 +17,7 @@ use Rattle.record.specs.declared.stage.Want.TheVariants as want
 use Rattle.record.specs.Journals.{operation_of, entry_value}
 use Rattle.record.specs.Legal.{is_move}
 use Rattle.record.specs.Records.{Call, Object}
-use Rattle.record.specs.Sound.{IsSound}
+use Rattle.soundness.specs.Sound.{IsSound}
 use Rattle.record.specs.Steps.{Step, stepped, on_call, answered_object}
 use Rattle.register.specs.Causes.{unless, if_step, is_answer, answer_cause}
 use Rattle.register.specs.Kept.{is_open_move, has_open_move, IsKept}

@@ -10,7 +10,7 @@ use Rattle.layout.specs.Layout.{Layout}
 use Rattle.mail.specs.declared.message.Message.{Message}
 use Rattle.mail.specs.Mail.{mail_cause}
 use Rattle.record.specs.May.{MayStep}
-use Rattle.record.specs.Sound.{IsSound}
+use Rattle.soundness.specs.Sound.{IsSound}
 use Rattle.record.specs.Steps.{Step, stepped}
 use Rattle.record.specs.Sending.{requests}
 use Rattle.register.specs.Causes.{new_phase_cause, unless}

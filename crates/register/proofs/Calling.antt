@@ -20,7 +20,7 @@ use Rattle.record.specs.declared.stage.Stage.{Stage}
 use Rattle.record.specs.Records.{Call, Object, no_layout, layout_at}
 use Rattle.record.specs.Courses.{begun_at, passed, stage_past, stage_after}
 use Rattle.record.specs.Legal.{first_stage, source_of}
-use Rattle.record.specs.Sound.{IsSound}
+use Rattle.soundness.specs.Sound.{IsSound}
 use Rattle.record.specs.Steps.{with_phase, new_phase}
 use Rattle.record.specs.Sending.{request_to, requests}
 use Rattle.register.specs.Position.{Position, layouts_of, banks_of}

@@ -13,18 +13,18 @@ use Rattle.record.specs.Courses.{begun_at, due}
 use Rattle.record.specs.Knowledge.{IsTruePhase}
 use Rattle.record.specs.Legal.{due_of, is_move, moves_in, stage_of}
 use Rattle.record.specs.May.{MayStep}
-use Rattle.record.specs.Sound.{IsSound}
+use Rattle.soundness.specs.Sound.{IsSound}
 use Rattle.record.specs.Steps.{Step}
 use Rattle.record.specs.Wants.{current_phase}
-use Rattle.record.proofs.Sound.Due.{base_there, due_there}
-use Rattle.record.proofs.Lists.{get_set}
-use Rattle.record.proofs.Sound.Changing.{moves_set}
-use Rattle.record.proofs.Sound.Running.{step_sound}
+use Rattle.soundness.proofs.Sound.Due.{base_there, due_there}
+use Rattle.soundness.proofs.Lists.{get_set}
+use Rattle.soundness.proofs.Sound.Changing.{moves_set}
+use Rattle.soundness.proofs.Sound.Running.{step_sound}
 use Rattle.register.specs.Position.{Position}
 use Rattle.register.specs.Tracked.{Tracked, calls_of, IsBelow}
 use Rattle.register.specs.State.{Contents, object_of, state_of, made}
 use Rattle.register.specs.Kept.{IsKept, AreStaged, is_open_move, has_open_move}
-use Rattle.record.proofs.Atomic.Values.Determined.{fragments_are_code}
+use Rattle.register.proofs.Determined.{fragments_are_code}
 use Rattle.register.proofs.Bases.{begun_below}
 use Rattle.register.proofs.Lists.{found_map, map_set, length_map, length_set, all_found, all_put, any_put}
 

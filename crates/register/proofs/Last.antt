@@ -4,7 +4,7 @@ use Rattle.std.proofs.Common.{length, Some, sym, subst, arith}
 use Rattle.std.proofs.Common.{slice_get}
 use Rattle.std.proofs.lemmas.Option.{slice_get_read}
 use Rattle.layout.specs.Layout.{Layout, IsLawful}
-use Rattle.record.proofs.Lists.{all_get}
+use Rattle.soundness.proofs.Lists.{all_get}
 use Rattle.register.specs.Kept.{IsKept}
 use Rattle.register.specs.Position.{Position, layouts_of}
 use Rattle.register.specs.State.{Contents}

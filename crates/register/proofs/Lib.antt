@@ -5,12 +5,13 @@ pub mod Bases
 pub mod Beginning
 pub mod Begun
 pub mod Calling
+pub mod Determined
 pub mod Emptying
 pub mod Found
 pub mod Keeps
 pub mod Last
-pub mod Leaving
 pub mod Least
+pub mod Leaving
 pub mod Lists
 pub mod Mails
 pub mod Mays

@@ -4,7 +4,7 @@ use Rattle.std.specs.List.{remove}
 use Rattle.encoder.specs.Fragment.{fragment}
 use Rattle.mail.specs.declared.message.Message.{Message}
 use Rattle.mail.specs.Mail.{repeated, repeated_message, mail_cause}
-use Rattle.record.specs.Sound.{IsSound}
+use Rattle.soundness.specs.Sound.{IsSound}
 use Rattle.record.specs.Steps.{Step, on_message, repeated_object}
 use Rattle.register.specs.State.{Contents, state_of, object_of}
 use Rattle.register.specs.Kept.{IsKept}

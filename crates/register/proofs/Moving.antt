@@ -11,15 +11,15 @@ use Rattle.bank.specs.Bank.{empty_piece}
 use Rattle.bank.specs.declared.kind.Kind.TheVariants.{Spread}
 use Rattle.bank.specs.declared.status.Status.TheVariants.{Pending}
 use Rattle.mail.specs.declared.message.Message.{Message}
-use Rattle.record.proofs.Sound.Beginning.{get_pushed}
-use Rattle.record.proofs.Lists.{get_push}
+use Rattle.soundness.proofs.Sound.Beginning.{get_pushed}
+use Rattle.soundness.proofs.Lists.{get_push}
 use Rattle.record.specs.declared.call.CallKind.TheVariants.{Move}
 use Rattle.record.specs.declared.stage.Stage.TheVariants.{MoveSpread}
 use Rattle.record.specs.Courses.{stage_after}
 use Rattle.record.specs.Legal.{is_move, moves_in, first_stage, source_of, stage_of}
 use Rattle.record.specs.May.{NoOpenMove}
 use Rattle.record.specs.Records.{Call, Object, no_layout, retired_first}
-use Rattle.record.specs.Sound.{IsSound}
+use Rattle.soundness.specs.Sound.{IsSound}
 use Rattle.record.specs.Steps.{Step, new_call, opened_banks, moving_object}
 use Rattle.record.specs.Sending.{requests}
 use Rattle.register.specs.Kept.{is_open_move, has_open_move, IsKept}

@@ -8,10 +8,10 @@ use Rattle.bank.specs.Bytes.{bank_bytes}
 use Rattle.bank.proofs.Account.{opened_bytes}
 use Rattle.record.specs.Records.{no_bank}
 use Rattle.record.specs.Steps.{opened_banks}
-use Rattle.record.proofs.Sound.Opening.{opening_sound}
+use Rattle.soundness.proofs.Sound.Opening.{opening_sound}
 use Rattle.register.specs.Position.{Position, banks_bytes, all_bytes}
 use Rattle.register.specs.Kept.{IsKept}
-use Rattle.record.proofs.Atomic.Values.Determined.{fragments_are_code}
+use Rattle.register.proofs.Determined.{fragments_are_code}
 
 pub opened_position : Layout → Option ℕ → ℕ → Position
 opened_position layout delta now = record { layout = layout; banks = opened_banks layout.members 0 delta now }

@@ -8,7 +8,7 @@ use Rattle.layout.specs.Layout.{Layout}
 use Rattle.encoder.specs.Fragment.{fragment}
 use Rattle.bank.specs.Bank.{empty_piece}
 use Rattle.bank.specs.declared.kind.Kind.TheVariants.{Next}
-use Rattle.record.proofs.Sound.Beginning.{get_pushed}
+use Rattle.soundness.proofs.Sound.Beginning.{get_pushed}
 use Rattle.record.specs.declared.call.CallKind.{CallKind}
 use Rattle.record.specs.declared.call.CallKind.TheVariants.{Read, Write}
 use Rattle.record.specs.declared.stage.Stage.TheVariants.{ReadBegin}
@@ -16,7 +16,7 @@ use Rattle.record.specs.Courses.{begun_at, stage_after}
 use Rattle.record.specs.Fragments.{AreBytes, IsValue}
 use Rattle.record.specs.Legal.{is_move, moves_in, first_stage, source_of, stage_of}
 use Rattle.record.specs.Records.{Call, Object, layout_at, base_of}
-use Rattle.record.specs.Sound.{IsSound}
+use Rattle.soundness.specs.Sound.{IsSound}
 use Rattle.record.specs.Steps.{Step, new_call, called_object}
 use Rattle.record.specs.Sending.{requests}
 use Rattle.register.specs.Kept.{is_open_move, has_open_move, IsKept}

@@ -19,7 +19,7 @@ use Rattle.record.specs.Legal.{due_of}
 use Rattle.record.specs.declared.stage.Want.{Want}
 use Rattle.record.specs.Wants.{current_phase, is_fetch, value_len, want_for, want_after, want_of}
 use Rattle.record.specs.declared.stage.Want.TheVariants as want
-use Rattle.record.proofs.Sound.Waiting.{Unsettled}
+use Rattle.soundness.proofs.Sound.Waiting.{Unsettled}
 use Rattle.register.specs.Coding.{is_recorded, has_piece, same_piece}
 
 -- by index, and by recursion

@@ -11,13 +11,13 @@ use Rattle.phase.specs.Phase.{Phase, members_of}
 use Rattle.record.specs.Knowledge.{IsTruePhase}
 use Rattle.record.specs.May.{MayStep}
 use Rattle.record.specs.Records.{layout_at}
-use Rattle.record.specs.Sound.{IsSound}
+use Rattle.soundness.specs.Sound.{IsSound}
 use Rattle.record.specs.Steps.{Step, stepped}
 use Rattle.record.specs.Sending.{missing}
 use Rattle.record.specs.Wants.{current_phase}
-use Rattle.record.proofs.Lists.{all_get}
-use Rattle.record.proofs.Sound.Taken.{numbered_at}
-use Rattle.record.proofs.Sound.Waiting.{last_at}
+use Rattle.soundness.proofs.Lists.{all_get}
+use Rattle.soundness.proofs.Sound.Taken.{numbered_at}
+use Rattle.soundness.proofs.Sound.Waiting.{last_at}
 use Rattle.register.specs.Causes.{if_step}
 use Rattle.register.specs.Coding.{piece_from, HavePieces}
 use Rattle.register.specs.Kept.{IsKept, HasRoomIfFew}

@@ -17,10 +17,10 @@ use Rattle.record.specs.Accounts.{base_bytes}
 use Rattle.record.specs.Legal.{moves_in, IsMovedOut}
 use Rattle.record.specs.May.{MayStep}
 use Rattle.record.specs.Records.{Object, base_of}
-use Rattle.record.specs.Sound.{IsSound}
+use Rattle.soundness.specs.Sound.{IsSound}
 use Rattle.record.specs.Steps.{Step, retired_object}
-use Rattle.record.proofs.Accounting.Retired.{retired_bytes}
-use Rattle.record.proofs.Sound.Retiring.{raised}
+use Rattle.soundness.proofs.Accounting.Retired.{retired_bytes}
+use Rattle.soundness.proofs.Sound.Retiring.{raised}
 use Rattle.register.specs.Causes.{unless, if_step}
 use Rattle.register.specs.Retiring.{is_moved_out, is_retirable, retire_cause}
 use Rattle.register.specs.Kept.{IsKept, has_open_move}

@@ -18,7 +18,7 @@ use Rattle.record.specs.Sending.{sent_value, value_or_empty}
 use Rattle.record.specs.Wants.{current_phase, want_of, want_after}
 use Rattle.record.specs.declared.stage.Want.{Want}
 use Rattle.record.specs.declared.stage.Want.TheVariants as want
-use Rattle.record.proofs.Sound.Sending.{sent_there}
+use Rattle.soundness.proofs.Sound.Sending.{sent_there}
 use Rattle.register.specs.Causes.{value_cause, unless}
 use Rattle.register.specs.Coding.{is_pre_write, sending_position, pieces_position, pieces_due}
 use Rattle.register.specs.Position.{Position, layouts_of}

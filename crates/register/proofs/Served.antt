@@ -24,8 +24,8 @@ use Rattle.mail.specs.declared.message.Body.TheVariants as body
 use Rattle.mail.specs.Message.{request_bytes, answered}
 use Rattle.mail.specs.Mail.{mail_bytes, replied, replied_message}
 use Rattle.record.specs.Records.{Call, Object, bank_at, no_bank, retired_first}
-use Rattle.record.specs.Sound.{IsSound}
-use Rattle.record.proofs.Sound.Banks.{served-retired}
+use Rattle.soundness.specs.Sound.{IsSound}
+use Rattle.soundness.proofs.Sound.Banks.{served-retired}
 use Rattle.record.specs.Steps.{Step, on_message, served_by}
 use Rattle.register.specs.Position.{Position, layouts_of, banks_of, banks_bytes, all_bytes}
 use Rattle.register.specs.State.{Contents, object_of, state_of, made}

@@ -8,7 +8,7 @@ use Rattle.bank.specs.Answer.{answer_bytes}
 use Rattle.bank.specs.Serve.{served_bank, reply_to}
 use Rattle.bank.specs.declared.request.Request.{Request}
 use Rattle.bank.specs.declared.reply.Reply.{Reply}
-use Rattle.record.proofs.Lists.{set_here}
+use Rattle.soundness.proofs.Lists.{set_here}
 use Rattle.register.proofs.Found.{later}
 use Rattle.mail.specs.declared.message.Message.{Message}
 use Rattle.mail.specs.Message.{request_bytes, body_bytes}

@@ -18,13 +18,13 @@ use Rattle.phase.specs.Phase.{Phase}
 use Rattle.record.specs.Records.{Call, Object, layout_at}
 use Rattle.record.specs.Fragments.{answer_piece, answer_tag, IsFetch, IfCoded, HasPiece}
 use Rattle.record.specs.May.{MayStep}
-use Rattle.record.specs.Sound.{IsSound}
+use Rattle.soundness.specs.Sound.{IsSound}
 use Rattle.record.specs.Steps.{Step, stepped, on_call, settled_object}
 use Rattle.record.specs.declared.stage.Want.{Want}
 use Rattle.record.specs.Wants.{current_phase, value_len}
 use Rattle.record.specs.declared.stage.Want.TheVariants as want
-use Rattle.record.proofs.Sound.Waiting.{Unsettled, last_at}
-use Rattle.record.proofs.Sound.Wanting.{unsettled_of}
+use Rattle.soundness.proofs.Sound.Waiting.{Unsettled, last_at}
+use Rattle.soundness.proofs.Sound.Wanting.{unsettled_of}
 use Rattle.register.specs.Causes.{settle_cause, unless, if_step, if_settle, is_decoded_in}
 use Rattle.register.specs.Coding.{is_recorded, is_decoded_from}
 use Rattle.register.specs.Kept.{IsKept}

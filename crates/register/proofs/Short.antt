@@ -28,7 +28,7 @@ use Rattle.record.specs.Records.{Object, layout_at, bank_at, no_layout}
 use Rattle.record.specs.Knowledge.{IsTruePhase}
 use Rattle.record.specs.Fragments.{IsCoded, IfCoded, body_tag, body_piece, answer_tag, answer_piece}
 use Rattle.record.specs.Journals.{IsJournaled}
-use Rattle.record.specs.Sound.{IsSound, IsPosted}
+use Rattle.soundness.specs.Sound.{IsSound, IsPosted}
 use Rattle.layout.specs.Quorum.{has}
 use Rattle.record.specs.Sending.{request_to, requests, missing, waits}
 use Rattle.register.specs.Coding.{HavePieces, piece_from}

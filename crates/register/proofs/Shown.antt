@@ -25,7 +25,7 @@ use Rattle.record.specs.Courses.{shown_tag, greatest_tag}
 use Rattle.record.specs.Fragments.{Code, IfCoded, answer_tag, answer_piece}
 use Rattle.record.specs.Journals.{IsJournaled}
 use Rattle.record.specs.Legal.{first_stage, source_of, stage_of}
-use Rattle.record.specs.Sound.{IsSound}
+use Rattle.soundness.specs.Sound.{IsSound}
 use Rattle.transfer.specs.Limits.{IsTaggable, HasNextTag}
 use Rattle.register.proofs.Lists.{all_found, all_weaker, all_pushed}
 use Rattle.register.proofs.UpTo.{FoundUpTo, ShownUpTo, later_up_to, greatest_up_to, stage_up_to, first_up_to}

@@ -21,7 +21,7 @@ use Rattle.record.specs.Sending.{requests, missing}
 use Rattle.record.specs.Wants.{current_phase}
 use Rattle.record.specs.declared.stage.Stage.{Stage}
 use Rattle.record.specs.declared.stage.Want.TheVariants as want
-use Rattle.record.proofs.Sound.Wanting.{waiting_of, supply_ready}
+use Rattle.soundness.proofs.Sound.Wanting.{waiting_of, supply_ready}
 use Rattle.register.specs.Causes.{supply_cause, new_phase_cause, is_replied, if_step}
 use Rattle.register.specs.Coding.{pieces_position, piece_from, HavePieces}
 use Rattle.register.specs.Position.{layouts_of, banks_of}

@@ -16,7 +16,7 @@ use Rattle.phase.specs.Phase.{Phase, after_take}
 use Rattle.record.specs.Records.{Call, Object}
 use Rattle.record.specs.Courses.{begun_at}
 use Rattle.record.specs.Legal.{stage_of, first_stage, source_of}
-use Rattle.record.specs.Sound.{IsSound, IsPosted}
+use Rattle.soundness.specs.Sound.{IsSound, IsPosted}
 use Rattle.record.specs.Steps.{Step, on_message, taken_by, taken_calls, taking_call, taking_phases}
 use Rattle.record.specs.Wants.{current_phase}
 use Rattle.transfer.specs.Limits.{IsBelowLimit, HasNextTag}

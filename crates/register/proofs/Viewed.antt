@@ -14,8 +14,8 @@ use Rattle.record.specs.Journals.{stage_tag, tag_of, operation_of}
 use Rattle.record.specs.Knowledge.{IsTrueReply, IsTruePhase}
 use Rattle.record.specs.Records.{Object, layout_at, no_layout}
 use Rattle.record.specs.Wants.{current_phase, fetched_or, phase_tag, viewed_tag}
-use Rattle.record.proofs.Atomic.Quorums.Replies.{all_get_or}
-use Rattle.record.proofs.Sound.Waiting.{last_at}
+use Rattle.soundness.proofs.Quorums.Replies.{all_get_or}
+use Rattle.soundness.proofs.Sound.Waiting.{last_at}
 use Rattle.register.specs.State.{Contents, state_of}
 use Rattle.record.specs.declared.stage.Stage.{Stage}
 use Rattle.record.specs.declared.stage.Want.{Want}

@@ -4,7 +4,7 @@ use Rattle.std.proofs.Common.{Some, sym, ap, subst, ◌∙◌}
 use Rattle.bank.specs.Bank.{Bank}
 use Rattle.mail.specs.declared.message.Message.{Message}
 use Rattle.record.specs.Records.{Object, bank_at, no_bank}
-use Rattle.record.specs.Sound.{IsPosted}
+use Rattle.soundness.specs.Sound.{IsPosted}
 use Rattle.register.specs.Position.{Position, banks_of}
 use Rattle.register.specs.State.{Contents, state_of}
 use Rattle.register.specs.Kept.{IsKept}

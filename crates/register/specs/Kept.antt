@@ -7,7 +7,7 @@ use Rattle.mail.specs.declared.message.Message.{Message}
 use Rattle.mail.specs.Mail.{mail_bytes}
 use Rattle.record.specs.Records.{Call, Object, base_of}
 use Rattle.record.specs.Legal.{is_move, stage_of}
-use Rattle.record.specs.Sound.{IsSound}
+use Rattle.soundness.specs.Sound.{IsSound}
 use Rattle.register.specs.Position.{all_bytes}
 use Rattle.register.specs.Tracked.{Tracked}
 use Rattle.register.specs.State.{Contents, state_of}

@@ -1,16 +1,18 @@
 //! One object in running code: its positions with their banks, its mail, its calls, and the steps that change them. A
 //! bank is one server's state for one position.
 //!
-//! The invariant of `Register` says that its record is sound. So all that `record` proves of sound records holds of
-//! every `Register`.
+//! The invariant of `Register` says that its record is sound. So all that `soundness` and `atomicity` prove of
+//! sound records holds of every `Register`.
 #![tactic(auto)]
 
 pub use act::{Act, Answered};
+pub use code::fragments_are_a_code;
 pub use receipt::{CallView, Receipt};
 pub use register::Register;
 
 mod act;
 mod call;
+mod code;
 mod pieces;
 mod position;
 mod receipt;

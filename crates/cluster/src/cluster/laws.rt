@@ -16,13 +16,14 @@ ghost use Rattle.cluster.specs.Kept.{IsKeptCluster};
 ghost use Rattle.cluster.specs.May.{MayMake};
 
 use crate::cluster::{Accounts, Cluster};
+use atomicity::{
+    complete_fetches_have_enough, few_pieces_are_kept, journaled_values_are_unique,
+    lacking_fetches_are_overlapped, reads_return_journaled_values,
+};
 use history::atomic;
 use layout::Layout;
-use record::{
-    complete_fetches_have_enough, few_pieces_are_kept, fragments_are_a_code,
-    journaled_values_are_unique, lacking_fetches_are_overlapped, reads_return_journaled_values,
-    sent_tags_are_journaled,
-};
+use register::fragments_are_a_code;
+use soundness::sent_tags_are_journaled;
 
 impl Cluster {
     /// One law of what holds of every cluster. It changes nothing and allocates no memory. The clauses say:

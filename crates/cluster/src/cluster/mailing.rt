@@ -4,7 +4,7 @@ ghost use Rattle.std.specs.Prelude.{◌≡◌, ◌+◌, ◌*◌, ◌≤◌};
 ghost use Rattle.tag.specs.declared.limits.TheConstants.{LONGEST_VALUE, MOST_BYTES, MOST_MESSAGES};
 ghost use Rattle.encoder.specs.Fragment.{fragment};
 ghost use Rattle.record.specs.Accounts.{mailed};
-ghost use Rattle.record.specs.Sound.{IsSound};
+ghost use Rattle.soundness.specs.Sound.{IsSound};
 
 use register::Register;
 

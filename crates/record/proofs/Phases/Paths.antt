@@ -15,7 +15,7 @@ use Rattle.record.specs.declared.stage.Stage.TheVariants.{ReadBegin, ReadNext, R
 use Rattle.record.specs.Courses.{due, after, after_next, after_spread, passed, stage_after, IsCourse, greatest_status, begun_at, stage_past}
 use Rattle.record.specs.Journals.{stage_tag}
 use Rattle.record.specs.Grammar.{Asks, finalized_after, IsReading}
-use Rattle.record.proofs.Sound.Late.{IsLateWith, late_after, late_begun}
+use Rattle.record.proofs.Phases.Late.{IsLateWith, late_after, late_begun}
 use Rattle.record.proofs.Begins.{begun_tag}
 
 -- paths

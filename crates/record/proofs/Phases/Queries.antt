@@ -14,7 +14,7 @@ use Rattle.record.specs.Courses.{after, after_query, tagged, greatest_tag}
 use Rattle.record.specs.Journals.{stage_tag}
 use Rattle.record.specs.Grammar.{Asks, AreQueries, greatest_shown, TakesTag}
 use Rattle.record.proofs.Phases.Paths.{IsPath, HasTag, untagged, path_tag, asks_of}
-use Rattle.record.proofs.Sound.Late.{fetch_late}
+use Rattle.record.proofs.Phases.Late.{fetch_late}
 
 -- queries
 

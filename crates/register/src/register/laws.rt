@@ -3,7 +3,7 @@
 ghost use Rattle.std.specs.Prelude.{◌≡◌, ℕ, None};
 ghost use Rattle.encoder.specs.Fragment.{fragment};
 ghost use Rattle.record.specs.May.{MayStep};
-ghost use Rattle.record.specs.Sound.{IsSound};
+ghost use Rattle.soundness.specs.Sound.{IsSound};
 ghost use Rattle.record.specs.Steps.{Step};
 ghost use Rattle.register.specs.Act.{HasLawfulValues, act_cause, step_of};
 ghost use Rattle.register.specs.Kept.{IsWithinLimits};

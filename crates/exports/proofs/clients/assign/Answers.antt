@@ -1,7 +1,7 @@
 use Rattle.std.proofs.Common.{◌<◌, ℕ, List, length, get_or, sym, ap, subst, ◌∙◌, arith}
 use Rattle.std.proofs.lemmas.List.{get_or_read}
 use Rattle.record.specs.declared.call.Entry.{Entry}
-use Rattle.record.specs.Atomic.{no_entry}
+use Rattle.atomicity.specs.Atomic.{no_entry}
 use Rattle.exports.specs.declared.event.Process.{Process}
 use Rattle.exports.specs.Clients.{TakesProcess}
 use Rattle.exports.proofs.ClientLemmas.{one_more}

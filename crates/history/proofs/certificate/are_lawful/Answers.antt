@@ -2,7 +2,7 @@ use Rattle.std.proofs.Common.{◌≡◌, ℕ, suc, slice_get, sym, ap, ◌∙◌
 use Rattle.std.proofs.lemmas.Bool.{cases_lt}
 use Rattle.std.proofs.lemmas.Option.{slice_get_read, slice_get_within, same_Some}
 use Rattle.record.specs.declared.call.Entry.{Entry}
-use Rattle.record.specs.Atomic.{MayStand}
+use Rattle.atomicity.specs.Atomic.{MayStand}
 use Rattle.history.proofs.certificate.are_lawful.Goals as goal
 
 pub returns-then-not-is_lawful_as : goal.returns-then-not-is_lawful_as

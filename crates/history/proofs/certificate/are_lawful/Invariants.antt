@@ -1,6 +1,6 @@
 use Rattle.std.proofs.Common.{◌≡◌, ℕ, suc, ◌<◌, Some, IsSome, slice_get}
 use Rattle.record.specs.declared.call.Entry.{Entry}
-use Rattle.record.specs.Atomic.{MayStand}
+use Rattle.atomicity.specs.Atomic.{MayStand}
 use Rattle.history.proofs.certificate.are_lawful.Given as goal
 
 abbrev pub invariant-loop-place : goal.invariant-loop-place

@@ -1,5 +1,5 @@
 use Rattle.std.proofs.Common.{[], get_or}
-use Rattle.record.specs.Atomic.{IsRegister, MayStand, entry_at}
+use Rattle.atomicity.specs.Atomic.{IsRegister, MayStand, entry_at}
 use Rattle.history.specs.Check.{named}
 use Rattle.history.proofs.Pairs.{call_there, place_from_all, value_there}
 use Rattle.history.proofs.Registers.{after_write, after_read, wrong_read, no_move, passes_on, stops}

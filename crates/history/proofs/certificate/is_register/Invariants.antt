@@ -1,5 +1,5 @@
 use Rattle.std.proofs.Common.{◌↔◌, [], drop}
-use Rattle.record.specs.Atomic.{IsRegister}
+use Rattle.atomicity.specs.Atomic.{IsRegister}
 use Rattle.history.specs.Check.{named}
 use Rattle.history.proofs.certificate.is_register.Given as goal
 

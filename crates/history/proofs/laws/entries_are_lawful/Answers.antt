@@ -1,4 +1,4 @@
-use Rattle.record.proofs.Atomic.Values.Coded.{reads_journaled}
+use Rattle.soundness.proofs.Values.Coded.{reads_journaled}
 use Rattle.history.proofs.Lawful.{lawful_entries}
 use Rattle.history.proofs.laws.entries_are_lawful.Goals as goal
 

@@ -1,4 +1,4 @@
-use Rattle.record.proofs.Atomic.Sequences.ByTags.{sequence_of_sound}
+use Rattle.atomicity.proofs.Sequences.ByTags.{sequence_of_sound}
 use Rattle.history.proofs.Bridge.{sequence_of_order}
 use Rattle.history.proofs.laws.tag_orders_are_sequences.Goals as goal
 

@@ -1,6 +1,6 @@
 use Rattle.encoder.specs.Fragment.{fragment}
-use Rattle.record.proofs.Atomic.Values.Determined.{fragments_determine}
-use Rattle.record.proofs.Atomic.Values.Coded.{atomic_of_coded}
+use Rattle.register.proofs.Determined.{fragments_determine}
+use Rattle.atomicity.proofs.Runs.{atomic_of_coded}
 use Rattle.history.proofs.object.atomic.Goals as goal
 
 pub returns : goal.returns

@@ -1,14 +1,14 @@
 use Rattle.std.proofs.Common.{List, sym, subst}
 use Rattle.std.proofs.lemmas.Result.{IfOk-weaker}
 use Rattle.encoder.specs.Fragment.{fragment}
-use Rattle.record.specs.Atomic.{IsSequence}
+use Rattle.atomicity.specs.Atomic.{IsSequence}
 use Rattle.record.specs.Journals.{entries}
-use Rattle.record.specs.Sequence.{IsTagSequence}
-use Rattle.record.proofs.Atomic.Values.Determined.{fragments_determine}
-use Rattle.record.proofs.Atomic.Sequences.ByTags.{sequence_of_sound}
+use Rattle.atomicity.specs.Sequence.{IsTagSequence}
+use Rattle.register.proofs.Determined.{fragments_determine}
+use Rattle.atomicity.proofs.Sequences.ByTags.{sequence_of_sound}
 use Rattle.record.specs.declared.call.TaggedCall.{TaggedCall}
 use Rattle.history.specs.Calls.{AreCallsOf}
-use Rattle.record.specs.Sequence.{IsTagOrder}
+use Rattle.atomicity.specs.Sequence.{IsTagOrder}
 use Rattle.history.proofs.Bridge.{turn_of, sequence_of_order}
 use Rattle.history.proofs.object.sequence.Goals as goal
 

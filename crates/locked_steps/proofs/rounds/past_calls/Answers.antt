@@ -1,7 +1,7 @@
 use Rattle.std.proofs.Common.{◌≤◌, subst, arith}
 use Rattle.std.specs.List.{AllByRecursion}
 use Rattle.record.specs.Records.{Call}
-use Rattle.record.specs.Sound.{IsCallPast}
+use Rattle.soundness.specs.Sound.{IsCallPast}
 use Rattle.register.specs.State.{State}
 use Rattle.register.proofs.Lists.{all_weaker}
 use Rattle.cluster.proofs.Keeping.{placed}

@@ -3,7 +3,7 @@ use Rattle.std.specs.Prelude.{is_some}
 use Rattle.std.specs.List.{list_all}
 use Rattle.register.specs.Causes.{call_at}
 use Rattle.record.specs.declared.call.Entry.{Entry}
-use Rattle.record.specs.Atomic.{IsSequence}
+use Rattle.atomicity.specs.Atomic.{IsSequence}
 use Rattle.history.specs.Check.{AreLawful}
 use Rattle.player.specs.Shown.{IsChecked}
 use Rattle.player.proofs.Printing.{prints_as}

@@ -1,6 +1,6 @@
 use Rattle.std.proofs.Common.{◌≡◌, ◌∙◌, subst, sym}
 use Rattle.encoder.specs.Fragment.{fragment}
-use Rattle.record.specs.Atomic.{IsSequence}
+use Rattle.atomicity.specs.Atomic.{IsSequence}
 use Rattle.record.specs.Journals.{entries}
 use Rattle.history.specs.Check.{AreLawful}
 use Rattle.soak.proofs.summary.look_at.Goals as goal

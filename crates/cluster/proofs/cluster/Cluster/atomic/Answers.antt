@@ -2,7 +2,7 @@ use Rattle.std.proofs.Common.{◌≡◌, subst}
 use Rattle.std.specs.List.{AllByRecursion}
 use Rattle.std.specs.Map.{values_of}
 use Rattle.encoder.specs.Fragment.{fragment}
-use Rattle.record.specs.Atomic.{IsAtomic}
+use Rattle.atomicity.specs.Atomic.{IsAtomic}
 use Rattle.record.specs.Fragments.{AreCoded}
 use Rattle.record.specs.Journals.{entries, ReadsJournaled}
 use Rattle.cluster.specs.Atomic.{AreAtomic, AreFragments, AreJournaled, CarriesJournaled, CarryJournaled, FetchesHaveEnough}

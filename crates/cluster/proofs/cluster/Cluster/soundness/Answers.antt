@@ -2,7 +2,7 @@ use Rattle.std.proofs.Common.{◌≡◌, subst}
 use Rattle.std.specs.List.{AllByRecursion}
 use Rattle.std.specs.Map.{values_of}
 use Rattle.encoder.specs.Fragment.{fragment}
-use Rattle.record.specs.Sound.{IsSound}
+use Rattle.soundness.specs.Sound.{IsSound}
 use Rattle.register.specs.Kept.{IsWithinLimits}
 use Rattle.cluster.specs.Accounts.{banks_all, calls}
 use Rattle.cluster.specs.Atomic.{AreSound, AreWithinLimits}

@@ -1,6 +1,6 @@
 use Rattle.std.proofs.Common.{subst}
 use Rattle.encoder.specs.Fragment.{fragment}
-use Rattle.record.specs.Sound.{IsSound}
+use Rattle.soundness.specs.Sound.{IsSound}
 use Rattle.register.specs.State.{State}
 use Rattle.register.specs.Kept.{IsWithinLimits}
 use Rattle.register.proofs.register.Register.soundness.Goals as goal

@@ -1,0 +1,5 @@
+pub mod Orders
+pub mod Overlapping
+pub mod Runs
+pub mod Sequences
+pub mod Stages

@@ -1,0 +1,3 @@
+pub mod Atomic
+pub mod Sequence
+pub mod Lacking

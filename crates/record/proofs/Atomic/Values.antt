@@ -1,7 +1,0 @@
--- The value of each tag.
-pub mod Coded
-pub mod Determined
-pub mod Journaled
-pub mod Known
-pub mod Numbered
-pub mod Sent

@@ -1,5 +1,0 @@
-use Rattle.record.proofs.Accounting.MailedBySteps.{mailed-stepped}
-use Rattle.record.proofs.accounts.mailed_bytes_come_and_go.Goals as goal
-
-pub returns : goal.returns
-returns c = λ fragment object now step. mailed-stepped fragment object now step

@@ -1,5 +1,0 @@
-use Rattle.record.proofs.Accounting.StoredBySteps.{stored-changed}
-use Rattle.record.proofs.accounts.stored_bytes_come_and_go.Goals as goal
-
-pub returns : goal.returns
-returns c = λ fragment object last now server step sound. stored-changed fragment object last now step server sound

@@ -1,5 +1,0 @@
-use Rattle.record.proofs.Sound.Running.{run_atomic}
-use Rattle.record.proofs.atomicity.runs_are_atomic.Goals as goal
-
-pub returns : goal.returns
-returns c = λ fragment layout delta start steps code lawful may. run_atomic fragment code layout delta start steps lawful may

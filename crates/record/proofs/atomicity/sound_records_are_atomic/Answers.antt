@@ -1,6 +1,0 @@
-use Rattle.record.proofs.Atomic.Values.Coded.{atomic_of_coded}
-use Rattle.record.proofs.atomicity.sound_records_are_atomic.Goals as goal
-
-pub returns : goal.returns
-returns c =
-    λ fragment object last code sound. atomic_of_coded fragment object code.determines sound.legal sound.values sound.coded sound.settled

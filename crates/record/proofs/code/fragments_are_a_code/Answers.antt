@@ -1,5 +1,0 @@
-use Rattle.record.proofs.Atomic.Values.Determined.{fragments_are_code}
-use Rattle.record.proofs.code.fragments_are_a_code.Goals as goal
-
-pub returns : goal.returns
-returns c = fragments_are_code

@@ -1,6 +1,0 @@
-use Rattle.record.proofs.Overlapping.Overlaps.{lacking_overlapped}
-use Rattle.record.proofs.lacking.lacking_fetches_are_overlapped.Goals as goal
-
-pub returns : goal.returns
-returns c = λ fragment object last index place end call phase tag sound lacking.
-    lacking_overlapped fragment object last sound index place end call phase tag lacking

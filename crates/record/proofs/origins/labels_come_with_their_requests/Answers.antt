@@ -1,6 +1,0 @@
-use Rattle.record.proofs.Sound.Labels.{labels_stepped}
-use Rattle.record.proofs.origins.labels_come_with_their_requests.Goals as goal
-
-pub returns : goal.returns
-returns c = λ fragment object last now position member step tag label less sound.
-    labels_stepped fragment object last now position member tag label less sound step

@@ -1,5 +1,0 @@
-use Rattle.record.proofs.Sound.Retiring.{raised}
-use Rattle.record.proofs.retiring.retiring_raises_the_base.Goals as goal
-
-pub returns : goal.returns
-returns c = λ fragment object last now less sound. raised fragment object last now less sound

@@ -1,6 +1,0 @@
-use Rattle.record.proofs.Sound.Due.{due_there}
-use Rattle.record.proofs.shape.due_positions_are_there.Goals as goal
-
-pub returns : goal.returns
-returns c =
-    λ fragment object last index position call kind sound at is. due_there object sound.legal sound.shape index call at kind position is

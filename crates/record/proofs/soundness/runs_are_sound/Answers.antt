@@ -1,5 +1,0 @@
-use Rattle.record.proofs.Sound.Running.{opened_run_sound}
-use Rattle.record.proofs.soundness.runs_are_sound.Goals as goal
-
-pub returns : goal.returns
-returns c = λ fragment layout delta start steps code lawful may. opened_run_sound fragment code layout delta start steps lawful may

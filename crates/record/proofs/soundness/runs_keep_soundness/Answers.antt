@@ -1,5 +1,0 @@
-use Rattle.record.proofs.Sound.Running.{run_sound}
-use Rattle.record.proofs.soundness.runs_keep_soundness.Goals as goal
-
-pub returns : goal.returns
-returns c = λ fragment object last steps code sound may. run_sound fragment code steps object last sound may

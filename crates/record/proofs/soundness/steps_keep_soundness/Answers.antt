@@ -1,5 +1,0 @@
-use Rattle.record.proofs.Sound.Running.{step_sound}
-use Rattle.record.proofs.soundness.steps_keep_soundness.Goals as goal
-
-pub returns : goal.returns
-returns c = λ fragment object last now step code less sound may. step_sound fragment object last now code less sound step may

@@ -1,5 +1,0 @@
-use Rattle.record.proofs.Atomic.Values.Sent.{bank_known_past}
-use Rattle.record.proofs.soundness.tags_are_past.Goals as goal
-
-pub returns : goal.returns
-returns c = λ fragment object last position member tag sound there. bank_known_past fragment object last sound position member tag there

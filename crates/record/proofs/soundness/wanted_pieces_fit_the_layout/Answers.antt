@@ -1,5 +1,0 @@
-use Rattle.record.proofs.Sound.Sending.{supply_counts}
-use Rattle.record.proofs.soundness.wanted_pieces_fit_the_layout.Goals as goal
-
-pub returns : goal.returns
-returns c = λ object index k n call e. supply_counts object index call k n e

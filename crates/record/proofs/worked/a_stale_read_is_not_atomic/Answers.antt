@@ -1,5 +1,0 @@
-use Rattle.record.proofs.Examples.Stale.{stale_is_refused}
-use Rattle.record.proofs.worked.a_stale_read_is_not_atomic.Goals as goal
-
-pub returns : goal.returns
-returns c = stale_is_refused

@@ -1,0 +1,8 @@
+use Rattle.record_tests.proofs.Examples.WriteAndRead.{every_step, history}
+use Rattle.record_tests.proofs.worked.a_write_and_a_read.Goals as goal
+
+pub returns-clause-may : goal.returns-clause-may
+returns-clause-may c = every_step
+
+pub returns-clause-gives : goal.returns-clause-gives
+returns-clause-gives c = history

@@ -1,0 +1,5 @@
+use Rattle.record_tests.proofs.Examples.Exactly.{met_exactly}
+use Rattle.record_tests.proofs.worked.the_bound_is_met_exactly.Goals as goal
+
+pub returns : goal.returns
+returns c = met_exactly
