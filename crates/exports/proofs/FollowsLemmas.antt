@@ -6,7 +6,7 @@ use Rattle.std.proofs.lemmas.Bool.{cases_lt}
 use Rattle.std.proofs.lemmas.Option.{slice_get_cases}
 use Rattle.record.specs.declared.call.Entry.{Entry}
 use Rattle.record.specs.declared.call.Operation.TheVariants as operation
-use Rattle.record.specs.Atomic.{IsAnsweredBefore, no_entry}
+use Rattle.atomicity.specs.Atomic.{IsAnsweredBefore, no_entry}
 use Rattle.exports.specs.declared.event.Process.{Process}
 use Rattle.exports.specs.declared.event.Process.TheVariants as process
 use Rattle.exports.specs.Clients.{AreBusy, IsBusy, IsBusyAt, later}
