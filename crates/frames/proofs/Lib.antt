@@ -1,0 +1,14 @@
+pub mod Lengths
+pub mod Filled
+pub mod After
+pub mod Parts
+pub mod Digits
+pub mod Numbers
+pub mod Strings
+pub mod Frames
+pub mod Steps
+pub mod ByteSteps
+pub mod NumberSteps
+pub mod StringSteps
+pub mod FrameSteps
+pub mod Written

@@ -1,0 +1,17 @@
+//! Frames: lists of byte strings, as Redis writes them, over any reader and writer.
+#![tactic(auto)]
+
+pub use error::{Fault, FrameError};
+pub use frame::{Frame, frames_are_read_back, limits_are_these};
+pub use limits::{LONGEST_STRING, MOST_STRINGS};
+pub use reading::read_frame;
+pub use writing::write_frame;
+
+mod error;
+mod frame;
+mod input;
+mod limits;
+mod number;
+mod output;
+mod reading;
+mod writing;
