@@ -1,6 +1,6 @@
 -- The table of rows, line by line, and the bytes of the blocks, pass by pass.
 use Rattle.std.proofs.Common.{◌≡◌, ℕ, ◌+◌, ◌-◌, ◌*◌, ◌<◌, ◌≤◌, List, length, get_or, ap, ◌∙◌, sym, arith, ⊎_elim, mul-le-mul_right}
-use Rattle.std.proofs.Common.{subst, drop, get_or-take, get_or-drop, length-take, length-drop}
+use Rattle.std.proofs.Common.{drop, get_or-take, get_or-drop, length-take, length-drop}
 use borrow.Rule.Slice.PartMut.{mid_of, put_mid, same_len_mid}
 use Rattle.std.proofs.lemmas.Bool.{cases_lt}
 use Rattle.encoder.proofs.Places.{get_or-middle, rows_apart}

@@ -90,7 +90,7 @@ fn blocks_at_once(left: usize, most: usize) -> usize
     ensures most { result ≤ most }
 {
     if left <= most {
-        // It would come to the same, by two divisions.
+        // One pass is enough. What follows gives the same, but takes two divisions.
         return left.max(1);
     }
     let passes = left.div_ceil(most);
@@ -168,7 +168,7 @@ fn write_some(
     }
 }
 
-/// `write_some` of `R` rows. It is not inlined, or a call would prepare the passes of all numbers of rows.
+/// `write_some` of `R` rows. If it were inlined, each call would prepare the passes of all six numbers of rows.
 #[inline(never)]
 fn write_pass<const R: usize>(
     out: &mut [u8],

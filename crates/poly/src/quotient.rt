@@ -5,8 +5,9 @@ ghost use Rattle.gf256.specs.Polynomial.{evaluate};
 
 use gf256::mul;
 
-/// Sets `row` to the quotient of the polynomial by `x + root`, and returns its value at the root. Its coefficient `m` is
-/// the value, at the root, of the polynomial whose coefficients are those after the first `m + 1`.
+/// Sets `row` to the quotient of the polynomial by `x + root`, and returns the quotient's value at the root.
+/// Coefficient `m` of the quotient is the value, at the root, of the polynomial whose coefficients are those after the
+/// first `m + 1`.
 pub(crate) fn quotient(row: &mut [u8], polynomial: &[u8], root: u8) -> u8
     requires { length row.old + 1 ≡ length polynomial.now }
     ensures coefficients { (m : ℕ) → m + 1 < length polynomial.now →

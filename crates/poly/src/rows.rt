@@ -71,14 +71,15 @@ pub fn basis(points: &[u8], i: usize) -> ArrayVec<u8, MOST_MEMBERS>
     row
 }
 
-/// Fills in the table with the rows for these points, one after another, each as `Rows::row` writes it.
+/// Fills in the table with the rows for these points, one after another: line `i`, which has as many bytes as there are
+/// points, is row `i` of `Rows`.
 pub fn fill_rows(table: &mut [u8], points: &[u8])
     requires distinct { AreDistinct points.now }
     requires fits { length points.now ≤ MOST_MEMBERS }
     requires room { length table.old ≡ length points.now * length points.now }
     ensures { HasRows table.new points.now }
 {
-    // It is never moved, as the product in `Rows` is: for few points that would take as long as the rows.
+    // The product stays where it is made. For few points, moving a `Rows` would take as long as computing the rows.
     let mut product = ArrayVec::new();
     fill_product(&mut product, points);
     for i in 0..points.len() {
