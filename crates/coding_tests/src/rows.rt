@@ -4,7 +4,7 @@ ghost use Rattle.gf256.specs.Polynomial.{AreDistinct};
 ghost use Rattle.std.specs.Prelude.{◌≤◌, length};
 
 use crate::same::assert_same;
-use poly::basis;
+use poly::{basis, fill_rows};
 use std::process::Abort;
 
 fn assert_rows(rt: &impl Abort, points: &[u8], expected: &[&[u8]])
@@ -30,4 +30,12 @@ fn gives_the_rows_of_lagrange(rt: HostRuntime) {
         &[0x00, 0x7a, 0x7a],
     ];
     assert_rows(&rt, &[0x00, 0x01, 0x02], &three);
+}
+
+// The same rows of two points, one after another.
+#[test]
+fn fills_a_table_with_rows(rt: HostRuntime) {
+    let mut table = [0; 4];
+    fill_rows(&mut table, &[0x03, 0x02]);
+    assert_same(&rt, "the table", table, [0x02, 0x01, 0x03, 0x01]);
 }

@@ -16,7 +16,8 @@ use Rattle.dot_kernel.specs.Dot.{row}
 use Rattle.dot_kernel.specs.Level.{HaveLevels, level}
 use Rattle.dot_kernel.proofs.LaneSums.{get_or-zeros}
 use Rattle.dot_kernel.proofs.LevelSums.{level_zero, level_later}
-use Rattle.decoder.specs.Rows.{HasRows, HaveColumnSums}
+use Rattle.poly.specs.Basis.{HasRows}
+use Rattle.decoder.specs.Rows.{HaveColumnSums}
 use Rattle.decoder.proofs.Interpolated.{evaluate-interpolation}
 
 zero_value : (n x : ℕ) → evaluate (replicate n 0) x ≡ 0

@@ -12,7 +12,8 @@ use Rattle.encoder.specs.Fragment.{fragment_len}
 use Rattle.encoder.specs.declared.fragment.Piece.{Piece}
 use Rattle.decoder.specs.Parts.{piece_at, pieces_at, AreLawfulParts}
 use Rattle.decoder.specs.Pieces.{points_of, AreOfBytes, HaveNoValue, HaveValue, IsInterpolated}
-use Rattle.decoder.specs.Rows.{HasRows, AreBlockBytes, block_byte}
+use Rattle.poly.specs.Basis.{HasRows}
+use Rattle.decoder.specs.Rows.{AreBlockBytes, block_byte}
 use Rattle.decoder.proofs.Whole.{no_piece, part_of, part_of-at, byte_below-sum, blocks_of, length-blocks_of, get_or-blocks_of}
 use Rattle.decoder.proofs.Whole.{block_lt, place_lt, len_le_whole, whole_lt}
 use Rattle.decoder.proofs.Cut.{IsInterpolated-cut, padding-blocks_of}

@@ -1,10 +1,10 @@
 -- The table of rows, line by line, and the bytes of the blocks, pass by pass.
 use Rattle.std.proofs.Common.{◌≡◌, ℕ, ◌+◌, ◌-◌, ◌*◌, ◌<◌, ◌≤◌, List, length, get_or, ap, ◌∙◌, sym, arith, ⊎_elim, mul-le-mul_right}
-use Rattle.std.proofs.Common.{subst, drop, get_or-take, get_or-drop, length-take, length-drop}
+use Rattle.std.proofs.Common.{drop, get_or-take, get_or-drop, length-take, length-drop}
 use borrow.Rule.Slice.PartMut.{mid_of, put_mid, same_len_mid}
 use Rattle.std.proofs.lemmas.Bool.{cases_lt}
 use Rattle.encoder.proofs.Places.{get_or-middle, rows_apart}
-use Rattle.decoder.specs.Rows.{HasRow, AreBlocksUntil, AreBlockBytes, block_byte}
+use Rattle.decoder.specs.Rows.{AreBlocksUntil, AreBlockBytes, block_byte}
 
 -- a place has one column
 pub same_column : (i j q r w : ℕ) → q < w → r < w → i * w + q ≡ j * w + r → q ≡ r
@@ -34,25 +34,6 @@ part_made a k size xs ys rows from until f short within long reach step known r 
     get_or-take k (drop a xs) (q * size + c) 0 (omega arith) ∙ get_or-drop a xs (q * size + c) 0
     ∙ known q c hq hc (omega arith))
     r b hr hb (omega arith)
-
--- one more line
-pub HasRow-more : (old new points : List ℕ) (i : ℕ) → HasRow new points i
-    → ((n : ℕ) → n < i * length points → get_or new n 0 ≡ get_or old n 0)
-    → ((m : ℕ) → m < i → HasRow old points m)
-    → (m : ℕ) → m < i + 1 → HasRow new points m
-HasRow-more old new points i is_row before known m hm =
-    ⊎_elim (λ low.
-    let line = known m low in
-    record {
-      basis = line.basis;
-      is_row = line.is_row;
-      same = λ j hj.
-          before (m * length points + j) (omega (arith, rows_apart m i (length points) low)) ∙ line.same j hj;
-    })
-    (λ high.
-    let e : i ≡ m = omega arith in
-    subst (HasRow new points) e is_row)
-    (cases_lt m i)
 
 -- a row that begins within as many rows is one of them
 pub row_lt : (i k size n : ℕ) → i * size ≤ n → n < k * size → i < k

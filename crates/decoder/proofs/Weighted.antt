@@ -17,7 +17,8 @@ use Rattle.encoder.proofs.Columns.{length-fragment, get_or-fragment}
 use Rattle.encoder.proofs.Places.{rows_apart}
 use Rattle.decoder.specs.Parts.{pieces_at, AreLawfulParts}
 use Rattle.decoder.specs.Pieces.{points_of, AreOfBytes, IsInterpolated}
-use Rattle.decoder.specs.Rows.{HasRows, line_value}
+use Rattle.poly.specs.Basis.{HasRows}
+use Rattle.decoder.specs.Rows.{line_value}
 use Rattle.decoder.proofs.ColumnSums.{value_sum}
 use Rattle.decoder.proofs.Parts.{points-pieces_at, count, other_count, distinct_points}
 use Rattle.decoder.proofs.Summed.{part-pieces_at, fragment_byte_lt}

@@ -1,20 +1,10 @@
 -- The contracts that docs/trusted.md lists do not depend on this file; other contracts and proofs do.
--- Tables of Lagrange's rows, and the sums of fragments by their columns.
+-- Tables of Lagrange's rows: their columns, and the sums of fragments by these.
 use Rattle.std.specs.Prelude.{◌≡◌, ℕ, ◌+◌, ◌*◌, ◌<◌, List, length, slice_index, take, drop, true}
-use Rattle.gf256.specs.Polynomial.{IsBasisRow, evaluate}
+use Rattle.gf256.specs.Polynomial.{evaluate}
 use Rattle.gf256.specs.Field.{field_sum}
 use Rattle.dot_kernel.specs.Dot.{dot_byte, row}
 use Rattle.dot_kernel.specs.Level.{level}
-
--- in line i of the table stands row i of Lagrange's basis of the points
-pub record HasRow (table points : List ℕ) (i : ℕ) : Type 0 where
-  pub basis : List ℕ
-  pub is_row : IsBasisRow points i basis
-  pub same : (j : ℕ) → j < length points → slice_index table (i * length points + j) ≡ slice_index basis j
-
--- in each line stands its row
-abbrev pub HasRows : List ℕ → List ℕ → Type 0
-HasRows table points = (i : ℕ) → i < length points → HasRow table points i
 
 -- each of k columns of a table of k lines sums up to 0, and the first one to 1
 abbrev pub HaveColumnSums : List ℕ → ℕ → Type 0

@@ -15,7 +15,6 @@ mod padding;
 mod past;
 mod repair;
 mod rooms;
-mod rows;
 mod sums;
 mod value;
 mod weights;

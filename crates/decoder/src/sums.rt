@@ -89,7 +89,11 @@ fn blocks_at_once(left: usize, most: usize) -> usize
     ensures some { 1 ≤ result }
     ensures most { result ≤ most }
 {
-    let passes = left.div_ceil(most).max(1);
+    if left <= most {
+        // One pass is enough. What follows gives the same, but takes two divisions.
+        return left.max(1);
+    }
+    let passes = left.div_ceil(most);
     left.div_ceil(passes).clamp(1, most)
 }
 
@@ -164,7 +168,8 @@ fn write_some(
     }
 }
 
-/// `write_some` of `R` rows.
+/// `write_some` of `R` rows. If it were inlined, each call would prepare the passes of all six numbers of rows.
+#[inline(never)]
 fn write_pass<const R: usize>(
     out: &mut [u8],
     room: &mut [Tables],

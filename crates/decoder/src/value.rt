@@ -6,12 +6,13 @@ ghost use Rattle.dot_kernel.specs.Dot.{bytes_of};
 ghost use Rattle.encoder.specs.Fragment.{fragment_len};
 ghost use Rattle.decoder.specs.Parts.{AreLawfulParts, pieces_at};
 ghost use Rattle.decoder.specs.Pieces.{AreOfBytes, HaveNoValue, HaveValue, IsInterpolated};
-ghost use Rattle.decoder.specs.Rows.{AreBlockBytes, HasRows, HaveColumnSums};
+ghost use Rattle.poly.specs.Basis.{HasRows};
+ghost use Rattle.decoder.specs.Rows.{AreBlockBytes, HaveColumnSums};
 
 use crate::padding::is_padding_zero;
-use crate::rows::fill_rows;
 use crate::sums::write_blocks;
 use dot_kernel::Tables;
+use poly::fill_rows;
 use std::alloc::{AllocError, Global};
 use tag::Refusal;
 

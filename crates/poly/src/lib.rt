@@ -2,7 +2,7 @@
 #![tactic(auto)]
 
 pub use quotient::value_at;
-pub use rows::{Rows, basis};
+pub use rows::{Rows, basis, fill_rows};
 
 mod product;
 mod quotient;

@@ -1,5 +1,5 @@
 //! The product of the factors `x + point` over a list of points.
-ghost use Rattle.std.specs.Prelude.{◌≡◌, ℕ, ◌+◌, ◌<◌, ◌≤◌, length, bit_xor, slice_index};
+ghost use Rattle.std.specs.Prelude.{◌≡◌, ℕ, ◌+◌, ◌<◌, ◌≤◌, [], length, bit_xor, slice_index};
 ghost use Rattle.gf256.specs.Field.{field_product};
 ghost use Rattle.gf256.specs.Polynomial.{AreBytes, evaluate};
 ghost use Rattle.arrayvec.specs.ArrayVec.{array_vec_len};
@@ -12,17 +12,16 @@ use tag::MOST_MEMBERS;
 /// The greatest number of coefficients of such a product: one more than there are points.
 pub(crate) const MOST_COEFFICIENTS: usize = MOST_MEMBERS + 1;
 
-/// The product of `x + point` over the points. The constant coefficient comes first.
-pub(crate) fn product_over(points: &[u8]) -> ArrayVec<u8, MOST_COEFFICIENTS>
-    requires { length points.now ≤ MOST_MEMBERS }
-    ensures { IsProduct points.now (length points.now) result.items }
+/// Makes `product`, which is empty, the product of `x + point` over the points. The constant coefficient comes first.
+pub(crate) fn fill_product(product: &mut ArrayVec<u8, MOST_COEFFICIENTS>, points: &[u8])
+    requires fits { length points.now ≤ MOST_MEMBERS }
+    requires empty { product.old.items ≡ [] }
+    ensures { IsProduct points.now (length points.now) product.new.items }
 {
-    let mut product = ArrayVec::new();
     product.push(1);
     for &point in points {
-        multiply_by_root(&mut product, point);
+        multiply_by_root(product, point);
     }
-    product
 }
 
 /// Multiplies the polynomial `row` by `x + root`, which appends one coefficient.

@@ -5,26 +5,23 @@ ghost use Rattle.gf256.specs.Polynomial.{evaluate};
 
 use gf256::mul;
 
-/// Sets `row` to the quotient of the polynomial by `x + root`. Its coefficient `m` is the value, at the root, of the
-/// polynomial whose coefficients are those after the first `m + 1`.
-pub(crate) fn quotient(row: &mut [u8], polynomial: &[u8], root: u8)
+/// Sets `row` to the quotient of the polynomial by `x + root`, and returns the quotient's value at the root.
+/// Coefficient `m` of the quotient is the value, at the root, of the polynomial whose coefficients are those after the
+/// first `m + 1`.
+pub(crate) fn quotient(row: &mut [u8], polynomial: &[u8], root: u8) -> u8
     requires { length row.old + 1 ≡ length polynomial.now }
-    ensures { (m : ℕ) → m + 1 < length polynomial.now →
+    ensures coefficients { (m : ℕ) → m + 1 < length polynomial.now →
         slice_index row.new m ≡ evaluate (drop (m + 1) polynomial.now) root }
+    ensures value { result ≡ evaluate row.new root }
 {
-    row.copy_from_slice(&polynomial[1..]);
-    divide_in_place(row, root);
-}
-
-/// Replaces each coefficient of `row` by the value, at `root`, of the polynomial that begins with this coefficient.
-fn divide_in_place(row: &mut [u8], root: u8)
-    ensures { (m : ℕ) → m < length row.old → slice_index row.new m ≡ evaluate (drop m row.old) root }
-{
+    let mut coefficient = 0;
     let mut value = 0;
     for m in (0..row.len()).rev() {
-        value = row[m] ^ mul(root, value);
-        row[m] = value;
+        coefficient = polynomial[m + 1] ^ mul(root, coefficient);
+        row[m] = coefficient;
+        value = coefficient ^ mul(root, value);
     }
+    value
 }
 
 /// The value at `x` of the polynomial with these coefficients, the constant one first.

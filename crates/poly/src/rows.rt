@@ -1,9 +1,10 @@
-ghost use Rattle.std.specs.Prelude.{◌≡◌, ◌<◌, ◌≤◌, length};
+ghost use Rattle.std.specs.Prelude.{◌≡◌, ℕ, ◌*◌, ◌<◌, ◌≤◌, length, slice_index};
 ghost use Rattle.arrayvec.specs.ArrayVec.{array_vec_len};
 ghost use Rattle.gf256.specs.Polynomial.{AreDistinct, IsBasisRow};
+ghost use Rattle.poly.specs.Basis.{AreRows, HasRow, HasRows};
 
-use crate::product::{MOST_COEFFICIENTS, product_over};
-use crate::quotient::{quotient, scale, value_at};
+use crate::product::{MOST_COEFFICIENTS, fill_product};
+use crate::quotient::{quotient, scale};
 use arrayvec::ArrayVec;
 use gf256::inv;
 use std::marker::Model;
@@ -35,7 +36,8 @@ impl Rows {
         requires fits { length points.now ≤ MOST_MEMBERS }
         ensures { result.points ≡ points.now }
     {
-        let product = product_over(points);
+        let mut product = ArrayVec::new();
+        fill_product(&mut product, points);
         let Ok(points) = ArrayVec::try_from(points) else {
             unreachable!()
         };
@@ -49,10 +51,7 @@ impl Rows {
         requires room { length row.old ≡ length self.now.points }
         ensures { IsBasisRow self.now.points i row.new }
     {
-        let point = self.points[i];
-        quotient(row, self.product.as_slice(), point);
-        let value = value_at(row, point);
-        scale(row, inv(value));
+        write_row(row, self.points.as_slice(), self.product.as_slice(), i);
     }
 }
 
@@ -70,4 +69,43 @@ pub fn basis(points: &[u8], i: usize) -> ArrayVec<u8, MOST_MEMBERS>
     };
     Rows::new(points).row(i, row.as_mut_slice());
     row
+}
+
+/// Fills in the table with the rows for these points, one after another: line `i`, which has as many bytes as there are
+/// points, is row `i` of `Rows`.
+pub fn fill_rows(table: &mut [u8], points: &[u8])
+    requires distinct { AreDistinct points.now }
+    requires fits { length points.now ≤ MOST_MEMBERS }
+    requires room { length table.old ≡ length points.now * length points.now }
+    ensures { HasRows table.new points.now }
+{
+    // The product stays where it is made. For few points, moving a `Rows` would take as long as computing the rows.
+    let mut product = ArrayVec::new();
+    fill_product(&mut product, points);
+    for i in 0..points.len() {
+        write_line(table, points, product.as_slice(), i);
+    }
+}
+
+/// Writes row `i` to line `i` of the table, whose lines have as many bytes as there are points.
+fn write_line(table: &mut [u8], points: &[u8], product: &[u8], i: usize)
+    requires rows { AreRows points.now product.now }
+    requires line { i < length points.now }
+    requires room { length table.old ≡ length points.now * length points.now }
+    ensures row { HasRow table.new points.now i }
+    ensures before { (n : ℕ) → n < i * length points.now → slice_index table.new n ≡ slice_index table.old n }
+{
+    let k = points.len();
+    write_row(&mut table[i * k..i * k + k], points, product, i);
+}
+
+/// Writes row `i` to `row`, from the product of `x + point` over the points.
+fn write_row(row: &mut [u8], points: &[u8], product: &[u8], i: usize)
+    requires rows { AreRows points.now product.now }
+    requires place { i < length points.now }
+    requires room { length row.old ≡ length points.now }
+    ensures { IsBasisRow points.now i row.new }
+{
+    let value = quotient(row, product, points[i]);
+    scale(row, inv(value));
 }

@@ -3,11 +3,11 @@ use Rattle.std.proofs.lemmas.List.Elements.{All-from_get_or}
 use Rattle.gf256.specs.Polynomial.{AreBytes}
 use Rattle.poly.specs.Basis.{IsProduct}
 use Rattle.poly.proofs.Products.{IsProduct-none, IsProduct-more}
-use Rattle.poly.proofs.product.product_over.Goals as goal
+use Rattle.poly.proofs.product.fill_product.Goals as goal
 
 pub loop-point-init : goal.loop-point-init
 loop-point-init c =
-    let made : c.push.new.self.items ≡ 1 ∷ [] = c.push.ensures.items ∙ ap (λ xs. xs ++ 1 ∷ []) c.new-product.ensures in
+    let made : c.push.new.self.items ≡ 1 ∷ [] = c.push.ensures.items ∙ ap (λ xs. xs ++ 1 ∷ []) c.requires.empty in
     subst (IsProduct c.args.points.now 0) (sym made) (IsProduct-none c.args.points.now)
 
 pub loop-point-preserved : goal.loop-point-preserved

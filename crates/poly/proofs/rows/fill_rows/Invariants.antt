@@ -1,6 +1,6 @@
 use Rattle.std.proofs.Common.{ℕ, ◌<◌}
-use Rattle.decoder.specs.Rows.{HasRow}
-use Rattle.decoder.proofs.rows.fill_rows.Given as goal
+use Rattle.poly.specs.Basis.{HasRow}
+use Rattle.poly.proofs.rows.fill_rows.Given as goal
 
 -- the rows so far
 abbrev pub invariant-loop-i : goal.invariant-loop-i
