@@ -3,8 +3,6 @@ use Rattle.std.proofs.Common.{◌≡◌, List, [], ◌∷◌, sym, subst}
 use Rattle.std.specs.List.{AllByRecursion}
 use Rattle.std.specs.Map.{values_of}
 use Rattle.encoder.specs.Fragment.{fragment}
-use Rattle.atomicity.specs.Atomic.{IsAtomic}
-use Rattle.record.specs.Journals.{entries}
 use Rattle.soundness.specs.Sound.{IsSound}
 use Rattle.register.specs.Kept.{IsWithinLimits}
 use Rattle.register.specs.State.{State}
@@ -15,11 +13,6 @@ use Rattle.cluster.proofs.Places.{Entry, objects_of}
 pub record IsObjectSound (state : State) : Type 0 where
   pub sound : IsSound fragment state.object state.last
   pub limits : IsWithinLimits state.object
-
--- the object is sound, and its history is atomic
-pub record IsObjectAtomic (state : State) : Type 0 where
-  pub sound : IsSound fragment state.object state.last
-  pub atomic : IsAtomic (entries state.object)
 
 -- what holds of each value holds of each object
 all_objects : (P : State → Type 0) (entries : List Entry) → AllByRecursion P (values_of entries) →

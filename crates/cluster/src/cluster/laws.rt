@@ -18,9 +18,8 @@ ghost use Rattle.cluster.specs.May.{MayMake};
 use crate::cluster::{Accounts, Cluster};
 use atomicity::{
     complete_fetches_have_enough, few_pieces_are_kept, journaled_values_are_unique,
-    lacking_fetches_are_overlapped, reads_return_journaled_values,
+    lacking_fetches_are_overlapped, reads_return_journaled_values, sound_records_are_atomic,
 };
-use history::atomic;
 use layout::Layout;
 use register::fragments_are_a_code;
 use soundness::sent_tags_are_journaled;
@@ -55,16 +54,14 @@ impl Cluster {
     {
         let told = self.accounts();
         fragments_are_a_code();
+        sound_records_are_atomic();
         complete_fetches_have_enough();
         few_pieces_are_kept();
         lacking_fetches_are_overlapped();
         sent_tags_are_journaled();
         reads_return_journaled_values();
         journaled_values_are_unique();
-        for register in self.objects.values() {
-            register.soundness();
-            atomic(register);
-        }
+        self.soundness();
         told
     }
 
