@@ -68,7 +68,8 @@ module _ {C : Type 0} (chooses : C → ℕ → ℕ → C → Type 0) (first clus
 
 module _ {C : Type 0} (chooses : C → ℕ → ℕ → C → Type 0) (first cluster : Cluster) (turns : ℕ) (before after : C) where
   -- why a round of a move that the cluster has is refused
-  pub move_stops : (o : Option Moving) (h : HandedIn) (again : Bool) (e : Refusal) → IsMovingHand first o h → has_pending_move cluster o ≡ true
+  pub move_stops : (o : Option Moving) (h : HandedIn) (again : Bool) (e : Refusal) → IsMovingHand first o h
+      → has_pending_move cluster o ≡ true
       → ((move_cause_of cluster o turns ≡ Some e) × (after ≡ before))
       ⊎ ((move_cause_of cluster o turns ≡ None) × MoveGoesNot chooses o h again cluster before after e)
       → IsMovingRefused first cluster o e

@@ -1,6 +1,7 @@
 -- The contracts that docs/trusted.md lists do not depend on this file; other contracts and proofs do.
 -- What the administrator does in one section.
-use Rattle.std.specs.Prelude.{◌≡◌, ℕ, suc, not, ◌&&◌, ◌==◌, Bool, true, false, is_some, List, length, Option, Some, None}
+use Rattle.std.specs.Prelude.{◌≡◌, ℕ, suc, not, ◌&&◌, ◌==◌, Bool, true, false, is_some, List, length}
+use Rattle.std.specs.Prelude.{Option, Some, None}
 use Rattle.tag.specs.declared.refusal.Refusal.{Refusal}
 use Rattle.tag.specs.declared.refusal.Refusal.TheVariants.{NoCall, MovePending}
 use Rattle.record.specs.Legal.{is_move}
