@@ -78,10 +78,16 @@ move_receipt m answered = record {
   value = None;
 }
 
--- there is a pending move, and the receipt is that of this move
+-- there is a pending move, and the receipt has its number
 abbrev pub IsOfMove : Option Moving → Receipt → Type 0
 IsOfMove None receipt = ⊥
-IsOfMove (Some m) receipt = receipt ≡ move_receipt m receipt.answered
+IsOfMove (Some m) receipt = receipt.call ≡ m.call
+
+-- the pending move ends: the receipt has its number and is answered later than called, and no move is pending then
+abbrev pub EndsCall : Option Moving → AdminState → Receipt → AdminState → Type 0
+EndsCall None a receipt new = ⊥
+EndsCall (Some m) a receipt new =
+    (receipt.call ≡ m.call) × (receipt.called < receipt.answered) × (new ≡ record a { moving = None })
 
 -- the pending move ends: the receipt is that of this move, answered later than called, and no move is pending then
 abbrev pub EndsMove : Option Moving → AdminState → Receipt → AdminState → Type 0

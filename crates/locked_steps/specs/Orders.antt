@@ -1,6 +1,7 @@
 -- The contracts that docs/trusted.md lists do not depend on this file; other contracts and proofs do.
 -- What the administrator does in one section.
-use Rattle.std.specs.Prelude.{◌≡◌, ℕ, suc, not, ◌&&◌, ◌==◌, Bool, false, is_some, List, length, Option, Some, None}
+use Rattle.std.specs.Prelude.{◌≡◌, ℕ, suc, not, ◌&&◌, ◌==◌, Bool, true, false, is_some, List, length}
+use Rattle.std.specs.Prelude.{Option, Some, None}
 use Rattle.tag.specs.declared.refusal.Refusal.{Refusal}
 use Rattle.tag.specs.declared.refusal.Refusal.TheVariants.{NoCall, MovePending}
 use Rattle.record.specs.Legal.{is_move}
@@ -11,7 +12,8 @@ use Rattle.register.specs.Retiring.{retire_cause}
 use Rattle.cluster.specs.Cluster.{Cluster, if_named, named, place_of}
 use Rattle.cluster.specs.Causes.{next, object_cause, layout_cause, create_cause, server_cause, moving_cause}
 use Rattle.cluster.specs.Steps.{stepped, with_layout, with_server, created, moved}
-use Rattle.locked_steps.specs.Moves.{Moving, AdminState, Ends, asked_if, has_asked, ordered_by}
+use Rattle.locked_steps.specs.Moves.{Moving, AdminState, EndsCall, asked_if, has_asked, move_receipt, ordered_by}
+use Rattle.register.specs.declared.receipt.Receipt.{Receipt}
 use Rattle.locked_steps.specs.Seats.{call_count}
 use Rattle.locked_steps.specs.declared.admin.Order.{Order}
 use Rattle.locked_steps.specs.declared.admin.Order.TheVariants as order
@@ -74,10 +76,25 @@ has_move cluster m =
     place_of cluster.objects m.name == m.object
     && is_move_begun (if_named cluster m.name (λ object. call_at object m.call)) m.called
 
--- why no round of the pending move is made; NoCall where none is pending, or the cluster has no such move
+-- whether a move is pending and the cluster has it
+abbrev pub has_pending_move : Cluster → Option Moving → Bool
+has_pending_move cluster None = false
+has_pending_move cluster (Some m) = has_move cluster m
+
+-- if the cluster has the pending move, the receipt is that of this move
+abbrev pub IsReceiptOfMove : Cluster → Option Moving → Receipt → Type 0
+IsReceiptOfMove cluster None receipt = Unit {0}
+IsReceiptOfMove cluster (Some m) receipt = has_move cluster m ≡ true → receipt ≡ move_receipt m receipt.answered
+
+-- what a round of the pending move answers, if it answers
+abbrev pub AnswersMove : Cluster → Option Moving → Round → Type 0
+AnswersMove cluster pending (round.Answered receipt) = IsReceiptOfMove cluster pending receipt
+AnswersMove cluster pending _ = Unit {0}
+
+-- why no round of the pending move is made; NoCall where none is pending
 abbrev pub move_cause_of : Cluster → Option Moving → (turns : ℕ) → Option Refusal
 move_cause_of cluster None turns = Some NoCall
-move_cause_of cluster (Some m) turns = unless (has_move cluster m) NoCall (going_cause cluster m.name m.call turns)
+move_cause_of cluster (Some m) turns = going_cause cluster m.name m.call turns
 
 module _ {C : Type 0} (chooses : C → ℕ → ℕ → C → Type 0) where
   -- a round of the pending move
@@ -94,7 +111,7 @@ module _ {C : Type 0} (chooses : C → ℕ → ℕ → C → Type 0) where
 
 -- the administrator after a round: an answer ends its move, and any other round leaves it as it is
 abbrev pub RoundLeaves : AdminState → Round → AdminState → Type 0
-RoundLeaves a (round.Answered receipt) new = Ends a receipt new
+RoundLeaves a (round.Answered receipt) new = EndsCall a.moving a receipt new
 RoundLeaves a _ new = new ≡ a
 
 -- the administrator after a round; a round that asks again is counted

@@ -2,7 +2,7 @@
 
 ghost use Rattle.std.specs.Prelude.{◌≡◌, ◌<◌, ◌↔◌, IsTrue, IsSome, IfErr};
 ghost use Rattle.tag.specs.declared.refusal.Refusal.TheVariants.{NoMemory};
-ghost use Rattle.locked_steps.specs.Moves.{Ends, IsOfMove, has_asked, new_admin, ordered_by};
+ghost use Rattle.locked_steps.specs.Moves.{EndsCall, IsOfMove, has_asked, new_admin, ordered_by};
 
 use crate::booked::StoreName;
 use crate::seat::hold;
@@ -138,7 +138,7 @@ impl<L: StoreName> Admin<L> {
     pub(crate) fn end_move(&mut self, receipt: &Receipt)
         requires call { IsOfMove self.old.moving receipt.now }
         requires later { receipt.now.called < receipt.now.answered }
-        ensures { Ends self.old receipt.now self.new }
+        ensures { EndsCall self.old.moving self.old receipt.now self.new }
     {
         self.pending = None;
     }

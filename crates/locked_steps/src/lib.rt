@@ -12,7 +12,7 @@ pub use call_record::{Begin, CallRecord};
 pub use close::{Closed, NotClosed, close_in};
 pub use handed_in::HandedIn;
 pub use messages::{disturb_in, stir_in};
-pub use moves::{begin_move_in, move_round_in};
+pub use moves::{begin_move_in, has_move_in, move_round_in};
 pub use opening::{Parts, open_in};
 pub use orders::admin_in;
 pub use retiring::retire_in;

@@ -10,8 +10,8 @@ ghost use Rattle.locked_steps.specs.Calls.{client_calls};
 ghost use Rattle.locked_steps.specs.Course.{PreservesReachable, IsStateOf};
 ghost use Rattle.locked_steps.specs.Seats.{call_count};
 ghost use Rattle.locked_steps.specs.Moves.{moving};
-ghost use Rattle.locked_steps.specs.Orders.{MoveGoes, MoveGoesNot, MoveLeaves, begin_move_cause, has_move};
-ghost use Rattle.locked_steps.specs.Orders.{is_move_begun, move_begun, move_cause_of};
+ghost use Rattle.locked_steps.specs.Orders.{AnswersMove, MoveGoes, MoveGoesNot, MoveLeaves, begin_move_cause};
+ghost use Rattle.locked_steps.specs.Orders.{has_move, has_pending_move, is_move_begun, move_begun, move_cause_of};
 
 use crate::admin::{Admin, PendingMove};
 use crate::booked::{Booked, StoreName};
@@ -74,12 +74,25 @@ fn call_move(cluster: &mut Cluster, name: &str, layout: LayoutId) -> Result<Call
     cluster.call_move(name, layout)
 }
 
+/// Whether the cluster has the administrator's pending move: the move's object is at its place, and the call of the
+/// move's number is a move that began at its step. False where no move is pending.
+pub fn has_move_in<L: StoreName>(booked: &Booked<L>, admin: &Admin<L>) -> bool
+    ensures state { IsStateOf L.first booked.now }
+    ensures has { result ≡ has_pending_move booked.now admin.now.moving }
+{
+    booked.cluster.keeping();
+    let Some(pending) = admin.pending else {
+        return false;
+    };
+    has_move(&booked.cluster, admin.name.as_str(), pending)
+}
+
 /// Makes one round of the administrator's pending move, as `round_in` makes one of a seat's call. It counts a round
-/// that is made with `asks_again`. Where the round answers the move, none is pending any more, and the receipt names
-/// the move's object, its number and its steps, and brings no value.
+/// that is made with `asks_again`. Where the round answers the move, none is pending any more, and the receipt has the
+/// move's number. If the cluster has the move (`has_move_in`), the receipt also names the move's object and the step
+/// that began it, and says that it is a move without a value.
 ///
-/// `NoCall` where no move is pending, or the cluster has no such move: its object is at another place, or the call of
-/// its number is no move or began at another step. Else it is refused as `round_in` is, but never as `Stranger`.
+/// `NoCall` where no move is pending. Else it is refused as `round_in` is, but never as `Stranger`.
 pub fn move_round_in<L: StoreName, C: Chooser>(
     booked: &mut Booked<L>,
     admin: &mut Admin<L>,
@@ -92,6 +105,7 @@ pub fn move_round_in<L: StoreName, C: Chooser>(
     ensures steps { IfOk result
         (λ r. MoveGoes C.chooses admin.old.moving hand asks_again booked.old chooser.old booked.new chooser.new r) }
     ensures admin { IfOk result (λ r. MoveLeaves asks_again admin.old r admin.new) }
+    ensures receipt { IfOk result (λ r. AnswersMove booked.old admin.old.moving r) }
     ensures cause { MatchResult result (λ r. move_cause_of booked.old admin.old.moving turns ≡ None) (λ e.
         ((move_cause_of booked.old admin.old.moving turns ≡ Some e) × (chooser.new ≡ chooser.old))
         ⊎ ((move_cause_of booked.old admin.old.moving turns ≡ None)
@@ -104,9 +118,6 @@ pub fn move_round_in<L: StoreName, C: Chooser>(
     let Some(pending) = admin.pending else {
         return Err(Refusal::NoCall);
     };
-    if !has_move(&booked.cluster, admin.name.as_str(), pending) {
-        return Err(Refusal::NoCall);
-    }
     let (round, _copy) = round_with_copy(
         &mut booked.cluster,
         admin.name.as_str(),

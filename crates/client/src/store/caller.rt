@@ -13,7 +13,9 @@ ghost use Rattle.client.specs.Callers.{CanBeCoded, IsCodedFrom, IsUnanswered, Le
 ghost use Rattle.client.specs.Refusals.{IsMovingHand, IsMovingRefused, IsPendingHand, IsSeatRefused};
 
 use driver::{Chooser, Round};
-use locked_steps::{Admin, Booked, HandedIn, Seat, StoreName, move_round_in, round_in};
+use locked_steps::{
+    Admin, Booked, HandedIn, Seat, StoreName, has_move_in, move_round_in, round_in,
+};
 use tag::Refusal;
 
 /// A client's seat, or the administrator.
@@ -87,6 +89,9 @@ impl<L: StoreName> Caller<L> for Admin<L> {
         asks_again: bool,
         turns: u64,
     ) -> Result<Round, Refusal> {
+        if !has_move_in(booked, self) {
+            return Err(Refusal::NoCall);
+        }
         move_round_in(booked, self, chooser, hand, asks_again, turns)
     }
 }
