@@ -6,7 +6,7 @@ use tag::Stamp;
 
 /// For each tag of a bank, from the greatest down, the step at which its piece was dropped; none where it was not, or
 /// was never kept.
-#[derive(Debug, Drop)]
+#[derive(Drop)]
 pub(crate) struct Drops(Vec<Option<Stamp>>);
 
 impl Drops {

@@ -6,32 +6,30 @@ use crate::px::Px;
 use crate::text::{Front, operation_word};
 use record::{Entry, Operation};
 use std::fmt;
+use tag::Stamp;
 
-/// The numbers of some steps, with a thin vertical line at each.
-#[derive(Clone, Copy)]
-pub(crate) struct Steps<'a>(pub(crate) &'a Plan);
-
-impl fmt::Display for Steps<'_> {
-    fn fmt<W: fmt::Write>(&self, f: &mut fmt::Formatter<W>) -> fmt::Result {
-        let plan = self.0;
-        let every = tick(plan.span());
-        for i in 0..40u64 {
-            let step = (plan.first / every).saturating_add(i).saturating_mul(every);
-            if step > plan.last {
-                break;
-            }
-            if step < plan.first {
-                continue;
-            }
-            let x = plan.x(step);
-            let height = Px(plan.bottom.saturating_sub(450));
-            writeln!(
-                f,
-                "<path class='grid' d='M{x} 45v{height}'/><text class='tick' x='{x}' y='40'>{step}</text>"
-            )?;
+/// Draws the numbers of some steps, with a thin vertical line at each.
+pub(crate) fn draw_steps<W: fmt::Write>(f: &mut fmt::Formatter<W>, plan: &Plan) -> fmt::Result {
+    let every = tick(plan.span());
+    for i in 0..40u64 {
+        let step = (plan.first / every).saturating_add(i).saturating_mul(every);
+        if step > plan.last {
+            break;
         }
-        Ok(())
+        if step >= plan.first {
+            draw_step(f, plan, step)?;
+        }
     }
+    Ok(())
+}
+
+fn draw_step<W: fmt::Write>(f: &mut fmt::Formatter<W>, plan: &Plan, step: Stamp) -> fmt::Result {
+    let x = plan.x(step);
+    let height = Px(plan.bottom.saturating_sub(450));
+    writeln!(
+        f,
+        "<path class='grid' d='M{x} 45v{height}'/><text class='tick' x='{x}' y='40'>{step}</text>"
+    )
 }
 
 // The distance between two numbered steps: 1, 2 or 5 times a power of ten, so that some ten to thirty are numbered.
@@ -51,71 +49,67 @@ fn tick(span: u64) -> u64
     every.max(1)
 }
 
-/// A band for each move, from the step of its call to that of its answer.
-#[derive(Clone, Copy)]
-pub(crate) struct Bands<'a>(pub(crate) &'a Plan);
-
-impl fmt::Display for Bands<'_> {
-    fn fmt<W: fmt::Write>(&self, f: &mut fmt::Formatter<W>) -> fmt::Result {
-        let plan = self.0;
-        let height = Px(plan.bottom.saturating_sub(450));
-        let mut position = 0u64;
-        for lane in &plan.lanes {
-            let entry = &lane.entry;
-            if entry.kind != Operation::Move {
-                continue;
-            }
+/// Draws a band for each move, from the step of its call to that of its answer.
+pub(crate) fn draw_bands<W: fmt::Write>(f: &mut fmt::Formatter<W>, plan: &Plan) -> fmt::Result {
+    let mut position = 0u64;
+    for lane in &plan.lanes {
+        if lane.entry.kind == Operation::Move {
             position = position.saturating_add(1);
-            let to = entry.answered.unwrap_or(plan.last);
-            writeln!(
-                f,
-                "<rect class='band' x='{}' y='45' width='{}' height='{height}'>\
-                <title>call {} moves the object to position {position}</title></rect>",
-                plan.x(entry.called),
-                plan.wide(entry.called, to),
-                entry.call
-            )?;
+            draw_band(f, plan, &lane.entry, position)?;
         }
-        Ok(())
     }
+    Ok(())
 }
 
-/// The calls in an order in which they follow one register, in rows.
-#[derive(Clone, Copy)]
-pub(crate) struct Order<'a> {
-    pub(crate) plan: &'a Plan,
-    pub(crate) order: &'a [u64],
-    /// The baseline of the first row.
-    pub(crate) y: Px,
+// The band of a move to a position.
+fn draw_band<W: fmt::Write>(
+    f: &mut fmt::Formatter<W>,
+    plan: &Plan,
+    entry: &Entry,
+    position: u64,
+) -> fmt::Result {
+    let height = Px(plan.bottom.saturating_sub(450));
+    let to = entry.answered.unwrap_or(plan.last);
+    writeln!(
+        f,
+        "<rect class='band' x='{}' y='45' width='{}' height='{height}'>\
+        <title>call {} moves the object to position {position}</title></rect>",
+        plan.x(entry.called),
+        plan.wide(entry.called, to),
+        entry.call
+    )
 }
 
-impl fmt::Display for Order<'_> {
-    fn fmt<W: fmt::Write>(&self, f: &mut fmt::Formatter<W>) -> fmt::Result {
-        let (plan, y) = (self.plan, self.y);
-        let columns = plan.columns();
-        writeln!(f, "<text class='head' x='8' y='{y}'>order</text>")?;
-        for (index, call) in self
-            .order
-            .iter()
-            .take(plan.ordered(self.order.len()))
-            .enumerate()
-        {
-            if let Some(lane) = plan.lanes.get(call.saturating_sub(1) as usize) {
-                let (row, column) = (index as u64 / columns, index as u64 % columns);
-                let x = Px(500).plus(column.saturating_mul(ORDERED));
-                let base = y.plus(row.saturating_mul(ROW));
-                writeln!(
-                    f,
-                    "<text x='{x}' y='{base}'>{}</text>",
-                    Ordered(&lane.entry)
-                )?;
-            }
+/// Draws the calls in an order in which they follow one register, in rows.
+pub(crate) fn draw_order<W: fmt::Write>(
+    f: &mut fmt::Formatter<W>,
+    plan: &Plan,
+    order: &[u64],
+) -> fmt::Result {
+    let y = plan.order_y();
+    writeln!(f, "<text class='head' x='8' y='{y}'>order</text>")?;
+    for (index, call) in order.iter().take(plan.ordered(order.len())).enumerate() {
+        if let Some(lane) = plan.lanes.get(call.saturating_sub(1) as usize) {
+            draw_ordered(f, plan, index as u64, &lane.entry)?;
         }
-        Ok(())
     }
+    Ok(())
 }
 
-// One call of the order.
+// The call at an index of the order.
+fn draw_ordered<W: fmt::Write>(
+    f: &mut fmt::Formatter<W>,
+    plan: &Plan,
+    index: u64,
+    entry: &Entry,
+) -> fmt::Result {
+    let (row, column) = (index / plan.columns(), index % plan.columns());
+    let x = Px(500).plus(column.saturating_mul(ORDERED));
+    let y = plan.order_y().plus(row.saturating_mul(ROW));
+    writeln!(f, "<text x='{x}' y='{y}'>{}</text>", Ordered(entry))
+}
+
+// A call of the order: its number, what it does, and the first bytes of its value.
 #[derive(Clone, Copy)]
 struct Ordered<'a>(&'a Entry);
 

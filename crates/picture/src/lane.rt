@@ -6,7 +6,7 @@ use crate::px::Px;
 use record::Entry;
 
 /// The lane of a call.
-#[derive(Debug, Drop)]
+#[derive(Drop)]
 pub struct Lane {
     /// The entry of the call.
     pub entry: Entry,

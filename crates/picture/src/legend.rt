@@ -17,40 +17,24 @@ rect{stroke:#000;stroke-width:.7}.next{fill:#fff}.spread{fill:#f6e6c4}.query{fil
 path.fin{stroke:#000;stroke-width:.7}.pending{fill:#fff;stroke:#000}.final{fill:#000;stroke:#000}\
 </style>";
 
-/// The legend, in two lines. It explains the square and the hatching only where there are some.
-#[derive(Clone, Copy)]
-pub(crate) struct Legend<'a> {
-    pub(crate) plan: &'a Plan,
-    /// The baseline of the first line.
-    pub(crate) y: Px,
-}
-
-impl fmt::Display for Legend<'_> {
-    fn fmt<W: fmt::Write>(&self, f: &mut fmt::Formatter<W>) -> fmt::Result {
-        let (first, second) = (self.y, self.y.plus(180));
-        write!(
-            f,
-            "{}{}{}",
-            KindSigns(first),
-            MarkSigns(first),
-            LineSigns(second)
-        )?;
-        if has_dropped(self.plan) {
-            writeln!(
-                f,
-                "<path d='M842 {}{SQUARE}/><text x='848' y='{first}'>dropped</text>",
-                first.less(40)
-            )?;
-        }
-        if has_retired(self.plan) {
-            writeln!(
-                f,
-                "<path {HATCHED} d='M770 {}h20v11h-20z'/><text x='795' y='{second}'>a retired position</text>",
-                second.less(90)
-            )?;
-        }
-        Ok(())
+/// Draws the legend, in two lines, of which the first has its baseline at `y`. It explains the square and the hatching
+/// only where there are some.
+pub(crate) fn draw_legend<W: fmt::Write>(
+    f: &mut fmt::Formatter<W>,
+    plan: &Plan,
+    y: Px,
+) -> fmt::Result {
+    let second = y.plus(180);
+    draw_kind_signs(f, y)?;
+    draw_mark_signs(f, y)?;
+    draw_line_signs(f, second)?;
+    if has_dropped(plan) {
+        draw_dropped_sign(f, y)?;
     }
+    if has_retired(plan) {
+        draw_retired_sign(f, second)?;
+    }
+    Ok(())
 }
 
 // Whether a piece was dropped at one of the servers.
@@ -66,89 +50,81 @@ fn has_dropped(plan: &Plan) -> bool {
 }
 
 // The kinds of phases, each with the letter that is drawn where its word has no room.
-#[derive(Clone, Copy)]
-struct KindSigns(Px);
+static KINDS: [(&str, &str); 6] = [
+    ("next", "n"),
+    ("spread", "s"),
+    ("query", "q"),
+    ("fetch", "g"),
+    ("pre", "p"),
+    ("fin", "f"),
+];
 
-impl fmt::Display for KindSigns {
-    fn fmt<W: fmt::Write>(&self, f: &mut fmt::Formatter<W>) -> fmt::Result {
-        let y = self.0;
-        let (top, base) = (y.less(90), y.less(10));
-        let mut x = Px(80);
-        for (word, letter) in [
-            ("next", "n"),
-            ("spread", "s"),
-            ("query", "q"),
-            ("fetch", "g"),
-            ("pre", "p"),
-            ("fin", "f"),
-        ] {
-            writeln!(
-                f,
-                "<rect class='{word}' x='{x}' y='{top}' width='12' height='11'/>\
-                <text class='in' x='{}' y='{base}'>{letter}</text><text x='{}' y='{y}'>{word}</text>",
-                x.plus(60),
-                x.plus(150)
-            )?;
-            x = x.plus(640);
-        }
-        Ok(())
+fn draw_kind_signs<W: fmt::Write>(f: &mut fmt::Formatter<W>, y: Px) -> fmt::Result {
+    let mut x = Px(80);
+    for (word, letter) in &KINDS {
+        draw_kind_sign(f, x, y, word, letter)?;
+        x = x.plus(640);
     }
+    Ok(())
+}
+
+fn draw_kind_sign<W: fmt::Write>(
+    f: &mut fmt::Formatter<W>,
+    x: Px,
+    y: Px,
+    word: &str,
+    letter: &str,
+) -> fmt::Result {
+    let (top, base) = (y.less(90), y.less(10));
+    writeln!(
+        f,
+        "<rect class='{word}' x='{x}' y='{top}' width='12' height='11'/>\
+        <text class='in' x='{}' y='{base}'>{letter}</text><text x='{}' y='{y}'>{word}</text>",
+        x.plus(60),
+        x.plus(150)
+    )
 }
 
 // The marks in the lanes of servers, and the band of a move.
-#[derive(Clone, Copy)]
-struct MarkSigns(Px);
-
-impl fmt::Display for MarkSigns {
-    fn fmt<W: fmt::Write>(&self, f: &mut fmt::Formatter<W>) -> fmt::Result {
-        let y = self.0;
-        let (top, middle) = (y.less(90), y.less(40));
-        writeln!(
-            f,
-            "<circle cx='396' cy='{middle}' r='3'/><text x='403' y='{y}'>a piece came</text>"
-        )?;
-        writeln!(
-            f,
-            "<path class='fin' d='M498 {}l4 4l-4 4l-4 -4z'/><text x='507' y='{y}'>tag finalized</text>",
-            y.less(80)
-        )?;
-        writeln!(
-            f,
-            "<rect class='band' x='604' y='{top}' width='20' height='11'/><text x='629' y='{y}'>a move</text>"
-        )?;
-        writeln!(
-            f,
-            "<circle cx='690' cy='{middle}' r='3' fill='none' stroke='#000'/>\
-            <text x='697' y='{y}'>a dropped piece came</text>"
-        )
-    }
+fn draw_mark_signs<W: fmt::Write>(f: &mut fmt::Formatter<W>, y: Px) -> fmt::Result {
+    let (top, middle) = (y.less(90), y.less(40));
+    writeln!(
+        f,
+        "<circle cx='396' cy='{middle}' r='3'/><text x='403' y='{y}'>a piece came</text>\n\
+        <path class='fin' d='M498 {}l4 4l-4 4l-4 -4z'/><text x='507' y='{y}'>tag finalized</text>\n\
+        <rect class='band' x='604' y='{top}' width='20' height='11'/><text x='629' y='{y}'>a move</text>\n\
+        <circle cx='690' cy='{middle}' r='3' fill='none' stroke='#000'/>\
+        <text x='697' y='{y}'>a dropped piece came</text>",
+        y.less(80)
+    )
 }
 
 // The marks of pointers to the next position, and the lines of messages.
-#[derive(Clone, Copy)]
-struct LineSigns(Px);
+fn draw_line_signs<W: fmt::Write>(f: &mut fmt::Formatter<W>, y: Px) -> fmt::Result {
+    let middle = y.less(40);
+    writeln!(
+        f,
+        "<path class='pending' d='M12 {y}l-4 -8h8z'/><path class='final' d='M23 {y}l-4 -8h8z'/>\
+        <text x='31' y='{y}'>the next position is pending, is final</text>\n\
+        <path class='msg' d='M270 {middle}h20'/>\
+        <text x='295' y='{y}'>from a request's serving to the take of its reply</text>\n\
+        <path class='lost' d='M590 {middle}h20m-4 -4l8 8m0 -8l-8 8'/><text x='620' y='{y}'>lost</text>\n\
+        <path class='bar open' d='M670 {middle}h20'/><text x='696' y='{y}'>still open</text>"
+    )
+}
 
-impl fmt::Display for LineSigns {
-    fn fmt<W: fmt::Write>(&self, f: &mut fmt::Formatter<W>) -> fmt::Result {
-        let y = self.0;
-        let middle = y.less(40);
-        writeln!(
-            f,
-            "<path class='pending' d='M12 {y}l-4 -8h8z'/><path class='final' d='M23 {y}l-4 -8h8z'/>\
-            <text x='31' y='{y}'>the next position is pending, is final</text>"
-        )?;
-        writeln!(
-            f,
-            "<path class='msg' d='M270 {middle}h20'/>\
-            <text x='295' y='{y}'>from a request's serving to the take of its reply</text>"
-        )?;
-        writeln!(
-            f,
-            "<path class='lost' d='M590 {middle}h20m-4 -4l8 8m0 -8l-8 8'/><text x='620' y='{y}'>lost</text>"
-        )?;
-        writeln!(
-            f,
-            "<path class='bar open' d='M670 {middle}h20'/><text x='696' y='{y}'>still open</text>"
-        )
-    }
+fn draw_dropped_sign<W: fmt::Write>(f: &mut fmt::Formatter<W>, y: Px) -> fmt::Result {
+    writeln!(
+        f,
+        "<path d='M842 {}{SQUARE}/><text x='848' y='{y}'>dropped</text>",
+        y.less(40)
+    )
+}
+
+fn draw_retired_sign<W: fmt::Write>(f: &mut fmt::Formatter<W>, y: Px) -> fmt::Result {
+    writeln!(
+        f,
+        "<path {HATCHED} d='M770 {}h20v11h-20z'/><text x='795' y='{y}'>a retired position</text>",
+        y.less(90)
+    )
 }

@@ -1,76 +1,67 @@
 //! What a picture leaves out.
-use crate::messages::Messages;
-use crate::plan::LETTER;
+use crate::messages::shown_calls;
+use crate::plan::{LETTER, Plan};
 use crate::px::Px;
 use crate::server_lanes::MOST_TAGS;
+use register::Register;
 use std::fmt;
 
-/// A line that says what is not drawn. It is empty where all is drawn.
-#[derive(Clone, Copy)]
-pub(crate) struct Omitted<'a> {
-    pub(crate) messages: Messages<'a>,
-    /// How many calls the order has.
-    pub(crate) ordered: usize,
-    pub(crate) y: Px,
+/// Draws a line that says what is not drawn, where the order has `ordered` calls. It is empty where all is drawn.
+pub(crate) fn draw_omitted<W: fmt::Write>(
+    f: &mut fmt::Formatter<W>,
+    plan: &Plan,
+    register: &Register,
+    ordered: usize,
+    y: Px,
+) -> fmt::Result {
+    let letters = narrow_phases(plan, register);
+    let calls = plan.lanes.len().saturating_sub(shown_calls(plan, register));
+    let tags = tags_left_out(plan, register);
+    let ordered = ordered.saturating_sub(plan.ordered(ordered));
+    if letters == 0 && calls == 0 && tags == 0 && ordered == 0 {
+        return Ok(());
+    }
+    write!(
+        f,
+        "<text x='8' y='{y}'><tspan class='head'>left out</tspan>"
+    )?;
+    draw_count(f, "letters of narrow phases", letters)?;
+    draw_count(f, "messages of the last calls", calls)?;
+    draw_count(f, "the last tags of servers", tags)?;
+    draw_count(f, "the last calls of the order", ordered)?;
+    writeln!(f, " what is drawn has its text on hovering</text>")
 }
 
-impl fmt::Display for Omitted<'_> {
-    fn fmt<W: fmt::Write>(&self, f: &mut fmt::Formatter<W>) -> fmt::Result {
-        let plan = self.messages.plan;
-        let narrow = self.narrow();
-        let calls = plan.lanes.len().saturating_sub(self.messages.shown());
-        let tags = self.tags();
-        let ordered = self.ordered.saturating_sub(plan.ordered(self.ordered));
-        if narrow == 0 && calls == 0 && tags == 0 && ordered == 0 {
-            return Ok(());
-        }
-        let y = self.y;
-        write!(
-            f,
-            "<text x='8' y='{y}'><tspan class='head'>left out</tspan>"
-        )?;
-        if narrow > 0 {
-            write!(f, " letters of narrow phases ({narrow});")?;
-        }
-        if calls > 0 {
-            write!(f, " messages of the last calls ({calls});")?;
-        }
-        if tags > 0 {
-            write!(f, " the last tags of servers ({tags});")?;
-        }
-        if ordered > 0 {
-            write!(f, " the last calls of the order ({ordered});")?;
-        }
-        writeln!(f, " what is drawn has its text on hovering</text>")
+// How many of these are left out; nothing where none is.
+fn draw_count<W: fmt::Write>(f: &mut fmt::Formatter<W>, these: &str, count: usize) -> fmt::Result {
+    if count == 0 {
+        return Ok(());
     }
+    write!(f, " {these} ({count});")
 }
 
-impl Omitted<'_> {
-    // How many phases have no room for their letter.
-    fn narrow(&self) -> usize {
-        let plan = self.messages.plan;
-        let mut count: usize = 0;
-        for lane in &plan.lanes {
-            for phase in self.messages.register.phases_view(lane.entry.call) {
-                if plan.phase_width(phase).0 < LETTER {
-                    count = count.saturating_add(1);
-                }
+// How many phases have no room for their letter.
+fn narrow_phases(plan: &Plan, register: &Register) -> usize {
+    let mut count: usize = 0;
+    for lane in &plan.lanes {
+        for phase in register.phases_view(lane.entry.call) {
+            if plan.phase_width(phase).0 < LETTER {
+                count = count.saturating_add(1);
             }
         }
-        count
     }
+    count
+}
 
-    // How many tags are not drawn in the lanes of servers.
-    fn tags(&self) -> usize {
-        let register = self.messages.register;
-        let mut count: usize = 0;
-        for place in &self.messages.plan.positions {
-            for member in 0..place.members {
-                if let Some(bank) = register.bank_view(place.position, member) {
-                    count = count.saturating_add(bank.count().saturating_sub(MOST_TAGS));
-                }
+// How many tags are not drawn in the lanes of servers.
+fn tags_left_out(plan: &Plan, register: &Register) -> usize {
+    let mut count: usize = 0;
+    for place in &plan.positions {
+        for member in 0..place.members {
+            if let Some(bank) = register.bank_view(place.position, member) {
+                count = count.saturating_add(bank.count().saturating_sub(MOST_TAGS));
             }
         }
-        count
     }
+    count
 }

@@ -8,26 +8,30 @@ use record::Entry;
 use register::Register;
 use std::fmt;
 
-/// The phases of each call, with their kinds and positions, and the value of each call beside its end.
-#[derive(Clone, Copy)]
-pub(crate) struct Phases<'a> {
-    pub(crate) plan: &'a Plan,
-    pub(crate) register: &'a Register,
+/// Draws the phases of each call, with their kinds and positions, and the value of each call beside its end.
+pub(crate) fn draw_phases<W: fmt::Write>(
+    f: &mut fmt::Formatter<W>,
+    plan: &Plan,
+    register: &Register,
+) -> fmt::Result {
+    for lane in &plan.lanes {
+        for phase in register.phases_view(lane.entry.call) {
+            draw_phase(f, plan, lane, phase)?;
+        }
+        draw_end(f, plan, lane)?;
+    }
+    Ok(())
 }
 
-impl fmt::Display for Phases<'_> {
-    fn fmt<W: fmt::Write>(&self, f: &mut fmt::Formatter<W>) -> fmt::Result {
-        let plan = self.plan;
-        for lane in &plan.lanes {
-            for phase in self.register.phases_view(lane.entry.call) {
-                write!(f, "{}", Segment { plan, lane, phase })?;
-            }
-            let x = plan.end_x(lane.entry.answered).plus(50);
-            let (base, end) = (lane.base(), EndText(&lane.entry));
-            writeln!(f, "<text x='{x}' y='{base}'>{end}</text>")?;
-        }
-        Ok(())
-    }
+// The value of a call beside its end, and whether it is open.
+fn draw_end<W: fmt::Write>(f: &mut fmt::Formatter<W>, plan: &Plan, lane: &Lane) -> fmt::Result {
+    let x = plan.end_x(lane.entry.answered).plus(50);
+    writeln!(
+        f,
+        "<text x='{x}' y='{}'>{}</text>",
+        lane.base(),
+        EndText(&lane.entry)
+    )
 }
 
 // The text beside the end of a call: its value, and whether it is open.
@@ -47,47 +51,62 @@ impl fmt::Display for EndText<'_> {
 }
 
 // One phase in the bar of its call.
-#[derive(Clone, Copy)]
-struct Segment<'a> {
-    plan: &'a Plan,
-    lane: &'a Lane,
-    phase: &'a Phase,
+fn draw_phase<W: fmt::Write>(
+    f: &mut fmt::Formatter<W>,
+    plan: &Plan,
+    lane: &Lane,
+    phase: &Phase,
+) -> fmt::Result {
+    draw_box(f, plan, lane, phase)?;
+    draw_label(f, plan, lane, phase)?;
+    writeln!(f)
 }
 
-impl fmt::Display for Segment<'_> {
-    fn fmt<W: fmt::Write>(&self, f: &mut fmt::Formatter<W>) -> fmt::Result {
-        let phase = self.phase;
-        let (start, end) = phase.steps();
-        let from = self.plan.x(start);
-        let wide = self.plan.phase_width(phase);
-        let word = kind_word(phase.kind());
-        let ending = if end.is_some() { "" } else { " open" };
+// The box of a phase, with its title.
+fn draw_box<W: fmt::Write>(
+    f: &mut fmt::Formatter<W>,
+    plan: &Plan,
+    lane: &Lane,
+    phase: &Phase,
+) -> fmt::Result {
+    let (start, end) = phase.steps();
+    let ending = if end.is_some() { "" } else { " open" };
+    write!(
+        f,
+        "<rect class='{}{ending}' x='{}' y='{}' width='{}' height='12'>\
+        <title>phase {} {} at position {}, {}</title></rect>",
+        kind_word(phase.kind()),
+        plan.x(start),
+        Px(lane.top).plus(20),
+        plan.phase_width(phase),
+        phase.number(),
+        KindText(phase.kind()),
+        phase.position(),
+        Replies(phase)
+    )
+}
+
+// The word of a phase with its position; its letter where that has no room; nothing where the letter has no room.
+fn draw_label<W: fmt::Write>(
+    f: &mut fmt::Formatter<W>,
+    plan: &Plan,
+    lane: &Lane,
+    phase: &Phase,
+) -> fmt::Result {
+    let wide = plan.phase_width(phase).0;
+    let x = plan.x(phase.steps().0).plus(wide / 2);
+    let y = Px(lane.top).plus(115);
+    if wide >= WORD {
+        let (word, position) = (kind_word(phase.kind()), phase.position());
         write!(
             f,
-            "<rect class='{word}{ending}' x='{from}' y='{}' width='{wide}' height='12'>\
-            <title>phase {} {} at position {}, {}</title></rect>",
-            Px(self.lane.top).plus(20),
-            phase.number(),
-            KindText(phase.kind()),
-            phase.position(),
-            Replies(phase)
-        )?;
-        let middle = from.plus(wide.0 / 2);
-        let base = Px(self.lane.top).plus(115);
-        if wide.0 >= WORD {
-            write!(
-                f,
-                "<text class='in' x='{middle}' y='{base}'>{word} {}</text>",
-                phase.position()
-            )?;
-        } else if wide.0 >= LETTER {
-            write!(
-                f,
-                "<text class='in' x='{middle}' y='{base}'>{}</text>",
-                kind_letter(phase.kind())
-            )?;
-        }
-        writeln!(f)
+            "<text class='in' x='{x}' y='{y}'>{word} {position}</text>"
+        )
+    } else if wide >= LETTER {
+        let letter = kind_letter(phase.kind());
+        write!(f, "<text class='in' x='{x}' y='{y}'>{letter}</text>")
+    } else {
+        Ok(())
     }
 }
 
@@ -97,12 +116,12 @@ struct Replies<'a>(&'a Phase);
 
 impl fmt::Display for Replies<'_> {
     fn fmt<W: fmt::Write>(&self, f: &mut fmt::Formatter<W>) -> fmt::Result {
-        let phase = self.0;
-        let replied = phase.replies().len();
-        match phase.steps() {
-            (start, Some(end)) => write!(f, "steps {start} to {end}")?,
-            (start, None) => write!(f, "from step {start}, open")?,
+        let (replied, quorum) = (self.0.replies().len(), self.0.quorum());
+        match self.0.steps() {
+            (start, Some(end)) => {
+                write!(f, "steps {start} to {end}, {replied} replies of {quorum}")
+            }
+            (start, None) => write!(f, "from step {start}, open, {replied} replies of {quorum}"),
         }
-        write!(f, ", {replied} replies of {}", phase.quorum())
     }
 }

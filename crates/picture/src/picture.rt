@@ -1,14 +1,14 @@
 //! The whole picture.
 use crate::call_lanes::CallLanes;
-use crate::frame::{Bands, Order, Steps};
-use crate::legend::{Legend, STYLE};
+use crate::frame::{draw_bands, draw_order, draw_steps};
+use crate::legend::{STYLE, draw_legend};
 use crate::loss::Loss;
-use crate::messages::Messages;
-use crate::omitted::Omitted;
-use crate::phases::Phases;
+use crate::messages::{draw_losses, draw_replies};
+use crate::omitted::draw_omitted;
+use crate::phases::draw_phases;
 use crate::plan::Plan;
-use crate::retired::RetiredBands;
-use crate::server_lanes::ServerLanes;
+use crate::retired::draw_retired;
+use crate::server_lanes::draw_servers;
 use crate::text::Escaped;
 use register::Register;
 use std::fmt;
@@ -31,78 +31,64 @@ pub struct Picture<'a> {
 
 impl fmt::Display for Picture<'_> {
     fn fmt<W: fmt::Write>(&self, f: &mut fmt::Formatter<W>) -> fmt::Result {
-        let (plan, register, order) = (self.plan, self.register, self.order);
-        let messages = Messages {
-            plan,
-            register,
-            losses: self.losses,
-        };
-        let name = self.name;
-        write!(f, "{}", Head { name, plan, order })?;
-        write!(f, "{}{}{}", Bands(plan), RetiredBands(plan), Steps(plan))?;
-        write!(f, "{messages}{}", CallLanes(plan))?;
-        write!(f, "{}", Phases { plan, register })?;
-        write!(f, "{}", ServerLanes { plan, register })?;
-        writeln!(f, "{}</svg>", Foot { messages, order })
+        let (plan, register) = (self.plan, self.register);
+        draw_head(f, self.name, plan, self.order.len())?;
+        draw_bands(f, plan)?;
+        draw_retired(f, plan)?;
+        draw_steps(f, plan)?;
+        draw_replies(f, plan, register)?;
+        draw_losses(f, plan, register, self.losses)?;
+        write!(f, "{}", CallLanes(plan))?;
+        draw_phases(f, plan, register)?;
+        draw_servers(f, plan, register)?;
+        draw_foot(f, plan, register, self.order)?;
+        writeln!(f, "</svg>")
     }
 }
 
 // The size of the page, its styles, and the heading.
-#[derive(Clone, Copy)]
-struct Head<'a> {
-    name: &'a str,
-    plan: &'a Plan,
-    order: &'a [u64],
+fn draw_head<W: fmt::Write>(
+    f: &mut fmt::Formatter<W>,
+    name: &str,
+    plan: &Plan,
+    ordered: usize,
+) -> fmt::Result {
+    let (width, height) = (plan.page(), plan.legend_y(ordered).plus(460));
+    writeln!(
+        f,
+        "<svg xmlns='http://www.w3.org/2000/svg' width='{width}' height='{height}' \
+        viewBox='0 0 {width} {height}'>"
+    )?;
+    writeln!(f, "<title>object {}</title>{STYLE}", Escaped(name))?;
+    writeln!(
+        f,
+        "<rect width='{width}' height='{height}' style='fill:#fff;stroke:none'/>"
+    )?;
+    draw_heading(f, name, plan)
 }
 
-impl fmt::Display for Head<'_> {
-    fn fmt<W: fmt::Write>(&self, f: &mut fmt::Formatter<W>) -> fmt::Result {
-        let (plan, name) = (self.plan, Escaped(self.name));
-        let (width, height) = (plan.page(), plan.legend_y(self.order.len()).plus(460));
-        writeln!(
-            f,
-            "<svg xmlns='http://www.w3.org/2000/svg' width='{width}' height='{height}' \
-            viewBox='0 0 {width} {height}'>"
-        )?;
-        writeln!(f, "<title>object {name}</title>{STYLE}")?;
-        writeln!(
-            f,
-            "<rect width='{width}' height='{height}' style='fill:#fff;stroke:none'/>"
-        )?;
-        let calls = plan.lanes.len();
-        let word = if calls == 1 { "call" } else { "calls" };
-        writeln!(
-            f,
-            "<text class='head' x='8' y='18'>object {name}: {calls} {word}, steps {} to {}</text>",
-            plan.first, plan.last
-        )
-    }
+// The heading: the object's name, how many calls it has, and its steps.
+fn draw_heading<W: fmt::Write>(f: &mut fmt::Formatter<W>, name: &str, plan: &Plan) -> fmt::Result {
+    let calls = plan.lanes.len();
+    let word = if calls == 1 { "call" } else { "calls" };
+    writeln!(
+        f,
+        "<text class='head' x='8' y='18'>object {}: {calls} {word}, steps {} to {}</text>",
+        Escaped(name),
+        plan.first,
+        plan.last
+    )
 }
 
 // The order of the calls, the legend, and what is left out.
-#[derive(Clone, Copy)]
-struct Foot<'a> {
-    messages: Messages<'a>,
-    order: &'a [u64],
-}
-
-impl fmt::Display for Foot<'_> {
-    fn fmt<W: fmt::Write>(&self, f: &mut fmt::Formatter<W>) -> fmt::Result {
-        let (messages, order) = (self.messages, self.order);
-        let plan = messages.plan;
-        let y = plan.order_y();
-        write!(f, "{}", Order { plan, order, y })?;
-        let y = plan.legend_y(order.len());
-        write!(f, "{}", Legend { plan, y })?;
-        let (ordered, y) = (order.len(), y.plus(360));
-        write!(
-            f,
-            "{}",
-            Omitted {
-                messages,
-                ordered,
-                y
-            }
-        )
-    }
+fn draw_foot<W: fmt::Write>(
+    f: &mut fmt::Formatter<W>,
+    plan: &Plan,
+    register: &Register,
+    order: &[u64],
+) -> fmt::Result {
+    let y = plan.legend_y(order.len());
+    draw_order(f, plan, order)?;
+    draw_legend(f, plan, y)?;
+    draw_omitted(f, plan, register, order.len(), y.plus(360))
 }

@@ -6,7 +6,7 @@ use std::alloc::{AllocError, Global};
 use tag::Stamp;
 
 /// The lanes of the servers of a position, and what happened to their banks.
-#[derive(Debug, Drop)]
+#[derive(Drop)]
 pub(crate) struct Place {
     pub(crate) position: u32,
     /// The upper edge of the first lane.

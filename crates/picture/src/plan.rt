@@ -54,7 +54,7 @@ const MOST_ROWS: u64 = 6;
 pub(crate) const ROW: u64 = 150;
 
 /// Where the lanes of an object's calls and servers are drawn, and its first and last step.
-#[derive(Debug, Drop)]
+#[derive(Drop)]
 pub struct Plan {
     /// The lanes of the calls, from top to bottom.
     pub lanes: Vec<Lane>,

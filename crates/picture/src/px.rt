@@ -5,7 +5,7 @@ ghost use Rattle.picture.specs.Px.{px_text, saturated};
 use std::fmt;
 
 /// A length in tenths of a pixel. It prints in pixels.
-#[derive(Clone, Copy, Debug, PartialEq, Eq)]
+#[derive(Clone, Copy)]
 pub(crate) struct Px(pub(crate) u64);
 
 impl Px {

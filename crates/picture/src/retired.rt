@@ -3,6 +3,7 @@ use crate::place::Place;
 use crate::plan::{Plan, SERVER};
 use crate::px::Px;
 use std::fmt;
+use tag::Stamp;
 
 /// The pattern of the hatching.
 const HATCH: &str = "<pattern id='retired' width='5' height='5' patternUnits='userSpaceOnUse' \
@@ -14,31 +15,34 @@ pub(crate) const HATCHED: &str = "fill='url(#retired)' stroke='#777' stroke-widt
 /// How far a band goes beyond the last step, in tenths of a pixel.
 const BEHIND: u64 = 80;
 
-/// A hatched band over the servers' lanes of each retired position, from the step at which it was retired.
-#[derive(Clone, Copy)]
-pub(crate) struct RetiredBands<'a>(pub(crate) &'a Plan);
-
-impl fmt::Display for RetiredBands<'_> {
-    fn fmt<W: fmt::Write>(&self, f: &mut fmt::Formatter<W>) -> fmt::Result {
-        let plan = self.0;
-        if has_retired(plan) {
-            writeln!(f, "{HATCH}")?;
-        }
-        for place in &plan.positions {
-            let Some(step) = place.retired else {
-                continue;
-            };
-            let (from, to) = (plan.x(step), plan.right().plus(BEHIND));
-            let (top, height) = (Px(place.top), height_of(place));
-            writeln!(
-                f,
-                "<path {HATCHED} d='M{from} {top}H{to}v{height}H{from}z'>\
-                <title>position {} retired at step {step}</title></path>",
-                place.position
-            )?;
-        }
-        Ok(())
+/// Draws a hatched band over the servers' lanes of each retired position, from the step at which it was retired.
+pub(crate) fn draw_retired<W: fmt::Write>(f: &mut fmt::Formatter<W>, plan: &Plan) -> fmt::Result {
+    if has_retired(plan) {
+        writeln!(f, "{HATCH}")?;
     }
+    for place in &plan.positions {
+        if let Some(step) = place.retired {
+            draw_retired_place(f, plan, place, step)?;
+        }
+    }
+    Ok(())
+}
+
+// The band of a position that was retired at a step.
+fn draw_retired_place<W: fmt::Write>(
+    f: &mut fmt::Formatter<W>,
+    plan: &Plan,
+    place: &Place,
+    step: Stamp,
+) -> fmt::Result {
+    let (from, to) = (plan.x(step), plan.right().plus(BEHIND));
+    let (top, height) = (Px(place.top), height_of(place));
+    writeln!(
+        f,
+        "<path {HATCHED} d='M{from} {top}H{to}v{height}H{from}z'>\
+        <title>position {} retired at step {step}</title></path>",
+        place.position
+    )
 }
 
 /// Whether a position was retired. Positions are retired in order, so it looks at the first.

@@ -8,64 +8,94 @@ use tag::{Stamp, Tag};
 /// The mark of a dropped piece, a square: the end of its SVG path, which follows the middle of the mark.
 pub(crate) const SQUARE: &str = "m-2 -2h4v4h-4z' fill='#fff' stroke='#000' stroke-width='.7'";
 
-/// When a tag came to a bank, whether its piece is still there, when that was dropped, and when the tag was finalized.
+/// Draws when a tag came to a bank, whether its piece is still there, when that was dropped, and when the tag was
+/// finalized. The piece was dropped at the step `dropped`; none where it was not, or was never kept.
+pub(crate) fn draw_tag<W: fmt::Write>(
+    f: &mut fmt::Formatter<W>,
+    plan: &Plan,
+    y: Px,
+    tag: Tag,
+    row: &Row,
+    dropped: Option<Stamp>,
+) -> fmt::Result {
+    if let Some(arrival) = &row.arrival {
+        draw_arrival(f, plan, y, tag, arrival, dropped)?;
+        if let Some(step) = dropped {
+            draw_drop(f, plan, y, tag, step)?;
+        }
+    }
+    match row.label {
+        Label::Finalized { since } => draw_finalized(f, plan, y, tag, since),
+        Label::PreWritten { .. } => Ok(()),
+    }
+}
+
+// A circle at the step at which the piece came, which is empty where the piece is no longer there.
+fn draw_arrival<W: fmt::Write>(
+    f: &mut fmt::Formatter<W>,
+    plan: &Plan,
+    y: Px,
+    tag: Tag,
+    arrival: &Arrival,
+    dropped: Option<Stamp>,
+) -> fmt::Result {
+    let fill = match &arrival.piece {
+        Some(_) => "",
+        None => " fill='none' stroke='#000'",
+    };
+    writeln!(
+        f,
+        "<circle cx='{}' cy='{y}' r='3'{fill}><title>tag {tag} came at step {}, {}</title></circle>",
+        plan.x(arrival.step),
+        arrival.step,
+        Fate { arrival, dropped }
+    )
+}
+
+// What became of a piece that came: its length where it is still there, and when it was dropped where it was kept.
 #[derive(Clone, Copy)]
-pub(crate) struct TagMarks<'a> {
-    pub(crate) plan: &'a Plan,
-    pub(crate) y: Px,
-    pub(crate) tag: Tag,
-    pub(crate) row: &'a Row,
-    /// The step at which its piece was dropped; none where it was not, or was never kept.
-    pub(crate) dropped: Option<Stamp>,
+struct Fate<'a> {
+    arrival: &'a Arrival,
+    dropped: Option<Stamp>,
 }
 
-impl fmt::Display for TagMarks<'_> {
+impl fmt::Display for Fate<'_> {
     fn fmt<W: fmt::Write>(&self, f: &mut fmt::Formatter<W>) -> fmt::Result {
-        let (y, tag) = (self.y, self.tag);
-        if let Some(arrival) = &self.row.arrival {
-            self.piece(f, arrival)?;
+        match (&self.arrival.piece, self.dropped) {
+            (Some(piece), _) => write!(f, "{} bytes", piece.bytes.len()),
+            (None, Some(step)) => write!(f, "dropped at step {step}"),
+            (None, None) => f.write_str("not kept"),
         }
-        if let Label::Finalized { since } = self.row.label {
-            let x = self.plan.x(since);
-            writeln!(
-                f,
-                "<path class='fin' d='M{x} {}l4 4l-4 4l-4 -4z'>\
-                <title>tag {tag} was finalized at step {since}</title></path>",
-                y.less(40)
-            )?;
-        }
-        Ok(())
     }
 }
 
-impl TagMarks<'_> {
-    // A circle at the step at which the piece came, and a square above the lane at the step at which it was dropped.
-    fn piece<W: fmt::Write>(&self, f: &mut fmt::Formatter<W>, arrival: &Arrival) -> fmt::Result {
-        let (y, tag, came) = (self.y, self.tag, arrival.step);
-        let x = self.plan.x(came);
-        write!(f, "<circle cx='{x}' cy='{y}' r='3'")?;
-        match (&arrival.piece, self.dropped) {
-            (Some(piece), _) => {
-                let bytes = piece.bytes.len();
-                write!(f, "><title>tag {tag} came at step {came}, {bytes} bytes")?;
-            }
-            (None, Some(step)) => write!(
-                f,
-                " fill='none' stroke='#000'><title>tag {tag} came at step {came}, dropped at step {step}"
-            )?,
-            (None, None) => write!(
-                f,
-                " fill='none' stroke='#000'><title>tag {tag} came at step {came}, not kept"
-            )?,
-        }
-        writeln!(f, "</title></circle>")?;
-        if let Some(step) = self.dropped {
-            let (x, above) = (self.plan.x(step), y.less(70));
-            writeln!(
-                f,
-                "<path d='M{x} {above}{SQUARE}><title>the piece of tag {tag} was dropped at step {step}</title></path>"
-            )?;
-        }
-        Ok(())
-    }
+// A square above the lane at the step at which the piece was dropped.
+fn draw_drop<W: fmt::Write>(
+    f: &mut fmt::Formatter<W>,
+    plan: &Plan,
+    y: Px,
+    tag: Tag,
+    step: Stamp,
+) -> fmt::Result {
+    let (x, above) = (plan.x(step), y.less(70));
+    writeln!(
+        f,
+        "<path d='M{x} {above}{SQUARE}><title>the piece of tag {tag} was dropped at step {step}</title></path>"
+    )
+}
+
+// A diamond at the step at which the tag was finalized.
+fn draw_finalized<W: fmt::Write>(
+    f: &mut fmt::Formatter<W>,
+    plan: &Plan,
+    y: Px,
+    tag: Tag,
+    since: Stamp,
+) -> fmt::Result {
+    let (x, top) = (plan.x(since), y.less(40));
+    writeln!(
+        f,
+        "<path class='fin' d='M{x} {top}l4 4l-4 4l-4 -4z'>\
+        <title>tag {tag} was finalized at step {since}</title></path>"
+    )
 }

@@ -14,14 +14,18 @@ pub(crate) struct Escaped<'a>(pub(crate) &'a str);
 impl fmt::Display for Escaped<'_> {
     fn fmt<W: fmt::Write>(&self, f: &mut fmt::Formatter<W>) -> fmt::Result {
         for letter in self.0.chars() {
-            match letter {
-                '<' => f.write_str("&lt;")?,
-                '&' => f.write_str("&amp;")?,
-                ' '..='~' => write!(f, "{letter}")?,
-                _ => f.write_str("?")?,
-            }
+            write_escaped(f, letter)?;
         }
         Ok(())
+    }
+}
+
+fn write_escaped<W: fmt::Write>(f: &mut fmt::Formatter<W>, letter: char) -> fmt::Result {
+    match letter {
+        '<' => f.write_str("&lt;"),
+        '&' => f.write_str("&amp;"),
+        ' '..='~' => write!(f, "{letter}"),
+        _ => f.write_str("?"),
     }
 }
 
