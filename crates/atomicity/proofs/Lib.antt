@@ -1,5 +1,5 @@
+pub mod AtomicRunLemmas
 pub mod Orders
 pub mod Overlapping
-pub mod Runs
 pub mod Sequences
 pub mod Stages

@@ -1,3 +1,3 @@
 -- Lists in the order of tags.
-pub mod Items
-pub mod Sorted
+pub mod ItemSortLemmas
+pub mod OrderedItemLemmas

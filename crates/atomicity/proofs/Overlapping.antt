@@ -1,5 +1,5 @@
 -- Where a read's fetch lacks pieces, writes overlap the read.
-pub mod Above
-pub mod Attempts
-pub mod Overlaps
-pub mod Written
+pub mod FinalizedWriteLemmas
+pub mod GreaterTagLemmas
+pub mod LastAttemptLemmas
+pub mod OverlappingWriteLemmas

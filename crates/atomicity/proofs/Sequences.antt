@@ -1,9 +1,9 @@
 -- The order by tags is a sequence of the entries.
-pub mod Answered
-pub mod ByTags
-pub mod Chosen
-pub mod Entries
-pub mod Items
-pub mod Listed
-pub mod Tagged
-pub mod Whole
+pub mod AnsweredTagLemmas
+pub mod ItemChoiceLemmas
+pub mod ItemEntryLemmas
+pub mod ItemSequenceLemmas
+pub mod ListedCallLemmas
+pub mod ObjectItemLemmas
+pub mod TagSequenceLemmas
+pub mod TaggedCallLemmas

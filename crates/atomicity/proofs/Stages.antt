@@ -1,7 +1,7 @@
 -- What calls find and leave, stage by stage.
-pub mod Ending
-pub mod Ends
-pub mod Facts
-pub mod Later
-pub mod Moved
-pub mod Reading
+pub mod CallFactLemmas
+pub mod CarriedTagLemmas
+pub mod PhaseFactLemmas
+pub mod ReadingFactLemmas
+pub mod RisingTagLemmas
+pub mod StageFactLemmas

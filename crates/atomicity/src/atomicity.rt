@@ -5,7 +5,7 @@ ghost use Rattle.layout.specs.Layout.{IsLawful, Layout};
 ghost use Rattle.atomicity.specs.Atomic.{IsAtomic, IsSequence};
 ghost use Rattle.record.specs.Fragments.{Code, IsCode, IsSettled};
 ghost use Rattle.record.specs.Journals.{entries, IsJournaled, ReadsJournaled};
-ghost use Rattle.record.specs.May.{MayRun};
+ghost use Rattle.record.specs.Preconditions.{MayRun};
 ghost use Rattle.record.specs.Records.{Call, Object};
 ghost use Rattle.atomicity.specs.Sequence.{IsTagSequence};
 ghost use Rattle.soundness.specs.Sound.{IsSound};

@@ -66,9 +66,9 @@ without_piece None q row = row
 without_piece (Some tag) q row = if is_at (tag_cmp tag) q then option_map emptied_row row else row
 
 -- the number of bytes of the given tag's piece, or 0 where no tag is given
-abbrev pub freed_by : Option Tag → List (Tag × Row) → ℕ
-freed_by None es = 0
-freed_by (Some tag) es = row_piece_bytes (found_in es tag)
+abbrev pub piece_bytes_at : Option Tag → List (Tag × Row) → ℕ
+piece_bytes_at None es = 0
+piece_bytes_at (Some tag) es = row_piece_bytes (found_in es tag)
 
 -- `least` is finalized, `above` counts the finalized tags above it, and unless the window is full none is below it
 pub record IsWindow (es : List (Tag × Row)) (w : Window) : Type 0 where

@@ -8,7 +8,7 @@ ghost use Rattle.bank.specs.Bank.{row_after_pre_write, row_after_finalize};
 ghost use Rattle.bank.specs.Bytes.{row_bytes};
 ghost use Rattle.bank.specs.Collect.{emptied_entry};
 ghost use Rattle.bank.specs.Knowledge.{row_finalized, row_arrived};
-ghost use Rattle.bank.specs.Window.{final_after, without_piece, freed_by};
+ghost use Rattle.bank.specs.Window.{final_after, without_piece, piece_bytes_at};
 
 use crate::{Arrival, Label, Row};
 use encoder::Piece;
@@ -106,7 +106,7 @@ pub fn next_final(rows: &BTreeMap<Tag, Row>, tag: Tag) -> Option<Tag>
 // Drops the piece of `tag`, if there is one. Returns how many bytes this frees.
 pub fn empty(rows: &mut BTreeMap<Tag, Row>, tag: Option<Tag>) -> u64
     ensures rows { (q : Tag) → get tag_cmp rows.new q ≡ without_piece tag q (get tag_cmp rows.old q) }
-    ensures freed { result ≡ freed_by tag rows.old.entries }
+    ensures freed { result ≡ piece_bytes_at tag rows.old.entries }
     ensures ordered { IsOrdered tag_cmp rows.old → IsOrdered tag_cmp rows.new }
 {
     let Some(tag) = tag else {

@@ -1,3 +1,3 @@
-pub mod Asking
-pub mod Stopping
-pub mod Callers
+pub mod FirstRoundLemmas
+pub mod RefusalCauseLemmas
+pub mod CallerRoundLemmas

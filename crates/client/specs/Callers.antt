@@ -1,7 +1,7 @@
 -- The contracts that docs/trusted.md lists do not depend on this file; other contracts and proofs do.
 -- How a round changes the seat or the administrator that makes it.
 use Rattle.std.specs.Prelude.{◌≡◌, ◌⊎◌, Bool, true, false, length}
-use Rattle.encoder.specs.Coded.{IsLawful}
+use Rattle.encoder.specs.Coded.{IsCodable}
 use Rattle.register.specs.declared.receipt.Receipt.{Receipt}
 use Rattle.driver.specs.Coding.{GiveBack}
 use Rattle.driver.specs.declared.round.Round.{Round}
@@ -20,13 +20,13 @@ StaysOpen asks true s t = (t ≡ s) ⊎ (t ≡ asks s)
 StaysOpen asks false s t = t ≡ s
 
 -- the round did not answer its call
-abbrev pub IsUnanswered : Round → Type 0
-IsUnanswered (round.Answered receipt) = ⊥
-IsUnanswered _ = Unit {0}
+abbrev pub IsRoundWithoutAnswer : Round → Type 0
+IsRoundWithoutAnswer (round.Answered receipt) = ⊥
+IsRoundWithoutAnswer _ = Unit {0}
 
 -- what a round hands out can be coded: the value can be encoded, or the pieces are those of some value
 abbrev pub CanBeCoded : Round → Type 0
-CanBeCoded (round.Encode value k n) = IsLawful k n value
+CanBeCoded (round.Encode value k n) = IsCodable k n value
 CanBeCoded (round.Decode pieces k len) = GiveBack k len pieces.items
 CanBeCoded _ = Unit {0}
 

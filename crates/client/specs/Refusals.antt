@@ -35,15 +35,15 @@ module _ (name : List ℕ) (call : ℕ) where
       × (IsDue Anyhow name call cluster again tt tt step × (turn_cause cluster name call step ≡ Some Full)))
 
   -- the call wants replies, and none of its messages can be handled
-  abbrev pub IsWaitingInVain : Cluster → Type 0
-  IsWaitingInVain cluster =
+  abbrev pub IsWaitingWithoutMessages : Cluster → Type 0
+  IsWaitingWithoutMessages cluster =
       (wanted cluster name call ≡ Some want.Replies)
       × (if_named cluster name (λ object. Some (choices cluster call object)) ≡ Some [])
 
   -- why a round of the call is refused in this state, where nothing is handed in
   abbrev pub IsHeldUp : Cluster → Refusal → Type 0
   IsHeldUp cluster GaveUp = IsOpen cluster name call
-  IsHeldUp cluster Stuck = IsWaitingInVain cluster
+  IsHeldUp cluster Stuck = IsWaitingWithoutMessages cluster
   IsHeldUp cluster Collected = wanted cluster name call ≡ Some want.Again
   IsHeldUp cluster Full = IsLimited cluster
   IsHeldUp cluster NotNow = wanted cluster name call ≡ Some want.Done

@@ -1,21 +1,21 @@
-pub mod Acting
-pub mod Adding
-pub mod Allowed
-pub mod Growing
-pub mod Keeping
-pub mod Laws
-pub mod Loading
-pub mod Mays
-pub mod Moves
-pub mod Opening
-pub mod Parts
-pub mod Places
-pub mod Reading
-pub mod Serving
-pub mod Stepping
-pub mod Summing
-pub mod Sums
-pub mod Totals
-pub mod Values
-mod Retiring
-mod Room
+pub mod ActLemmas
+pub mod AllObjectsLemmas
+pub mod ChangedObjectLemmas
+pub mod CreationInvariantLemmas
+pub mod CreationLemmas
+pub mod FoundObjectLemmas
+pub mod LookupLemmas
+pub mod MoveRefusalLemmas
+pub mod ObjectStepLemmas
+pub mod PreconditionLemmas
+pub mod RequestRoomLemmas
+pub mod RunningSumLemmas
+pub mod ServedBytesLemmas
+pub mod ServedSumLemmas
+pub mod ServerTotalLemmas
+pub mod StepEffectLemmas
+pub mod StepInvariantLemmas
+pub mod StepLimitLemmas
+pub mod SumBoundLemmas
+mod ObjectAtPlaceLemmas
+mod RetiredSumLemmas

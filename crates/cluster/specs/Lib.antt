@@ -1,6 +1,6 @@
 pub mod Cluster
 pub mod Steps
-pub mod May
+pub mod Preconditions
 pub mod Causes
 pub mod Accounts
 pub mod Kept

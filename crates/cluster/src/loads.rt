@@ -42,7 +42,7 @@ impl Loads {
     }
 
     /// Replaces a part of `old` bytes by one of `new` bytes in what a server stores.
-    pub fn exchange(&mut self, server: u8, old: u64, new: u64)
+    pub fn replace_part(&mut self, server: u8, old: u64, new: u64)
         requires there { server < length self.old }
         requires part { old ≤ get_or self.old server 0 + new }
         requires within { get_or self.old server 0 + new ≤ 2 * MOST_BYTES }

@@ -1,3 +1,3 @@
-pub mod FragmentsLemmas
-pub mod ReadingLemmas
-pub mod RequestLemmas
+pub mod CommandWordLemmas
+pub mod FragmentLineLemmas
+pub mod PieceWordLemmas

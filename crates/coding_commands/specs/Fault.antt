@@ -5,9 +5,9 @@ use Rattle.coding_commands.specs.declared.fault.Fault.{Fault}
 use Rattle.coding_commands.specs.declared.fault.Fault.TheVariants.{NotText, Usage, BadArgument, Refused, OutputLost}
 
 -- the exit status of each fault
-abbrev pub status_of : Fault → ℕ
-status_of NotText = 2
-status_of Usage = 2
-status_of BadArgument = 2
-status_of (Refused refusal) = 1
-status_of OutputLost = 1
+abbrev pub exit_status_of : Fault → ℕ
+exit_status_of NotText = 2
+exit_status_of Usage = 2
+exit_status_of BadArgument = 2
+exit_status_of (Refused refusal) = 1
+exit_status_of OutputLost = 1

@@ -5,7 +5,7 @@ use Rattle.std.specs.Io.KnownBytes.{Appends, Keeps}
 use Rattle.tag.specs.declared.refusal.Refusal.{Refusal}
 use Rattle.tag.specs.declared.refusal.Refusal.TheVariants.{NoMemory}
 use Rattle.coding_commands.specs.Answer.{IsAnswer, IsRefusedFor}
-use Rattle.coding_commands.specs.Fault.{status_of}
+use Rattle.coding_commands.specs.Fault.{exit_status_of}
 use Rattle.coding_commands.specs.Output.{output_text}
 use Rattle.coding_commands.specs.Request.{IsFaultOf, Spells, Word}
 use Rattle.coding_commands.specs.declared.request.CodingRequest.{CodingRequest}
@@ -29,4 +29,4 @@ Answers request old new status = ((output : Output) × IsAnswer request output �
 -- the words spell a request, and it is answered; or they spell none, the status says why, and nothing is written
 abbrev pub EndsBy : List Word → Contents → Contents → ℕ → Type 0
 EndsBy words old new status = ((request : CodingRequest) × Spells words request × Answers request old new status)
-    ⊎ ((fault : Fault) × IsFaultOf words fault × (status ≡ status_of fault) × Keeps old new)
+    ⊎ ((fault : Fault) × IsFaultOf words fault × (status ≡ exit_status_of fault) × Keeps old new)

@@ -30,18 +30,18 @@ pub record IsPiece (value_len : ℕ) (word : Word) (piece : Piece) : Type 0 wher
   pub bytes : IsHexadecimal (after_first is_colon word) piece.bytes
 
 -- each word spells the piece at its index, and there are as many words as pieces
-abbrev pub ArePieces : ℕ → List Word → List Piece → Type 0
-ArePieces len [] [] = ⊤
-ArePieces len [] (p ∷ ps) = ⊥
-ArePieces len (w ∷ ws) [] = ⊥
-ArePieces len (w ∷ ws) (p ∷ ps) = IsPiece len w p × ArePieces len ws ps
+abbrev pub SpellPieces : ℕ → List Word → List Piece → Type 0
+SpellPieces len [] [] = ⊤
+SpellPieces len [] (p ∷ ps) = ⊥
+SpellPieces len (w ∷ ws) [] = ⊥
+SpellPieces len (w ∷ ws) (p ∷ ps) = IsPiece len w p × SpellPieces len ws ps
 
 -- the words after the program's name spell this request: `fragments K N HEX` or `decode K LEN POINT:HEX..`
 abbrev pub Spells : List Word → CodingRequest → Type 0
 Spells words (of.Fragments k n value) = (a : Word) × (b : Word) × (c : Word)
     × (words ≡ codes "fragments" ∷ a ∷ b ∷ c ∷ []) × IsNumber a k × IsNumber b n × IsHexadecimal c value
 Spells words (of.Decode k len pieces) = (a : Word) × (b : Word) × (rest : List Word)
-    × (words ≡ codes "decode" ∷ a ∷ b ∷ rest) × IsNumber a k × IsNumber b len × ArePieces len rest pieces.items
+    × (words ≡ codes "decode" ∷ a ∷ b ∷ rest) × IsNumber a k × IsNumber b len × SpellPieces len rest pieces.items
 
 -- the words have the form of a request, whatever the words for its numbers and bytes are
 abbrev pub HasForm : List Word → Type 0
@@ -57,5 +57,5 @@ IsFaultOf words NotText = ⊥
 IsFaultOf words OutputLost = ⊥
 
 -- the result is the request that the words spell, or why they give none
-abbrev pub IsReading : List Word → Result CodingRequest Fault → Type 0
-IsReading words result = MatchResult result (Spells words) (IsFaultOf words)
+abbrev pub ParsesTo : List Word → Result CodingRequest Fault → Type 0
+ParsesTo words result = MatchResult result (Spells words) (IsFaultOf words)

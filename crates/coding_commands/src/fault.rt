@@ -32,7 +32,7 @@ impl Fault {
     ghost use Rattle.std.specs.Prelude.{◌≡◌, ◌≢◌};
     ghost use Rattle.std.specs.IoError.{error_kind};
     ghost use Rattle.tag.specs.declared.refusal.Refusal.TheVariants.{NoMemory};
-    ghost use Rattle.coding_commands.specs.Fault.{status_of};
+    ghost use Rattle.coding_commands.specs.Fault.{exit_status_of};
     ghost use Rattle.coding_commands.specs.declared.fault.Fault.TheVariants.{NotText, OutputLost, Refused};
 
     /// Why the program's arguments could not be read: one is not UTF-8, or memory is refused.
@@ -59,7 +59,7 @@ impl Fault {
 
     /// The exit status: 1 for a refusal or lost output, and 2 for a fault of the command line.
     fn status(&self) -> u8
-        ensures { result ≡ status_of self.now }
+        ensures { result ≡ exit_status_of self.now }
     {
         match self {
             Fault::NotText | Fault::Usage | Fault::BadArgument => 2,
@@ -69,7 +69,7 @@ impl Fault {
 
     /// Prints the text on `err`, if there is one, and returns the exit status. A write that fails is ignored.
     pub fn report<W: Write>(&self, err: &mut W) -> u8
-        ensures { result ≡ status_of self.now }
+        ensures { result ≡ exit_status_of self.now }
     {
         if !matches!(self, Fault::NotText) {
             let _ = err.writeln(self);

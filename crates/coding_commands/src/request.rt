@@ -4,7 +4,7 @@ ghost use Rattle.encoder.specs.declared.fragment.Piece.{Piece};
 ghost use Rattle.tag.specs.declared.refusal.Refusal.TheVariants.{NoMemory};
 ghost use Rattle.words.specs.Hexadecimal.{IsHexadecimal};
 ghost use Rattle.words.specs.Number.{IsNumber};
-ghost use Rattle.coding_commands.specs.Request.{ArePieces, IsPiece, IsReading};
+ghost use Rattle.coding_commands.specs.Request.{SpellPieces, IsPiece, ParsesTo};
 ghost use Rattle.coding_commands.specs.declared.fault.Fault.TheVariants.{BadArgument, Refused};
 
 use crate::fault::Fault;
@@ -38,7 +38,7 @@ pub fn fragments_request(
     n: &str,
     digits: &str,
 ) -> Result<CodingRequest, Fault>
-    ensures { IsReading (codes "fragments" ∷ k.now ∷ n.now ∷ digits.now ∷ []) result }
+    ensures { ParsesTo (codes "fragments" ∷ k.now ∷ n.now ∷ digits.now ∷ []) result }
 {
     let k = number(k)?;
     let n = number(n)?;
@@ -54,7 +54,7 @@ pub fn decode_request(
     len: &str,
     words: &[&str],
 ) -> Result<CodingRequest, Fault>
-    ensures { IsReading (codes "decode" ∷ k.now ∷ len.now ∷ map (λ w. w.now) words.now) result }
+    ensures { ParsesTo (codes "decode" ∷ k.now ∷ len.now ∷ map (λ w. w.now) words.now) result }
 {
     let k = number(k)?;
     let len = number(len)?;
@@ -63,9 +63,9 @@ pub fn decode_request(
 }
 
 fn parse_pieces(alloc: Global, len: u64, words: &[&str]) -> Result<Vec<Piece>, Fault>
-    ensures { MatchResult result (λ ps. ArePieces len (map (λ w. w.now) words.now) ps.items)
+    ensures { MatchResult result (λ ps. SpellPieces len (map (λ w. w.now) words.now) ps.items)
         (λ e. (e ≡ Refused NoMemory) ⊎ ((e ≡ BadArgument)
-        × ((ps : List Piece) → ¬ (ArePieces len (map (λ w. w.now) words.now) ps)))) }
+        × ((ps : List Piece) → ¬ (SpellPieces len (map (λ w. w.now) words.now) ps)))) }
 {
     let mut pieces = Vec::new(alloc);
     for word in words {

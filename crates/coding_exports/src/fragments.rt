@@ -1,6 +1,6 @@
 ghost use Rattle.std.specs.Prelude.{◌≡◌, ◌≢◌, ◌*◌, length};
 ghost use Rattle.encoder.specs.Fragment.{fragment, fragment_len};
-ghost use Rattle.encoder.specs.Points.{AreFragments};
+ghost use Rattle.encoder.specs.Points.{AreFragmentRows};
 ghost use Rattle.encoder.specs.Coded.{encode_cause};
 ghost use Rattle.coding_exports.specs.Answer.{answer_into, answer_of, fragment_cause};
 
@@ -33,7 +33,7 @@ pub extern "C" fn coding_fragment_length(k: u8, value_len: usize, len: &mut usiz
 pub extern "C" fn coding_encode(k: u8, n: u8, value: &[u8], fragments: &mut [u8]) -> u8
     ensures answer { result ≡ answer_into (encode_cause k n (length value.now))
         (n * fragment_len k (length value.now)) (length fragments.old) }
-    ensures fragments { result ≡ 0 → AreFragments fragments.new n value.now k 0 }
+    ensures fragments { result ≡ 0 → AreFragmentRows fragments.new n value.now k 0 }
     ensures len { length fragments.new ≡ length fragments.old }
     ensures unchanged { result ≢ 0 → fragments.new ≡ fragments.old }
 {

@@ -1,3 +1,3 @@
-pub mod Rule
-pub mod Work
-pub mod Order
+pub mod QueueRuleLemmas
+pub mod PoppedJobLemmas
+pub mod SortedPieceLemmas

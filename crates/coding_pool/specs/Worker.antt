@@ -38,5 +38,5 @@ pub record IsHand (errand : CodingJob) (w : Worker) : Type 0 where
   pub pushed : (view w.pass).pushed ≡ 0
 
 -- what a thread may hand back: a worker with one part, or NoMemory
-abbrev pub IsAnswer : CodingJob → Result Worker Refusal → Type 0
-IsAnswer errand answer = MatchResult answer (IsHand errand) (λ r. r ≡ NoMemory)
+abbrev pub IsHandedBack : CodingJob → Result Worker Refusal → Type 0
+IsHandedBack errand answer = MatchResult answer (IsHand errand) (λ r. r ≡ NoMemory)

@@ -1,7 +1,7 @@
 //! The threads of the workers.
 ghost use Rattle.std.specs.Prelude.{◌≡◌, ◌+◌, ◌<◌, ◌≤◌, [], All, IfOk, IfErr, vec_len};
 ghost use Rattle.tag.specs.declared.refusal.Refusal.TheVariants.{NoMemory};
-ghost use Rattle.coding_pool.specs.Worker.{IsHand, IsErrand, IsAnswer};
+ghost use Rattle.coding_pool.specs.Worker.{IsHand, IsErrand, IsHandedBack};
 
 use crate::gate::Gate;
 use crate::worker::{Answer, CodingJob, Worker};
@@ -22,7 +22,7 @@ pub fn work_all<G: Gate, R: Threads + Wait + Sync>(
     requires errand { IsErrand errand }
     requires crew { All (λ w. IsHand errand w) crew.items }
     ensures count { IfOk result (λ v. vec_len v ≡ vec_len crew) }
-    ensures answers { IfOk result (λ v. All (λ a. IsAnswer errand.entry a) v.items) }
+    ensures answers { IfOk result (λ v. All (λ a. IsHandedBack errand.entry a) v.items) }
     ensures refused { IfErr result (λ r. r ≡ NoMemory) }
 {
     let unstarted = AtomicUsize::new(usize::MAX);
@@ -41,7 +41,8 @@ pub fn work_all<G: Gate, R: Threads + Wait + Sync>(
                 (λ w. IsHand (record { alloc = alloc; jobs = jobs; k = k; value = value }) w) crew.items }
             ensures count { IfOk result (λ v. vec_len v ≡ vec_len crew) }
             ensures answers { IfOk result (λ v. All
-                (λ a. IsAnswer (record { alloc = alloc; jobs = jobs.entry; k = k; value = value.entry }) a) v.items) }
+                (λ a. IsHandedBack (record { alloc = alloc; jobs = jobs.entry; k = k; value = value.entry }) a)
+                v.items) }
             ensures refused { IfErr result (λ r. r ≡ NoMemory) }
         {
             let errand = CodingJob {
@@ -67,7 +68,7 @@ fn work_in<'s, E, G: Gate, R: Threads + Wait + Sync>(
     requires errand { IsErrand errand }
     requires crew { All (λ w. IsHand errand w) crew.items }
     ensures count { IfOk result (λ v. vec_len v ≡ vec_len crew) }
-    ensures answers { IfOk result (λ v. All (λ a. IsAnswer errand.entry a) v.items) }
+    ensures answers { IfOk result (λ v. All (λ a. IsHandedBack errand.entry a) v.items) }
     ensures refused { IfErr result (λ r. r ≡ NoMemory) }
 {
     let mut answers = Vec::with_capacity(errand.alloc, crew.len())?;
@@ -98,7 +99,7 @@ fn start<'s, E, G: Gate, R: Wait + Sync>(
     requires errand { IsErrand errand }
     requires worker { IsHand errand worker }
     ensures started { IfOk result (λ handle. handle.promise ≡ errand.entry) }
-    ensures refused { IfErr result (λ answer. IsAnswer errand.entry answer) }
+    ensures refused { IfErr result (λ answer. IsHandedBack errand.entry answer) }
 {
     let CodingJob {
         alloc,
@@ -109,7 +110,7 @@ fn start<'s, E, G: Gate, R: Wait + Sync>(
     let task = move || -> Answer
         requires errand { IsErrand (record { alloc = alloc; jobs = jobs; k = k; value = value }) }
         requires worker { IsHand (record { alloc = alloc; jobs = jobs; k = k; value = value }) worker }
-        ensures { IsAnswer (record { alloc = alloc; jobs = jobs.entry; k = k; value = value.entry }) result }
+        ensures { IsHandedBack (record { alloc = alloc; jobs = jobs.entry; k = k; value = value.entry }) result }
     {
         if unstarted.load(Ordering::SeqCst) == place {
             return Ok(worker);

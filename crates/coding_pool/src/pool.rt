@@ -4,10 +4,10 @@ ghost use Rattle.crossbeam_queue.specs.Passes.{view, IsPassOf};
 ghost use Rattle.tag.specs.declared.limits.TheConstants.{MOST_WORKERS};
 ghost use Rattle.tag.specs.declared.refusal.Refusal.TheVariants.{NoMemory};
 ghost use Rattle.tag.specs.Refusal.{IsByCause};
-ghost use Rattle.encoder.specs.Coded.{IsLawful, ArePieces};
+ghost use Rattle.encoder.specs.Coded.{IsCodable, ArePieces};
 ghost use Rattle.coding_pool.specs.Jobs.{known, PARTS};
 ghost use Rattle.coding_pool.specs.Pool.{encode_all_cause};
-ghost use Rattle.coding_pool.specs.Worker.{IsWorker, IsHand, IsErrand, IsAnswer};
+ghost use Rattle.coding_pool.specs.Worker.{IsWorker, IsHand, IsErrand, IsHandedBack};
 
 use crate::crew::work_all;
 use crate::gate::{Gate, NoGate};
@@ -62,7 +62,7 @@ fn all_pieces<G: Gate, R: Threads + Wait + Sync>(
     n: u8,
     value: &[u8],
 ) -> Result<Vec<Piece>, Refusal>
-    requires lawful { IsLawful k n value.now }
+    requires lawful { IsCodable k n value.now }
     requires workers { workers ≤ MOST_WORKERS }
     ensures count { IfOk result (λ v. length v.items ≡ n) }
     ensures pieces { IfOk result (λ v. ArePieces value.now k v.items) }
@@ -111,7 +111,7 @@ fn hire(errand: CodingJob, pass: &mut JobPass, workers: usize) -> Result<Vec<Wor
 fn gather(errand: CodingJob, mut caller: Worker, mut answers: Vec<Answer>) -> Answer
     requires caller { IsWorker errand caller }
     requires part { 0 < (view caller.pass).parts }
-    requires answers { All (λ a. IsAnswer errand a) answers.items }
+    requires answers { All (λ a. IsHandedBack errand a) answers.items }
     ensures caller { IfOk result (λ w. IsWorker errand.entry w) }
     ensures parts { IfOk result (λ w. (view w.pass).parts ≡ (view caller.pass).parts + vec_len answers) }
     ensures pushed { IfOk result (λ w. (view w.pass).pushed ≡ (view caller.pass).pushed) }

@@ -39,9 +39,9 @@ pub struct Worker {
 pub type Answer = Result<Worker, Refusal>;
 
 impl<'a> Promise<Answer> for CodingJob<'a> {
-    ghost use Rattle.coding_pool.specs.Worker.{IsAnswer};
+    ghost use Rattle.coding_pool.specs.Worker.{IsHandedBack};
 
-    ghost kept_by = { IsAnswer };
+    ghost kept_by = { IsHandedBack };
 }
 
 impl Worker {

@@ -1,7 +1,7 @@
-pub mod CommandLineLemmas
-pub mod FindingLemmas
-pub mod FormLemmas
-pub mod ReadingLemmas
-pub mod RequestLemmas
-pub mod ShapeLemmas
-pub mod UnknownLemmas
+pub mod ClapResultLemmas
+pub mod CommandArgumentLemmas
+pub mod KnownCommandLemmas
+pub mod ParsedCommandLemmas
+pub mod RequestFaultLemmas
+pub mod SubcommandLemmas
+pub mod UnknownCommandLemmas

@@ -7,10 +7,10 @@ use Rattle.player.specs.Script.{Runs, unread_status}
 use Rattle.soak.specs.Closed.{IsOfClosed}
 use Rattle.soak.specs.Setting.{setting}
 use Rattle.soak.specs.Summary.{summary_text}
-use Rattle.soak.specs.Summary.{status_of as status_of_summary}
+use Rattle.soak.specs.Summary.{exit_status_of as status_of_summary}
 use Rattle.soak.specs.declared.plan.Plan.{Plan}
 use Rattle.soak.specs.declared.summary.Summary.{Summary}
-use Rattle.coding_commands.specs.Fault.{status_of}
+use Rattle.coding_commands.specs.Fault.{exit_status_of}
 use Rattle.coding_commands.specs.Program.{Answers, Contents}
 use Rattle.coding_commands.specs.Request.{Word}
 use Rattle.coding_commands.specs.Request.{Spells as SpellsCoding}
@@ -44,6 +44,6 @@ Soaks plan old new status =
 abbrev pub EndsBy : List Word → Contents → Contents → ℕ → Type 0
 EndsBy words old new status =
     ((asked : CodingRequest) × SpellsCoding words asked × Answers asked old new status)
-    ⊎ ((fault : Fault) × IsFaultOf words fault × (status ≡ status_of fault) × Keeps old new)
+    ⊎ ((fault : Fault) × IsFaultOf words fault × (status ≡ exit_status_of fault) × Keeps old new)
     ⊎ ((file : Word) × (words ≡ codes "run" ∷ file ∷ []) × RunsFile old new status)
     ⊎ ((plan : Plan) × Spells words (request.Soak plan) × Soaks plan old new status)

@@ -35,5 +35,5 @@ IsFaultOf words NotText = ⊥
 IsFaultOf words OutputLost = ⊥
 
 -- the result is the request that the words spell, or why they give none
-abbrev pub IsReading : List Word → Result Request Fault → Type 0
-IsReading words result = MatchResult result (Spells words) (IsFaultOf words)
+abbrev pub ParsesTo : List Word → Result Request Fault → Type 0
+ParsesTo words result = MatchResult result (Spells words) (IsFaultOf words)

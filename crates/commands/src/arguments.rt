@@ -6,7 +6,7 @@ ghost use Rattle.clap.specs.Words.{subcommand_of, subcommand_rows_of};
 ghost use Rattle.tag.specs.declared.refusal.Refusal.TheVariants.{NoMemory};
 ghost use Rattle.commands.specs.CommandLine.{IsForm, cas_form, decode_form, fragments_form, marked_words, positional};
 ghost use Rattle.commands.specs.CommandLine.{run_form, several, soak_form};
-ghost use Rattle.commands.specs.Request.{IsReading};
+ghost use Rattle.commands.specs.Request.{ParsesTo};
 ghost use Rattle.coding_commands.specs.Request.{Word};
 ghost use Rattle.coding_commands.specs.declared.fault.Fault.TheVariants.{Refused, Usage};
 
@@ -19,7 +19,7 @@ use tag::Refusal;
 
 /// The request that the words after the program's name spell.
 pub(crate) fn parse_request(alloc: Global, words: &[String]) -> Result<Request, Fault>
-    ensures { IsReading (map string_bytes words.now) result }
+    ensures { ParsesTo (map string_bytes words.now) result }
 {
     let marked = marked(alloc, words)?;
     let matches = read_words(alloc, marked.as_slice())?;
@@ -143,7 +143,7 @@ fn read_fragments(alloc: Global, found: &ArgMatches<'_>) -> Result<Request, Faul
     ensures { (a b c : Word) → first_value (found_of found.now) (codes "K") ≡ Some a
         → first_value (found_of found.now) (codes "N") ≡ Some b
         → first_value (found_of found.now) (codes "HEX") ≡ Some c
-        → IsReading (codes "fragments" ∷ a ∷ b ∷ c ∷ []) result }
+        → ParsesTo (codes "fragments" ∷ a ∷ b ∷ c ∷ []) result }
 {
     let k = text(found, "K")?;
     let n = text(found, "N")?;
@@ -155,7 +155,7 @@ fn read_decode(alloc: Global, found: &ArgMatches<'_>) -> Result<Request, Fault>
     ensures { (a b : Word) (rest : List Word) → first_value (found_of found.now) (codes "K") ≡ Some a
         → first_value (found_of found.now) (codes "LEN") ≡ Some b
         → unwrap_or (option_map raw_values (matched_of (found_of found.now) (codes "POINT:HEX"))) [] ≡ rest
-        → IsReading (codes "decode" ∷ a ∷ b ∷ rest) result }
+        → ParsesTo (codes "decode" ∷ a ∷ b ∷ rest) result }
 {
     let k = text(found, "K")?;
     let len = text(found, "LEN")?;
@@ -165,7 +165,7 @@ fn read_decode(alloc: Global, found: &ArgMatches<'_>) -> Result<Request, Fault>
 
 fn read_run(alloc: Global, found: &ArgMatches<'_>) -> Result<Request, Fault>
     ensures { (file : Word) → first_value (found_of found.now) (codes "FILE") ≡ Some file
-        → IsReading (codes "run" ∷ file ∷ []) result }
+        → ParsesTo (codes "run" ∷ file ∷ []) result }
 {
     let file = text(found, "FILE")?;
     run_request(alloc, file)
@@ -176,7 +176,7 @@ fn read_soak(found: &ArgMatches<'_>) -> Result<Request, Fault>
         → first_value (found_of found.now) (codes "CALLS") ≡ Some b
         → first_value (found_of found.now) (codes "MOVES") ≡ Some c
         → first_value (found_of found.now) (codes "CHOICES") ≡ Some d
-        → IsReading (codes "soak" ∷ a ∷ b ∷ c ∷ d ∷ []) result }
+        → ParsesTo (codes "soak" ∷ a ∷ b ∷ c ∷ d ∷ []) result }
 {
     let clients = text(found, "CLIENTS")?;
     let calls = text(found, "CALLS")?;

@@ -2,9 +2,9 @@
 ghost use Rattle.std.specs.Prelude.{◌≡◌, ◌∷◌, [], ℕ, List, MatchResult, codes, map};
 ghost use Rattle.words.specs.Number.{IsNumber};
 ghost use Rattle.coding_commands.specs.Request.{Word};
-ghost use Rattle.coding_commands.specs.Request.{HasForm as HasCodingForm, IsReading as IsCodingReading};
+ghost use Rattle.coding_commands.specs.Request.{HasForm as HasCodingForm, ParsesTo as ParsesToCoding};
 ghost use Rattle.coding_commands.specs.declared.fault.Fault.TheVariants.{BadArgument};
-ghost use Rattle.commands.specs.Request.{IsReading};
+ghost use Rattle.commands.specs.Request.{ParsesTo};
 
 use coding_commands::{CodingRequest, Fault};
 use soak::Plan;
@@ -29,7 +29,7 @@ pub(crate) fn fragments_request(
     n: &str,
     digits: &str,
 ) -> Result<Request, Fault>
-    ensures { IsReading (codes "fragments" ∷ k.now ∷ n.now ∷ digits.now ∷ []) result }
+    ensures { ParsesTo (codes "fragments" ∷ k.now ∷ n.now ∷ digits.now ∷ []) result }
 {
     coding(coding_commands::fragments_request(alloc, k, n, digits))
 }
@@ -41,14 +41,14 @@ pub(crate) fn decode_request(
     len: &str,
     words: &[&str],
 ) -> Result<Request, Fault>
-    ensures { IsReading (codes "decode" ∷ k.now ∷ len.now ∷ map (λ w. w.now) words.now) result }
+    ensures { ParsesTo (codes "decode" ∷ k.now ∷ len.now ∷ map (λ w. w.now) words.now) result }
 {
     coding(coding_commands::decode_request(alloc, k, len, words))
 }
 
 /// The request `run FILE`.
 pub(crate) fn run_request(alloc: Global, file: &str) -> Result<Request, Fault>
-    ensures { IsReading (codes "run" ∷ file.now ∷ []) result }
+    ensures { ParsesTo (codes "run" ∷ file.now ∷ []) result }
 {
     let file = String::from_str(alloc, file)?;
     Ok(Request::Run { file })
@@ -61,7 +61,7 @@ pub(crate) fn soak_request(
     moves: &str,
     choices: &str,
 ) -> Result<Request, Fault>
-    ensures { IsReading (codes "soak" ∷ clients.now ∷ calls.now ∷ moves.now ∷ choices.now ∷ []) result }
+    ensures { ParsesTo (codes "soak" ∷ clients.now ∷ calls.now ∷ moves.now ∷ choices.now ∷ []) result }
 {
     let clients = number(clients)?;
     let calls = number(calls)?;
@@ -75,7 +75,7 @@ pub(crate) fn soak_request(
 
 /// A coding request as a request of the program.
 fn coding(read: Result<CodingRequest, Fault>) -> Result<Request, Fault>
-    ensures { (words : List Word) → HasCodingForm words → IsCodingReading words read → IsReading words result }
+    ensures { (words : List Word) → HasCodingForm words → ParsesToCoding words read → ParsesTo words result }
 {
     match read {
         Ok(request) => Ok(Request::Coding { request }),

@@ -1,10 +1,10 @@
-pub mod Beyond
-mod ColumnSums
-pub mod Cut
-pub mod Determined
-pub mod Interpolated
-pub mod Parts
-pub mod Summed
-pub mod Table
-mod Weighted
-pub mod Whole
+pub mod PastEndLemmas
+mod ColumnSumLemmas
+pub mod InterpolationLemmas
+pub mod PointAndFragmentLemmas
+pub mod RowTableLemmas
+pub mod SummedValueLemmas
+pub mod UniqueValueLemmas
+pub mod ValuePrefixLemmas
+mod WeightedSumLemmas
+pub mod WholeBlockLemmas

@@ -12,8 +12,8 @@ use Rattle.register.specs.Causes.{if_message, taken_cause}
 use Rattle.register.specs.View.{took_at}
 use Rattle.cluster.specs.Cluster.{Cluster}
 use Rattle.cluster.specs.Causes.{next, served_cause, can_handle}
-use Rattle.driver.specs.declared.choices.Among.{Among}
-use Rattle.driver.specs.declared.choices.Among.TheVariants as among
+use Rattle.driver.specs.declared.choices.Filter.{Filter}
+use Rattle.driver.specs.declared.choices.Filter.TheVariants as filter
 use Rattle.driver.specs.declared.messages.Handled.{Handled}
 use Rattle.driver.specs.declared.messages.Handled.TheVariants as handled
 
@@ -31,20 +31,21 @@ is_choice cluster call object message = message.call == call && can_handle clust
 abbrev pub choices : Cluster → (call : ℕ) → Object → List ℕ
 choices cluster call object = places (is_choice cluster call object) 0 object.mail
 
--- whether a message is one of those that are looked at and can be handled
-abbrev pub is_among : Cluster → Object → Among → Message → Bool
-is_among cluster object among.Every message = can_handle cluster object message message.body
-is_among cluster object (among.Call call) message = is_choice cluster call object message
+-- whether a message passes the filter and can be handled
+abbrev pub passes : Cluster → Object → Filter → Message → Bool
+passes cluster object filter.All message = can_handle cluster object message message.body
+passes cluster object (filter.Call call) message = is_choice cluster call object message
 
 -- the places of those messages, from a place of the mail on, in mail order
-abbrev pub choices_from : Cluster → Object → Among → (place : ℕ) → List ℕ
-choices_from cluster object among place = places (is_among cluster object among) place (drop place object.mail)
+abbrev pub choices_from : Cluster → Object → Filter → (place : ℕ) → List ℕ
+choices_from cluster object filter place = places (passes cluster object filter) place (drop place object.mail)
 
 -- this place is the one at index `answer` modulo the count, where `answer` is the number that the chooser returns
-abbrev pub Picks : {C : Type 0} → (C → ℕ → ℕ → C → Type 0) → (among : List ℕ) → (before after : C) → (place : ℕ)
+abbrev pub Picks : {C : Type 0} → (C → ℕ → ℕ → C → Type 0) → (candidates : List ℕ) → (before after : C) → (place : ℕ)
     → Type 0
-Picks chooses among before after place =
-    (answer : ℕ) × chooses before (length among) answer after × (slice_get among (answer % length among) ≡ Some place)
+Picks chooses candidates before after place =
+    (answer : ℕ) × chooses before (length candidates) answer after
+    × (slice_get candidates (answer % length candidates) ≡ Some place)
 
 -- the step that handles the message at a place: a request is served, and a reply is taken
 abbrev pub handling : (place : ℕ) → Body → Step
@@ -52,9 +53,9 @@ handling place (body.Request asked) = Step.Serve place
 handling place (body.Reply kind made) = Step.Take place
 
 -- the step that was made for the message at a place
-abbrev pub step_of : (place : ℕ) → Handled → Step
-step_of place handled.Served = Step.Serve place
-step_of place (handled.Taken took) = Step.Take place
+abbrev pub step_of_handled : (place : ℕ) → Handled → Step
+step_of_handled place handled.Served = Step.Serve place
+step_of_handled place (handled.Taken took) = Step.Take place
 
 -- what is returned for the message at a place: a request was served, or a reply was taken
 abbrev pub handled_as : Object → (place : ℕ) → Body → Handled
@@ -62,8 +63,8 @@ handled_as object place (body.Request asked) = handled.Served
 handled_as object place (body.Reply kind made) = handled.Taken (took_at object place)
 
 -- what is returned for the message at a place; none where there is no message
-abbrev pub handled_at : (place : ℕ) → Object → Option Handled
-handled_at place object =
+abbrev pub handled_result_at : (place : ℕ) → Object → Option Handled
+handled_result_at place object =
     option_map (λ (message : Message). handled_as object place message.body) (slice_get object.mail place)
 
 -- why a message is not handled: the cause of serving a request, or of taking a reply

@@ -18,7 +18,7 @@ use Rattle.register.specs.View.{want_at, receipt_at}
 use Rattle.register.specs.declared.receipt.Receipt.{Receipt}
 use Rattle.cluster.specs.Cluster.{Cluster, named, if_named, place_of}
 use Rattle.cluster.specs.Causes.{next, object_cause}
-use Rattle.cluster.specs.May.{MayMake}
+use Rattle.cluster.specs.Preconditions.{MayMake}
 use Rattle.cluster.specs.Steps.{stepped}
 use Rattle.driver.specs.Choices.{Picks, choices, handling, handling_cause}
 use Rattle.driver.specs.Coding.{settling_cause, Settles}
@@ -41,20 +41,20 @@ abbrev pub IsAsking : Object → (number : ℕ) → Step → Type 0
 IsAsking object number step = (call : Call) × (call_at object number ≡ Some call) × (step ≡ asking number call)
 
 -- why the next step of a call is refused
-abbrev pub due_cause : Cluster → (number : ℕ) → Step → Object → Option Refusal
-due_cause cluster number (Step.Advance index) object = advance_cause (next cluster) object number
-due_cause cluster number (Step.Again index) object = again_cause (next cluster) object number
-due_cause cluster number (Step.Post index) object = post_cause (next cluster) object number
-due_cause cluster number (Step.Supply index) object = supplying_cause (next cluster) object number
-due_cause cluster number (Step.Settle index value) object = settling_cause (next cluster) object number
-due_cause cluster number (Step.AnswerCall index) object = answer_cause (next cluster) object number
-due_cause cluster number (Step.Serve place) object = handling_cause cluster place object
-due_cause cluster number (Step.Take place) object = handling_cause cluster place object
-due_cause cluster number _ object = None
+abbrev pub next_step_cause : Cluster → (number : ℕ) → Step → Object → Option Refusal
+next_step_cause cluster number (Step.Advance index) object = advance_cause (next cluster) object number
+next_step_cause cluster number (Step.Again index) object = again_cause (next cluster) object number
+next_step_cause cluster number (Step.Post index) object = post_cause (next cluster) object number
+next_step_cause cluster number (Step.Supply index) object = supplying_cause (next cluster) object number
+next_step_cause cluster number (Step.Settle index value) object = settling_cause (next cluster) object number
+next_step_cause cluster number (Step.AnswerCall index) object = answer_cause (next cluster) object number
+next_step_cause cluster number (Step.Serve place) object = handling_cause cluster place object
+next_step_cause cluster number (Step.Take place) object = handling_cause cluster place object
+next_step_cause cluster number _ object = None
 
 -- why the next step of a call of the object of this name is refused
 abbrev pub turn_cause : Cluster → (name : List ℕ) → (call : ℕ) → Step → Option Refusal
-turn_cause cluster name call step = object_cause cluster name (due_cause cluster call step)
+turn_cause cluster name call step = object_cause cluster name (next_step_cause cluster call step)
 
 -- whether the turn after `count` others asks again, so that it may resend or restart: only the first of a resume does
 abbrev pub asks_again : (resumed : Bool) → (count : ℕ) → Bool
@@ -97,7 +97,7 @@ module _ {C : Type 0} (chooses : C → ℕ → ℕ → C → Type 0) (name : Lis
     pub made : new ≡ stepped old name step
 
   -- the turn that answers the call, with this receipt
-  pub record IsAnswer (again : Bool) (old : Cluster) (before : C) (new : Cluster) (after : C) (receipt : Receipt)
+  pub record IsAnswerTurn (again : Bool) (old : Cluster) (before : C) (new : Cluster) (after : C) (receipt : Receipt)
       : Type 0 where
     pub wants : wanted old name call ≡ Some want.Answer
     pub turn : IsTurn again old before new after
@@ -142,7 +142,7 @@ module _ {C : Type 0} (chooses : C → ℕ → ℕ → C → Type 0) (name : Lis
     pub middle : Cluster
     pub held : C
     pub drives : Drives resumed count old before middle held
-    pub answers : IsAnswer (asks_again resumed count) middle held new after receipt
+    pub answers : IsAnswerTurn (asks_again resumed count) middle held new after receipt
 
   -- fewer than `turns` turns are made, and then one is refused
   pub record IsStopped (resumed : Bool) (turns : ℕ) (old : Cluster) (before : C) (new : Cluster) (after : C)

@@ -1,7 +1,7 @@
 -- The contracts that docs/trusted.md lists do not depend on this file; other contracts and proofs do.
 -- What a round of the driver does.
 use Rattle.std.specs.Prelude.{◌≡◌, ◌≢◌, ℕ, pred, Bool, List, Some, None}
-use Rattle.encoder.specs.Coded.{IsLawful}
+use Rattle.encoder.specs.Coded.{IsCodable}
 use Rattle.encoder.specs.declared.fragment.Piece.{Piece}
 use Rattle.decoder.specs.Pieces.{IsInterpolated}
 use Rattle.record.specs.Steps.{Step}
@@ -10,17 +10,17 @@ use Rattle.register.specs.Causes.{supplying_cause}
 use Rattle.register.specs.View.{coding_at, pieces_at}
 use Rattle.cluster.specs.Cluster.{Cluster, if_named}
 use Rattle.cluster.specs.Causes.{next, object_cause}
-use Rattle.cluster.specs.May.{MayMake}
+use Rattle.cluster.specs.Preconditions.{MayMake}
 use Rattle.cluster.specs.Steps.{stepped}
 use Rattle.driver.specs.declared.round.Round.{Round}
 use Rattle.driver.specs.declared.round.Round.TheVariants as round
 use Rattle.driver.specs.Coding.{settling_cause, GiveBack}
-use Rattle.driver.specs.Driver.{wanted, IsDue, IsTurn, IsAnswer}
+use Rattle.driver.specs.Driver.{wanted, IsDue, IsTurn, IsAnswerTurn}
 
 -- this is the value that the call is to send, with its k and n; it can be encoded, and nothing refuses the supply
 pub record IsToEncode (cluster : Cluster) (name : List ℕ) (call k n : ℕ) (value : List ℕ) : Type 0 where
   pub sent : if_named cluster name (λ object. coding_at object call) ≡ Some (value, k, n)
-  pub lawful : IsLawful k n value
+  pub lawful : IsCodable k n value
   pub room : object_cause cluster name (λ object. supplying_cause (next cluster) object call) ≡ None
 
 -- these are the pieces that the call is to decode; some value has them, and nothing refuses the settle
@@ -53,5 +53,5 @@ module _ {C : Type 0} (chooses : C → ℕ → ℕ → C → Type 0) (name : Lis
   IsRound again old before new after (round.Decode pieces k len) =
       (new ≡ old) × (after ≡ before) × IsToDecode old name call k len pieces.items
   IsRound again old before new after (round.Answered receipt) =
-      IsAnswer chooses name call again old before new after receipt
+      IsAnswerTurn chooses name call again old before new after receipt
   IsRound again old before new after round.Late = ⊥

@@ -8,7 +8,7 @@ use Rattle.register.specs.Causes.{read_cause, write_cause}
 use Rattle.register.specs.declared.receipt.Receipt.{Receipt}
 use Rattle.cluster.specs.Causes.{next, object_cause, moving_cause}
 use Rattle.cluster.specs.Cluster.{Cluster, if_named, layout_of}
-use Rattle.cluster.specs.May.{MayMake}
+use Rattle.cluster.specs.Preconditions.{MayMake}
 use Rattle.cluster.specs.Steps.{stepped}
 use Rattle.driver.specs.declared.whole_call.NotAnswered.{NotAnswered}
 use Rattle.driver.specs.declared.whole_call.NotAnswered.TheVariants as unanswered

@@ -1,65 +1,65 @@
 //! The messages of an object that can be handled, and which of them is chosen.
 ghost use Rattle.std.specs.Prelude.{◌≡◌, [], length, slice_get, MatchOption};
-ghost use Rattle.driver.specs.Choices.{Picks, choices_from, is_among};
+ghost use Rattle.driver.specs.Choices.{Picks, choices_from, passes};
 
 use crate::Chooser;
 use cluster::Cluster;
 use mail::Message;
 use register::Register;
 
-/// Among which messages of an object a choice is made.
+/// The messages of an object from which one is chosen.
 #[derive(Clone, Copy, Debug)]
-pub enum Among {
+pub enum Filter {
     /// All that wait for the object.
-    Every,
+    All,
     /// Those of the call of this number.
     Call(u64),
 }
 
-/// The place of the chosen message. The choice is made among the messages that `among` names and that can be handled,
+/// The place of the chosen message. The choice is made among the messages that pass `filter` and that can be handled,
 /// from place `from` of the mail on. Of these, in mail order, it is the message at the number that the chooser returns,
 /// modulo their count. A message can be handled if it is a reply, or a request to a server that is up. None, and no
 /// choice is made, where there is no such message.
 pub fn choose<C: Chooser>(
     cluster: &Cluster,
     register: &Register,
-    among: Among,
+    filter: Filter,
     from: usize,
     chooser: &mut C,
 ) -> Option<usize>
     ensures { MatchOption result
-        ((choices_from cluster.now register.now.object among from ≡ []) × (chooser.new ≡ chooser.old))
-        (λ place. Picks C.chooses (choices_from cluster.now register.now.object among from) chooser.old chooser.new
+        ((choices_from cluster.now register.now.object filter from ≡ []) × (chooser.new ≡ chooser.old))
+        (λ place. Picks C.chooses (choices_from cluster.now register.now.object filter from) chooser.old chooser.new
         place) }
 {
-    let count = choice_count(cluster, register, among, from);
+    let count = choice_count(cluster, register, filter, from);
     if count == 0 {
         return None;
     }
     choice_at(
         cluster,
         register,
-        among,
+        filter,
         from,
         chooser.choose(count) % count,
     )
 }
 
-/// The place of one of the messages that `among` names and that can be handled, from place `from` of the mail on: in
+/// The place of one of the messages that pass `filter` and that can be handled, from place `from` of the mail on: in
 /// mail order, the message at index `skipped`, from 0. None where there are not so many.
 pub fn choice_at(
     cluster: &Cluster,
     register: &Register,
-    among: Among,
+    filter: Filter,
     from: usize,
     skipped: usize,
 ) -> Option<usize>
-    ensures { result ≡ slice_get (choices_from cluster.now register.now.object among from) skipped }
+    ensures { result ≡ slice_get (choices_from cluster.now register.now.object filter from) skipped }
 {
     let mail = register.mail_view();
     let mut left = skipped;
     for place in from..mail.len() {
-        if is_among(cluster, register, among, mail.at(place)) {
+        if passes(cluster, register, filter, mail.at(place)) {
             if left == 0 {
                 return Some(place);
             }
@@ -70,25 +70,25 @@ pub fn choice_at(
 }
 
 // How many messages can be handled, from a place of the mail on.
-fn choice_count(cluster: &Cluster, register: &Register, among: Among, from: usize) -> usize
-    ensures { result ≡ length (choices_from cluster.now register.now.object among from) }
+fn choice_count(cluster: &Cluster, register: &Register, filter: Filter, from: usize) -> usize
+    ensures { result ≡ length (choices_from cluster.now register.now.object filter from) }
 {
     let mail = register.mail_view();
     let mut count = 0;
     for place in from..mail.len() {
-        if is_among(cluster, register, among, mail.at(place)) {
+        if passes(cluster, register, filter, mail.at(place)) {
             count += 1;
         }
     }
     count
 }
 
-// Whether a message is one of those that are looked at and can be handled.
-fn is_among(cluster: &Cluster, register: &Register, among: Among, message: &Message) -> bool
-    ensures { result ≡ is_among cluster.now register.now.object among message.now }
+// Whether a message passes the filter and can be handled.
+fn passes(cluster: &Cluster, register: &Register, filter: Filter, message: &Message) -> bool
+    ensures { result ≡ passes cluster.now register.now.object filter message.now }
 {
-    match among {
-        Among::Every => cluster.handles(register, message),
-        Among::Call(call) => message.call == call && cluster.handles(register, message),
+    match filter {
+        Filter::All => cluster.handles(register, message),
+        Filter::Call(call) => message.call == call && cluster.handles(register, message),
     }
 }

@@ -9,7 +9,7 @@ ghost use Rattle.register.specs.View.{pieces_at};
 ghost use Rattle.decoder.specs.Pieces.{IsInterpolated};
 ghost use Rattle.cluster.specs.Cluster.{named};
 ghost use Rattle.cluster.specs.Causes.{next, object_cause};
-ghost use Rattle.cluster.specs.May.{MayMake};
+ghost use Rattle.cluster.specs.Preconditions.{MayMake};
 ghost use Rattle.cluster.specs.Steps.{stepped};
 ghost use Rattle.driver.specs.Coding.{settling_cause};
 ghost use Rattle.driver.specs.Driver.{wanted};

@@ -1,6 +1,6 @@
 //! The driver of one call, for one thread.
 ghost use Rattle.std.specs.Prelude.{◌≡◌, IfOk, IfErr, OnErr, MatchOption};
-ghost use Rattle.driver.specs.Driver.{asks_again, IsAnswer, IsFinished, IsOpen, IsRefused, IsTurn, IsUnfinished};
+ghost use Rattle.driver.specs.Driver.{asks_again, IsAnswerTurn, IsFinished, IsOpen, IsRefused, IsTurn, IsUnfinished};
 
 use crate::Chooser;
 use crate::coding::{settle_pieces, supply_value};
@@ -75,7 +75,8 @@ fn make_turn<C: Chooser>(
         (λ o. MatchOption o
         (IsTurn C.chooses name.entry.now call asks_again cluster.old chooser.old cluster.new chooser.new
         × IsOpen cluster.new name.entry.now call)
-        (λ r. IsAnswer C.chooses name.entry.now call asks_again cluster.old chooser.old cluster.new chooser.new r)) }
+        (λ r. IsAnswerTurn C.chooses name.entry.now call asks_again cluster.old chooser.old cluster.new chooser.new
+        r)) }
 
     ensures refused { IfErr result
         (λ e. IsRefused C.chooses name.entry.now call cluster.old asks_again chooser.old chooser.new e) }

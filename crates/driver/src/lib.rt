@@ -1,7 +1,7 @@
 //! Brings a call to its answer: single rounds, and whole calls for one thread.
 #![tactic(auto)]
 
-pub use choices::{Among, choice_at, choose};
+pub use choices::{Filter, choice_at, choose};
 pub use chooser::{Chooser, First};
 pub use coding::{settle, supply};
 pub use driver::finish;

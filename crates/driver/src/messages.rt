@@ -4,13 +4,13 @@ ghost use Rattle.tag.specs.Refusal.{IsByCause, IsExactlyByCause};
 ghost use Rattle.record.specs.declared.stage.Want.TheVariants as want;
 ghost use Rattle.cluster.specs.Cluster.{if_named};
 ghost use Rattle.cluster.specs.Causes.{object_cause, place_cause};
-ghost use Rattle.cluster.specs.May.{MayMake};
+ghost use Rattle.cluster.specs.Preconditions.{MayMake};
 ghost use Rattle.cluster.specs.Steps.{stepped};
-ghost use Rattle.driver.specs.Choices.{Picks, choices, handled_at, handling_cause, request_at, step_of};
+ghost use Rattle.driver.specs.Choices.{Picks, choices, handled_result_at, handling_cause, request_at, step_of_handled};
 ghost use Rattle.driver.specs.Driver.{wanted, IsTurn, IsRefused};
 
 use crate::Chooser;
-use crate::choices::{Among, choose};
+use crate::choices::{Filter, choose};
 use cluster::Cluster;
 use mail::Body;
 use phase::Took;
@@ -31,9 +31,9 @@ pub enum Handled {
 /// `NoObject` where no object has this name, `NoMessage` where there is no message at this place, `Down` where it is a
 /// request to a server that is down, and `Full` as for `Cluster::serve` and `Cluster::take`.
 pub fn handle(cluster: &mut Cluster, name: &str, place: usize) -> Result<Handled, Refusal>
-    ensures step { IfOk result (λ h. cluster.new ≡ stepped cluster.old name.entry.now (step_of place h)) }
-    ensures may { IfOk result (λ h. MayMake cluster.old name.entry.now (step_of place h)) }
-    ensures handled { IfOk result (λ h. if_named cluster.old name.entry.now (handled_at place) ≡ Some h) }
+    ensures step { IfOk result (λ h. cluster.new ≡ stepped cluster.old name.entry.now (step_of_handled place h)) }
+    ensures may { IfOk result (λ h. MayMake cluster.old name.entry.now (step_of_handled place h)) }
+    ensures handled { IfOk result (λ h. if_named cluster.old name.entry.now (handled_result_at place) ≡ Some h) }
     ensures cause { IsByCause (object_cause cluster.old name.entry.now (handling_cause cluster.old place)) result }
     ensures unchanged { OnErr result (cluster.new ≡ cluster.old) }
 {
@@ -49,9 +49,9 @@ fn handle_as(
     is_request: bool,
 ) -> Result<Handled, Refusal>
     requires { if_named cluster.old name.now (request_at place) ≡ Some is_request }
-    ensures step { IfOk result (λ h. cluster.new ≡ stepped cluster.old name.entry.now (step_of place h)) }
-    ensures may { IfOk result (λ h. MayMake cluster.old name.entry.now (step_of place h)) }
-    ensures handled { IfOk result (λ h. if_named cluster.old name.entry.now (handled_at place) ≡ Some h) }
+    ensures step { IfOk result (λ h. cluster.new ≡ stepped cluster.old name.entry.now (step_of_handled place h)) }
+    ensures may { IfOk result (λ h. MayMake cluster.old name.entry.now (step_of_handled place h)) }
+    ensures handled { IfOk result (λ h. if_named cluster.old name.entry.now (handled_result_at place) ≡ Some h) }
     ensures cause { IsByCause (object_cause cluster.old name.entry.now (handling_cause cluster.old place)) result }
     ensures unchanged { OnErr result (cluster.new ≡ cluster.old) }
 {
@@ -120,5 +120,5 @@ fn chosen<C: Chooser>(
         (λ place. Picks C.chooses (choices cluster.now call register.now.object) chooser.old chooser.new place) }
 {
     let from = register.mail_view().first_place(call);
-    choose(cluster, register, Among::Call(call), from, chooser)
+    choose(cluster, register, Filter::Call(call), from, chooser)
 }

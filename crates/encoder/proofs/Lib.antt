@@ -1,3 +1,3 @@
-pub mod Columns
-pub mod Places
-pub mod PointSums
+pub mod ColumnLemmas
+pub mod PointSumLemmas
+pub mod RowPlaceLemmas

@@ -15,7 +15,7 @@ pub record Coding : Type 0 where
 
 -- a value may be coded with k and n: k is at least 1 and at most n, n is at most what a layout may have of members, and
 -- the value is not too long
-pub record IsLawful (k n : ℕ) (value : List ℕ) : Type 0 where
+pub record IsCodable (k n : ℕ) (value : List ℕ) : Type 0 where
   pub some : 1 ≤ k
   pub within : k ≤ n
   pub most : n ≤ MOST_MEMBERS

@@ -6,8 +6,8 @@ use Rattle.dot_kernel.specs.Dot.{dot_byte}
 use Rattle.encoder.specs.Fragment.{fragment_len, fragment_byte}
 
 -- source j is block j of the value, as far as the value goes
-abbrev pub AreBlocks : List (List ℕ) → ℕ → ℕ → List ℕ → Type 0
-AreBlocks sources k size value =
+abbrev pub AreBlocksOfValue : List (List ℕ) → ℕ → ℕ → List ℕ → Type 0
+AreBlocksOfValue sources k size value =
     (j : ℕ) → j < k → slice_index_or sources j [] ≡ take size (drop (j * size) value)
 
 -- in each of the first rows, of `size` bytes each, stand the sums by the powers of its point, from the first point on
@@ -16,7 +16,7 @@ ArePoints out rows sources size first =
     (r b : ℕ) → r < rows → b < size → slice_index out (r * size + b) ≡ dot_byte (field_power (first + r)) sources b
 
 -- in each of the first rows stands the value's fragment at its point, from the first point on
-abbrev pub AreFragments : List ℕ → ℕ → List ℕ → ℕ → ℕ → Type 0
-AreFragments out rows value k first =
+abbrev pub AreFragmentRows : List ℕ → ℕ → List ℕ → ℕ → ℕ → Type 0
+AreFragmentRows out rows value k first =
     (r b : ℕ) → r < rows → b < fragment_len k (length value)
     → slice_index out (r * fragment_len k (length value) + b) ≡ fragment_byte value k (first + r) b

@@ -2,7 +2,7 @@ ghost use Rattle.std.specs.Prelude.{◌≡◌, ℕ, ◌+◌, ◌*◌, ◌<◌, �
 ghost use Rattle.std.specs.Prelude.{length, take, drop, slice_index, IfOk, IfErr};
 ghost use Rattle.dot_kernel.specs.Dot.{bytes_of};
 ghost use Rattle.encoder.specs.Fragment.{fragment, fragment_len, piece_of};
-ghost use Rattle.encoder.specs.Points.{AreBlocks, AreFragments};
+ghost use Rattle.encoder.specs.Points.{AreBlocksOfValue, AreFragmentRows};
 
 use crate::Piece;
 use crate::points::write_points;
@@ -36,7 +36,7 @@ pub fn encode_into(k: u8, n: u8, value: &[u8], out: &mut [u8])
     requires threshold { 1 ≤ k }
     requires longest { length value.now ≤ LONGEST_VALUE }
     requires room { length out.old ≡ n * fragment_len k (length value.now) }
-    ensures { AreFragments out.new n value.now k 0 }
+    ensures { AreFragmentRows out.new n value.now k 0 }
 {
     write_fragments(k, 0, n as usize, value, out);
 }
@@ -63,7 +63,7 @@ pub(crate) fn fragments_from(
     requires points { first + n ≤ 256 }
     requires longest { length value.now ≤ LONGEST_VALUE }
     ensures len { IfOk result (λ out. length out.items ≡ n * fragment_len k (length value.now)) }
-    ensures fragments { IfOk result (λ out. AreFragments out.items n value.now k first) }
+    ensures fragments { IfOk result (λ out. AreFragmentRows out.items n value.now k first) }
 {
     let block_len = value.len().div_ceil(k as usize);
     let mut out = vec![in alloc; 0u8; n as usize * block_len]?;
@@ -77,7 +77,7 @@ fn write_fragments(k: u8, first: usize, n: usize, value: &[u8], out: &mut [u8])
     requires points { first + n ≤ 256 }
     requires longest { length value.now ≤ LONGEST_VALUE }
     requires room { length out.old ≡ n * fragment_len k (length value.now) }
-    ensures { AreFragments out.new n value.now k first }
+    ensures { AreFragmentRows out.new n value.now k first }
 {
     // To make room for the most blocks costs as much as to code a small value.
     if k as usize <= FEW_BLOCKS {
@@ -102,7 +102,7 @@ fn write_blocks<'a>(
     requires points { first + n ≤ 256 }
     requires longest { length value.now ≤ LONGEST_VALUE }
     requires room { length out.old ≡ n * fragment_len (length blocks.old) (length value.now) }
-    ensures { AreFragments out.new n value.now (length blocks.old) first }
+    ensures { AreFragmentRows out.new n value.now (length blocks.old) first }
 {
     let block_len = value.len().div_ceil(blocks.len());
     fill_blocks(blocks, value, block_len);
@@ -113,7 +113,7 @@ fn write_blocks<'a>(
 /// end is shorter, and one past it is empty.
 pub fn fill_blocks<'a>(blocks: &mut [&'a [u8]], value: &'a [u8], block_len: usize)
     requires { length blocks.old * block_len < 2 ^ 64 }
-    ensures { AreBlocks (bytes_of blocks.new) (length blocks.old) block_len value.now }
+    ensures { AreBlocksOfValue (bytes_of blocks.new) (length blocks.old) block_len value.now }
 {
     for j in 0..blocks.len() {
         blocks[j] = block(value, block_len, j);

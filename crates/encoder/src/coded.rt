@@ -1,8 +1,8 @@
 ghost use Rattle.std.specs.Prelude.{◌≡◌, ◌*◌, ◌<◌, ◌≤◌, length, IfOk, IfErr};
 ghost use Rattle.tag.specs.Refusal.{IsByCause};
 ghost use Rattle.encoder.specs.Fragment.{fragment_len, piece_of};
-ghost use Rattle.encoder.specs.Points.{AreFragments};
-ghost use Rattle.encoder.specs.Coded.{IsLawful, ArePieces, encode_cause};
+ghost use Rattle.encoder.specs.Points.{AreFragmentRows};
+ghost use Rattle.encoder.specs.Coded.{IsCodable, ArePieces, encode_cause};
 
 use crate::Piece;
 use crate::block::fragments_from;
@@ -23,13 +23,13 @@ pub struct Coded {
 
 impl Model for Coded {
     ghost use Rattle.std.specs.Prelude.{◌≡◌, length};
-    ghost use Rattle.encoder.specs.Coded.{Coding, IsLawful, ArePieces};
+    ghost use Rattle.encoder.specs.Coded.{Coding, IsCodable, ArePieces};
 
     ghost Value = { Coding };
 
     ghost view = { λ c. record { k = c.k; n = c.n; value = c.value } };
 
-    ghost invariant = { λ c. IsLawful c.k c.n c.value
+    ghost invariant = { λ c. IsCodable c.k c.n c.value
         × (length c.pieces.items ≡ c.n) × ArePieces c.value c.k c.pieces.items };
 }
 
@@ -37,7 +37,7 @@ impl Coded {
     /// The value that was coded.
     pub fn value(&self) -> &Bytes
         ensures value { result.now ≡ self.now.value }
-        ensures lawful { IsLawful self.now.k self.now.n self.now.value }
+        ensures lawful { IsCodable self.now.k self.now.n self.now.value }
     {
         &self.value
     }
@@ -45,7 +45,7 @@ impl Coded {
     /// How many pieces determine the value.
     pub fn k(&self) -> u8
         ensures k { result ≡ self.now.k }
-        ensures lawful { IsLawful self.now.k self.now.n self.now.value }
+        ensures lawful { IsCodable self.now.k self.now.n self.now.value }
     {
         self.k
     }
@@ -53,7 +53,7 @@ impl Coded {
     /// How many pieces there are.
     pub fn n(&self) -> u8
         ensures n { result ≡ self.now.n }
-        ensures lawful { IsLawful self.now.k self.now.n self.now.value }
+        ensures lawful { IsCodable self.now.k self.now.n self.now.value }
     {
         self.n
     }
@@ -107,7 +107,7 @@ fn piece_in(fragments: &Bytes, k: u8, n: u8, i: u8, value: &[u8]) -> Result<Piec
     requires longest { length value.now ≤ LONGEST_VALUE }
     requires within { i < n }
     requires len { length fragments.now ≡ n * fragment_len k (length value.now) }
-    requires fragments { AreFragments fragments.now n value.now k 0 }
+    requires fragments { AreFragmentRows fragments.now n value.now k 0 }
     ensures { IfOk result (λ p. p ≡ piece_of value.now k i) }
 {
     let block_len = value.len().div_ceil(k as usize);
@@ -122,7 +122,7 @@ fn piece_in(fragments: &Bytes, k: u8, n: u8, i: u8, value: &[u8]) -> Result<Piec
 
 /// Puts a value together with its `n` pieces, each made by `piece`. It takes no memory.
 pub fn assemble(k: u8, n: u8, value: Bytes, pieces: Vec<Piece>) -> Coded
-    requires lawful { IsLawful k n value }
+    requires lawful { IsCodable k n value }
     requires count { length pieces.items ≡ n }
     requires pieces { ArePieces value k pieces.items }
     ensures { result ≡ record { k = k; n = n; value = value } }

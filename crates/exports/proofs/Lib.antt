@@ -1,4 +1,4 @@
-pub mod ClientLemmas
 pub mod FollowsLemmas
+pub mod FreeClientLemmas
 pub mod ListLemmas
 pub mod TextLemmas

@@ -7,8 +7,8 @@ use Rattle.record.specs.declared.call.Operation.TheVariants as operation
 use Rattle.atomicity.specs.Atomic.{MayStand, entry_at}
 
 -- entry i, counted from 1, is that of call i, and each write and each answered read has a value
-abbrev pub AreLawful : List Entry → Type 0
-AreLawful entries = (index : ℕ) (entry : Entry) → slice_get entries index ≡ Some entry →
+abbrev pub AreLawfulEntries : List Entry → Type 0
+AreLawfulEntries entries = (index : ℕ) (entry : Entry) → slice_get entries index ≡ Some entry →
     (entry.call ≡ suc index) × (MayStand entry → IsSome entry.value)
 
 -- each of the listed calls may stand in a sequence

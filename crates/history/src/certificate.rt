@@ -5,7 +5,7 @@ ghost use Rattle.std.specs.List.{IsDistinct};
 ghost use Rattle.layout.specs.Quorum.{has};
 ghost use Rattle.record.specs.declared.call.Operation.TheVariants as operation;
 ghost use Rattle.atomicity.specs.Atomic.{IsSequence, IsRegister, KeepsOrder, MayStand, entry_at};
-ghost use Rattle.history.specs.Check.{AreLawful, MayAllStand, must_stand, named};
+ghost use Rattle.history.specs.Check.{AreLawfulEntries, MayAllStand, must_stand, named};
 
 use record::{Entry, Operation};
 use tag::{CallId, Stamp};
@@ -16,13 +16,13 @@ use tag::{CallId, Stamp};
 /// The time grows with the length of the list times the number of calls that overlap one call. Apart from a few passes,
 /// it goes into the search for repeats, which looks back from each call over the calls that overlap it.
 pub fn check(entries: &[Entry], order: &[CallId]) -> bool
-    ensures { IsTrue result ↔ (AreLawful entries.now × IsSequence entries.now order.now) }
+    ensures { IsTrue result ↔ (AreLawfulEntries entries.now × IsSequence entries.now order.now) }
 {
     are_lawful(entries) && is_sequence(entries, order)
 }
 
 fn is_sequence(entries: &[Entry], order: &[CallId]) -> bool
-    requires { AreLawful entries.now }
+    requires { AreLawfulEntries entries.now }
     ensures { IsTrue result ↔ IsSequence entries.now order.now }
 {
     may_all_stand(entries, order)
@@ -34,7 +34,7 @@ fn is_sequence(entries: &[Entry], order: &[CallId]) -> bool
 
 /// Whether entry i, counted from 1, is that of call i, and each write and each answered read has a value.
 fn are_lawful(entries: &[Entry]) -> bool
-    ensures { IsTrue result ↔ AreLawful entries.now }
+    ensures { IsTrue result ↔ AreLawfulEntries entries.now }
 {
     for (place, entry) in entries.iter().enumerate() {
         if !is_lawful_as(entry, place as u64 + 1) {
@@ -152,7 +152,7 @@ fn answered_in(entries: &[Entry], order: &[CallId]) -> usize
 
 /// Whether each read of the list has the value of the nearest write before it, or the empty value where there is none.
 fn is_register(entries: &[Entry], order: &[CallId]) -> bool
-    requires lawful { AreLawful entries.now }
+    requires lawful { AreLawfulEntries entries.now }
     requires standing { MayAllStand entries.now order.now }
     ensures { IsTrue result ↔ IsRegister [] (named entries.now order.now) }
 {

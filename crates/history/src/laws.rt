@@ -7,20 +7,20 @@ ghost use Rattle.record.specs.Records.{Object};
 ghost use Rattle.atomicity.specs.Sequence.{IsTagOrder};
 ghost use Rattle.soundness.specs.Sound.{IsSound};
 ghost use Rattle.record.specs.declared.call.TaggedCall.{TaggedCall as Tagged};
-ghost use Rattle.history.specs.Calls.{AreCallsOf, AreInTurn};
-ghost use Rattle.history.specs.Check.{AreLawful};
+ghost use Rattle.history.specs.Calls.{AreCallsOf, AreInCallOrder};
+ghost use Rattle.history.specs.Check.{AreLawfulEntries};
 
 /// A law: the calls of a sound record are in the order of their numbers and of their steps, as `order_by_tags`
 /// requires.
 pub fn calls_are_in_turn()
     ensures { (fragment : Code) (object : Object) (last : ℕ) (calls : List Tagged) → IsSound fragment object last
-        → AreCallsOf object calls → AreInTurn calls }
+        → AreCallsOf object calls → AreInCallOrder calls }
 {}
 
 /// A law: the entries of a sound record are lawful, as `check` demands.
 pub fn entries_are_lawful()
     ensures { (fragment : Code) (object : Object) (last : ℕ) → IsCode fragment → IsSound fragment object last
-        → AreLawful (entries object) }
+        → AreLawfulEntries (entries object) }
 {}
 
 /// A law: the order that the tags define for the calls of a sound record is a sequence of its entries, so `check`

@@ -1,2 +1,2 @@
-pub mod Lanes
-pub mod Masks
+pub mod EqualityMaskLemmas
+pub mod LaneLemmas

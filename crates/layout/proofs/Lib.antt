@@ -1,3 +1,3 @@
-pub mod Distinct
-mod Places
-pub mod Quorums
+pub mod DistinctMemberLemmas
+mod MarkedPlaceLemmas
+pub mod QuorumLemmas

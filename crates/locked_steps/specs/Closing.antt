@@ -67,13 +67,13 @@ are_distinct [] = true
 are_distinct (k ∷ ks) = not (list_any (λ q. same_key q k) ks) && are_distinct ks
 
 -- there are this many seats, and their numbers are those below the count, each once
-pub record AreNumbered (count : ℕ) (seats : List SeatState) : Type 0 where
+pub record AreAllSeats (count : ℕ) (seats : List SeatState) : Type 0 where
   pub length : length seats ≡ count
   pub once : (k : ℕ) → k < count → count_by (λ s. s.number == k) seats ≡ 1
 
 -- the seats fit the history: all are there, their records agree with it, and no call is recorded twice
 pub record Fit (count : ℕ) (cluster : Cluster) (seats : List SeatState) : Type 0 where
-  pub numbered : AreNumbered count seats
+  pub numbered : AreAllSeats count seats
   pub stand : AllStand cluster (all_records seats)
   pub distinct : are_distinct (map key_of (all_records seats)) ≡ true
 

@@ -7,7 +7,7 @@ use Rattle.cluster.specs.Atomic.{AreSound}
 use Rattle.cluster.specs.Causes.{layout_cause, create_cause, server_cause}
 use Rattle.cluster.specs.Cluster.{Cluster, layout_of}
 use Rattle.cluster.specs.Kept.{IsKeptCluster}
-use Rattle.cluster.specs.May.{MayMake}
+use Rattle.cluster.specs.Preconditions.{MayMake}
 use Rattle.cluster.specs.Steps.{stepped, with_layout, with_server, created}
 
 -- one step leads from the one cluster to the other, and may be made: a step of an object, which its record allows, or a

@@ -15,7 +15,7 @@ use Rattle.cluster.specs.Steps.{stepped}
 use Rattle.driver.specs.Driver.{IsRefused}
 use Rattle.locked_steps.specs.Moves.{asked_if}
 use Rattle.driver.specs.Rounds.{IsRound}
-use Rattle.locked_steps.specs.Seats.{SeatState, Pending, Settles, asked_once, unless_stranger}
+use Rattle.locked_steps.specs.Seats.{SeatState, Pending, SettlesPending, asked_once, unless_stranger}
 use Rattle.driver.specs.declared.round.Round.{Round}
 use Rattle.driver.specs.declared.round.Round.TheVariants as round
 use Rattle.locked_steps.specs.declared.handed_in.HandedIn.{HandedIn}
@@ -94,7 +94,7 @@ module _ {C : Type 0} (chooses : C → ℕ → ℕ → C → Type 0) where
 
 -- the seat after a round: an answer settles its call, and any other round leaves the seat as it is
 abbrev pub SeatKeeps : SeatState → Round → SeatState → Type 0
-SeatKeeps s (round.Answered receipt) t = Settles s.pending s receipt t
+SeatKeeps s (round.Answered receipt) t = SettlesPending s.pending s receipt t
 SeatKeeps s _ t = t ≡ s
 
 -- the seat after a round; a round that asks again is counted

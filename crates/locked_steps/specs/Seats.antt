@@ -128,14 +128,14 @@ settled s r t =
     }
 
 -- there is a pending call, and the receipt has its number
-abbrev pub IsOf : Option Pending → Receipt → Type 0
-IsOf None receipt = ⊥
-IsOf (Some p) receipt = receipt.call ≡ p.kept.call
+abbrev pub IsReceiptOfPending : Option Pending → Receipt → Type 0
+IsReceiptOfPending None receipt = ⊥
+IsReceiptOfPending (Some p) receipt = receipt.call ≡ p.kept.call
 
 -- the pending call gets this receipt, whose answer is later than its call and than all that the seat has seen
-abbrev pub Settles : Option Pending → SeatState → Receipt → SeatState → Type 0
-Settles None s receipt t = ⊥
-Settles (Some p) s receipt t =
+abbrev pub SettlesPending : Option Pending → SeatState → Receipt → SeatState → Type 0
+SettlesPending None s receipt t = ⊥
+SettlesPending (Some p) s receipt t =
     (receipt.call ≡ p.kept.call) × (receipt.called < receipt.answered) × (s.floor < receipt.answered)
     × (t ≡ settled s p.kept receipt)
 
@@ -189,7 +189,7 @@ AddsPending first s name what new =
 abbrev pub AddsAnswered : (first : Cluster) → SeatState → (name : List ℕ) → Begin → Receipt → SeatState → Type 0
 AddsAnswered first s name what receipt new =
     (begun_seat : SeatState)
-    × AddsPending first s name what begun_seat × Settles begun_seat.pending begun_seat receipt new
+    × AddsPending first s name what begun_seat × SettlesPending begun_seat.pending begun_seat receipt new
 
 -- in some state of the cluster the call is refused with this refusal, by its cause or for want of memory
 abbrev pub BeginsNot : (first : Cluster) → SeatState → (name : List ℕ) → Begin → Refusal → Type 0

@@ -35,7 +35,7 @@ pub fn begin_in<L: StoreName>(
     ensures unchanged { OnErr result (booked.new ≡ booked.old) }
     ensures kept { OnErr result (seat.new ≡ seat.old) }
 {
-    booked.cluster.keeping();
+    booked.cluster.invariant();
     if seat.floor > booked.cluster.counter() {
         return Err(Refusal::Stranger);
     }

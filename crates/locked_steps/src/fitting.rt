@@ -3,7 +3,7 @@ ghost use Rattle.std.specs.Prelude.{◌≡◌, ◌+◌, ◌^◌, ◌<◌, ◌==�
 ghost use Rattle.std.specs.Prelude.{length, map, vec_len};
 ghost use Rattle.std.specs.List.{AllByRecursion};
 ghost use Rattle.tag.specs.declared.refusal.Refusal.TheVariants.{NoMemory};
-ghost use Rattle.locked_steps.specs.Closing.{AllStand, AreNumbered, Fit};
+ghost use Rattle.locked_steps.specs.Closing.{AllStand, AreAllSeats, Fit};
 ghost use Rattle.locked_steps.specs.Closing.{all_records, are_distinct, key_of, receipts_of};
 ghost use Rattle.locked_steps.specs.Seats.{IsRising, records_of};
 
@@ -84,7 +84,7 @@ fn check_records(
 
 // Whether the seats are numbered from 0, each number once.
 fn are_numbered<L: StoreName>(seats: &[Seat<L>], count: u32) -> bool
-    ensures { IsTrue result ↔ AreNumbered count seats.now }
+    ensures { IsTrue result ↔ AreAllSeats count seats.now }
 {
     if seats.len() != count as usize {
         return false;

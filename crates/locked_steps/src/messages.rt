@@ -7,7 +7,7 @@ ghost use Rattle.locked_steps.specs.Messages.{Disturbs, DisturbsNot, Stirs, Stir
 
 use crate::booked::{Booked, StoreName};
 use cluster::Cluster;
-use driver::{Among, Chooser, choose, handle};
+use driver::{Chooser, Filter, choose, handle};
 use tag::Refusal;
 
 /// Handles one message of an object, the one that `chooser` chooses among those that can be handled: a request to a
@@ -25,7 +25,7 @@ pub fn stir_in<L: StoreName, C: Chooser>(
     ensures refused { IfErr result (λ e. StirsNot C.chooses name.now booked.old chooser.old chooser.new e) }
     ensures unchanged { OnErr result (booked.new ≡ booked.old) }
 {
-    booked.cluster.keeping();
+    booked.cluster.invariant();
     stir(&mut booked.cluster, name, chooser)
 }
 
@@ -38,7 +38,7 @@ fn stir<C: Chooser>(cluster: &mut Cluster, name: &str, chooser: &mut C) -> Resul
     ensures course { PreservesReachable cluster.old cluster.new }
 {
     let register = cluster.register(name)?;
-    let Some(place) = choose(cluster, register, Among::Every, 0, chooser) else {
+    let Some(place) = choose(cluster, register, Filter::All, 0, chooser) else {
         return Ok(false);
     };
     handle(cluster, name, place)?;
@@ -61,7 +61,7 @@ pub fn disturb_in<L: StoreName, C: Chooser>(
     ensures refused { IfErr result (λ e. DisturbsNot C.chooses name.now booked.old chooser.old chooser.new e) }
     ensures unchanged { OnErr result (booked.new ≡ booked.old) }
 {
-    booked.cluster.keeping();
+    booked.cluster.invariant();
     disturb(&mut booked.cluster, name, chooser)
 }
 

@@ -44,7 +44,7 @@ pub fn begin_move_in<L: StoreName>(
     ensures unchanged { OnErr result (booked.new ≡ booked.old) }
     ensures kept { OnErr result (admin.new ≡ admin.old) }
 {
-    booked.cluster.keeping();
+    booked.cluster.invariant();
     let object = booked.cluster.place(name)?;
     if admin.pending.is_some() {
         return Err(Refusal::MovePending);
@@ -80,7 +80,7 @@ pub fn has_move_in<L: StoreName>(booked: &Booked<L>, admin: &Admin<L>) -> bool
     ensures state { IsStateOf L.first booked.now }
     ensures has { result ≡ has_pending_move booked.now admin.now.moving }
 {
-    booked.cluster.keeping();
+    booked.cluster.invariant();
     let Some(pending) = admin.pending else {
         return false;
     };
@@ -114,7 +114,7 @@ pub fn move_round_in<L: StoreName, C: Chooser>(
     ensures unchanged { OnErr result (booked.new ≡ booked.old) }
     ensures kept { OnErr result (admin.new ≡ admin.old) }
 {
-    booked.cluster.keeping();
+    booked.cluster.invariant();
     let Some(pending) = admin.pending else {
         return Err(Refusal::NoCall);
     };

@@ -37,7 +37,7 @@ pub fn admin_in<L: StoreName>(
     ensures unchanged { OnErr result (booked.new ≡ booked.old) }
     ensures kept { OnErr result (admin.new ≡ admin.old) }
 {
-    booked.cluster.keeping();
+    booked.cluster.invariant();
     let id = carry_out(&mut booked.cluster, order)?;
     admin.note_order(&booked.cluster);
     Ok(id)

@@ -32,7 +32,7 @@ pub fn retire_in<L: StoreName>(
     ensures unchanged { OnErr result (booked.new ≡ booked.old) }
     ensures kept { OnErr result (admin.new ≡ admin.old) }
 {
-    booked.cluster.keeping();
+    booked.cluster.invariant();
     match retire(&mut booked.cluster, name, position) {
         Ok(freed) => {
             admin.note_order(&booked.cluster);

@@ -54,7 +54,7 @@ pub fn round_in<L: StoreName, C: Chooser>(
     ensures unchanged { OnErr result (booked.new ≡ booked.old) }
     ensures kept { OnErr result (seat.new ≡ seat.old) }
 {
-    booked.cluster.keeping();
+    booked.cluster.invariant();
     if seat.floor > booked.cluster.counter() {
         return Err(Refusal::Stranger);
     }
@@ -106,7 +106,7 @@ pub(crate) fn round_with_copy<C: Chooser>(
     let copy = copy_to_keep(cluster, name, call, want, &hand)?;
     past_calls_at_end(cluster, name, want);
     let round = round_with(cluster, name, call, want, hand, asks_again, chooser)?;
-    cluster.keeping();
+    cluster.invariant();
     let copy = kept_value(&round, copy);
     Ok((round, copy))
 }
@@ -150,7 +150,7 @@ fn past_calls(cluster: &Cluster, name: &str)
     ensures { (state : State) → named cluster.now.objects name.now ≡ Some state
         → AllByRecursion (λ call. call.called ≤ cluster.now.counter) state.object.calls }
 {
-    cluster.keeping();
+    cluster.invariant();
     match cluster.register(name) {
         Ok(register) => register.soundness(),
         Err(_) => {}

@@ -3,7 +3,7 @@
 ghost use Rattle.std.specs.Prelude.{◌≡◌, ◌<◌, ◌≤◌, ◌↔◌, IsTrue, IsSome, IfErr, OnOk, vec_len, vec_capacity};
 ghost use Rattle.std.specs.String.{string_bytes};
 ghost use Rattle.tag.specs.declared.refusal.Refusal.TheVariants.{NoMemory};
-ghost use Rattle.locked_steps.specs.Seats.{IsOf, Settles, abandoned, asked_once, learnt, new_seat};
+ghost use Rattle.locked_steps.specs.Seats.{IsReceiptOfPending, SettlesPending, abandoned, asked_once, learnt, new_seat};
 
 use crate::booked::StoreName;
 use crate::call_record::CallRecord;
@@ -111,11 +111,11 @@ impl<L: StoreName> Seat<L> {
     /// allocates no memory.
     pub(crate) fn settle(&mut self, receipt: &Receipt, value: Option<Bytes>)
         requires pending { IsSome self.old.pending }
-        requires call { IsOf self.old.pending receipt.now }
+        requires call { IsReceiptOfPending self.old.pending receipt.now }
         requires later { receipt.now.called < receipt.now.answered }
         requires floor { self.old.floor < receipt.now.answered }
         requires value { value ≡ receipt.now.value }
-        ensures { Settles self.old.pending self.old receipt.now self.new }
+        ensures { SettlesPending self.old.pending self.old receipt.now self.new }
     {
         let kept = Receipt {
             object: receipt.object,

@@ -1,2 +1,2 @@
-pub mod Bounding
-pub mod Room
+pub mod CallBoundLemmas
+pub mod MailBytesLemmas

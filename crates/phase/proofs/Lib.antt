@@ -1,2 +1,2 @@
-pub mod Takes
-pub mod Completing
+pub mod TakenReplyLemmas
+pub mod CompletePhaseLemmas

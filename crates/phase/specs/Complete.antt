@@ -46,8 +46,8 @@ pub record IsTimely (p : Phase) (m : Message) (r : Reply) (now : ℕ) : Type 0 w
   pub taken : r.step < now
 
 -- if the message that is taken is a reply to the phase, it is timely
-abbrev pub IsLawful : Phase → Take → Type 0
-IsLawful p t = (r : Reply) → IsReply p t.0 r → IsTimely p t.0 r t.1
+abbrev pub IsTimelyIfReply : Phase → Take → Type 0
+IsTimelyIfReply p t = (r : Reply) → IsReply p t.0 r → IsTimely p t.0 r t.1
 
 -- the record of a reply stems from one of the takes, whose message was a timely reply, taken no later than step `end`
 pub record CameBy (p : Phase) (takes : List Take) (end : ℕ) (taken : Taken) : Type 0 where
@@ -66,5 +66,5 @@ pub record IsComplete (p : Phase) (takes : List Take) (end : ℕ) (replies : Lis
 -- after lawful takes at rising steps, a phase that has ended has the replies of a quorum
 abbrev pub CompleteMeansQuorum : Type 0
 CompleteMeansQuorum =
-    (p : Phase) (takes : List Take) (end : ℕ) → IsNew p → Rise p.start takes → All (IsLawful p) takes
+    (p : Phase) (takes : List Take) (end : ℕ) → IsNew p → Rise p.start takes → All (IsTimelyIfReply p) takes
     → (after_takes p takes).end ≡ Some end → IsComplete p takes end (after_takes p takes).replies

@@ -8,8 +8,8 @@ use Rattle.record.specs.declared.call.Operation.{Operation}
 use Rattle.record.specs.declared.call.Operation.TheVariants as operation
 use Rattle.picture.specs.declared.lane.Lane.{Lane}
 use Rattle.picture.specs.declared.plan.Plan.{Plan}
-use Rattle.picture.specs.Lane.{bar_top_of, base_of}
-use Rattle.picture.specs.Plan.{end_of, x_of}
+use Rattle.picture.specs.Lane.{bar_top_of, baseline_of}
+use Rattle.picture.specs.Plan.{bar_end, x_of}
 use Rattle.picture.specs.Px.{px_text}
 
 -- the word for what a call does
@@ -36,14 +36,14 @@ course_text called (Some step) = codes "steps " ++ decimal called ++ (codes " to
 -- the name of a call, at the left of its lane
 abbrev pub name_text : Lane → List ℕ
 name_text lane = texts (
-    codes "<text x='8' y='" ∷ px_text (base_of lane) ∷ codes "'>call " ∷ decimal lane.entry.call
+    codes "<text x='8' y='" ∷ px_text (baseline_of lane) ∷ codes "'>call " ∷ decimal lane.entry.call
     ∷ codes " " ∷ word_of_operation lane.entry.kind ∷ codes "</text>\n" ∷ [])
 
 -- the path of a bar: a mark at the step of the call, and a line to the answer, or to the right edge where it is open
 abbrev pub path_text : Plan → Lane → List ℕ
 path_text plan lane = codes "M" ++ (px_text (x_of plan lane.entry.called)
     ++ (codes " " ++ (px_text (bar_top_of lane)
-    ++ (codes "v10m0 -5H" ++ px_text (end_of plan lane.entry.answered)))))
+    ++ (codes "v10m0 -5H" ++ px_text (bar_end plan lane.entry.answered)))))
 
 -- the title of a bar: the call, what it does, and its steps
 abbrev pub title_text : Entry → List ℕ

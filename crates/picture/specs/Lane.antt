@@ -5,8 +5,8 @@ use Rattle.picture.specs.declared.lane.Lane.{Lane}
 use Rattle.picture.specs.Px.{saturated}
 
 -- the baseline of the texts in a lane
-abbrev pub base_of : Lane → ℕ
-base_of lane = saturated (lane.top + 120)
+abbrev pub baseline_of : Lane → ℕ
+baseline_of lane = saturated (lane.top + 120)
 
 -- the upper end of the mark with which a bar begins
 abbrev pub bar_top_of : Lane → ℕ

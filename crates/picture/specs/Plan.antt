@@ -15,6 +15,6 @@ abbrev pub right_of : Plan → ℕ
 right_of plan = saturated (LEFT + plan.width)
 
 -- where the bar of a call ends: at the step of its answer, or at the right edge where the call is open
-abbrev pub end_of : Plan → Option ℕ → ℕ
-end_of plan None = right_of plan
-end_of plan (Some step) = x_of plan step
+abbrev pub bar_end : Plan → Option ℕ → ℕ
+bar_end plan None = right_of plan
+bar_end plan (Some step) = x_of plan step

@@ -1,6 +1,6 @@
 //! The lanes of calls.
 ghost use Rattle.std.specs.Prelude.{◌≡◌};
-ghost use Rattle.picture.specs.Lane.{bar_top_of, base_of};
+ghost use Rattle.picture.specs.Lane.{bar_top_of, baseline_of};
 
 use crate::px::Px;
 use record::Entry;
@@ -17,7 +17,7 @@ pub struct Lane {
 impl Lane {
     /// The baseline of the texts in the lane.
     pub(crate) fn base(&self) -> Px
-        ensures { result.0 ≡ base_of self.now }
+        ensures { result.0 ≡ baseline_of self.now }
     {
         Px(self.top).plus(120)
     }

@@ -1,6 +1,6 @@
 //! Where lanes and steps are drawn. All lengths are in tenths of a pixel.
 ghost use Rattle.std.specs.Prelude.{◌≡◌, ◌<◌, IfOk, map};
-ghost use Rattle.picture.specs.Plan.{end_of, right_of, x_of};
+ghost use Rattle.picture.specs.Plan.{bar_end, right_of, x_of};
 
 use crate::lane::Lane;
 use crate::place::Place;
@@ -121,7 +121,7 @@ impl Plan {
 
     /// Where the bar of a call ends: at the step of its answer, or at the right edge where the call is open.
     pub(crate) fn end_x(&self, answered: Option<Stamp>) -> Px
-        ensures { result.0 ≡ end_of self.now answered }
+        ensures { result.0 ≡ bar_end self.now answered }
     {
         match answered {
             Some(step) => self.x(step),

@@ -1,3 +1,3 @@
-pub mod Order
-pub mod Placed
-pub mod Listed
+pub mod NodeOrderLemmas
+pub mod FirstNodesLemmas
+pub mod ScoredListLemmas

@@ -5,11 +5,12 @@ use Rattle.std.specs.List.{AllByRecursion}
 use Rattle.std.specs.List.Sorted.{IsPermutation}
 use Rattle.layout.specs.Layout.{IsLawful as IsLawfulLayout}
 use Rattle.layout.specs.Quorum.{has}
-use Rattle.placement.specs.Placement.{ClusterNodes, IsLawful, input_of, comes_before, with_node, placed}
+use Rattle.placement.specs.Placement.{ClusterNodes, AreLawfulNodes, input_of, comes_before, with_node, placed}
 
 -- the layout of every name is lawful
 abbrev pub PlacedAreLawful : Type 0
-PlacedAreLawful = (cluster : ClusterNodes) (name : List ℕ) → IsLawful cluster → IsLawfulLayout (placed cluster name)
+PlacedAreLawful =
+    (cluster : ClusterNodes) (name : List ℕ) → AreLawfulNodes cluster → IsLawfulLayout (placed cluster name)
 
 -- each of the list comes before all that stand behind it
 abbrev pub AreInOrder : List ℕ → List ℕ → Type 0
@@ -26,7 +27,7 @@ pub record AreFirst (name : List ℕ) (n : ℕ) (nodes members : List ℕ) : Typ
 
 -- the members of a name's layout are the n nodes that come first for the name
 abbrev pub PlacedAreFirst : Type 0
-PlacedAreFirst = (cluster : ClusterNodes) (name : List ℕ) → IsLawful cluster
+PlacedAreFirst = (cluster : ClusterNodes) (name : List ℕ) → AreLawfulNodes cluster
     → AreFirst name cluster.n cluster.nodes (placed cluster name).members
 
 -- the layout is the same for nodes that are listed in another order

@@ -1,7 +1,7 @@
 ghost use Rattle.std.specs.Prelude.{◌≡◌, ◌≤◌, ◌↔◌, map, take, length, IsOk, IfOk, IfErr};
 ghost use Rattle.tag.specs.declared.refusal.Refusal.TheVariants.{BadLayout};
 ghost use Rattle.tag.specs.declared.limits.TheConstants.{MOST_MEMBERS};
-ghost use Rattle.placement.specs.Placement.{IsLawful, placed, in_order};
+ghost use Rattle.placement.specs.Placement.{AreLawfulNodes, placed, in_order};
 
 use crate::scored::{Scored, ranked};
 use arrayvec::ArrayVec;
@@ -19,13 +19,13 @@ pub struct ClusterNodes {
 }
 
 impl Model for ClusterNodes {
-    ghost use Rattle.placement.specs.Placement.{ClusterNodes as Nodes, IsLawful};
+    ghost use Rattle.placement.specs.Placement.{ClusterNodes as Nodes, AreLawfulNodes};
 
     ghost Value = { Nodes };
 
     ghost view = { λ c. record { k = c.k; n = c.n; nodes = c.nodes.items } };
 
-    ghost invariant = { λ c. IsLawful (record { k = c.k; n = c.n; nodes = c.nodes.items }) };
+    ghost invariant = { λ c. AreLawfulNodes (record { k = c.k; n = c.n; nodes = c.nodes.items }) };
 
     ghost inverse = { λ c. record { k = c.k; n = c.n; nodes = record { items = c.nodes } } };
 }
@@ -38,7 +38,7 @@ impl ClusterNodes {
     /// twice.
     pub fn new(k: u8, n: u8, nodes: &[u8]) -> Result<ClusterNodes, Refusal>
         ensures made { IfOk result (λ c. c ≡ record { k = k; n = n; nodes = nodes.now }) }
-        ensures lawful { IsOk result ↔ IsLawful (record { k = k; n = n; nodes = nodes.now }) }
+        ensures lawful { IsOk result ↔ AreLawfulNodes (record { k = k; n = n; nodes = nodes.now }) }
         ensures refused { IfErr result (λ r. r ≡ BadLayout) }
     {
         // A layout with all nodes has the same rules for n, for the number of nodes and for their numbers.

@@ -1,9 +1,9 @@
-mod Stepping
-mod SuppliedAs
-mod Whole
-mod Printing
-mod Checking
-mod Delivering
-mod Reading
-mod Playing
-pub mod Running
+mod CommandResultLemmas
+mod DeliverLemmas
+mod FoundObjectLemmas
+mod MissingCallLemmas
+mod PrintedLineLemmas
+mod StepCommandLemmas
+mod SupplyAsLemmas
+mod WholeCallLemmas
+pub mod ScriptRunLemmas

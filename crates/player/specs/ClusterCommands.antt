@@ -12,7 +12,7 @@ use Rattle.cluster.specs.Steps.{stepped, with_layout, with_server, created}
 use Rattle.cluster.specs.Causes.{next, object_cause, layout_cause, create_cause, server_cause}
 use Rattle.player.specs.declared.report.Report.{Report}
 use Rattle.player.specs.Report.{done, added_layout}
-use Rattle.player.specs.Steps.{IsRefused, IsStep, IsGrowth, IsFreeing}
+use Rattle.player.specs.Steps.{IsRefusedCommand, IsStepCommand, IsGrowth, IsFreeing}
 
 -- there are more members than a layout may have, or one of them is no server
 abbrev pub AreBadMembers : List ℕ → (servers : ℕ) → Type 0
@@ -30,7 +30,7 @@ AddsLayout old k members new report =
     let layout : Layout = record { k = k; members = members } in
     (IsLawful layout × IsGrowth old (with_layout old layout) (layout_cause old layout)
     (Some (added_layout (length old.layouts))) new report)
-    ⊎ (IsBadLayout layout (length old.servers) × IsRefused old BadLayout new report)
+    ⊎ (IsBadLayout layout (length old.servers) × IsRefusedCommand old BadLayout new report)
 
 -- a number as that of a layout; one above 32 bits becomes the greatest number of 32 bits, which no layout has
 abbrev pub layout_number : (number : ℕ) → ℕ
@@ -51,4 +51,4 @@ Retires old name position new report =
 -- the server of this number goes up or down
 abbrev pub SetsServer : Cluster → (server : ℕ) → (up : Bool) → Cluster → Report → Type 0
 SetsServer old server up new report =
-    IsStep old (with_server old server up) (server_cause old server) (Some done) new report
+    IsStepCommand old (with_server old server up) (server_cause old server) (Some done) new report

@@ -18,12 +18,12 @@ use Rattle.driver.specs.Coding.{settling_cause}
 use Rattle.driver.specs.Rounds.{SettlesOwn}
 use Rattle.player.specs.declared.report.Report.{Report}
 use Rattle.player.specs.Report.{done}
-use Rattle.player.specs.Steps.{IsRefused, IsGrowth}
+use Rattle.player.specs.Steps.{IsRefusedCommand, IsGrowth}
 
 -- the first cause, or the later one where the first is none
-abbrev pub first_of : Option Refusal → Option Refusal → Option Refusal
-first_of None later = later
-first_of (Some refusal) later = Some refusal
+abbrev pub first_cause_of : Option Refusal → Option Refusal → Option Refusal
+first_cause_of None later = later
+first_cause_of (Some refusal) later = Some refusal
 
 -- why a call that wants this gets no encoded bytes: there is no such call, it wants none, or they cannot be encoded
 abbrev pub coding_cause : (value : List ℕ) → Option Want → Option Refusal
@@ -39,7 +39,7 @@ coding_for value _ = record { k = 0; n = 0; value = value }
 -- why the call of this number is not supplied with these bytes: they cannot be encoded, or the supply is refused
 abbrev pub supplying_as_cause : Cluster → (call : ℕ) → (value : List ℕ) → Object → Option Refusal
 supplying_as_cause cluster call value object =
-    first_of (coding_cause value (want_at object call))
+    first_cause_of (coding_cause value (want_at object call))
     (supply_cause (next cluster) object call (coding_for value (want_at object call)))
 
 -- the call of this number is supplied with these bytes, encoded as it wants its value
@@ -63,4 +63,4 @@ SettlesValue old name call new report =
     × SettlesOwn old name call new × (report ≡ done))
     ⊎ ((refusal : Refusal)
     × IsRefusalBy (object_cause old name (λ object. settling_cause (next old) object call)) refusal
-    × IsRefused old refusal new report)
+    × IsRefusedCommand old refusal new report)

@@ -10,7 +10,7 @@ use Rattle.cluster.specs.Steps.{stepped}
 use Rattle.cluster.specs.Causes as causes
 use Rattle.cluster.specs.Causes.{object_cause}
 use Rattle.driver.specs.declared.messages.Handled.{Handled}
-use Rattle.driver.specs.Choices.{step_of, handled_at, handling_cause}
+use Rattle.driver.specs.Choices.{step_of_handled, handled_result_at, handling_cause}
 use Rattle.player.specs.declared.report.Report.{Report}
 use Rattle.player.specs.declared.report.Report.TheVariants as of
 
@@ -31,16 +31,16 @@ pub record IsFirst (cluster : Cluster) (name : List ℕ) (place : ℕ) : Type 0 
 pub data Delivers (name : List ℕ) (old : Cluster) : ℕ → Cluster → Type 0 where
   nothing : Delivers name old zero old
   then_handles : {count : ℕ} {cluster : Cluster} (place : ℕ) (handled : Handled) → Delivers name old count cluster →
-      IsFirst cluster name place → if_named cluster name (handled_at place) ≡ Some handled →
-      Delivers name old (suc count) (stepped cluster name (step_of place handled))
+      IsFirst cluster name place → if_named cluster name (handled_result_at place) ≡ Some handled →
+      Delivers name old (suc count) (stepped cluster name (step_of_handled place handled))
 
 -- no message of the object can be handled
 abbrev pub HasNoneToHandle : Cluster → (name : List ℕ) → Type 0
 HasNoneToHandle cluster name = (place : ℕ) → ¬ (can_handle_at cluster name place ≡ Some true)
 
 -- why a delivery ends early: no object has this name, or the first message that can be handled is refused
-abbrev pub IsStopped : Cluster → (name : List ℕ) → Refusal → Type 0
-IsStopped cluster name refusal =
+abbrev pub IsDeliveryStopped : Cluster → (name : List ℕ) → Refusal → Type 0
+IsDeliveryStopped cluster name refusal =
     (object_cause cluster name (λ object. None) ≡ Some refusal)
     ⊎ ((place : ℕ) × IsFirst cluster name place
     × IsRefusalBy (object_cause cluster name (handling_cause cluster place)) refusal)
@@ -50,7 +50,7 @@ abbrev pub DeliversTo : Cluster → (name : List ℕ) → Cluster → Outcome �
 DeliversTo old name new (outcome.Handled count) =
     Delivers name old count new × (object_cause new name (λ object. None) ≡ None) × HasNoneToHandle new name
 DeliversTo old name new (outcome.Refused refusal) =
-    (count : ℕ) × Delivers name old count new × IsStopped new name refusal
+    (count : ℕ) × Delivers name old count new × IsDeliveryStopped new name refusal
 DeliversTo old name new _ = ⊥
 
 -- the first message that can be handled is handled, again and again, until none can be or one is refused; the steps

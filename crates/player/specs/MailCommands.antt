@@ -9,7 +9,7 @@ use Rattle.cluster.specs.Steps.{stepped}
 use Rattle.cluster.specs.Causes.{next, object_cause, serving_cause}
 use Rattle.player.specs.declared.report.Report.{Report}
 use Rattle.player.specs.Report.{done, took}
-use Rattle.player.specs.Steps.{IsStep, IsGrowth}
+use Rattle.player.specs.Steps.{IsStepCommand, IsGrowth}
 
 -- the request at this place is served
 abbrev pub Serves : Cluster → (name : List ℕ) → (place : ℕ) → Cluster → Report → Type 0
@@ -25,14 +25,14 @@ next_take cluster name place =
 -- the reply at this place is taken by its call
 abbrev pub Takes : Cluster → (name : List ℕ) → (place : ℕ) → Cluster → Report → Type 0
 Takes old name place new report =
-    IsStep old (stepped old name (Step.Take place))
+    IsStepCommand old (stepped old name (Step.Take place))
     (object_cause old name (λ object. take_cause (next old) object place))
     (next_take old name place) new report
 
 -- the message at this place is lost
 abbrev pub Loses : Cluster → (name : List ℕ) → (place : ℕ) → Cluster → Report → Type 0
 Loses old name place new report =
-    IsStep old (stepped old name (Step.Lose place))
+    IsStepCommand old (stepped old name (Step.Lose place))
     (object_cause old name (λ object. lose_cause (next old) object place))
     (Some done) new report
 

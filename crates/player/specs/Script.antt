@@ -133,18 +133,18 @@ pub record PlaysScript (remaining old new : Contents) : Type 0 where
   pub printed : Appends old new text
 
 -- the exit status of a run that ends early
-abbrev pub status_of : End → ℕ
-status_of Unread = 2
-status_of NoRoom = 1
-status_of NoMemory = 1
-status_of (BadLine number) = 2
-status_of OutputLost = 1
+abbrev pub exit_status_of : End → ℕ
+exit_status_of Unread = 2
+exit_status_of NoRoom = 1
+exit_status_of NoMemory = 1
+exit_status_of (BadLine number) = 2
+exit_status_of OutputLost = 1
 
 -- the exit status, and what was done: 0 where the whole script is played, and otherwise that of the early end
 abbrev pub Runs : (remaining old new : Contents) → (status : ℕ) → Type 0
 Runs remaining old new status =
     ((status ≡ 0) × PlaysScript remaining old new)
-    ⊎ ((end : End) × (status ≡ status_of end) × EndsBy remaining old new end)
+    ⊎ ((end : End) × (status ≡ exit_status_of end) × EndsBy remaining old new end)
 
 -- the exit status where the script cannot be read, for an error of this kind
 abbrev pub unread_status : ErrorKind → ℕ

@@ -8,7 +8,7 @@ use Rattle.tag.specs.declared.refusal.Refusal.{Refusal}
 use Rattle.atomicity.specs.Atomic.{IsSequence}
 use Rattle.record.specs.Journals.{entries}
 use Rattle.atomicity.specs.Sequence.{IsTagSequence}
-use Rattle.history.specs.Check.{AreLawful}
+use Rattle.history.specs.Check.{AreLawfulEntries}
 use Rattle.register.specs.Causes.{call_at, number_cause}
 use Rattle.register.specs.State.{State}
 use Rattle.register.specs.View.{view_at, bank_there}
@@ -107,7 +107,7 @@ HasNoCall cluster name calls =
 pub record IsChecked (cluster : Cluster) (name calls : List ℕ) (answer : Bool) : Type 0 where
   pub state : State
   pub there : named cluster.objects name ≡ Some state
-  pub says : IsTrue answer ↔ (AreLawful (entries state.object) × IsSequence (entries state.object) calls)
+  pub says : IsTrue answer ↔ (AreLawfulEntries (entries state.object) × IsSequence (entries state.object) calls)
 
 -- no call is missing, and the text says whether these calls are a register sequence, or why that is refused
 abbrev pub ShowsCheck : Cluster → (name calls : List ℕ) → (text : List ℕ) → Type 0

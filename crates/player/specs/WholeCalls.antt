@@ -15,7 +15,7 @@ use Rattle.cluster.specs.Causes.{next, object_cause, moving_cause}
 use Rattle.player.specs.declared.report.Report.{Report}
 use Rattle.player.specs.declared.report.Report.TheVariants as of
 use Rattle.player.specs.ClusterCommands.{layout_number}
-use Rattle.player.specs.Steps.{IsRefused}
+use Rattle.player.specs.Steps.{IsRefusedCommand}
 
 -- the first of the messages that can be handled is chosen
 abbrev pub chooses_first : First → (below answer : ℕ) → First → Type 0
@@ -45,7 +45,7 @@ abbrev pub IsWholeRun : (old begun : Cluster) → Option Refusal → (name : Lis
     (new : Cluster) → Report → Type 0
 IsWholeRun old begun cause name turns new report =
     ((call : ℕ) × (cause ≡ None) × (next_number old name ≡ Some call) × GoesOn name call false turns begun new report)
-    ⊎ ((refusal : Refusal) × IsRefusalBy cause refusal × IsRefused old refusal new report)
+    ⊎ ((refusal : Refusal) × IsRefusalBy cause refusal × IsRefusedCommand old refusal new report)
 
 -- the command makes a whole read
 abbrev pub Reads : Cluster → (name : List ℕ) → (turns : ℕ) → Cluster → Report → Type 0
@@ -71,4 +71,4 @@ abbrev pub Resumes : Cluster → (name : List ℕ) → (call turns : ℕ) → Cl
 Resumes old name call turns new report =
     ((object_cause old name (λ object. number_cause object call) ≡ None) × GoesOn name call true turns old new report)
     ⊎ ((refusal : Refusal) × (object_cause old name (λ object. number_cause object call) ≡ Some refusal)
-    × IsRefused old refusal new report)
+    × IsRefusedCommand old refusal new report)

@@ -2,11 +2,11 @@
 ghost use Rattle.std.specs.Prelude.{◌≡◌, ℕ, Some, None, IfOk, IfErr, OnOk, MatchOption, MatchResult};
 ghost use Rattle.cluster.specs.Causes.{object_cause};
 ghost use Rattle.player.specs.MailCommands.{Serves, Takes, Loses, Repeats};
-ghost use Rattle.player.specs.Deliver.{DeliversAll, Delivers, IsFirst, NoneBefore, HasNoneToHandle, IsStopped};
+ghost use Rattle.player.specs.Deliver.{DeliversAll, Delivers, IsFirst, NoneBefore, HasNoneToHandle, IsDeliveryStopped};
 
 use crate::report::Report;
 use cluster::Cluster;
-use driver::{Among, choice_at, handle};
+use driver::{Filter, choice_at, handle};
 use printing::Outcome;
 use tag::Refusal;
 
@@ -54,7 +54,7 @@ fn handle_all(cluster: &mut Cluster, name: &str) -> Result<u64, Refusal>
         × (object_cause cluster.new name.entry.now (λ object. None) ≡ None)
         × HasNoneToHandle cluster.new name.entry.now)
         (λ refusal. (count : ℕ) × Delivers name.entry.now cluster.old count cluster.new
-        × IsStopped cluster.new name.entry.now refusal) }
+        × IsDeliveryStopped cluster.new name.entry.now refusal) }
 {
     let mut handled = 0;
     let mut from = 0;
@@ -77,7 +77,7 @@ fn first_handled(cluster: &Cluster, name: &str, from: usize) -> Result<Option<us
     ensures refused { IfErr result (λ refusal. object_cause cluster.now name.now (λ object. None) ≡ Some refusal) }
 {
     match cluster.register(name) {
-        Ok(register) => Ok(choice_at(cluster, register, Among::Every, from, 0)),
+        Ok(register) => Ok(choice_at(cluster, register, Filter::All, from, 0)),
         Err(refusal) => Err(refusal),
     }
 }

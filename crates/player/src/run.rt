@@ -4,7 +4,7 @@ ghost use Rattle.std.specs.Str.Lines.{lines as lines_of};
 ghost use Rattle.std.specs.IoError.{error_kind};
 ghost use Rattle.player.specs.Script.{Runs, PlaysScript, EndsBy, EndsAt, EndsLine, IsScriptOf, IsUnread};
 ghost use Rattle.player.specs.declared.run.End.TheVariants.{BadLine, NoRoom};
-ghost use Rattle.player.specs.Script.{IsPlayedFrom, IsPlayedThrough, status_of, unread_status};
+ghost use Rattle.player.specs.Script.{IsPlayedFrom, IsPlayedThrough, exit_status_of, unread_status};
 
 use crate::player::{Stop, play};
 use cluster::Cluster;
@@ -65,7 +65,7 @@ pub fn report_unread<E: Write>(error: &io::Error, name: &str, err: &mut E) -> u8
 /// Prints on `err` why the run of the script of this name ended early, and returns the exit status: 2 where the script
 /// cannot be read or a line is bad, and otherwise 1. A write that fails is ignored.
 pub fn report_end<E: Write>(end: End, name: &str, err: &mut E) -> u8
-    ensures { result ≡ status_of end }
+    ensures { result ≡ exit_status_of end }
 {
     let _ = err.writeln(EndText { end, name });
     match end {

@@ -1,3 +1,3 @@
-pub mod Begins
+pub mod BegunStageLemmas
 pub mod Phases
-pub mod Tags
+pub mod TagOrderLemmas

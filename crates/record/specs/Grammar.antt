@@ -14,7 +14,7 @@ use Rattle.record.specs.declared.call.CallKind.{CallKind}
 use Rattle.bank.specs.declared.status.Status.TheVariants.{Unset, Pending, Final}
 use Rattle.bank.specs.declared.kind.Kind.TheVariants.{Next, Spread, Query, PreWrite, Finalize, Fetch}
 use Rattle.record.specs.declared.call.CallKind.TheVariants.{Read, Write, Move}
-use Rattle.record.specs.Courses.{greatest_status, greatest_tag}
+use Rattle.record.specs.PhaseOrder.{greatest_status, greatest_tag}
 
 -- the phase is of this kind, and asks the members of this position
 abbrev pub Asks : Phase → Kind → (position : ℕ) → Type 0

@@ -16,7 +16,7 @@ use Rattle.record.specs.declared.call.CallKind.TheVariants.{Read, Write, Move}
 use Rattle.record.specs.Knowledge.{IsTruePhase}
 use Rattle.bank.specs.Knowledge.{finalized_at, arrived_at, pending_since, final_since}
 use Rattle.record.specs.declared.stage.Stage.{Stage}
-use Rattle.record.specs.Courses.{begun_at, due, stage_after, IsCourse, BeginAtBase, EndsBefore}
+use Rattle.record.specs.PhaseOrder.{begun_at, due, stage_after, IsCourse, BeginAtBase, EndsBefore}
 use Rattle.record.specs.declared.stage.Stage.TheVariants.{ReadBegin, MoveSpread}
 
 -- whether a call is a move

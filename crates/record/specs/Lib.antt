@@ -1,6 +1,6 @@
 pub mod Records
 pub mod Knowledge
-pub mod Courses
+pub mod PhaseOrder
 pub mod Legal
 pub mod Journals
 pub mod Fragments
@@ -8,6 +8,6 @@ pub mod Wants
 pub mod Sending
 pub mod Steps
 pub mod Accounts
-pub mod May
+pub mod Preconditions
 pub mod Grammar
 pub mod Shape

@@ -5,7 +5,7 @@ use Rattle.tag.specs.declared.tag.Tag.{Tag}
 use Rattle.phase.specs.Phase.{Phase}
 use Rattle.record.specs.declared.call.CallKind.{CallKind}
 use Rattle.record.specs.declared.stage.Stage.{Stage}
-use Rattle.record.specs.Courses.{due, stage_after, IsCourse, BeginAtBase, IsEndedBefore}
+use Rattle.record.specs.PhaseOrder.{due, stage_after, IsCourse, BeginAtBase, IsEndedBefore}
 use Rattle.record.specs.Records.{Call, Object, base_at}
 use Rattle.record.specs.Legal.{first_stage, source_of, IsLegal}
 use Rattle.record.specs.Journals.{stage_tag, tag_of}

@@ -2,7 +2,7 @@
 ghost use Rattle.std.specs.Prelude.{◌≡◌, ◌≢◌, ℕ, List, Some};
 ghost use Rattle.tag.specs.declared.tag.Tag.{Tag};
 ghost use Rattle.phase.specs.Phase.{Phase};
-ghost use Rattle.record.specs.Courses.{IsCourse, stage_after};
+ghost use Rattle.record.specs.PhaseOrder.{IsCourse, stage_after};
 ghost use Rattle.record.specs.Grammar.{FindsTag};
 ghost use Rattle.record.specs.Shape.{AnsweredAreWhole, CoursesAreBeginnings, FinishedAreWhole};
 ghost use Rattle.record.specs.Journals.{stage_tag};

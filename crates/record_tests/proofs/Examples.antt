@@ -1,9 +1,9 @@
 -- Worked examples.
-pub mod Anew
-pub mod Exactly
-pub mod FromBase
-pub mod Rows
-pub mod Runs
-pub mod Stale
-pub mod WithMove
-pub mod WriteAndRead
+pub mod BankRowLemmas
+pub mod OneOverlapLemmas
+pub mod RestartedReadLemmas
+pub mod RetiredPositionLemmas
+pub mod RunPartLemmas
+pub mod StaleReadLemmas
+pub mod WriteAndReadLemmas
+pub mod WriteMoveReadLemmas

@@ -6,7 +6,7 @@ ghost use Rattle.record_tests.specs.Examples.{anew_entries, anew_script, IsMetEx
 ghost use Rattle.record_tests.specs.Examples.{retire_entries, retire_script};
 ghost use Rattle.record_tests.specs.Examples.{script, script_entries, stale_entries, whole};
 ghost use Rattle.record.specs.Journals.{entries};
-ghost use Rattle.record.specs.May.{MayRun};
+ghost use Rattle.record.specs.Preconditions.{MayRun};
 ghost use Rattle.record.specs.Steps.{opened_object, run};
 
 /// Example: a whole write and a whole read with one member. Each step may be made, and the calls have the

@@ -13,7 +13,7 @@ use Rattle.record.specs.declared.stage.Stage.{Stage}
 use Rattle.record.specs.declared.stage.Want.{Want}
 use Rattle.record.specs.declared.stage.Want.TheVariants as want
 use Rattle.record.specs.Records.{Call, Object}
-use Rattle.record.specs.Courses.{begun_at, due, stage_past}
+use Rattle.record.specs.PhaseOrder.{begun_at, due, stage_past}
 use Rattle.record.specs.Steps.{taking_call, new_phase}
 use Rattle.record.specs.Sending.{missing, requests}
 use Rattle.record.specs.Wants.{current_phase, want_after}
@@ -72,6 +72,6 @@ asked_again number phase members mail piece =
     missing mail (members_of phase.replies) (requests number phase.number phase.kind phase.position members 0 piece)
 
 -- the positions of the current phase and of the phase that is due are below `count`
-pub record IsBelow (count : ℕ) (t : Tracked) : Type 0 where
+pub record HasPositionsBelow (count : ℕ) (t : Tracked) : Type 0 where
   pub current : (phase : Phase) → current_phase t.call.phases ≡ Some phase → phase.position < count
   pub due : IfSome (due t.stage) (λ asked. asked.1 < count)

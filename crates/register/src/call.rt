@@ -8,7 +8,7 @@ ghost use Rattle.tag.specs.Refusal.{IsByCause};
 ghost use Rattle.encoder.specs.declared.fragment.Piece.{Piece};
 ghost use Rattle.mail.specs.Mail.{mail_cause};
 ghost use Rattle.phase.specs.Phase.{Phase as Asking, after_take};
-ghost use Rattle.record.specs.Courses.{begun_at};
+ghost use Rattle.record.specs.PhaseOrder.{begun_at};
 ghost use Rattle.record.specs.Steps.{new_call};
 ghost use Rattle.record.specs.Sending.{requests};
 ghost use Rattle.record.specs.Wants.{current_phase};

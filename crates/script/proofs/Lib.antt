@@ -1,4 +1,4 @@
-pub mod ArgumentsLemmas
-pub mod CommandLemmas
-pub mod LineLemmas
-pub mod LinesLemmas
+pub mod LineSplitLemmas
+pub mod LineWordLemmas
+pub mod NoCommandLemmas
+pub mod NumberWordLemmas

@@ -58,5 +58,5 @@ IsErrorOf words Bad = (c : Command) → ¬ (Spells words c)
 IsErrorOf words NoMemory = ⊤
 
 -- the result is the command that the words spell, or why they give none
-abbrev pub IsReading : List Word → Result Command LineError → Type 0
-IsReading words result = MatchResult result (Spells words) (IsErrorOf words)
+abbrev pub ParsesTo : List Word → Result Command LineError → Type 0
+ParsesTo words result = MatchResult result (Spells words) (IsErrorOf words)

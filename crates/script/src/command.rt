@@ -1,6 +1,6 @@
 //! The commands of a script, and the words that spell them.
 ghost use Rattle.std.specs.Prelude.{map};
-ghost use Rattle.script.specs.Command.{IsReading};
+ghost use Rattle.script.specs.Command.{ParsesTo};
 
 use crate::error::LineError;
 use crate::{call_commands, cluster_commands, mail_commands, object_commands};
@@ -174,7 +174,7 @@ pub enum Command<'a> {
 /// The command that the words of a line spell. It fails with `Bad` where they spell none, and with `NoMemory` where
 /// memory is refused for the command's bytes or numbers.
 pub fn parse_command<'a>(alloc: Global, words: &[&'a str]) -> Result<Command<'a>, LineError>
-    ensures { IsReading (map (λ w. w.now) words.now) result }
+    ensures { ParsesTo (map (λ w. w.now) words.now) result }
 {
     let Some((first, rest)) = words.split_first() else {
         return Err(LineError::Bad);

@@ -1,55 +1,55 @@
 //! Commands about the mail and the banks of an object. Each function reads the words after those that name its command.
 ghost use Rattle.std.specs.Prelude.{◌∷◌, codes, map};
-ghost use Rattle.script.specs.Command.{IsReading};
+ghost use Rattle.script.specs.Command.{ParsesTo};
 
 use crate::arguments::{name_and_number, name_and_two_numbers, one_name};
 use crate::command::Command;
 use crate::error::LineError;
 
 pub(crate) fn serve<'a>(words: &[&'a str]) -> Result<Command<'a>, LineError>
-    ensures { IsReading (codes "serve" ∷ map (λ w. w.now) words.now) result }
+    ensures { ParsesTo (codes "serve" ∷ map (λ w. w.now) words.now) result }
 {
     let (name, place) = name_and_number(words)?;
     Ok(Command::Serve { name, place })
 }
 
 pub(crate) fn take<'a>(words: &[&'a str]) -> Result<Command<'a>, LineError>
-    ensures { IsReading (codes "take" ∷ map (λ w. w.now) words.now) result }
+    ensures { ParsesTo (codes "take" ∷ map (λ w. w.now) words.now) result }
 {
     let (name, place) = name_and_number(words)?;
     Ok(Command::Take { name, place })
 }
 
 pub(crate) fn lose<'a>(words: &[&'a str]) -> Result<Command<'a>, LineError>
-    ensures { IsReading (codes "lose" ∷ map (λ w. w.now) words.now) result }
+    ensures { ParsesTo (codes "lose" ∷ map (λ w. w.now) words.now) result }
 {
     let (name, place) = name_and_number(words)?;
     Ok(Command::Lose { name, place })
 }
 
 pub(crate) fn repeat<'a>(words: &[&'a str]) -> Result<Command<'a>, LineError>
-    ensures { IsReading (codes "repeat" ∷ map (λ w. w.now) words.now) result }
+    ensures { ParsesTo (codes "repeat" ∷ map (λ w. w.now) words.now) result }
 {
     let (name, place) = name_and_number(words)?;
     Ok(Command::Repeat { name, place })
 }
 
 pub(crate) fn deliver<'a>(words: &[&'a str]) -> Result<Command<'a>, LineError>
-    ensures { IsReading (codes "deliver" ∷ map (λ w. w.now) words.now) result }
+    ensures { ParsesTo (codes "deliver" ∷ map (λ w. w.now) words.now) result }
 {
     let name = one_name(words)?;
     Ok(Command::Deliver { name })
 }
 
 pub(crate) fn mail<'a>(words: &[&'a str]) -> Result<Command<'a>, LineError>
-    ensures { IsReading (codes "mail" ∷ map (λ w. w.now) words.now) result }
+    ensures { ParsesTo (codes "mail" ∷ map (λ w. w.now) words.now) result }
 {
     let name = one_name(words)?;
     Ok(Command::Mail { name })
 }
 
 pub(crate) fn bank<'a>(words: &[&'a str]) -> Result<Command<'a>, LineError>
-    ensures { IsReading (codes "bank" ∷ map (λ w. w.now) words.now) result }
+    ensures { ParsesTo (codes "bank" ∷ map (λ w. w.now) words.now) result }
 {
     let (name, position, member) = name_and_two_numbers(words)?;
     Ok(Command::Bank {

@@ -1,3 +1,3 @@
-mod Adding
-mod Making
-mod Settings
+mod AccountSumLemmas
+mod MadeCallLemmas
+mod SoakLayoutLemmas

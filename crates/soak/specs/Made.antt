@@ -26,8 +26,8 @@ MakesAll first zero s t = t ≡ s
 MakesAll first (suc n) s t = (between : SeatState) × MakesAll first n s between × Makes first n between t
 
 -- no call was made with the seat
-abbrev pub IsNew : SeatState → Type 0
-IsNew s = s ≡ new_seat s.number
+abbrev pub IsUnusedSeat : SeatState → Type 0
+IsUnusedSeat s = s ≡ new_seat s.number
 
 -- the seat was new, and this many calls were made with it in a store that was opened with `first`
 abbrev pub HasMade : (first : Cluster) → (count : ℕ) → SeatState → Type 0

@@ -1,6 +1,6 @@
 //! The thread of a client.
 ghost use Rattle.std.specs.Prelude.{IfOk, OnOk};
-ghost use Rattle.soak.specs.Made.{HasMade, IsNew, Makes};
+ghost use Rattle.soak.specs.Made.{HasMade, IsUnusedSeat, Makes};
 
 use crate::call::{object_of, value_of};
 use crate::chooser::Congruential;
@@ -28,7 +28,7 @@ pub(crate) fn make_calls<L: StoreName, R: Threads + Wait + Sync>(
     plan: Plan,
     counts: &Counts,
 ) -> Ended<L>
-    requires { IsNew seat }
+    requires { IsUnusedSeat seat }
     ensures { IfOk result (λ seat. HasMade L.first plan.calls seat) }
 {
     let mut chooser = Congruential::new(plan.choices, seat.number() as u64);

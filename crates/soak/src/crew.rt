@@ -2,7 +2,7 @@
 ghost use Rattle.std.specs.Prelude.{◌≡◌, ℕ, IfOk};
 ghost use Rattle.std.specs.List.{AllByRecursion};
 ghost use Rattle.locked_steps.specs.Moves.{new_admin};
-ghost use Rattle.soak.specs.Made.{HasMade, HasMoved, IsNew};
+ghost use Rattle.soak.specs.Made.{HasMade, HasMoved, IsUnusedSeat};
 
 use crate::client_thread::{Ended, make_calls};
 use crate::counts::Counts;
@@ -62,7 +62,7 @@ pub(crate) fn work_all<L: StoreName + Send + Sync, R: Threads + Wait + Clock + S
     plan: Plan,
     screen: Option<&mut E>,
 ) -> Result<Worked<L>, Refusal>
-    requires seats { AllByRecursion IsNew seats.items }
+    requires seats { AllByRecursion IsUnusedSeat seats.items }
     requires admin { admin ≡ new_admin L.first }
     ensures seats { IfOk result (λ worked. AllByRecursion (HasMade L.first plan.calls) worked.0.items) }
     ensures admin { IfOk result (λ worked. HasMoved L.first plan.moves worked.1) }
@@ -72,7 +72,7 @@ pub(crate) fn work_all<L: StoreName + Send + Sync, R: Threads + Wait + Clock + S
         thread::scope_env(),
         rt,
         |scope| -> Result<Worked<L>, Refusal>
-            requires seats { AllByRecursion IsNew seats.items }
+            requires seats { AllByRecursion IsUnusedSeat seats.items }
             requires admin { admin ≡ new_admin L.first }
             ensures seats { IfOk result (λ worked. AllByRecursion (HasMade L.first plan.calls) worked.0.items) }
             ensures admin { IfOk result (λ worked. HasMoved L.first plan.moves worked.1) }
@@ -93,7 +93,7 @@ fn work_in<'s, V, L: StoreName + Send + Sync, R: Threads + Wait + Clock + Sync, 
     counts: &'s Counts,
     screen: Option<&mut E>,
 ) -> Result<Worked<L>, Refusal>
-    requires seats { AllByRecursion IsNew seats.items }
+    requires seats { AllByRecursion IsUnusedSeat seats.items }
     requires admin { admin ≡ new_admin L.first }
     ensures seats { IfOk result (λ worked. AllByRecursion (HasMade L.first plan.calls) worked.0.items) }
     ensures admin { IfOk result (λ worked. HasMoved L.first plan.moves worked.1) }
@@ -118,7 +118,7 @@ fn start_all<'s, E, L: StoreName + Send + Sync, R: Threads + Wait + Sync>(
     plan: Plan,
     counts: &'s Counts,
 ) -> Result<Vec<Started<L>>, Refusal>
-    requires { AllByRecursion IsNew seats.items }
+    requires { AllByRecursion IsUnusedSeat seats.items }
     ensures { IfOk result
         (λ started. AllByRecursion (λ client. IfOk client (λ handle. handle.promise.0 ≡ plan.calls)) started.items) }
 {
@@ -138,11 +138,11 @@ fn start_calls<'s, E, L: StoreName + Send + Sync, R: Threads + Wait + Sync>(
     plan: Plan,
     counts: &'s Counts,
 ) -> Started<L>
-    requires { IsNew seat }
+    requires { IsUnusedSeat seat }
     ensures { IfOk result (λ handle. handle.promise.0 ≡ plan.calls) }
 {
     let client = move || -> Ended<L>
-        requires { IsNew seat }
+        requires { IsUnusedSeat seat }
         ensures { IfOk result (λ seat. HasMade L.first plan.calls seat) }
     {
         let ended = make_calls(rt, alloc, store, seat, plan, counts);

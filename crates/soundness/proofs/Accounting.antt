@@ -1,8 +1,8 @@
 -- What is stored and mailed, step by step.
-pub mod Adds
-pub mod Mail
-pub mod Mailed
-pub mod MailedBySteps
-pub mod Retired
-pub mod Stored
-pub mod StoredBySteps
+pub mod CallStepBytesLemmas
+pub mod MailAfterStepLemmas
+pub mod MailChangeLemmas
+pub mod MessageBytesLemmas
+pub mod RetiredBytesLemmas
+pub mod StoredBytesLemmas
+pub mod StoredChangeLemmas

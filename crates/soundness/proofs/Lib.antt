@@ -1,8 +1,8 @@
 pub mod Accounting
-pub mod Bases
-pub mod Lists
+pub mod BaseLemmas
+pub mod ListLemmas
+pub mod PhaseStartLemmas
 pub mod Quorums
 pub mod Sound
-pub mod Starts
-pub mod Statuses
+pub mod StatusOrderLemmas
 pub mod Values

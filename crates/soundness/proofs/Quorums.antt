@@ -1,4 +1,4 @@
 -- What quorums share.
-pub mod Meeting
-pub mod Replies
-pub mod Sharing
+pub mod CommonMemberLemmas
+pub mod QuorumMeetingLemmas
+pub mod ReplyTruthLemmas

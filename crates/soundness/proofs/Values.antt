@@ -1,7 +1,7 @@
 -- The value of each tag.
-pub mod Coded
-pub mod Journaled
-pub mod Known
-pub mod Numbered
-pub mod Sent
-pub mod Written
+pub mod KnownTagLemmas
+pub mod ReadValueLemmas
+pub mod SentTagLemmas
+pub mod SentValueLemmas
+pub mod TagNumberLemmas
+pub mod WrittenTagLemmas

@@ -8,7 +8,7 @@ ghost use Rattle.bank.specs.declared.kind.Kind.{Kind};
 ghost use Rattle.bank.specs.declared.kind.Kind.TheVariants.{PreWrite};
 ghost use Rattle.record.specs.Fragments.{Code, IsCode};
 ghost use Rattle.record.specs.Legal.{due_of};
-ghost use Rattle.record.specs.May.{AwaitsPieces, MayRun, MayStep, WantsPieces};
+ghost use Rattle.record.specs.Preconditions.{AwaitsPieces, MayRun, MayStep, WantsPieces};
 ghost use Rattle.record.specs.Records.{bank_at, Call, layout_at, Object};
 ghost use Rattle.soundness.specs.Sound.{IsSound};
 ghost use Rattle.record.specs.Steps.{opened_object, run, Step, stepped};

@@ -1,1 +1,1 @@
-mod Leading
+mod ReadingPathLemmas

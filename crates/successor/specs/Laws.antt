@@ -6,7 +6,7 @@ use Rattle.tag.specs.declared.tag.Tag.{Tag}
 use Rattle.bank.specs.declared.status.Status.{Status}
 use Rattle.phase.specs.Phase.{Phase}
 use Rattle.record.specs.declared.call.CallKind.{CallKind}
-use Rattle.record.specs.Courses.{greatest_status, stage_after}
+use Rattle.record.specs.PhaseOrder.{greatest_status, stage_after}
 use Rattle.record.specs.Grammar.{IsReading}
 use Rattle.successor.specs.declared.reading.Reading.{Reading}
 use Rattle.successor.specs.declared.reading.Reading.TheVariants.{Next, Spread, Ended}
@@ -19,11 +19,11 @@ led_on (Spread position finalized found) status = spread_by (Spread position fin
 led_on (Ended last finalized) status = Ended last finalized
 
 -- each phase is the one that was next, and together they lead the reading to `to`
-abbrev pub Leads : Reading → List Phase → (to : Reading) → Type 0
-Leads reading [] to = reading ≡ to
-Leads reading (phase ∷ phases) to =
+abbrev pub LeadsReading : Reading → List Phase → (to : Reading) → Type 0
+LeadsReading reading [] to = reading ≡ to
+LeadsReading reading (phase ∷ phases) to =
     (next_of reading ≡ Some (phase.kind, phase.position))
-    × Leads (led_on reading (greatest_status phase.replies)) phases to
+    × LeadsReading (led_on reading (greatest_status phase.replies)) phases to
 
 -- each phase is complete
 abbrev pub AreComplete : List Phase → Type 0
@@ -33,12 +33,12 @@ AreComplete phases = AllByRecursion (λ (phase : Phase). IsSome phase.end) phase
 abbrev pub ReadingsLeadToTheEnd : Type 0
 ReadingsLeadToTheEnd =
     (position finalized last to : ℕ) (phases : List Phase)
-    → IsReading position finalized phases last to ↔ Leads (Next position finalized) phases (Ended last to)
+    → IsReading position finalized phases last to ↔ LeadsReading (Next position finalized) phases (Ended last to)
 
 -- a law: complete phases lead the stage of a call to where they lead its reading, be it the first or a later one
 abbrev pub ReadingsAreStages : Type 0
 ReadingsAreStages =
     (kind : CallKind) (number : ℕ) (reading to : Reading) (phases : List Phase)
-    → Leads reading phases to → AreComplete phases
+    → LeadsReading reading phases to → AreComplete phases
     → (stage_after kind number (first_of reading) phases ≡ first_of to)
     × ((last : ℕ) (tag : Tag) → stage_after kind number (again_of last tag reading) phases ≡ again_of last tag to)

@@ -8,7 +8,7 @@ use Rattle.bank.specs.declared.kind.Kind.{Kind}
 use Rattle.bank.specs.declared.kind.Kind.TheVariants as kind
 use Rattle.record.specs.declared.stage.Stage.{Stage}
 use Rattle.record.specs.declared.stage.Stage.TheVariants as stage
-use Rattle.record.specs.Courses.{after_next, after_again}
+use Rattle.record.specs.PhaseOrder.{after_next, after_again}
 use Rattle.record.specs.Grammar.{finalized_after}
 use Rattle.successor.specs.declared.reading.Reading.{Reading}
 use Rattle.successor.specs.declared.reading.Reading.TheVariants.{Next, Spread, Ended}
@@ -38,10 +38,10 @@ finalized_of (Spread position finalized status) = finalized
 finalized_of (Ended last finalized) = finalized
 
 -- the status that the reading spreads next, or unset where it spreads none
-abbrev pub status_of : Reading → Status
-status_of (Next position finalized) = Unset
-status_of (Spread position finalized status) = status
-status_of (Ended last finalized) = Unset
+abbrev pub spread_status : Reading → Status
+spread_status (Next position finalized) = Unset
+spread_status (Spread position finalized status) = status
+spread_status (Ended last finalized) = Unset
 
 -- the last position, once the reading has ended
 abbrev pub last_of : Reading → Option ℕ

@@ -1,8 +1,8 @@
 ghost use Rattle.std.specs.Prelude.{◌≡◌, ℕ, ◌+◌, ◌<◌, ◌^◌, IsSome, IsTrue};
 ghost use Rattle.tag.specs.declared.tag.Tag.{Tag};
 ghost use Rattle.record.specs.declared.stage.Stage.TheVariants.{ReadBegin, ReadNext, AgainNext};
-ghost use Rattle.record.specs.Courses.{begun_at, due, after_next, after_spread, after_again};
-ghost use Rattle.successor.specs.Reading.{is_next, is_spread, position_of, finalized_of, status_of, last_of};
+ghost use Rattle.record.specs.PhaseOrder.{begun_at, due, after_next, after_spread, after_again};
+ghost use Rattle.successor.specs.Reading.{is_next, is_spread, position_of, finalized_of, spread_status, last_of};
 ghost use Rattle.successor.specs.Reading.{next_of, found_by, spread_by, first_of, again_of};
 
 use bank::{Kind, Status};
@@ -77,7 +77,7 @@ impl Reading {
         requires due { IsTrue (is_spread self) }
         requires room { position_of self + 1 < 2 ^ 32 }
         ensures value { result ≡ spread_by self }
-        ensures first { first_of result ≡ after_spread (status_of self) (position_of self) (finalized_of self) }
+        ensures first { first_of result ≡ after_spread (spread_status self) (position_of self) (finalized_of self) }
         ensures again { (last : ℕ) (tag : Tag)
             → again_of last tag result ≡ AgainNext last (position_of self + 1) tag }
     {

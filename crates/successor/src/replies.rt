@@ -1,5 +1,5 @@
 ghost use Rattle.std.specs.Prelude.{◌≡◌};
-ghost use Rattle.record.specs.Courses.{later_status, shown_status, shown_tag, greatest_status, greatest_tag};
+ghost use Rattle.record.specs.PhaseOrder.{later_status, shown_status, shown_tag, greatest_status, greatest_tag};
 
 use bank::{Answer, Status};
 use phase::Taken;

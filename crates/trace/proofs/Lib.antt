@@ -1,2 +1,2 @@
-pub mod PlayedLemmas
-pub mod ShownLemmas
+pub mod PlayedScriptLemmas
+pub mod ShownTextLemmas

@@ -22,8 +22,8 @@ abbrev pub EndsAtLine : (number : ℕ) → Option Cluster → (line : List ℕ) 
 EndsAtLine number state line why = (end : End) × (why ≡ fault.Ended end) × EndsLine number state line None None end
 
 -- playing the script ends early at one of its lines, or memory is refused
-abbrev pub EndsBefore : (script : List ℕ) → Fault → Type 0
-EndsBefore script why =
+abbrev pub EndsEarly : (script : List ℕ) → Fault → Type 0
+EndsEarly script why =
     ((end : End) × (why ≡ fault.Ended end) × EndsAt script None None end) ⊎ (why ≡ fault.Refused NoMemory)
 
 -- playing the reader's script ends early, or memory is refused

@@ -7,9 +7,9 @@ use Rattle.player.specs.declared.run.End.TheVariants.{NoRoom, Unread}
 use Rattle.trace.specs.declared.fault.Fault.{Fault}
 use Rattle.trace.specs.declared.fault.Fault.TheVariants as fault
 use Rattle.trace.specs.declared.request.Form.{Form}
-use Rattle.trace.specs.Fault.{status_of}
+use Rattle.trace.specs.Fault.{exit_status_of}
 use Rattle.trace.specs.Played.{IsUnplayed, LeadsTo}
-use Rattle.trace.specs.Request.{IsReading, Word, words_of}
+use Rattle.trace.specs.Request.{ParsesTo, Word, words_asking_for}
 use Rattle.trace.specs.Shown.{Shows}
 
 -- the file could not be opened, and nothing is written
@@ -32,11 +32,11 @@ ShowsOfFile asked name old new result =
 -- this is the exit status of a result of which `Is` holds
 abbrev pub IsStatusOf : (Result Unit Fault → Type 0) → (status : ℕ) → Type 0
 IsStatusOf Is status =
-    ((status ≡ 0) × (Is (Ok tt))) ⊎ ((why : Fault) × (status ≡ status_of why) × Is (Err why))
+    ((status ≡ 0) × (Is (Ok tt))) ⊎ ((why : Fault) × (status ≡ exit_status_of why) × Is (Err why))
 
 -- the words spell no request, and nothing is written; or they spell one, and the status is that of its result
 abbrev pub EndsBy : List Word → (old new : Option (List ℕ)) → (status : ℕ) → Type 0
 EndsBy words old new status =
-    (IsReading words None × (status ≡ 2) × Keeps old new)
-    ⊎ ((asked : Form) × (script : Word) × (name : Word) × (words ≡ words_of asked script name)
+    (ParsesTo words None × (status ≡ 2) × Keeps old new)
+    ⊎ ((asked : Form) × (script : Word) × (name : Word) × (words ≡ words_asking_for asked script name)
     × IsStatusOf (ShowsOfFile asked name old new) status)

@@ -10,13 +10,13 @@ abbrev pub Word : Type 0
 Word = List ℕ
 
 -- the words that ask for this form of an object
-abbrev pub words_of : Form → (script name : Word) → List Word
-words_of form.Picture script name = codes "picture" ∷ script ∷ name ∷ []
-words_of form.Edn script name = codes "history" ∷ script ∷ name ∷ codes "edn" ∷ []
-words_of form.Json script name = codes "history" ∷ script ∷ name ∷ codes "json" ∷ []
-words_of form.Costs script name = codes "costs" ∷ script ∷ name ∷ []
+abbrev pub words_asking_for : Form → (script name : Word) → List Word
+words_asking_for form.Picture script name = codes "picture" ∷ script ∷ name ∷ []
+words_asking_for form.Edn script name = codes "history" ∷ script ∷ name ∷ codes "edn" ∷ []
+words_asking_for form.Json script name = codes "history" ∷ script ∷ name ∷ codes "json" ∷ []
+words_asking_for form.Costs script name = codes "costs" ∷ script ∷ name ∷ []
 
 -- the words spell this request, or no request at all
-abbrev pub IsReading : List Word → Option Request → Type 0
-IsReading words None = (asked : Form) (script name : Word) → ¬ (words ≡ words_of asked script name)
-IsReading words (Some request) = words ≡ words_of request.form request.script.now request.name.now
+abbrev pub ParsesTo : List Word → Option Request → Type 0
+ParsesTo words None = (asked : Form) (script name : Word) → ¬ (words ≡ words_asking_for asked script name)
+ParsesTo words (Some request) = words ≡ words_asking_for request.form request.script.now request.name.now

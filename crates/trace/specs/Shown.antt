@@ -23,13 +23,13 @@ abbrev pub behind : State → ℕ
 behind state = min (state.last + 1) (2 ^ 64 - 1)
 
 -- what is written is the object in this form; nothing is claimed of a picture
-abbrev pub IsShown : Form → State → (old new : Option (List ℕ)) → Type 0
-IsShown form.Picture state old new = ⊤
-IsShown form.Edn state old new =
+abbrev pub ShowsObject : Form → State → (old new : Option (List ℕ)) → Type 0
+ShowsObject form.Picture state old new = ⊤
+ShowsObject form.Edn state old new =
     (events : List Event) × IsHistory (entries state.object) (behind state) events × Appends old new (edn_text events)
-IsShown form.Json state old new =
+ShowsObject form.Json state old new =
     (events : List Event) × IsHistory (entries state.object) (behind state) events × Appends old new (json_text events)
-IsShown form.Costs state old new = Appends old new (costs_text state.object (entries state.object))
+ShowsObject form.Costs state old new = Appends old new (costs_text state.object (entries state.object))
 
 -- the fault is that memory is refused
 abbrev pub IsWant : Fault → Type 0
@@ -48,7 +48,7 @@ absence (Some cluster) name = object_cause cluster name (λ object. None)
 abbrev pub ShowsOf : Form → Option Cluster → (name : List ℕ) → (old new : Option (List ℕ)) → Type 0
 ShowsOf asked None name old new = ⊥
 ShowsOf asked (Some cluster) name old new =
-    (state : State) × (named cluster.objects name ≡ Some state) × IsShown asked state old new
+    (state : State) × (named cluster.objects name ≡ Some state) × ShowsObject asked state old new
 
 -- no object has this name, and nothing is written; or one has it, and memory is refused or the output is lost
 abbrev pub IsWhyNot : Option Cluster → (name : List ℕ) → (old new : Option (List ℕ)) → Fault → Type 0

@@ -3,7 +3,7 @@ ghost use Rattle.std.specs.Prelude.{◌≡◌, ℕ, List, None, map, IfErr, Matc
 ghost use Rattle.std.specs.Str.Lines.{lines as lines_of};
 ghost use Rattle.tag.specs.declared.refusal.Refusal.TheVariants.{NoMemory};
 ghost use Rattle.player.specs.Script.{IsPlayedFrom};
-ghost use Rattle.trace.specs.Played.{EndsAtLine, EndsBefore, IsUnplayed, LeadsTo, LeadsThrough};
+ghost use Rattle.trace.specs.Played.{EndsAtLine, EndsEarly, IsUnplayed, LeadsTo, LeadsThrough};
 ghost use Rattle.trace.specs.declared.fault.Fault.TheVariants.{Refused};
 
 use crate::fault::Fault;
@@ -42,7 +42,7 @@ pub fn play_script<R: Read>(alloc: Global, reader: &mut R, name: &str) -> Result
 
 fn play_lines(alloc: Global, lines: &[&[u8]], name: &str) -> Result<Played, Fault>
     ensures { (script : List ℕ) → map (λ line. line.now) lines.now ≡ lines_of script
-        → MatchResult result (λ played. LeadsThrough script played.cluster) (EndsBefore script) }
+        → MatchResult result (λ played. LeadsThrough script played.cluster) (EndsEarly script) }
 {
     let mut cluster = None;
     let mut losses = Vec::new(alloc);

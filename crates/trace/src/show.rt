@@ -3,7 +3,7 @@ ghost use Rattle.std.specs.Prelude.{◌≡◌, ℕ, List, Some, IfErr, OnOk, Mat
 ghost use Rattle.std.specs.Io.KnownBytes.{Appends};
 ghost use Rattle.record.specs.Journals.{entries};
 ghost use Rattle.exports.specs.Event.{IsHistory};
-ghost use Rattle.trace.specs.Shown.{IsLoss, IsShown, IsWant, Shows, behind};
+ghost use Rattle.trace.specs.Shown.{IsLoss, ShowsObject, IsWant, Shows, behind};
 
 use crate::fault::Fault;
 use crate::play::Played;
@@ -47,7 +47,7 @@ fn show_object<O: Write>(
     out: &mut O,
 ) -> Result<(), Fault>
     ensures { MatchResult result
-        (λ _. IsShown request.entry.form register.now (O.contents out.old) (O.contents out.new)) IsLoss }
+        (λ _. ShowsObject request.entry.form register.now (O.contents out.old) (O.contents out.new)) IsLoss }
 {
     match request.form {
         Form::Edn => show_edn(alloc, register, out),
@@ -59,7 +59,7 @@ fn show_object<O: Write>(
 
 fn show_edn<O: Write>(alloc: Global, register: &Register, out: &mut O) -> Result<(), Fault>
     ensures { MatchResult result
-        (λ _. IsShown Form.Edn register.now (O.contents out.old) (O.contents out.new)) IsLoss }
+        (λ _. ShowsObject Form.Edn register.now (O.contents out.old) (O.contents out.new)) IsLoss }
 {
     match history_of(alloc, register) {
         Ok(events) => print(out, EdnLines(&events)),
@@ -69,7 +69,7 @@ fn show_edn<O: Write>(alloc: Global, register: &Register, out: &mut O) -> Result
 
 fn show_json<O: Write>(alloc: Global, register: &Register, out: &mut O) -> Result<(), Fault>
     ensures { MatchResult result
-        (λ _. IsShown Form.Json register.now (O.contents out.old) (O.contents out.new)) IsLoss }
+        (λ _. ShowsObject Form.Json register.now (O.contents out.old) (O.contents out.new)) IsLoss }
 {
     match history_of(alloc, register) {
         Ok(events) => print(out, JsonLines(&events)),
@@ -94,7 +94,7 @@ fn history_of(alloc: Global, register: &Register) -> Result<Vec<Event>, Fault>
 
 fn show_costs<O: Write>(register: &Register, out: &mut O) -> Result<(), Fault>
     ensures { MatchResult result
-        (λ _. IsShown Form.Costs register.now (O.contents out.old) (O.contents out.new)) IsLoss }
+        (λ _. ShowsObject Form.Costs register.now (O.contents out.old) (O.contents out.new)) IsLoss }
 {
     match register.entries() {
         Ok(entries) => {

@@ -1,2 +1,2 @@
-pub mod Limits
-mod Moving
+pub mod NextPositionLemmas
+mod MoveStageLemmas

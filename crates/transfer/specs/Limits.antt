@@ -8,7 +8,7 @@ use Rattle.record.specs.declared.call.CallKind.{CallKind}
 use Rattle.record.specs.declared.call.CallKind.TheVariants.{Read, Write, Move}
 use Rattle.record.specs.declared.stage.Stage.{Stage}
 use Rattle.record.specs.declared.stage.Stage.TheVariants.{QueryFrom}
-use Rattle.record.specs.Courses.{due, greatest_tag}
+use Rattle.record.specs.PhaseOrder.{due, greatest_tag}
 
 -- the position of the phase that is due, if one is, has a successor that fits 32 bits
 abbrev pub IsBelowLimit : Stage → Type 0

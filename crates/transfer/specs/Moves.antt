@@ -13,7 +13,7 @@ use Rattle.record.specs.declared.call.CallKind.TheVariants.{Move}
 use Rattle.record.specs.declared.stage.Stage.{Stage}
 use Rattle.record.specs.declared.stage.Stage.TheVariants.{MoveSpread, MoveQuery, MoveFetch, MovePreWrite, MoveFinalize}
 use Rattle.record.specs.declared.stage.Stage.TheVariants.{MoveFinal, Moved}
-use Rattle.record.specs.Courses.{greatest_tag, due, stage_after, IsCourse}
+use Rattle.record.specs.PhaseOrder.{greatest_tag, due, stage_after, IsCourse}
 use Rattle.record.specs.Grammar.{IsMoveAttempt}
 use Rattle.successor.specs.Laws.{AreComplete}
 

@@ -1,7 +1,7 @@
 //! The stages of a call, one after another.
 
 ghost use Rattle.std.specs.Prelude.{◌≡◌};
-ghost use Rattle.record.specs.Courses.{begun_at, due, stage_past};
+ghost use Rattle.record.specs.PhaseOrder.{begun_at, due, stage_past};
 ghost use Rattle.record.specs.Legal.{first_stage};
 ghost use Rattle.record.specs.Journals.{stage_tag};
 ghost use Rattle.transfer.specs.Limits.{IsBelowLimit, HasNextTag};

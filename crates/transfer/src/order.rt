@@ -1,7 +1,7 @@
 ghost use Rattle.std.specs.Prelude.{◌≡◌, ℕ, ◌+◌, ◌<◌, ◌^◌, length, slice_get};
 ghost use Rattle.record.specs.declared.call.CallKind.TheVariants.{Move};
 ghost use Rattle.record.specs.declared.stage.Stage.TheVariants.{MoveSpread};
-ghost use Rattle.record.specs.Courses.{due, stage_after};
+ghost use Rattle.record.specs.PhaseOrder.{due, stage_after};
 ghost use Rattle.successor.specs.Laws.{AreComplete};
 ghost use Rattle.transfer.specs.Moves.{last_phases, move_phases, queried_tag};
 

@@ -2,8 +2,8 @@
 
 ghost use Rattle.std.specs.Prelude.{◌≡◌, ◌+◌, ◌<◌, ◌^◌, if◌then◌else◌};
 ghost use Rattle.tag.specs.Tag.{later_tag};
-ghost use Rattle.record.specs.Courses.{after, after_next, after_spread, after_query, after_fetch, after_again};
-ghost use Rattle.record.specs.Courses.{greatest_status, greatest_tag, tagged};
+ghost use Rattle.record.specs.PhaseOrder.{after, after_next, after_spread, after_query, after_fetch, after_again};
+ghost use Rattle.record.specs.PhaseOrder.{greatest_status, greatest_tag, tagged};
 ghost use Rattle.record.specs.declared.stage.Stage.TheVariants.{ReadBegin};
 ghost use Rattle.successor.specs.Reading.{first_of, again_of, spread_by};
 ghost use Rattle.successor.specs.declared.reading.Reading.TheVariants.{Spread};

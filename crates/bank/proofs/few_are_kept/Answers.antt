@@ -1,4 +1,4 @@
-use Rattle.bank.proofs.Few.{few_kept}
+use Rattle.bank.proofs.PieceBoundLemmas.{few_kept}
 use Rattle.bank.proofs.few_are_kept.Goals as goal
 
 pub returns : goal.returns

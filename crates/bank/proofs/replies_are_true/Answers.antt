@@ -1,4 +1,4 @@
-use Rattle.bank.proofs.Truth.{served_truth}
+use Rattle.bank.proofs.TrueAnswerLemmas.{served_truth}
 use Rattle.bank.proofs.replies_are_true.Goals as goal
 
 pub returns : goal.returns

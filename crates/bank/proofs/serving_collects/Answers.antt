@@ -1,4 +1,4 @@
-use Rattle.bank.proofs.Pieces.{opened_collected, served_collected, retired_collected}
+use Rattle.bank.proofs.PieceRetentionLemmas.{opened_collected, served_collected, retired_collected}
 use Rattle.bank.proofs.serving_collects.Goals as goal
 
 pub returns-clause-opened : goal.returns-clause-opened

@@ -1,5 +1,5 @@
-use Rattle.bank.proofs.Collecting.{fetched_piece-keeps_all, holds-keeps_all}
-use Rattle.bank.proofs.KeptAll.{opened_keeps_all, served_keeps_all, keeps_all-served}
+use Rattle.bank.proofs.CollectedBankLemmas.{fetched_piece-keeps_all, holds-keeps_all}
+use Rattle.bank.proofs.KeepsAllLemmas.{opened_keeps_all, served_keeps_all, keeps_all-served}
 use Rattle.bank.proofs.serving_keeps_all.Goals as goal
 
 pub returns-clause-opened : goal.returns-clause-opened

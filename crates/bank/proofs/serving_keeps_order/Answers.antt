@@ -1,7 +1,7 @@
 use Rattle.bank.specs.Collect.{retired_bank}
 use Rattle.bank.specs.Serve.{served_bank}
-use Rattle.bank.proofs.Growth.{served_grows, retired_grows}
-use Rattle.bank.proofs.Truth.{grows_order}
+use Rattle.bank.proofs.MonotoneLemmas.{served_grows, retired_grows}
+use Rattle.bank.proofs.TrueAnswerLemmas.{grows_order}
 use Rattle.bank.proofs.serving_keeps_order.Goals as goal
 
 pub returns-clause-served : goal.returns-clause-served

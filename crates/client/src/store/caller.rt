@@ -7,9 +7,9 @@ ghost use Rattle.register.specs.declared.receipt.Receipt.{Receipt as ReceiptOf};
 ghost use Rattle.cluster.specs.Cluster.{Cluster as ClusterOf};
 ghost use Rattle.locked_steps.specs.Course.{IsStateOf};
 ghost use Rattle.locked_steps.specs.Moves.{Ends, asked_if, has_asked};
-ghost use Rattle.locked_steps.specs.Seats.{Settles, asked_once};
+ghost use Rattle.locked_steps.specs.Seats.{SettlesPending, asked_once};
 ghost use Rattle.locked_steps.specs.declared.handed_in.HandedIn.{HandedIn as HandOf};
-ghost use Rattle.client.specs.Callers.{CanBeCoded, IsCodedFrom, IsUnanswered, LeavesBy};
+ghost use Rattle.client.specs.Callers.{CanBeCoded, IsCodedFrom, IsRoundWithoutAnswer, LeavesBy};
 ghost use Rattle.client.specs.Refusals.{IsMovingHand, IsMovingRefused, IsPendingHand, IsSeatRefused};
 
 use driver::{Chooser, Round};
@@ -46,13 +46,13 @@ pub(crate) trait Caller<L: StoreName> {
         ensures leaves { IfOk result (λ r. LeavesBy ends (asked_if asks asks_again self.old) r self.new) }
         ensures codes { IfOk result (λ r. CanBeCoded r) }
         ensures hands { IfOk result (λ r. (next : HandOf) → IsCodedFrom r next → holds self.new next) }
-        ensures memory { IfOk result (λ r. IsUnanswered r → is_refused booked.old self.new NoMemory) }
+        ensures memory { IfOk result (λ r. IsRoundWithoutAnswer r → is_refused booked.old self.new NoMemory) }
         ensures kept { OnErr result (self.new ≡ self.old) }
         ensures refused { IfErr result (λ e. is_refused booked.old self.old e) };
 }
 
 impl<L: StoreName> Caller<L> for Seat<L> {
-    ghost ends = { λ before receipt after. Settles before.pending before receipt after };
+    ghost ends = { λ before receipt after. SettlesPending before.pending before receipt after };
 
     ghost asks = { λ seat. asked_once seat };
 

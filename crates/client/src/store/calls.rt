@@ -1,7 +1,7 @@
 //! Whole reads and writes.
 
 ghost use Rattle.std.specs.Prelude.{◌≡◌, ◌⊎◌, None, IfErr, IfOk, OnErr};
-ghost use Rattle.locked_steps.specs.Seats.{AddsAnswered, BeginsNot, Settles, asked_once};
+ghost use Rattle.locked_steps.specs.Seats.{AddsAnswered, BeginsNot, SettlesPending, asked_once};
 ghost use Rattle.locked_steps.specs.declared.call_record.Begin.TheVariants as begins;
 ghost use Rattle.client.specs.Refusals.{IsFreeRefused, LeavesPending, SeatIsRefused};
 
@@ -78,7 +78,7 @@ impl<L: StoreName> Store<L> {
         turns: u64,
     ) -> Result<Receipt, Refusal>
         ensures ok { IfOk result
-            (λ receipt. Settles seat.old.pending (asked_once seat.old) receipt seat.new) }
+            (λ receipt. SettlesPending seat.old.pending (asked_once seat.old) receipt seat.new) }
         ensures err { OnErr result ((seat.new ≡ seat.old) ⊎ (seat.new ≡ asked_once seat.old)) }
         ensures refused { IfErr result (λ r. SeatIsRefused L.first seat.new r) }
         ensures without_call { IfErr result

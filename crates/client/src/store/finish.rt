@@ -2,7 +2,7 @@
 
 ghost use Rattle.std.specs.Prelude.{◌≡◌, IfErr, IfOk, OnErr};
 ghost use Rattle.tag.specs.declared.refusal.Refusal.TheVariants.{NoMemory};
-ghost use Rattle.client.specs.Callers.{CanBeCoded, IsCodedFrom, IsUnanswered, StaysOpen};
+ghost use Rattle.client.specs.Callers.{CanBeCoded, IsCodedFrom, IsRoundWithoutAnswer, StaysOpen};
 ghost use Rattle.client.specs.Refusals.{IsRefusedThen};
 ghost use Rattle.locked_steps.specs.Moves.{asked_if};
 ghost use Rattle.locked_steps.specs.declared.handed_in.HandedIn.TheVariants as hands;
@@ -61,7 +61,7 @@ impl<L: StoreName> Store<L> {
         round: Round,
     ) -> Result<HandedIn, Refusal>
         requires { CanBeCoded round }
-        ensures coded { IfOk result (λ hand. IsUnanswered round → IsCodedFrom round hand) }
+        ensures coded { IfOk result (λ hand. IsRoundWithoutAnswer round → IsCodedFrom round hand) }
         ensures refused { IfErr result (λ e. e ≡ NoMemory) }
     {
         match round {

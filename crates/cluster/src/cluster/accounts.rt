@@ -56,7 +56,7 @@ impl Cluster {
     pub(crate) fn accounts(&self) -> Accounts
         ensures { AreSums self.now result }
     {
-        self.keeping();
+        self.invariant();
         let mut servers = ArrayVec::new();
         for server in 0..self.servers() {
             servers.push(self.stored(server));

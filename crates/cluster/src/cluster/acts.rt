@@ -5,7 +5,7 @@ ghost use Rattle.register.specs.Act.{IsActCause, act_cause, answered_by, step_of
 ghost use Rattle.cluster.specs.Acts.{IsReady, begun_by};
 ghost use Rattle.cluster.specs.Causes.{next, object_cause};
 ghost use Rattle.cluster.specs.Cluster.{if_named, place_of};
-ghost use Rattle.cluster.specs.May.{MayMake};
+ghost use Rattle.cluster.specs.Preconditions.{MayMake};
 ghost use Rattle.cluster.specs.Steps.{stepped};
 
 use crate::cluster::Cluster;

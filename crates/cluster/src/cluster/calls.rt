@@ -6,7 +6,7 @@ ghost use Rattle.record.specs.Steps.{Step};
 ghost use Rattle.register.specs.Causes.{read_cause, write_cause, answer_cause};
 ghost use Rattle.register.specs.View.{receipt_at};
 ghost use Rattle.cluster.specs.Cluster.{if_named, layout_of, place_of};
-ghost use Rattle.cluster.specs.May.{MayMake};
+ghost use Rattle.cluster.specs.Preconditions.{MayMake};
 ghost use Rattle.cluster.specs.Steps.{stepped, moved};
 ghost use Rattle.cluster.specs.Causes.{next, object_cause, moving_cause};
 

@@ -13,7 +13,7 @@ ghost use Rattle.cluster.specs.Atomic.{CarryJournaled, HaveEnough, HaveOneValue,
 ghost use Rattle.cluster.specs.Causes.{moving_cause, next, object_cause, serving_cause};
 ghost use Rattle.cluster.specs.Cluster.{layout_of};
 ghost use Rattle.cluster.specs.Kept.{IsKeptCluster};
-ghost use Rattle.cluster.specs.May.{MayMake};
+ghost use Rattle.cluster.specs.Preconditions.{MayMake};
 
 use crate::cluster::{Accounts, Cluster};
 use atomicity::{

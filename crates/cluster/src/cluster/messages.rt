@@ -7,7 +7,7 @@ ghost use Rattle.record.specs.Steps.{Step};
 ghost use Rattle.register.specs.Causes.{take_cause, lose_cause, repeat_cause};
 ghost use Rattle.register.specs.View.{took_at};
 ghost use Rattle.cluster.specs.Cluster.{Cluster as Store, if_named, is_reached};
-ghost use Rattle.cluster.specs.May.{MayMake};
+ghost use Rattle.cluster.specs.Preconditions.{MayMake};
 ghost use Rattle.cluster.specs.Steps.{stepped};
 ghost use Rattle.cluster.specs.Serving.{GoesTo, IsOf};
 ghost use Rattle.cluster.specs.Causes.{next, object_cause, serving_cause, can_handle, handled_at, place_cause};
@@ -54,7 +54,7 @@ impl Cluster {
             Ok(()) => {
                 let after = register.stored_in_all();
                 self.stored = exchanged(self.stored, before, after);
-                self.loads.exchange(server, before, after);
+                self.loads.replace_part(server, before, after);
                 self.mailed = exchanged(self.mailed, waited, waiting(register));
                 self.counter = now;
                 Ok(())

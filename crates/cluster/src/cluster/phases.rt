@@ -7,7 +7,7 @@ ghost use Rattle.register.specs.Causes.{number_cause, advance_cause, again_cause
 ghost use Rattle.register.specs.Causes.{supply_cause, pieces_cause, settle_cause};
 ghost use Rattle.register.specs.View.{want_at, coding_at, pieces_at};
 ghost use Rattle.cluster.specs.Cluster.{if_named};
-ghost use Rattle.cluster.specs.May.{MayMake};
+ghost use Rattle.cluster.specs.Preconditions.{MayMake};
 ghost use Rattle.cluster.specs.Steps.{stepped};
 ghost use Rattle.cluster.specs.Causes.{next, object_cause};
 

@@ -8,7 +8,7 @@ ghost use Rattle.record.specs.Steps.{Step};
 ghost use Rattle.register.specs.Retiring.{retire_cause};
 ghost use Rattle.cluster.specs.Accounts.{stored_all};
 ghost use Rattle.cluster.specs.Causes.{next, object_cause};
-ghost use Rattle.cluster.specs.May.{MayMake};
+ghost use Rattle.cluster.specs.Preconditions.{MayMake};
 ghost use Rattle.cluster.specs.Steps.{stepped};
 
 use crate::cluster::Cluster;
@@ -65,6 +65,6 @@ fn unload(loads: &mut Loads, register: &Register, servers: u8)
         → get_or loads.new server 0 + base_bytes_of register.now.object server ≡ get_or loads.old server 0 }
 {
     for server in 0..servers {
-        loads.exchange(server, register.stored_at_base(server), 0);
+        loads.replace_part(server, register.stored_at_base(server), 0);
     }
 }

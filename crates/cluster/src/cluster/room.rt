@@ -18,7 +18,7 @@ use tag::{CallId, LONGEST_VALUE, Refusal};
 impl Cluster {
     /// A law: the limits hold, no two objects have the same name, and each member of a layout is a server. It changes
     /// nothing and allocates no memory.
-    pub fn keeping(&self)
+    pub fn invariant(&self)
         ensures { (bytes : ℕ) × ((count : ℕ) × IsKeptCluster self.now bytes count) }
     {
         // Reading a field gives the prover the invariant of the type.

@@ -1,4 +1,4 @@
-use Rattle.gf256.proofs.Remainder.{IsRemainder-field_product}
+use Rattle.gf256.proofs.RemainderLemmas.{IsRemainder-field_product}
 use Rattle.gf256.proofs.product_is_the_remainder.Goals as goal
 
 pub returns : goal.returns

@@ -5,11 +5,11 @@ ghost use Rattle.tag.specs.Refusal.{IsByCause, IsExactlyByCause};
 ghost use Rattle.tag.specs.declared.refusal.Refusal.TheVariants.{Full, WrongCode};
 ghost use Rattle.encoder.specs.Coded.{Coding};
 ghost use Rattle.record.specs.Steps.{Step};
-ghost use Rattle.record.specs.Courses.{due};
+ghost use Rattle.record.specs.PhaseOrder.{due};
 ghost use Rattle.record.specs.Wants.{current_phase};
 ghost use Rattle.register.specs.State.{made, object_of};
 ghost use Rattle.tag.specs.declared.limits.TheConstants.{MOST_POSITIONS};
-ghost use Rattle.register.specs.Tracked.{IsBelow, tracked_want};
+ghost use Rattle.register.specs.Tracked.{HasPositionsBelow, tracked_want};
 ghost use Rattle.register.specs.Coding.{pieces_position, sending_position};
 ghost use Rattle.register.specs.Causes.{unless, value_cause, supply_cause, supplying_cause, pieces_cause, settle_cause};
 ghost use Rattle.register.specs.Causes.{is_replied};
@@ -198,7 +198,7 @@ impl Register {
 // The position whose members are to get the pieces of a call, if it sends any.
 fn pieces_position(positions: &[Position], call: &Call) -> Option<u32>
     requires count { length positions.now ≤ MOST_POSITIONS }
-    requires below { IsBelow (length positions.now) call.now }
+    requires below { HasPositionsBelow (length positions.now) call.now }
     ensures { result ≡ pieces_position (tracked_want (object_of None positions.now [] []) call.now) (due call.now.stage)
         (current_phase call.now.call.phases) }
 {

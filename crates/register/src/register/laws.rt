@@ -2,7 +2,7 @@
 
 ghost use Rattle.std.specs.Prelude.{◌≡◌, ℕ, None};
 ghost use Rattle.encoder.specs.Fragment.{fragment};
-ghost use Rattle.record.specs.May.{MayStep};
+ghost use Rattle.record.specs.Preconditions.{MayStep};
 ghost use Rattle.soundness.specs.Sound.{IsSound};
 ghost use Rattle.record.specs.Steps.{Step};
 ghost use Rattle.register.specs.Act.{HasLawfulValues, act_cause, step_of};

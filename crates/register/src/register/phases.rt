@@ -8,7 +8,7 @@ ghost use Rattle.record.specs.Steps.{Step};
 ghost use Rattle.record.specs.Wants.{is_fetch, value_len};
 ghost use Rattle.register.specs.Coding.{is_pre_write};
 ghost use Rattle.tag.specs.declared.limits.TheConstants.{MOST_POSITIONS};
-ghost use Rattle.register.specs.Tracked.{IsBelow, tracked_want};
+ghost use Rattle.register.specs.Tracked.{HasPositionsBelow, tracked_want};
 ghost use Rattle.register.specs.State.{made, object_of};
 ghost use Rattle.register.specs.Causes.{number_cause, advance_cause, again_cause, post_cause, is_plain};
 ghost use Rattle.register.specs.Causes.{due_step, due_cause, wants_due};
@@ -146,7 +146,7 @@ pub fn index_of(calls: &[Call], call: CallId) -> Result<usize, Refusal>
 // What a call wants, where these are the object's positions.
 pub fn want_of(positions: &[Position], call: &Call) -> Want
     requires count { length positions.now ≤ MOST_POSITIONS }
-    requires below { IsBelow (length positions.now) call.now }
+    requires below { HasPositionsBelow (length positions.now) call.now }
     ensures { result ≡ tracked_want (object_of None positions.now [] []) call.now }
 {
     if call.is_answered() {

@@ -1,6 +1,6 @@
 -- A complete fetch has enough pieces.
-pub mod Counting
-pub mod Fetched
-pub mod Fetches
-pub mod Had
-pub mod Stages
+pub mod CompleteFetchLemmas
+pub mod FinalizedPieceLemmas
+pub mod PieceCountLemmas
+pub mod QuorumPieceLemmas
+pub mod StagePieceLemmas

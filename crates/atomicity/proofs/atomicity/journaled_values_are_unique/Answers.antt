@@ -1,4 +1,4 @@
-use Rattle.soundness.proofs.Values.Coded.{journal_unique}
+use Rattle.soundness.proofs.Values.ReadValueLemmas.{journal_unique}
 use Rattle.atomicity.proofs.atomicity.journaled_values_are_unique.Goals as goal
 
 pub returns : goal.returns

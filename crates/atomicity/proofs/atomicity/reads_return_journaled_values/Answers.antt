@@ -1,4 +1,4 @@
-use Rattle.soundness.proofs.Values.Coded.{reads_journaled}
+use Rattle.soundness.proofs.Values.ReadValueLemmas.{reads_journaled}
 use Rattle.atomicity.proofs.atomicity.reads_return_journaled_values.Goals as goal
 
 pub returns : goal.returns

@@ -1,4 +1,4 @@
-use Rattle.atomicity.proofs.Runs.{run_atomic}
+use Rattle.atomicity.proofs.AtomicRunLemmas.{run_atomic}
 use Rattle.atomicity.proofs.atomicity.runs_are_atomic.Goals as goal
 
 pub returns : goal.returns

@@ -1,4 +1,4 @@
-use Rattle.soundness.proofs.Values.Coded.{settled_journaled}
+use Rattle.soundness.proofs.Values.ReadValueLemmas.{settled_journaled}
 use Rattle.atomicity.proofs.atomicity.settled_values_are_journaled.Goals as goal
 
 pub returns : goal.returns

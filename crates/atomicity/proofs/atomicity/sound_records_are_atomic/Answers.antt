@@ -1,4 +1,4 @@
-use Rattle.atomicity.proofs.Runs.{atomic_of_coded}
+use Rattle.atomicity.proofs.AtomicRunLemmas.{atomic_of_coded}
 use Rattle.atomicity.proofs.atomicity.sound_records_are_atomic.Goals as goal
 
 pub returns : goal.returns

@@ -1,4 +1,4 @@
-use Rattle.atomicity.proofs.Sequences.ByTags.{sequence_of_sound}
+use Rattle.atomicity.proofs.Sequences.TagSequenceLemmas.{sequence_of_sound}
 use Rattle.atomicity.proofs.atomicity.tag_sequences_are_sequences.Goals as goal
 
 pub returns : goal.returns

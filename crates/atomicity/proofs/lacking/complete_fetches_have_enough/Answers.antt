@@ -1,6 +1,6 @@
 use Rattle.record.specs.Knowledge.{IsTruePhase}
-use Rattle.soundness.proofs.Sound.Enough.Fetches.{fetch_has_enough}
-use Rattle.soundness.proofs.Lists.{all_get}
+use Rattle.soundness.proofs.Sound.Enough.CompleteFetchLemmas.{fetch_has_enough}
+use Rattle.soundness.proofs.ListLemmas.{all_get}
 use Rattle.atomicity.proofs.lacking.complete_fetches_have_enough.Goals as goal
 
 pub returns : goal.returns

@@ -1,5 +1,5 @@
 use Rattle.std.proofs.Common.{◌∙◌}
-use Rattle.bank.proofs.Few.{few_kept}
+use Rattle.bank.proofs.PieceBoundLemmas.{few_kept}
 use Rattle.record.specs.Records.{bank_at}
 use Rattle.atomicity.proofs.lacking.few_pieces_are_kept.Goals as goal
 

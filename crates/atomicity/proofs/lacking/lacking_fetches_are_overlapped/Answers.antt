@@ -1,4 +1,4 @@
-use Rattle.atomicity.proofs.Overlapping.Overlaps.{lacking_overlapped}
+use Rattle.atomicity.proofs.Overlapping.OverlappingWriteLemmas.{lacking_overlapped}
 use Rattle.atomicity.proofs.lacking.lacking_fetches_are_overlapped.Goals as goal
 
 pub returns : goal.returns

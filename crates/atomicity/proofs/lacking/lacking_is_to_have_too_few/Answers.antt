@@ -1,6 +1,6 @@
 use Rattle.record.specs.Knowledge.{IsTruePhase}
-use Rattle.soundness.proofs.Lists.{all_get}
-use Rattle.soundness.proofs.Sound.Enough.Counting.{enough_not_lacking, not_lacking_enough}
+use Rattle.soundness.proofs.ListLemmas.{all_get}
+use Rattle.soundness.proofs.Sound.Enough.PieceCountLemmas.{enough_not_lacking, not_lacking_enough}
 use Rattle.atomicity.proofs.lacking.lacking_is_to_have_too_few.Goals as goal
 
 pub returns : goal.returns

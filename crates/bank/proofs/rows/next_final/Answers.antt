@@ -4,7 +4,7 @@ use Rattle.std.proofs.lemmas.Iterator.Consumers.{YieldsList-from_rest}
 use Rattle.std.proofs.lemmas.Iterator.Search.{find_from_yields_List}
 use Rattle.tag.specs.declared.tag.Tag.{Tag}
 use Rattle.bank.specs.declared.row.Row.{Row}
-use Rattle.bank.proofs.Searching.{is_next, after-found, next_mapped}
+use Rattle.bank.proofs.NextTagSearchLemmas.{is_next, after-found, next_mapped}
 use Rattle.bank.proofs.rows.next_final.Goals as goal
 
 pub returns-clause-next : goal.returns-clause-next

@@ -1,5 +1,5 @@
 use Rattle.std.proofs.Common.{inl, refl}
-use Rattle.coding_commands.proofs.RequestLemmas.{err_of, fault_of, no_bytes}
+use Rattle.coding_commands.proofs.PieceWordLemmas.{err_of, fault_of, no_bytes}
 use Rattle.coding_commands.proofs.request.fragments_request.Goals as goal
 
 pub returns-in_err-value : goal.returns-in_err-value

@@ -3,7 +3,7 @@ use Rattle.std.specs.List.{after_first, before_first}
 use Rattle.words.specs.Hexadecimal.{IsHexadecimal}
 use Rattle.words.specs.Number.{IsNumber}
 use Rattle.coding_commands.specs.Request.{is_colon}
-use Rattle.coding_commands.proofs.RequestLemmas.{err_of}
+use Rattle.coding_commands.proofs.PieceWordLemmas.{err_of}
 use Rattle.coding_commands.proofs.request.parse_piece.Goals as goal
 
 pub returns-in_err-point : goal.returns-in_err-point

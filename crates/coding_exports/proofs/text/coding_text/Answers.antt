@@ -1,6 +1,6 @@
 use Rattle.std.proofs.Common.{ap, ◌∙◌}
 use Rattle.coding_exports.specs.Text.{text_of}
-use Rattle.coding_exports.proofs.Texts.{text_of-refusal}
+use Rattle.coding_exports.proofs.RefusalTextLemmas.{text_of-refusal}
 use Rattle.coding_exports.proofs.text.coding_text.Goals as goal
 
 pub returns-clause-refusal : goal.returns-clause-refusal

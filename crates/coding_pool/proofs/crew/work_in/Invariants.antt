@@ -1,5 +1,5 @@
 use Rattle.std.proofs.Common.{◌≡◌, ◌+◌, All, vec_len}
-use Rattle.coding_pool.specs.Worker.{IsHand, IsAnswer}
+use Rattle.coding_pool.specs.Worker.{IsHand, IsHandedBack}
 use Rattle.coding_pool.proofs.crew.work_in.Given as goal
 
 abbrev pub invariant-loop-worker : goal.invariant-loop-worker
@@ -7,7 +7,7 @@ invariant-loop-worker g l = record {
   count : vec_len l.crew + vec_len l.started + vec_len l.answers ≡ vec_len l.initial.crew;
   crew : All (λ w. IsHand l.errand w) l.crew.items;
   started : All (λ h. h.promise ≡ l.errand) l.started.items;
-  answers : All (λ a. IsAnswer l.errand a) l.answers.items;
+  answers : All (λ a. IsHandedBack l.errand a) l.answers.items;
 }
 
 abbrev pub decreases-loop-worker : goal.decreases-loop-worker
@@ -17,7 +17,7 @@ abbrev pub invariant-loop-handle : goal.invariant-loop-handle
 invariant-loop-handle g l = record {
   count : vec_len l.started + vec_len l.answers ≡ vec_len l.initial.started + vec_len l.initial.answers;
   started : All (λ h. h.promise ≡ l.errand) l.started.items;
-  answers : All (λ a. IsAnswer l.errand a) l.answers.items;
+  answers : All (λ a. IsHandedBack l.errand a) l.answers.items;
 }
 
 abbrev pub decreases-loop-handle : goal.decreases-loop-handle

@@ -1,6 +1,6 @@
 use Rattle.std.proofs.Common.{ap, sym}
 use Rattle.coding_pool.specs.declared.jobs.Known.{Known}
-use Rattle.coding_pool.proofs.Rule.{pushes, learns_no_more}
+use Rattle.coding_pool.proofs.QueueRuleLemmas.{pushes, learns_no_more}
 use Rattle.coding_pool.proofs.jobs.push_all.Goals as goal
 
 pub push_as-requires-clause-rule : goal.push_as-requires-clause-rule

@@ -4,7 +4,7 @@ use Rattle.crossbeam_queue.specs.Passes.{view}
 use Rattle.coding_pool.specs.declared.jobs.Known.{Known}
 use Rattle.coding_pool.specs.Jobs.{PARTS}
 use Rattle.coding_pool.specs.Worker.{point_of, IsEach}
-use Rattle.coding_pool.proofs.Order.{sorted_pieces}
+use Rattle.coding_pool.proofs.SortedPieceLemmas.{sorted_pieces}
 use Rattle.coding_pool.proofs.pool.all_pieces.Goals as goal
 
 pub returns : goal.returns

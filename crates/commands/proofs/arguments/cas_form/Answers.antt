@@ -2,7 +2,7 @@ use Rattle.std.proofs.Common.{codes, rules}
 use Rattle.std.proofs.lemmas.Result.{IfOk-weaker}
 use Rattle.clap.specs.Words.{new_app}
 use Rattle.commands.specs.CommandLine.{IsForm, without_help}
-use Rattle.commands.proofs.FormLemmas.{IsForm-subcommand}
+use Rattle.commands.proofs.SubcommandLemmas.{IsForm-subcommand}
 use Rattle.commands.proofs.arguments.cas_form.Goals as goal
 
 pub returns : goal.returns

@@ -3,10 +3,10 @@ use Rattle.std.proofs.lemmas.List.{length-map}
 use Rattle.clap.specs.Lexer.{usize_max}
 use Rattle.clap.specs.Words.{found_of, subcommand_rows_of}
 use Rattle.commands.specs.CommandLine.{marked_words}
-use Rattle.commands.proofs.FindingLemmas.{Finds}
-use Rattle.commands.proofs.ReadingLemmas.{Finds-command, Finds-read, IsFaultOf-unread, IsReading-decode}
-use Rattle.commands.proofs.ReadingLemmas.{IsReading-fragments, IsReading-run, IsReading-soak, rows-None}
-use Rattle.coding_commands.proofs.RequestLemmas.{err_of}
+use Rattle.commands.proofs.ClapResultLemmas.{Finds-command, Finds-read, IsFaultOf-unread, ParsesTo-decode}
+use Rattle.commands.proofs.ClapResultLemmas.{ParsesTo-fragments, ParsesTo-run, ParsesTo-soak, rows-None}
+use Rattle.commands.proofs.ParsedCommandLemmas.{Finds}
+use Rattle.coding_commands.proofs.PieceWordLemmas.{err_of}
 use Rattle.commands.proofs.arguments.parse_request.Goals as goal
 
 pub returns-in_err-matches : goal.returns-in_err-matches
@@ -27,7 +27,7 @@ pub returns-in-fragments : goal.returns-in-fragments
 returns-in-fragments c =
     let seen : map (λ w. w.now) c.as_slice.result.now ≡ marked_words (map string_bytes c.args.words.now) =
     ap (map (λ w. w.now)) c.as_slice.ensures.value ∙ c.in_ok-marked.ensures in
-    IsReading-fragments _ c.in-Some.command.now (found_of c.in-Some.found.now) _
+    ParsesTo-fragments _ c.in-Some.command.now (found_of c.in-Some.found.now) _
     (Finds-command _ _ c.in_ok-matches.matches _ _ seen c.in_ok-matches.ensures.faultless c.in_ok-matches.ensures.found
     c.in-Some.ensures.name c.in-Some.ensures.rows)
     c.in-fragments.is c.read_fragments.ensures
@@ -36,7 +36,7 @@ pub returns-in-decode : goal.returns-in-decode
 returns-in-decode c =
     let seen : map (λ w. w.now) c.as_slice.result.now ≡ marked_words (map string_bytes c.args.words.now) =
     ap (map (λ w. w.now)) c.as_slice.ensures.value ∙ c.in_ok-marked.ensures in
-    IsReading-decode _ c.in-Some.command.now (found_of c.in-Some.found.now) _
+    ParsesTo-decode _ c.in-Some.command.now (found_of c.in-Some.found.now) _
     (Finds-command _ _ c.in_ok-matches.matches _ _ seen c.in_ok-matches.ensures.faultless c.in_ok-matches.ensures.found
     c.in-Some.ensures.name c.in-Some.ensures.rows)
     c.in-decode.is c.read_decode.ensures
@@ -45,7 +45,7 @@ pub returns-in-run : goal.returns-in-run
 returns-in-run c =
     let seen : map (λ w. w.now) c.as_slice.result.now ≡ marked_words (map string_bytes c.args.words.now) =
     ap (map (λ w. w.now)) c.as_slice.ensures.value ∙ c.in_ok-marked.ensures in
-    IsReading-run _ c.in-Some.command.now (found_of c.in-Some.found.now) _
+    ParsesTo-run _ c.in-Some.command.now (found_of c.in-Some.found.now) _
     (Finds-command _ _ c.in_ok-matches.matches _ _ seen c.in_ok-matches.ensures.faultless c.in_ok-matches.ensures.found
     c.in-Some.ensures.name c.in-Some.ensures.rows)
     c.in-run.is c.read_run.ensures
@@ -54,7 +54,7 @@ pub returns-in-soak : goal.returns-in-soak
 returns-in-soak c =
     let seen : map (λ w. w.now) c.as_slice.result.now ≡ marked_words (map string_bytes c.args.words.now) =
     ap (map (λ w. w.now)) c.as_slice.ensures.value ∙ c.in_ok-marked.ensures in
-    IsReading-soak _ c.in-Some.command.now (found_of c.in-Some.found.now) _
+    ParsesTo-soak _ c.in-Some.command.now (found_of c.in-Some.found.now) _
     (Finds-command _ _ c.in_ok-matches.matches _ _ seen c.in_ok-matches.ensures.faultless c.in_ok-matches.ensures.found
     c.in-Some.ensures.name c.in-Some.ensures.rows)
     c.in-soak.is c.read_soak.ensures

@@ -1,5 +1,5 @@
-use Rattle.coding_commands.proofs.RequestLemmas.{err_of}
-use Rattle.commands.proofs.RequestLemmas.{bad_number}
+use Rattle.coding_commands.proofs.PieceWordLemmas.{err_of}
+use Rattle.commands.proofs.RequestFaultLemmas.{bad_number}
 use Rattle.commands.proofs.request.soak_request.Goals as goal
 
 pub returns-in_err-calls : goal.returns-in_err-calls

@@ -4,7 +4,7 @@ use Rattle.std.proofs.lemmas.List.{take_all}
 use Rattle.tag.specs.declared.tag.Tag.{Tag}
 use Rattle.bank.specs.declared.row.Row.{Row}
 use Rattle.costs.specs.Cost.{bytes_for, capped}
-use Rattle.costs.proofs.SumLemmas.{capped_more, sum_at}
+use Rattle.costs.proofs.CappedSumLemmas.{capped_more, sum_at}
 use Rattle.costs.proofs.sums.came_bytes.Goals as goal
 
 pub loop-i-preserved : goal.loop-i-preserved

@@ -1,6 +1,6 @@
 use Rattle.record.specs.Accounts.{member_sum}
 use Rattle.costs.specs.Cost.{came_at}
-use Rattle.costs.proofs.SumLemmas.{capped_more, sum_more}
+use Rattle.costs.proofs.CappedSumLemmas.{capped_more, sum_more}
 use Rattle.costs.proofs.sums.came_to_all.Goals as goal
 
 pub loop-member-preserved : goal.loop-member-preserved

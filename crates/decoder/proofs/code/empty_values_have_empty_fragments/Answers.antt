@@ -2,7 +2,7 @@ use Rattle.std.proofs.Common.{◌≡◌, ℕ, ◌+◌, min, [], ap₂, ◌∙◌
 use Rattle.std.proofs.Math.Nat.{zero-div, zero-mod}
 use Rattle.std.proofs.lemmas.List.{nil_from_length}
 use Rattle.encoder.specs.Fragment.{fragment, fragment_len}
-use Rattle.encoder.proofs.Columns.{length-fragment}
+use Rattle.encoder.proofs.ColumnLemmas.{length-fragment}
 use Rattle.decoder.proofs.code.empty_values_have_empty_fragments.Goals as goal
 
 no_len : (k : ℕ) → fragment_len k 0 ≡ 0

@@ -1,4 +1,4 @@
-use Rattle.decoder.proofs.Determined.{determined}
+use Rattle.decoder.proofs.UniqueValueLemmas.{determined}
 use Rattle.decoder.proofs.code.fragments_determine_values.Goals as goal
 
 pub returns : goal.returns

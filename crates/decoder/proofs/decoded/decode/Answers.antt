@@ -1,6 +1,6 @@
 use Rattle.std.proofs.Common.{sym, subst, ◌∙◌, true≢false}
 use Rattle.decoder.specs.Pieces.{AreLawful}
-use Rattle.decoder.proofs.Cut.{AreLawful-pieces_of}
+use Rattle.decoder.proofs.ValuePrefixLemmas.{AreLawful-pieces_of}
 use Rattle.decoder.proofs.decoded.decode.Goals as goal
 
 pub returns-then-not-are_lawful-clause-round_trip : goal.returns-then-not-are_lawful-clause-round_trip

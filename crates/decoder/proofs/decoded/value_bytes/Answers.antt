@@ -4,7 +4,7 @@ use Rattle.dot_kernel.specs.Dot.{bytes_of}
 use Rattle.encoder.specs.declared.fragment.Piece.{Piece}
 use Rattle.decoder.specs.Parts.{pieces_at}
 use Rattle.decoder.specs.Pieces.{AreOfBytes, HaveNoValue, IsInterpolated}
-use Rattle.decoder.proofs.Parts.{pieces_at-slices, AreLawfulParts-slices}
+use Rattle.decoder.proofs.PointAndFragmentLemmas.{pieces_at-slices, AreLawfulParts-slices}
 use Rattle.decoder.proofs.decoded.value_bytes.Goals as goal
 
 -- the points and the slices make the pieces

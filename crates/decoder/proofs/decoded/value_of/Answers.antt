@@ -2,7 +2,7 @@ use Rattle.std.proofs.Common.{◌≡◌, ◌⊎◌, IfErr, IsErrAnd, Result, Ok,
 use Rattle.tag.specs.declared.refusal.Refusal.{Refusal}
 use Rattle.tag.specs.declared.refusal.Refusal.TheVariants.{BadPieces, NoMemory}
 use Rattle.decoder.specs.Pieces.{HaveNoValue}
-use Rattle.decoder.proofs.Cut.{value-only}
+use Rattle.decoder.proofs.ValuePrefixLemmas.{value-only}
 use Rattle.decoder.proofs.decoded.value_of.Goals as goal
 
 -- what holds of NoMemory holds where it is the only error

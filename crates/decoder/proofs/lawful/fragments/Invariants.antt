@@ -1,6 +1,6 @@
 use Rattle.std.proofs.Common.{◌≡◌, ℕ, ◌<◌, length, get_or}
 use Rattle.encoder.specs.declared.fragment.Piece.{Piece}
-use Rattle.dot_kernel.proofs.LaneSums.{no_slice}
+use Rattle.dot_kernel.proofs.LaneSumLemmas.{no_slice}
 use Rattle.decoder.proofs.lawful.fragments.Given as goal
 
 -- the fragments so far

@@ -1,5 +1,5 @@
-use Rattle.decoder.proofs.Whole.{blocks_of}
-use Rattle.decoder.proofs.Beyond.{are_blocks, byte_past, none_by_byte}
+use Rattle.decoder.proofs.WholeBlockLemmas.{blocks_of}
+use Rattle.decoder.proofs.PastEndLemmas.{are_blocks, byte_past, none_by_byte}
 use Rattle.decoder.proofs.past.bad_pieces_give_a_byte_past_the_length.Goals as goal
 
 pub returns : goal.returns

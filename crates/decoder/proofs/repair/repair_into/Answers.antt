@@ -1,8 +1,8 @@
 use Rattle.std.proofs.Common.{sym, ◌∙◌, true≢false}
 use Rattle.dot_kernel.specs.Dot.{bytes_of}
-use Rattle.dot_kernel.proofs.LaneSums.{length-bytes_of}
+use Rattle.dot_kernel.proofs.LaneSumLemmas.{length-bytes_of}
 use Rattle.decoder.specs.Parts.{AreLawfulParts, pieces_at}
-use Rattle.decoder.proofs.Cut.{AreLawful-pieces_of}
+use Rattle.decoder.proofs.ValuePrefixLemmas.{AreLawful-pieces_of}
 use Rattle.decoder.proofs.repair.repair_into.Goals as goal
 
 pub returns-then-not-are_lawful_parts-clause-from_any : goal.returns-then-not-are_lawful_parts-clause-from_any

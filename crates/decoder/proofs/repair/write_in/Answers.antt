@@ -1,9 +1,9 @@
 use Rattle.std.proofs.Common.{◌≡◌, ℕ, ◌*◌, length, length-take, sym, ap, ◌∙◌, arith}
 use Rattle.std.proofs.lemmas.List.{length-replicate}
 use Rattle.dot_kernel.specs.Dot.{bytes_of}
-use Rattle.dot_kernel.proofs.LaneSums.{length-bytes_of}
-use Rattle.decoder.proofs.Parts.{distinct_points, other_count}
-use Rattle.decoder.proofs.Weighted.{fragment-sums}
+use Rattle.dot_kernel.proofs.LaneSumLemmas.{length-bytes_of}
+use Rattle.decoder.proofs.PointAndFragmentLemmas.{distinct_points, other_count}
+use Rattle.decoder.proofs.WeightedSumLemmas.{fragment-sums}
 use Rattle.decoder.proofs.repair.write_in.Goals as goal
 
 pub write_sum-requires-clause-some : goal.write_sum-requires-clause-some

@@ -3,8 +3,8 @@ use Rattle.std.proofs.lemmas.Bool.{cases_lt}
 use Rattle.std.proofs.lemmas.Nat.{mul-add-lt}
 use Rattle.std.proofs.lemmas.List.{get_or-set_other}
 use Rattle.std.proofs.lemmas.Grind.{get_or-set_at}
-use Rattle.encoder.proofs.Places.{rows_apart}
-use Rattle.decoder.proofs.Table.{same_column}
+use Rattle.encoder.proofs.RowPlaceLemmas.{rows_apart}
+use Rattle.decoder.proofs.RowTableLemmas.{same_column}
 use Rattle.decoder.proofs.sums.fill_column.Goals as goal
 
 pub loop-i-preserved : goal.loop-i-preserved

@@ -1,6 +1,6 @@
 use Rattle.std.proofs.Common.{length, arith}
 use Rattle.dot_kernel.specs.Dot.{bytes_of}
-use Rattle.decoder.proofs.Table.{AreBlockBytes-until}
+use Rattle.decoder.proofs.RowTableLemmas.{AreBlockBytes-until}
 use Rattle.decoder.proofs.sums.write_blocks.Goals as goal
 
 pub loop-from-init : goal.loop-from-init

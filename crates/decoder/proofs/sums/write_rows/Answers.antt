@@ -1,7 +1,7 @@
 use Rattle.std.proofs.Common.{◌+◌, ◌*◌, ◌-◌, arith}
 use Rattle.dot_kernel.specs.Dot.{bytes_of}
 use Rattle.decoder.specs.Rows.{block_byte}
-use Rattle.decoder.proofs.Table.{part_made}
+use Rattle.decoder.proofs.RowTableLemmas.{part_made}
 use Rattle.decoder.proofs.sums.write_rows.Goals as goal
 
 pub returns-clause-inside : goal.returns-clause-inside

@@ -1,6 +1,6 @@
 use Rattle.std.proofs.Common.{◌+◌, ◌≤◌, length, arith}
 use Rattle.dot_kernel.specs.Dot.{bytes_of}
-use Rattle.decoder.proofs.Table.{AreBlocksUntil-more, AreBlocksLeft-less, rows_left}
+use Rattle.decoder.proofs.RowTableLemmas.{AreBlocksUntil-more, AreBlocksLeft-less, rows_left}
 use Rattle.decoder.proofs.sums.write_stripe.Goals as goal
 
 pub loop-done-preserved : goal.loop-done-preserved

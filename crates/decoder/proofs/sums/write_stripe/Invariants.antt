@@ -1,7 +1,7 @@
 use Rattle.std.proofs.Common.{◌-◌, ◌≤◌, length}
 use Rattle.dot_kernel.specs.Dot.{bytes_of}
 use Rattle.decoder.specs.Rows.{AreBlocksUntil}
-use Rattle.decoder.proofs.Table.{AreBlocksLeft}
+use Rattle.decoder.proofs.RowTableLemmas.{AreBlocksLeft}
 use Rattle.decoder.proofs.sums.write_stripe.Given as goal
 
 -- where all blocks are made up to `from`, those so far are made up to `until`, and the others as before

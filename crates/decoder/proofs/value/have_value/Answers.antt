@@ -1,11 +1,11 @@
 use Rattle.std.proofs.Common.{◌≡◌, ℕ, ◌*◌, ◌<◌, List, length, All, sym, ap, subst, ◌∙◌, arith, true≢false}
 use Rattle.dot_kernel.specs.Dot.{bytes_of}
-use Rattle.dot_kernel.proofs.LaneSums.{length-bytes_of}
+use Rattle.dot_kernel.proofs.LaneSumLemmas.{length-bytes_of}
 use Rattle.decoder.specs.Rows.{HaveColumnSums}
-use Rattle.decoder.proofs.ColumnSums.{HaveColumnSums-rows}
-use Rattle.decoder.proofs.Parts.{count, other_count, distinct_points, fragment_at-len, points-pieces_at}
-use Rattle.decoder.proofs.Summed.{whole_fits, zeros_read, zeros_told, zeros_of_value, made_value, some_value}
-use Rattle.decoder.proofs.Summed.{IsInterpolated-sums}
+use Rattle.decoder.proofs.ColumnSumLemmas.{HaveColumnSums-rows}
+use Rattle.decoder.proofs.PointAndFragmentLemmas.{count, other_count, distinct_points, fragment_at-len, points-pieces_at}
+use Rattle.decoder.proofs.SummedValueLemmas.{whole_fits, zeros_read, zeros_told, zeros_of_value, made_value, some_value}
+use Rattle.decoder.proofs.SummedValueLemmas.{IsInterpolated-sums}
 use Rattle.decoder.proofs.value.have_value.Goals as goal
 
 pub fill_rows-requires-clause-distinct : goal.fill_rows-requires-clause-distinct

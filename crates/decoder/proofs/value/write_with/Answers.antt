@@ -1,9 +1,9 @@
 use Rattle.std.proofs.Common.{◌≡◌, ℕ, ◌*◌, length, sym, ap, subst, ◌∙◌, arith}
 use Rattle.dot_kernel.specs.Dot.{bytes_of}
-use Rattle.dot_kernel.proofs.LaneSums.{length-bytes_of}
+use Rattle.dot_kernel.proofs.LaneSumLemmas.{length-bytes_of}
 use Rattle.decoder.specs.Rows.{AreBlockBytes, HaveColumnSums}
-use Rattle.decoder.proofs.Parts.{other_count}
-use Rattle.decoder.proofs.Summed.{whole_fits, whole_holds}
+use Rattle.decoder.proofs.PointAndFragmentLemmas.{other_count}
+use Rattle.decoder.proofs.SummedValueLemmas.{whole_fits, whole_holds}
 use Rattle.decoder.proofs.value.write_with.Goals as goal
 
 pub write_blocks-requires-clause-some : goal.write_blocks-requires-clause-some

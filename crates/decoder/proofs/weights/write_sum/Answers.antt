@@ -3,9 +3,9 @@ use Rattle.std.proofs.lemmas.List.Elements.{All-from_get_or}
 use Rattle.gf256.specs.Polynomial.{AreBytes}
 use Rattle.dot_kernel.specs.Dot.{bytes_of, row}
 use Rattle.dot_kernel.specs.Level.{HaveLevels}
-use Rattle.dot_kernel.proofs.LaneSums.{dot_same, length-bytes_of}
+use Rattle.dot_kernel.proofs.LaneSumLemmas.{dot_same, length-bytes_of}
 use Rattle.decoder.specs.Rows.{line_value}
-use Rattle.decoder.proofs.Weighted.{HaveLevels-values}
+use Rattle.decoder.proofs.WeightedSumLemmas.{HaveLevels-values}
 use Rattle.decoder.proofs.weights.write_sum.Goals as goal
 
 pub differences_of-requires-clause-levels : goal.differences_of-requires-clause-levels

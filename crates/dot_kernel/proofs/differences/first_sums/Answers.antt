@@ -1,5 +1,5 @@
 use Rattle.std.proofs.Common.{arith, ⊎_elim}
-use Rattle.dot_kernel.proofs.LevelSums.{first_left, first_put}
+use Rattle.dot_kernel.proofs.LevelSumLemmas.{first_left, first_put}
 use Rattle.dot_kernel.proofs.differences.first_sums.Goals as goal
 
 pub returns-then-this-gt0-clause-sums : goal.returns-then-this-gt0-clause-sums

@@ -2,8 +2,8 @@ use Rattle.std.proofs.Common.{◌≡◌, ℕ, ◌+◌, length, ap, sym, refl, ar
 use Rattle.std.proofs.lemmas.Nat.{mul-add-lt}
 use Rattle.std.proofs.lemmas.List.{get_or_read}
 use Rattle.dot_kernel.specs.Dot.{bytes_of, dot_byte, row}
-use Rattle.dot_kernel.proofs.LaneSums.{no_slice, length-bytes_of, bytes_at, rows_stored_within}
-use Rattle.dot_kernel.proofs.LevelSums.{level_first, level_more, level_all}
+use Rattle.dot_kernel.proofs.LaneSumLemmas.{no_slice, length-bytes_of, bytes_at, rows_stored_within}
+use Rattle.dot_kernel.proofs.LevelSumLemmas.{level_first, level_more, level_all}
 use Rattle.dot_kernel.proofs.differences.write_two_blocks.Goals as goal
 
 pub loop-j-init : goal.loop-j-init

@@ -1,7 +1,7 @@
 use Rattle.std.proofs.Common.{◌+◌}
 use Rattle.dot_kernel.specs.Dot.{bytes_of}
-use Rattle.dot_kernel.proofs.RowSums.{AreRows}
-use Rattle.dot_kernel.proofs.LevelSums.{level_lanes}
+use Rattle.dot_kernel.proofs.RowSumLemmas.{AreRows}
+use Rattle.dot_kernel.proofs.LevelSumLemmas.{level_lanes}
 use Rattle.dot_kernel.proofs.differences.write_two_blocks.Given as goal
 
 -- the differences of the sources so far, in each row

@@ -1,6 +1,6 @@
 use Rattle.std.proofs.Common.{get_or, ap, ◌∙◌, arith, lit<}
 use Rattle.dot_kernel.specs.Dot.{bytes_of, row}
-use Rattle.dot_kernel.proofs.LaneSums.{dot_same}
+use Rattle.dot_kernel.proofs.LaneSumLemmas.{dot_same}
 use Rattle.dot_kernel.proofs.dots.dot.Goals as goal
 
 pub returns : goal.returns

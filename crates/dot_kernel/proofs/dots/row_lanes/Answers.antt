@@ -2,8 +2,8 @@ use Rattle.std.proofs.Common.{length, arith}
 use Rattle.std.proofs.lemmas.Nat.{mul-add-lt}
 use Rattle.std.proofs.lemmas.List.{get_or_read}
 use Rattle.dot_kernel.specs.Dot.{bytes_of}
-use Rattle.dot_kernel.proofs.LaneSums.{no_slice, length-bytes_of, bytes_at}
-use Rattle.dot_kernel.proofs.RowSums.{sums_none, sums_more, sums_next, sums_all}
+use Rattle.dot_kernel.proofs.LaneSumLemmas.{no_slice, length-bytes_of, bytes_at}
+use Rattle.dot_kernel.proofs.RowSumLemmas.{sums_none, sums_more, sums_next, sums_all}
 use Rattle.dot_kernel.proofs.dots.row_lanes.Goals as goal
 
 pub loop-j-init : goal.loop-j-init

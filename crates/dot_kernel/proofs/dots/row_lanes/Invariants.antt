@@ -1,5 +1,5 @@
 use Rattle.dot_kernel.specs.Dot.{bytes_of}
-use Rattle.dot_kernel.proofs.RowSums.{AreSums}
+use Rattle.dot_kernel.proofs.RowSumLemmas.{AreSums}
 use Rattle.dot_kernel.proofs.dots.row_lanes.Given as goal
 
 -- the terms of the blocks so far, in each row

@@ -1,6 +1,6 @@
 use Rattle.std.proofs.Common.{◌≡◌, length, ap, arith, ⊎_elim}
 use Rattle.std.proofs.lemmas.Bool.{cases_lt}
-use Rattle.dot_kernel.proofs.LaneSums.{no_slice, bytes_at}
+use Rattle.dot_kernel.proofs.LaneSumLemmas.{no_slice, bytes_at}
 use Rattle.dot_kernel.proofs.dots.shortest.Goals as goal
 
 pub loop-j-preserved : goal.loop-j-preserved

@@ -1,6 +1,6 @@
 use Rattle.std.proofs.Common.{◌≡◌, ◌+◌, ◌*◌, [], get_or, ap, sym, ◌∙◌, arith, ⊎_elim}
 use Rattle.std.proofs.lemmas.Bool.{cases_lt}
-use Rattle.dot_kernel.proofs.RowSums.{rows_apart}
+use Rattle.dot_kernel.proofs.RowSumLemmas.{rows_apart}
 use Rattle.dot_kernel.proofs.dots.store_two_rows.Goals as goal
 
 pub loop-r-preserved : goal.loop-r-preserved

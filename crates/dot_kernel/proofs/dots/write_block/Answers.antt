@@ -1,6 +1,6 @@
 use Rattle.std.proofs.Common.{arith}
 use Rattle.dot_kernel.specs.Dot.{bytes_of, dot_byte, row}
-use Rattle.dot_kernel.proofs.LaneSums.{rows_stored_within}
+use Rattle.dot_kernel.proofs.LaneSumLemmas.{rows_stored_within}
 use Rattle.dot_kernel.proofs.dots.write_block.Goals as goal
 
 pub returns : goal.returns

@@ -1,6 +1,6 @@
 use Rattle.std.proofs.Common.{◌+◌}
 use Rattle.dot_kernel.specs.Dot.{bytes_of}
-use Rattle.dot_kernel.proofs.RowSums.{AreSums}
+use Rattle.dot_kernel.proofs.RowSumLemmas.{AreSums}
 use Rattle.dot_kernel.proofs.dots.write_two_blocks.Given as goal
 
 -- the terms of the blocks so far, in each row

@@ -2,9 +2,9 @@ use Rattle.std.proofs.Common.{◌≡◌, ℕ, ◌+◌, ◌-◌, ◌<◌, [], len
 use Rattle.std.proofs.lemmas.Bool.{cases_lt}
 use Rattle.gf256.specs.Field.{field_product}
 use Rattle.dot_kernel.specs.Dot.{bytes_of}
-use Rattle.dot_kernel.proofs.LaneSums.{no_slice, length-bytes_of, bytes_at, get_or-zeros}
+use Rattle.dot_kernel.proofs.LaneSumLemmas.{no_slice, length-bytes_of, bytes_at, get_or-zeros}
 use Rattle.dot_kernel.specs.Line.{line_at, value_from}
-use Rattle.dot_kernel.proofs.Values.{last_one, last_two, loaded}
+use Rattle.dot_kernel.proofs.PolynomialValueLemmas.{last_one, last_two, loaded}
 use Rattle.dot_kernel.proofs.lanes.last_line.Goals as goal
 
 pub load-level-requires : goal.load-level-requires

@@ -4,8 +4,8 @@ use Rattle.std.proofs.lemmas.List.{get_or-replicate}
 use Rattle.gf256.specs.Field.{field_product}
 use Rattle.dot_kernel.specs.Dot.{bytes_of}
 use Rattle.dot_kernel.specs.Line.{line_at, no_line, value_from}
-use Rattle.dot_kernel.proofs.LaneSums.{no_slice, length-bytes_of, bytes_at}
-use Rattle.dot_kernel.proofs.Values.{loaded, value_from-step, value_from-all}
+use Rattle.dot_kernel.proofs.LaneSumLemmas.{no_slice, length-bytes_of, bytes_at}
+use Rattle.dot_kernel.proofs.PolynomialValueLemmas.{loaded, value_from-step, value_from-all}
 use Rattle.dot_kernel.proofs.lanes.lines.Goals as goal
 
 pub loop-j-init : goal.loop-j-init

@@ -1,10 +1,10 @@
 use Rattle.std.proofs.Common.{◌≡◌, ◌+◌, ◌*◌, ◌/◌, ◌%◌, ◌<◌, [], get_or, sym, ap, ◌∙◌, arith}
 use Rattle.gf256.specs.Field.{field_power, field_product}
-use Rattle.gf256.proofs.FieldLaws.{product-zero_left}
+use Rattle.gf256.proofs.FieldLemmas.{product-zero_left}
 use Rattle.dot_kernel.specs.Dot.{bytes_of, dot_byte}
-use Rattle.dot_kernel.proofs.LaneSums.{same_as_lanes_from}
+use Rattle.dot_kernel.proofs.LaneSumLemmas.{same_as_lanes_from}
 use Rattle.dot_kernel.specs.Line.{IsPair}
-use Rattle.dot_kernel.proofs.Lines.{IsRoot-pair}
+use Rattle.dot_kernel.proofs.LineLemmas.{IsRoot-pair}
 use Rattle.dot_kernel.proofs.lanes.power_lanes.Goals as goal
 
 pub lines-lines-requires : goal.lines-lines-requires

@@ -1,7 +1,7 @@
 use Rattle.std.proofs.Common.{◌<◌, bit_xor, get_or, w8, ap, ap₂, ◌∙◌, arith}
 use Rattle.std.proofs.lemmas.Simd.{Each1-get_or, get_or-zip2, below_from_Fits}
 use Rattle.gf256.specs.Field.{field_product}
-use Rattle.dot_kernel.proofs.Lines.{line_times}
+use Rattle.dot_kernel.proofs.LineLemmas.{line_times}
 use Rattle.dot_kernel.proofs.line.next.Goals as goal
 
 pub returns : goal.returns

@@ -1,6 +1,6 @@
 use Rattle.std.proofs.Common.{◌<◌, get_or, bit_xor, w8, ap, ◌∙◌, arith}
 use Rattle.std.proofs.lemmas.Simd.{Each1-get_or, get_or-zip2, below_from_Fits}
-use Rattle.dot_kernel.proofs.Lines.{second_point}
+use Rattle.dot_kernel.proofs.LineLemmas.{second_point}
 use Rattle.dot_kernel.proofs.line.next_value.Goals as goal
 
 pub returns : goal.returns

@@ -1,8 +1,8 @@
 use Rattle.std.proofs.Common.{get_or, ap, sym, ◌∙◌}
 use Rattle.gf256.specs.Field.{field_product}
-use Rattle.gf256.proofs.FieldLaws.{product-zero_left}
-use Rattle.gf256.proofs.Combination.{get_or-scaled}
-use Rattle.dot_kernel.proofs.LaneSums.{get_or-zeros}
+use Rattle.gf256.proofs.FieldLemmas.{product-zero_left}
+use Rattle.gf256.proofs.LinearCombinationLemmas.{get_or-scaled}
+use Rattle.dot_kernel.proofs.LaneSumLemmas.{get_or-zeros}
 use Rattle.dot_kernel.proofs.line.product.Goals as goal
 use Rattle.dot_kernel.proofs.line.product.Goals.{then-zero, else-zero}
 

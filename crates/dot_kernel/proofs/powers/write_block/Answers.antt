@@ -2,7 +2,7 @@ use Rattle.std.proofs.Common.{◌+◌, arith}
 use Rattle.std.proofs.lemmas.Nat.{mul-add-lt}
 use Rattle.gf256.specs.Field.{field_power}
 use Rattle.dot_kernel.specs.Dot.{bytes_of, dot_byte}
-use Rattle.dot_kernel.proofs.LaneSums.{rows_stored}
+use Rattle.dot_kernel.proofs.LaneSumLemmas.{rows_stored}
 use Rattle.dot_kernel.proofs.powers.write_block.Goals as goal
 
 pub returns : goal.returns

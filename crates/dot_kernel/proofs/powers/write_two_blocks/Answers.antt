@@ -1,7 +1,7 @@
 use Rattle.std.proofs.Common.{ℕ, ◌+◌, refl, arith}
 use Rattle.gf256.specs.Field.{field_power}
 use Rattle.dot_kernel.specs.Dot.{bytes_of, dot_byte}
-use Rattle.dot_kernel.proofs.LaneSums.{rows_stored}
+use Rattle.dot_kernel.proofs.LaneSumLemmas.{rows_stored}
 use Rattle.dot_kernel.proofs.powers.write_two_blocks.Goals as goal
 
 pub returns : goal.returns

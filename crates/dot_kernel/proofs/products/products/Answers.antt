@@ -1,4 +1,4 @@
-use Rattle.dot_kernel.proofs.HalfProducts.{products_summed}
+use Rattle.dot_kernel.proofs.HalfProductTableLemmas.{products_summed}
 use Rattle.dot_kernel.proofs.products.products.Goals as goal
 
 pub returns : goal.returns

@@ -9,7 +9,7 @@ use Rattle.std.proofs.lemmas.Simd.{get_or-swz_l_below, get_or-zip2, get_or-repli
 use Rattle.gf256.specs.Field.{field_product}
 use Rattle.gf256.specs.Polynomial.{scaled}
 use Rattle.dot_kernel.specs.declared.tables.TheConstants.{HALVES}
-use Rattle.dot_kernel.proofs.Halves.{product-halves, product_low, product_high}
+use Rattle.dot_kernel.proofs.HalfByteLemmas.{product-halves, product_low, product_high}
 use Rattle.dot_kernel.proofs.tables.looked_up.Goals as goal
 
 lower_half_small : (v : List ℕ) → length v ≡ 32 → Each1 (λ j. j < 16) (zip2 bit_and v (replicate 32 15))

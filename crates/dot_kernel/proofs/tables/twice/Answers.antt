@@ -1,7 +1,7 @@
 use Rattle.std.proofs.Common.{◌≡◌, ℕ, ◌%◌, List, [], ◌∷◌, get_or, true, eqb, eqb-true, refl, ap, ◌∙◌, arith}
 use Rattle.std.proofs.lemmas.List.{get_or-map}
 use Rattle.std.proofs.lemmas.Simd.{length-chunk, get_or-chunk, pick_l_left}
-use Rattle.gf256.proofs.Additive.{all_below, all_below-at}
+use Rattle.gf256.proofs.AdditiveFunctionLemmas.{all_below, all_below-at}
 use Rattle.dot_kernel.proofs.tables.twice.Goals as goal
 use lib.Lanes.{chunk}
 

@@ -4,5 +4,5 @@ use Rattle.driver.proofs.choices.choice_at.Given as goal
 
 abbrev pub invariant-loop-place : goal.invariant-loop-place
 invariant-loop-place l =
-    slice_get (choices_from l.cluster l.register.object l.among l.place) l.left
-    ≡ slice_get (choices_from l.cluster l.register.object l.among l.from) l.skipped
+    slice_get (choices_from l.cluster l.register.object l.filter l.place) l.left
+    ≡ slice_get (choices_from l.cluster l.register.object l.filter l.from) l.skipped

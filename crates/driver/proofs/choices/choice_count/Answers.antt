@@ -1,38 +1,38 @@
 use Rattle.std.proofs.Common.{◌+◌, ◌<◌, length, ap, ◌∙◌, arith}
-use Rattle.driver.specs.Choices.{is_among, choices_from}
-use Rattle.driver.proofs.Chosen.{told_of, counted, uncounted, few, choices_few}
+use Rattle.driver.specs.Choices.{passes, choices_from}
+use Rattle.driver.proofs.ChoicePlaceLemmas.{told_of, counted, uncounted, few, choices_few}
 use Rattle.driver.proofs.choices.choice_count.Goals as goal
-use Rattle.driver.proofs.choices.choice_count.Goals.{then-is_among, else-is_among}
+use Rattle.driver.proofs.choices.choice_count.Goals.{then-passes, else-passes}
 
 pub overflow_add-count : goal.overflow_add-count
 overflow_add-count c =
     let mail = c.args.register.now.object.mail in
-    let test = is_among c.args.cluster.now c.args.register.now.object c.args.among in
+    let test = passes c.args.cluster.now c.args.register.now.object c.args.filter in
     let len = c.len-place-end.ensures.value ∙ ap length c.mail_view-mail.ensures in
     let within : c.loop-place.place < length mail = omega (arith, len) in
-    let told = told_of test mail c.mail_view-mail.result.now c.loop-place.place c.at.result.now c.is_among.result
-    c.mail_view-mail.ensures c.at.ensures c.is_among.ensures in
+    let told = told_of test mail c.mail_view-mail.result.now c.loop-place.place c.at.result.now c.passes.result
+    c.mail_view-mail.ensures c.at.ensures c.passes.ensures in
     let most = c.len-place-end.ensures.within in
     let all = choices_few test mail c.args.from in
-    let less = few test mail c.loop-place.place c.is_among.result within told c.loop-place.count
-    (length (choices_from c.args.cluster.now c.args.register.now.object c.args.among c.args.from)) c.if-is_among.true
+    let less = few test mail c.loop-place.place c.passes.result within told c.loop-place.count
+    (length (choices_from c.args.cluster.now c.args.register.now.object c.args.filter c.args.from)) c.if-passes.true
     c.loop-place.invariant all in
     omega (arith, less, len, most)
 
 pub loop-place-preserved : goal.loop-place-preserved
 loop-place-preserved c =
     let mail = c.args.register.now.object.mail in
-    let test = is_among c.args.cluster.now c.args.register.now.object c.args.among in
+    let test = passes c.args.cluster.now c.args.register.now.object c.args.filter in
     let len = c.len-place-end.ensures.value ∙ ap length c.mail_view-mail.ensures in
     let within : c.loop-place.place < length mail = omega (arith, len) in
-    let told = told_of test mail c.mail_view-mail.result.now c.loop-place.place c.at.result.now c.is_among.result
-    c.mail_view-mail.ensures c.at.ensures c.is_among.ensures in
-    let later = choices_from c.args.cluster.now c.args.register.now.object c.args.among (c.loop-place.place + 1) in
-    elim c.if-is_among.branch [
-      | then-is_among w ↦ ap (λ n. n + length later) w.count-is
-          ∙ counted test mail c.loop-place.place c.is_among.result within told c.loop-place.count _ w.if-is_among.true
+    let told = told_of test mail c.mail_view-mail.result.now c.loop-place.place c.at.result.now c.passes.result
+    c.mail_view-mail.ensures c.at.ensures c.passes.ensures in
+    let later = choices_from c.args.cluster.now c.args.register.now.object c.args.filter (c.loop-place.place + 1) in
+    elim c.if-passes.branch [
+      | then-passes w ↦ ap (λ n. n + length later) w.count-is
+          ∙ counted test mail c.loop-place.place c.passes.result within told c.loop-place.count _ w.if-passes.true
           c.loop-place.invariant
-      | else-is_among w ↦ ap (λ n. n + length later) w.count-is
-          ∙ uncounted test mail c.loop-place.place c.is_among.result within told c.loop-place.count _
-          w.if-is_among.false c.loop-place.invariant
+      | else-passes w ↦ ap (λ n. n + length later) w.count-is
+          ∙ uncounted test mail c.loop-place.place c.passes.result within told c.loop-place.count _
+          w.if-passes.false c.loop-place.invariant
     ]

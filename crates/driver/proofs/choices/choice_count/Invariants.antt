@@ -4,5 +4,5 @@ use Rattle.driver.proofs.choices.choice_count.Given as goal
 
 abbrev pub invariant-loop-place : goal.invariant-loop-place
 invariant-loop-place l =
-    l.count + length (choices_from l.cluster l.register.object l.among l.place)
-    ≡ length (choices_from l.cluster l.register.object l.among l.from)
+    l.count + length (choices_from l.cluster l.register.object l.filter l.place)
+    ≡ length (choices_from l.cluster l.register.object l.filter l.from)

@@ -1,7 +1,7 @@
 use Rattle.std.proofs.Common.{suc, ◌≤◌, arith}
 use Rattle.std.proofs.lemmas.Result.{IfOk-weaker}
 use Rattle.tag.specs.declared.limits.TheConstants.{MOST_STEPS}
-use Rattle.driver.proofs.Rounding.{to_decode, given_there}
+use Rattle.driver.proofs.CodingJobLemmas.{to_decode, given_there}
 use Rattle.driver.proofs.coding.pieces_to_decode.Goals as goal
 
 pub returns-then-counter-ge-MOST_STEPS-clause-given : goal.returns-then-counter-ge-MOST_STEPS-clause-given

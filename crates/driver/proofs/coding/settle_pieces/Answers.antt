@@ -1,5 +1,5 @@
-use Rattle.driver.proofs.Named.{by_cause, exactly}
-use Rattle.driver.proofs.Rounding.{settle_same, settled_own}
+use Rattle.driver.proofs.CodingJobLemmas.{settle_same, settled_own}
+use Rattle.driver.proofs.NamedObjectLemmas.{by_cause, exactly}
 use Rattle.driver.proofs.coding.settle_pieces.Goals as goal
 
 pub returns-clause-step : goal.returns-clause-step

@@ -1,8 +1,8 @@
 use Rattle.std.proofs.Common.{ap, ◌∙◌}
 use Rattle.register.specs.Causes.{supply_cause}
 use Rattle.cluster.specs.Causes.{next, object_cause}
-use Rattle.driver.proofs.Named.{by_cause}
-use Rattle.driver.proofs.Rounding.{supply_same}
+use Rattle.driver.proofs.CodingJobLemmas.{supply_same}
+use Rattle.driver.proofs.NamedObjectLemmas.{by_cause}
 use Rattle.encoder.specs.Coded.{Coding}
 use Rattle.driver.proofs.coding.supply_value.Goals as goal
 

@@ -1,5 +1,5 @@
 use Rattle.std.proofs.lemmas.Result.{IfOk-weaker}
-use Rattle.driver.proofs.Rounding.{to_encode, value_by}
+use Rattle.driver.proofs.CodingJobLemmas.{to_encode, value_by}
 use Rattle.driver.proofs.coding.value_to_encode.Goals as goal
 
 pub returns-clause-value : goal.returns-clause-value

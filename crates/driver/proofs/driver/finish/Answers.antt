@@ -1,5 +1,5 @@
 use Rattle.std.proofs.Common.{refl, inl, inr}
-use Rattle.driver.proofs.Finishing.{turned}
+use Rattle.driver.proofs.WholeCallLemmas.{turned}
 use Rattle.driver.proofs.driver.finish.Goals as goal
 
 pub loop-turn-init : goal.loop-turn-init

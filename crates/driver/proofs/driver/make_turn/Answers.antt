@@ -1,5 +1,5 @@
-use Rattle.driver.proofs.Limits.{err_of}
-use Rattle.driver.proofs.Turning.{stepped_turn, encode_turn, encode_refused, decode_turn, decode_refused}
+use Rattle.driver.proofs.LimitRefusalLemmas.{err_of}
+use Rattle.driver.proofs.TurnLemmas.{stepped_turn, encode_turn, encode_refused, decode_turn, decode_refused}
 use Rattle.driver.proofs.driver.make_turn.Goals as goal
 
 pub returns-in-Stepped-clause-turn : goal.returns-in-Stepped-clause-turn

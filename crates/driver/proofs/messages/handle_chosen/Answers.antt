@@ -1,8 +1,8 @@
-use Rattle.driver.proofs.Limits.{err_of}
+use Rattle.driver.proofs.LimitRefusalLemmas.{err_of}
 use Rattle.std.proofs.Common.{◌∙◌}
 use Rattle.driver.specs.Choices.{is_choice, request_at}
-use Rattle.driver.proofs.Choosing.{chosen_refused, picked_within}
-use Rattle.driver.proofs.Named.{read_there}
+use Rattle.driver.proofs.HandlingRefusalLemmas.{chosen_refused, picked_within}
+use Rattle.driver.proofs.NamedObjectLemmas.{read_there}
 use Rattle.driver.proofs.messages.handle_chosen.Goals as goal
 
 pub returns-in_err-handle_as-clause-refused : goal.returns-in_err-handle_as-clause-refused

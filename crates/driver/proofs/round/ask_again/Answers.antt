@@ -1,5 +1,5 @@
-use Rattle.driver.proofs.Limits.{err_of}
-use Rattle.driver.proofs.Asking.{post_refused, asked_value_refused_at}
+use Rattle.driver.proofs.LimitRefusalLemmas.{err_of}
+use Rattle.driver.proofs.AskAgainRefusalLemmas.{post_refused, asked_value_refused_at}
 use Rattle.driver.proofs.round.ask_again.Goals as goal
 
 pub returns-in_err-value-in-NotNow-clause-refused : goal.returns-in_err-value-in-NotNow-clause-refused

@@ -1,6 +1,6 @@
 use Rattle.std.proofs.Common.{Some, ap, ◌∙◌}
-use Rattle.driver.proofs.Limits.{err_of}
-use Rattle.driver.proofs.Refusing.{advance_refused, again_refused, answer_refused, value_refused, settle_refused}
+use Rattle.driver.proofs.LimitRefusalLemmas.{err_of}
+use Rattle.driver.proofs.StepRefusalLemmas.{advance_refused, again_refused, answer_refused, value_refused, settle_refused}
 use Rattle.driver.proofs.round.make_round.Goals as goal
 
 pub returns-in_err-advance-in-Advance-clause-refused : goal.returns-in_err-advance-in-Advance-clause-refused

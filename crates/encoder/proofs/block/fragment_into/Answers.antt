@@ -1,5 +1,5 @@
 use Rattle.std.proofs.Common.{arith}
-use Rattle.encoder.proofs.PointSums.{fragment-alone}
+use Rattle.encoder.proofs.PointSumLemmas.{fragment-alone}
 use Rattle.encoder.proofs.block.fragment_into.Goals as goal
 
 pub returns : goal.returns

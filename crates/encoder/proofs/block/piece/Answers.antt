@@ -1,6 +1,6 @@
 use Rattle.std.proofs.Common.{ℕ, List, length, ap, ◌∙◌}
 use Rattle.encoder.specs.declared.fragment.Piece.{Piece}
-use Rattle.encoder.proofs.PointSums.{fragment-alone}
+use Rattle.encoder.proofs.PointSumLemmas.{fragment-alone}
 use Rattle.encoder.proofs.block.piece.Goals as goal
 
 pub returns-clause-piece : goal.returns-clause-piece

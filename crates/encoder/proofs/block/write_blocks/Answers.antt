@@ -1,12 +1,12 @@
 use Rattle.std.proofs.Common.{length, arith}
 use Rattle.dot_kernel.specs.Dot.{bytes_of}
-use Rattle.dot_kernel.proofs.LaneSums.{length-bytes_of}
-use Rattle.encoder.proofs.PointSums.{AreFragments-points}
+use Rattle.dot_kernel.proofs.LaneSumLemmas.{length-bytes_of}
+use Rattle.encoder.proofs.PointSumLemmas.{AreFragmentRows-points}
 use Rattle.encoder.proofs.block.write_blocks.Goals as goal
 
 pub returns : goal.returns
 returns c =
     let blocks = c.fill_blocks.new.blocks in
-    AreFragments-points c.write_points.new.out c.args.n (length c.args.blocks.now) c.div_ceil-block_len.result c.args.first
+    AreFragmentRows-points c.write_points.new.out c.args.n (length c.args.blocks.now) c.div_ceil-block_len.result c.args.first
     c.args.value.now (bytes_of blocks) c.div_ceil-block_len.ensures
     (omega (arith, length-bytes_of blocks, c.fill_blocks.auto.blocks)) c.fill_blocks.ensures c.write_points.ensures

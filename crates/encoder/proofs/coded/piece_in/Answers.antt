@@ -1,6 +1,6 @@
 use Rattle.std.proofs.Common.{ℕ, List, length, ap, ◌∙◌}
 use Rattle.encoder.specs.declared.fragment.Piece.{Piece}
-use Rattle.encoder.proofs.PointSums.{fragment-cut}
+use Rattle.encoder.proofs.PointSumLemmas.{fragment-cut}
 use Rattle.encoder.proofs.coded.piece_in.Goals as goal
 
 pub returns : goal.returns

@@ -3,7 +3,7 @@ use Rattle.std.proofs.lemmas.Bool.{cases_lt}
 use Rattle.std.proofs.lemmas.List.{get_or-set_other}
 use Rattle.std.proofs.lemmas.Grind.{get_or-set_at}
 use Rattle.gf256.specs.Field.{field_product, field_power}
-use Rattle.gf256.proofs.FieldLaws.{power-zero, power-suc}
+use Rattle.gf256.proofs.FieldLemmas.{power-zero, power-suc}
 use Rattle.encoder.proofs.points.fill_powers.Goals as goal
 
 pub loop-j-init : goal.loop-j-init

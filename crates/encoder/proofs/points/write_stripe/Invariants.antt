@@ -1,7 +1,7 @@
 use Rattle.std.proofs.Common.{◌-◌, ◌≤◌}
 use Rattle.dot_kernel.specs.Dot.{bytes_of}
 use Rattle.dot_kernel.specs.Line.{ArePowers}
-use Rattle.encoder.proofs.PointSums.{ArePowersLeft}
+use Rattle.encoder.proofs.PointSumLemmas.{ArePowersLeft}
 use Rattle.encoder.proofs.points.write_stripe.Given as goal
 
 -- where all rows are made up to `from`, those so far are made up to `until`, and the others as before

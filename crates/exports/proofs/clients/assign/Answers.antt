@@ -4,8 +4,8 @@ use Rattle.record.specs.declared.call.Entry.{Entry}
 use Rattle.atomicity.specs.Atomic.{no_entry}
 use Rattle.exports.specs.declared.event.Process.{Process}
 use Rattle.exports.specs.Clients.{TakesProcess}
-use Rattle.exports.proofs.ClientLemmas.{one_more}
 use Rattle.exports.proofs.FollowsLemmas.{Follows}
+use Rattle.exports.proofs.FreeClientLemmas.{one_more}
 use Rattle.exports.proofs.ListLemmas.{length-pushed}
 use Rattle.exports.proofs.clients.assign.Goals as goal
 

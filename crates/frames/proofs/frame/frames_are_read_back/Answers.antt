@@ -1,4 +1,4 @@
-use Rattle.frames.proofs.Frames.{frame_again, frame_ok, one_frame}
+use Rattle.frames.proofs.FrameRoundTripLemmas.{frame_again, frame_ok, one_frame}
 use Rattle.frames.proofs.frame.frames_are_read_back.Goals as goal
 
 pub returns-clause-written : goal.returns-clause-written

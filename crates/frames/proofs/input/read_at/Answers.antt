@@ -1,6 +1,6 @@
 use Rattle.std.proofs.Common.{arith, length-take-le}
 use borrow.Rule.Slice.PartMut.{take_put}
-use Rattle.frames.proofs.Filled.{read_in_place}
+use Rattle.frames.proofs.BufferPartLemmas.{read_in_place}
 use Rattle.frames.proofs.input.read_at.Goals as goal
 
 pub returns-clause-front : goal.returns-clause-front

@@ -1,4 +1,4 @@
-use Rattle.frames.proofs.ByteSteps.{byte_read, byte_ended}
+use Rattle.frames.proofs.ReadByteLemmas.{byte_read, byte_ended}
 use Rattle.frames.proofs.input.read_byte.Goals as goal
 
 pub returns-in-Ok-Some : goal.returns-in-Ok-Some

@@ -1,7 +1,7 @@
 use Rattle.std.proofs.Common.{◌≡◌, List, ℕ, length, sym, ap, ◌∙◌, arith, Vec, Global}
 use Rattle.std.proofs.lemmas.List.{take_at}
 use Rattle.std.proofs.lemmas.Result.{err_from_is_err_and}
-use Rattle.frames.proofs.ByteSteps.{bytes_same_err, bytes_same}
+use Rattle.frames.proofs.ReadByteLemmas.{bytes_same_err, bytes_same}
 use Rattle.frames.proofs.input.read_bytes.Goals as goal
 
 -- the bytes of a vector

@@ -1,6 +1,6 @@
 use Rattle.std.proofs.Common.{arith, rules}
 use Rattle.std.proofs.lemmas.Result.{err_from_is_err_and}
-use Rattle.frames.proofs.ByteSteps.{expected_err, expected_other, expected_same}
+use Rattle.frames.proofs.ReadByteLemmas.{expected_err, expected_other, expected_same}
 use Rattle.frames.proofs.input.read_expected.Goals as goal
 
 pub returns-in_err-byte : goal.returns-in_err-byte

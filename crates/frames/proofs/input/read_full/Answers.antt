@@ -1,6 +1,6 @@
 use Rattle.std.proofs.Common.{length, arith, rules}
-use Rattle.frames.proofs.ByteSteps.{bytes_cut, bytes_filled}
-use Rattle.frames.proofs.Filled.{filled_more}
+use Rattle.frames.proofs.BufferPartLemmas.{filled_more}
+use Rattle.frames.proofs.ReadByteLemmas.{bytes_cut, bytes_filled}
 use Rattle.frames.proofs.input.read_full.Goals as goal
 
 pub returns-in-Ok-eq0-clause-exact : goal.returns-in-Ok-eq0-clause-exact

@@ -1,5 +1,5 @@
 use Rattle.std.proofs.lemmas.Result.{err_from_is_err_and}
-use Rattle.frames.proofs.ByteSteps.{line_end_err, line_end_then}
+use Rattle.frames.proofs.ReadByteLemmas.{line_end_err, line_end_then}
 use Rattle.frames.proofs.input.read_line_end.Goals as goal
 
 pub returns-in_err-read_expected : goal.returns-in_err-read_expected

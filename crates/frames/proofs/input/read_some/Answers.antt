@@ -1,4 +1,4 @@
-use Rattle.frames.proofs.Filled.{kept_then}
+use Rattle.frames.proofs.BufferPartLemmas.{kept_then}
 use Rattle.frames.proofs.input.read_some.Goals as goal
 
 pub returns-in-Ok-clause-bytes : goal.returns-in-Ok-clause-bytes

@@ -1,6 +1,6 @@
 use Rattle.std.proofs.Common.{arith, sym, rules}
 use Rattle.std.proofs.lemmas.Result.{err_from_is_err_and}
-use Rattle.frames.proofs.NumberSteps.{digits_first_err, digits_init, digits_bad, digits_next_err, digits_preserved, digits_done}
+use Rattle.frames.proofs.ReadNumberLemmas.{digits_first_err, digits_init, digits_bad, digits_next_err, digits_preserved, digits_done}
 use Rattle.frames.proofs.number.read_digits.Goals as goal
 
 pub returns-in_err-byte-clause-exact : goal.returns-in_err-byte-clause-exact

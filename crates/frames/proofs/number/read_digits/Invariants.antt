@@ -1,6 +1,6 @@
 -- Reading on from the digits so far gives what reading from the first digit gives.
 use Rattle.std.proofs.Common.{◌≤◌, ◌-◌}
-use Rattle.frames.proofs.NumberSteps.{GoesOn}
+use Rattle.frames.proofs.ReadNumberLemmas.{GoesOn}
 use Rattle.frames.proofs.number.read_digits.Given as goal
 
 abbrev pub invariant-loop-byte : goal.invariant-loop-byte

@@ -1,7 +1,7 @@
 use Rattle.std.proofs.Common.{ℕ, sym}
 use Rattle.std.proofs.lemmas.Result.{err_from_is_err_and}
-use Rattle.frames.proofs.NumberSteps.{number_err, number_bad, number_from, number_digits_err, number_line_err, number_done}
-use Rattle.frames.proofs.Steps.{fails, succeeds}
+use Rattle.frames.proofs.ReadNumberLemmas.{number_err, number_bad, number_from, number_digits_err, number_line_err, number_done}
+use Rattle.frames.proofs.ReadSequenceLemmas.{fails, succeeds}
 use Rattle.frames.proofs.number.read_number.Goals as goal
 
 pub returns-in_err-byte-clause-exact : goal.returns-in_err-byte-clause-exact

@@ -1,5 +1,5 @@
 use Rattle.std.proofs.Common.{ap, ◌∙◌, Bor, List, ℕ}
-use Rattle.frames.proofs.Written.{gone_more, gone_kept, rest_of}
+use Rattle.frames.proofs.WriteSequenceLemmas.{gone_more, gone_kept, rest_of}
 use Rattle.frames.proofs.output.write_bytes.Goals.{in-Ok, in-Err+else-ne}
 use Rattle.frames.proofs.output.write_bytes.Goals as goal
 

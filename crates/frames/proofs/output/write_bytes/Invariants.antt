@@ -1,5 +1,5 @@
 -- What is gone from the rest was written.
-use Rattle.frames.proofs.Written.{Gone}
+use Rattle.frames.proofs.WriteSequenceLemmas.{Gone}
 use Rattle.frames.proofs.output.write_bytes.Given as goal
 
 abbrev pub invariant-loop : goal.invariant-loop

@@ -1,8 +1,8 @@
 use Rattle.std.proofs.Common.{List, ℕ, Vec, Global}
 use Rattle.std.proofs.lemmas.Result.{err_from_is_err_and}
 use Rattle.frames.specs.Reading.{array_at}
-use Rattle.frames.proofs.Steps.{succeeds, Gives_made}
-use Rattle.frames.proofs.FrameSteps.{array_err, array_then, array_then_err}
+use Rattle.frames.proofs.ReadSequenceLemmas.{succeeds, Gives_made}
+use Rattle.frames.proofs.ReadFrameLemmas.{array_err, array_then, array_then_err}
 use Rattle.frames.proofs.reading.read_array.Goals as goal
 
 -- the strings of a vector

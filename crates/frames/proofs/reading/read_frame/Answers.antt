@@ -1,4 +1,4 @@
-use Rattle.frames.proofs.FrameSteps.{is_found, is_only}
+use Rattle.frames.proofs.ReadFrameLemmas.{is_found, is_only}
 use Rattle.frames.proofs.reading.read_frame.Goals as goal
 
 pub returns-clause-found : goal.returns-clause-found

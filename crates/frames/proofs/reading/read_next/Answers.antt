@@ -1,6 +1,6 @@
 use Rattle.std.proofs.Common.{rules}
 use Rattle.std.proofs.lemmas.Result.{err_from_is_err_and}
-use Rattle.frames.proofs.FrameSteps.{frame_none, frame_some, frame_err, frame_bad}
+use Rattle.frames.proofs.ReadFrameLemmas.{frame_none, frame_some, frame_err, frame_bad}
 use Rattle.frames.proofs.reading.read_next.Goals as goal
 
 pub returns-in-Ok-None : goal.returns-in-Ok-None

@@ -1,8 +1,8 @@
 use Rattle.std.proofs.Common.{List, ℕ, Vec, Global}
 use Rattle.std.proofs.lemmas.Result.{err_from_is_err_and}
 use Rattle.frames.specs.Reading.{string_at}
-use Rattle.frames.proofs.Steps.{fails, succeeds, Gives_made}
-use Rattle.frames.proofs.StringSteps.{string_mark_err, string_length_err, string_from, string_bytes_err, string_line_err, string_done}
+use Rattle.frames.proofs.ReadSequenceLemmas.{fails, succeeds, Gives_made}
+use Rattle.frames.proofs.ReadStringLemmas.{string_mark_err, string_length_err, string_from, string_bytes_err, string_line_err, string_done}
 use Rattle.frames.proofs.reading.read_string.Goals as goal
 
 -- the bytes of a string

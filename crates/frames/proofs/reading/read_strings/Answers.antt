@@ -1,6 +1,6 @@
 use Rattle.std.proofs.Common.{List, ℕ, Vec, Global}
 use Rattle.std.proofs.lemmas.Result.{err_from_is_err_and}
-use Rattle.frames.proofs.StringSteps.{strings_none, strings_pushed, strings_err, strings_done}
+use Rattle.frames.proofs.ReadStringLemmas.{strings_none, strings_pushed, strings_err, strings_done}
 use Rattle.frames.proofs.reading.read_strings.Goals as goal
 
 -- the strings of a vector

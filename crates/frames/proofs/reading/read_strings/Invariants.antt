@@ -2,7 +2,7 @@
 use Rattle.std.proofs.Common.{◌≡◌, length}
 use Rattle.std.specs.List.{AllByRecursion}
 use Rattle.frames.specs.Frame.{IsShort}
-use Rattle.frames.proofs.StringSteps.{Collects}
+use Rattle.frames.proofs.ReadStringLemmas.{Collects}
 use Rattle.frames.proofs.reading.read_strings.Given as goal
 
 abbrev pub invariant-loop : goal.invariant-loop

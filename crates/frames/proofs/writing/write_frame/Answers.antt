@@ -2,7 +2,7 @@ use Rattle.std.proofs.Common.{ap, length}
 use Rattle.std.specs.List.{flat_map}
 use Rattle.std.proofs.lemmas.Result.{err_from_is_err_and}
 use Rattle.frames.specs.Frame.{header, string_bytes, frame_bytes}
-use Rattle.frames.proofs.Written.{lost, Writes_then, Writes_lost, Writes_as}
+use Rattle.frames.proofs.WriteSequenceLemmas.{lost, Writes_then, Writes_lost, Writes_as}
 use Rattle.frames.proofs.writing.write_frame.Goals as goal
 
 pub returns-in_err-write_header : goal.returns-in_err-write_header

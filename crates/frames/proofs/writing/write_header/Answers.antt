@@ -2,7 +2,7 @@ use Rattle.std.proofs.Common.{[], ◌∷◌, ◌++◌}
 use Rattle.std.specs.Fmt.{decimal}
 use Rattle.std.proofs.lemmas.Result.{err_from_is_err_and}
 use Rattle.frames.specs.Frame.{line_end}
-use Rattle.frames.proofs.Written.{lost, Writes_then, Writes_lost}
+use Rattle.frames.proofs.WriteSequenceLemmas.{lost, Writes_then, Writes_lost}
 use Rattle.frames.proofs.writing.write_header.Goals as goal
 
 pub returns-in_err-write_bytes : goal.returns-in_err-write_bytes

@@ -1,7 +1,7 @@
 use Rattle.std.proofs.Common.{◌++◌, length}
 use Rattle.std.proofs.lemmas.Result.{err_from_is_err_and}
 use Rattle.frames.specs.Frame.{header, line_end}
-use Rattle.frames.proofs.Written.{lost, Writes_then, Writes_lost}
+use Rattle.frames.proofs.WriteSequenceLemmas.{lost, Writes_then, Writes_lost}
 use Rattle.frames.proofs.writing.write_string.Goals as goal
 
 pub returns-in_err-write_header : goal.returns-in_err-write_header

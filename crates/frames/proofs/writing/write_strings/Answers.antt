@@ -1,6 +1,6 @@
 use Rattle.std.proofs.Common.{◌∙◌}
 use Rattle.std.proofs.lemmas.Result.{err_from_is_err_and}
-use Rattle.frames.proofs.Written.{Appends_none, strings_more, strings_lost, strings_done}
+use Rattle.frames.proofs.WriteSequenceLemmas.{Appends_none, strings_more, strings_lost, strings_done}
 use Rattle.frames.proofs.writing.write_strings.Goals as goal
 
 pub loop-string-init : goal.loop-string-init

@@ -1,6 +1,6 @@
 use Rattle.std.proofs.Common.{ap, ◌∙◌}
 use Rattle.gf256.specs.Field.{field_product}
-use Rattle.gf256.proofs.FieldLaws.{product_assoc, product-one_right}
+use Rattle.gf256.proofs.FieldLemmas.{product_assoc, product-one_right}
 use Rattle.gf256.proofs.arithmetic.div.Goals as goal
 
 pub returns : goal.returns

@@ -1,6 +1,6 @@
 use Rattle.std.proofs.Common.{ap, ◌∙◌}
 use Rattle.gf256.specs.Field.{field_product}
-use Rattle.gf256.proofs.Exponents.{product-of_inverse_power}
+use Rattle.gf256.proofs.LogarithmTableLemmas.{product-of_inverse_power}
 use Rattle.gf256.proofs.arithmetic.inv.Goals as goal
 
 pub returns : goal.returns

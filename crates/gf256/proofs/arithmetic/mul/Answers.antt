@@ -1,7 +1,7 @@
 use Rattle.std.proofs.Common.{ap, sym, ◌∙◌, arith}
 use Rattle.gf256.specs.Field.{field_product}
-use Rattle.gf256.proofs.FieldLaws.{product-zero_left, product-zero_right}
-use Rattle.gf256.proofs.Exponents.{product_of_powers}
+use Rattle.gf256.proofs.FieldLemmas.{product-zero_left, product-zero_right}
+use Rattle.gf256.proofs.LogarithmTableLemmas.{product_of_powers}
 use Rattle.gf256.proofs.arithmetic.mul.Goals as goal
 use Rattle.gf256.proofs.arithmetic.mul.Goals.{then-a-eq0-via-then-a-eq0, then-a-eq0-via-else-a-eq0+then-b-eq0}
 

@@ -1,7 +1,7 @@
 use Rattle.std.proofs.Common.{◌≡◌, ◌/◌, ◌%◌, ap, ap₂, sym, ◌∙◌, arith, lit<}
 use Rattle.gf256.specs.Field.{field_product, field_power}
-use Rattle.gf256.proofs.FieldLaws.{product-one_left, product-one_right, power_lt, power-zero}
-use Rattle.gf256.proofs.Steps.{power_half_even, power_half_odd}
+use Rattle.gf256.proofs.FieldLemmas.{product-one_left, product-one_right, power_lt, power-zero}
+use Rattle.gf256.proofs.LoopStepLemmas.{power_half_even, power_half_odd}
 use Rattle.gf256.proofs.arithmetic.pow.Goals as goal
 use Rattle.gf256.proofs.arithmetic.pow.Goals.{then-left-eq1, else-left-eq1}
 

@@ -1,6 +1,6 @@
 use Rattle.std.proofs.Common.{ap, subst, sym, ◌∙◌, ◌<◌}
 use Rattle.gf256.specs.Field.{field_power}
-use Rattle.gf256.proofs.Exponents.{logarithm_lt, power_of_logarithm}
+use Rattle.gf256.proofs.LogarithmTableLemmas.{logarithm_lt, power_of_logarithm}
 use Rattle.gf256.proofs.logarithms.logarithm.Goals as goal
 
 pub returns-clause-small : goal.returns-clause-small

@@ -1,5 +1,5 @@
 use Rattle.std.proofs.Common.{◌∙◌}
-use Rattle.gf256.proofs.Exponents.{power_at}
+use Rattle.gf256.proofs.LogarithmTableLemmas.{power_at}
 use Rattle.gf256.proofs.logarithms.power.Goals as goal
 
 pub returns : goal.returns

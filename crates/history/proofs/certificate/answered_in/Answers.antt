@@ -1,4 +1,4 @@
-use Rattle.history.proofs.Pairs.{call_there}
+use Rattle.history.proofs.PairwiseByPlaceLemmas.{call_there}
 use Rattle.history.proofs.certificate.answered_in.Goals as goal
 
 pub entry_at-requires-clause-within : goal.entry_at-requires-clause-within

@@ -1,5 +1,5 @@
 use Rattle.std.proofs.Common.{refl, arith}
-use Rattle.history.proofs.Pairs.{distinct_from_places, places_from_distinct}
+use Rattle.history.proofs.PairwiseByPlaceLemmas.{distinct_from_places, places_from_distinct}
 use Rattle.history.proofs.certificate.has_no_repeat.Goals as goal
 
 pub returns-then-not-is_new : goal.returns-then-not-is_new

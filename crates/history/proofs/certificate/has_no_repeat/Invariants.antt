@@ -1,4 +1,4 @@
-use Rattle.history.proofs.Pairs.{ApartBelow}
+use Rattle.history.proofs.PairwiseByPlaceLemmas.{ApartBelow}
 use Rattle.history.proofs.certificate.has_no_repeat.Given as goal
 
 abbrev pub invariant-loop-place : goal.invariant-loop-place

@@ -1,5 +1,5 @@
 use Rattle.std.proofs.Common.{sym, ◌∙◌, eq-eqb, eqb-true}
-use Rattle.history.proofs.Counting.{holds_from_count, count_from_holds}
+use Rattle.history.proofs.AnsweredCountLemmas.{holds_from_count, count_from_holds}
 use Rattle.history.proofs.certificate.holds_answered.Goals as goal
 
 pub returns : goal.returns

@@ -2,7 +2,7 @@ use Rattle.std.proofs.Common.{◌≡◌, ℕ, ◌-◌, ◌<◌, List, get_or, sy
 use Rattle.std.proofs.lemmas.Bool.{cases_lt}
 use Rattle.record.specs.declared.call.Entry.{Entry}
 use Rattle.atomicity.specs.Atomic.{entry_at, IsAnsweredBefore}
-use Rattle.history.proofs.Pairs.{call_there, places_from_keeps}
+use Rattle.history.proofs.PairwiseByPlaceLemmas.{call_there, places_from_keeps}
 use Rattle.history.proofs.certificate.is_new.Goals as goal
 
 pub entry_at-requires-clause-within : goal.entry_at-requires-clause-within

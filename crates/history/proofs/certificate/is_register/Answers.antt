@@ -1,8 +1,8 @@
 use Rattle.std.proofs.Common.{[], get_or}
 use Rattle.atomicity.specs.Atomic.{IsRegister, MayStand, entry_at}
 use Rattle.history.specs.Check.{named}
-use Rattle.history.proofs.Pairs.{call_there, place_from_all, value_there}
-use Rattle.history.proofs.Registers.{after_write, after_read, wrong_read, no_move, passes_on, stops}
+use Rattle.history.proofs.PairwiseByPlaceLemmas.{call_there, place_from_all, value_there}
+use Rattle.history.proofs.RegisterPassLemmas.{after_write, after_read, wrong_read, no_move, passes_on, stops}
 use Rattle.history.proofs.certificate.is_register.Goals as goal
 use Rattle.history.proofs.certificate.is_register.Goals.{in-Write, in-Read+else-not-are_same}
 

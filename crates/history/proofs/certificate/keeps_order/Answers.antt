@@ -1,7 +1,7 @@
 use Rattle.std.proofs.Common.{sym, subst, arith, rules, length}
 use Rattle.record.specs.declared.call.Entry.{Entry}
-use Rattle.history.proofs.Pairs.{call_there, keeps_from_places, places_from_keeps}
-use Rattle.history.proofs.Seen.{IsBefore, sees_more, breaks}
+use Rattle.history.proofs.OrderPassLemmas.{IsBefore, sees_more, breaks}
+use Rattle.history.proofs.PairwiseByPlaceLemmas.{call_there, keeps_from_places, places_from_keeps}
 use Rattle.history.proofs.certificate.keeps_order.Goals as goal
 
 pub entry_at-entry-requires-clause-within : goal.entry_at-entry-requires-clause-within

@@ -1,4 +1,4 @@
-use Rattle.history.proofs.Seen.{HasSeen}
+use Rattle.history.proofs.OrderPassLemmas.{HasSeen}
 use Rattle.history.proofs.certificate.keeps_order.Given as goal
 
 abbrev pub invariant-loop-call : goal.invariant-loop-call

@@ -1,4 +1,4 @@
-use Rattle.history.proofs.Bridge.{turn_of}
+use Rattle.history.proofs.TagOrderLemmas.{turn_of}
 use Rattle.history.proofs.laws.calls_are_in_turn.Goals as goal
 
 pub returns : goal.returns

@@ -1,5 +1,5 @@
-use Rattle.soundness.proofs.Values.Coded.{reads_journaled}
-use Rattle.history.proofs.Lawful.{lawful_entries}
+use Rattle.soundness.proofs.Values.ReadValueLemmas.{reads_journaled}
+use Rattle.history.proofs.LawfulEntryLemmas.{lawful_entries}
 use Rattle.history.proofs.laws.entries_are_lawful.Goals as goal
 
 pub returns : goal.returns

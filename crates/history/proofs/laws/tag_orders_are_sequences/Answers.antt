@@ -1,5 +1,5 @@
-use Rattle.atomicity.proofs.Sequences.ByTags.{sequence_of_sound}
-use Rattle.history.proofs.Bridge.{sequence_of_order}
+use Rattle.atomicity.proofs.Sequences.TagSequenceLemmas.{sequence_of_sound}
+use Rattle.history.proofs.TagOrderLemmas.{sequence_of_order}
 use Rattle.history.proofs.laws.tag_orders_are_sequences.Goals as goal
 
 pub returns : goal.returns

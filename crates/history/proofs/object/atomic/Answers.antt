@@ -1,6 +1,6 @@
 use Rattle.encoder.specs.Fragment.{fragment}
-use Rattle.register.proofs.Determined.{fragments_determine}
-use Rattle.atomicity.proofs.Runs.{atomic_of_coded}
+use Rattle.register.proofs.FragmentCodeLemmas.{fragments_determine}
+use Rattle.atomicity.proofs.AtomicRunLemmas.{atomic_of_coded}
 use Rattle.history.proofs.object.atomic.Goals as goal
 
 pub returns : goal.returns

@@ -4,12 +4,12 @@ use Rattle.encoder.specs.Fragment.{fragment}
 use Rattle.atomicity.specs.Atomic.{IsSequence}
 use Rattle.record.specs.Journals.{entries}
 use Rattle.atomicity.specs.Sequence.{IsTagSequence}
-use Rattle.register.proofs.Determined.{fragments_determine}
-use Rattle.atomicity.proofs.Sequences.ByTags.{sequence_of_sound}
+use Rattle.register.proofs.FragmentCodeLemmas.{fragments_determine}
+use Rattle.atomicity.proofs.Sequences.TagSequenceLemmas.{sequence_of_sound}
 use Rattle.record.specs.declared.call.TaggedCall.{TaggedCall}
 use Rattle.history.specs.Calls.{AreCallsOf}
 use Rattle.atomicity.specs.Sequence.{IsTagOrder}
-use Rattle.history.proofs.Bridge.{turn_of, sequence_of_order}
+use Rattle.history.proofs.TagOrderLemmas.{turn_of, sequence_of_order}
 use Rattle.history.proofs.object.sequence.Goals as goal
 
 pub order_by_tags-requires : goal.order_by_tags-requires

@@ -2,7 +2,7 @@ use Rattle.std.proofs.Common.{List, map, sym, ap, ◌∙◌, subst}
 use Rattle.record.specs.declared.call.Entry.{Entry}
 use Rattle.record.specs.declared.call.TaggedCall.{TaggedCall}
 use Rattle.history.specs.Calls.{AreCallsOf, tagged_entry}
-use Rattle.history.proofs.Entered.{calls_of_entries}
+use Rattle.history.proofs.CallEntryLemmas.{calls_of_entries}
 use Rattle.history.proofs.object.tagged_calls.Goals as goal
 
 pub returns-clause-calls : goal.returns-clause-calls

@@ -1,7 +1,7 @@
 use Rattle.std.proofs.Common.{get_or, sym, ap, ◌∙◌, arith}
 use Rattle.std.proofs.lemmas.List.{ext_get_or}
 use Rattle.std.proofs.lemmas.Simd.{length-chunk, get_or-chunk}
-use Rattle.lane_kernel.proofs.Masks.{same_from_full, full_from_same}
+use Rattle.lane_kernel.proofs.EqualityMaskLemmas.{same_from_full, full_from_same}
 use Rattle.lane_kernel.proofs.equality.is_block_same.Goals as goal
 use lib.Lanes.{chunk}
 

@@ -1,6 +1,6 @@
 use Rattle.std.proofs.Common.{◌<◌, length, bit_xor, get_or, ap, ◌∙◌, arith}
 use Rattle.gf256.specs.Field.{field_product}
-use Rattle.gf256.proofs.FieldLaws.{product-one_left}
+use Rattle.gf256.proofs.FieldLemmas.{product-one_left}
 use Rattle.lane_kernel.proofs.sums.add_scaled.Goals as goal
 
 pub returns : goal.returns

@@ -1,6 +1,6 @@
 use Rattle.std.proofs.Common.{◌+◌, get_or, bit_xor, ap₂, ◌∙◌, arith}
 use Rattle.std.proofs.lemmas.Simd.{get_or-put_chunk_below, get_or-put_chunk_at, get_or-put_chunk_above}
-use Rattle.lane_kernel.proofs.Lanes.{block_sum, length-block_sum, get_or-block_sum}
+use Rattle.lane_kernel.proofs.LaneLemmas.{block_sum, length-block_sum, get_or-block_sum}
 use Rattle.lane_kernel.proofs.sums.combine_block.Goals as goal
 use lib.Lanes.{zip2, put_chunk}
 

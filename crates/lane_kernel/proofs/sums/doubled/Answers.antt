@@ -4,9 +4,9 @@ use Rattle.std.proofs.Common.{eqb-true, leb, replicate, bit_xor, refl, sym, ap, 
 use Rattle.std.proofs.lemmas.List.Elements.{All-head, All-tail}
 use Rattle.gf256.specs.Polynomial.{AreBytes, scaled}
 use Rattle.gf256.specs.Field.{field_product, remainder, polynomial_product}
-use Rattle.gf256.proofs.Additive.{all_below, all_below-at}
-use Rattle.gf256.proofs.Roots.{IsByte}
-use Rattle.lane_kernel.proofs.Lanes.{AreBytes-from_lanes}
+use Rattle.gf256.proofs.AdditiveFunctionLemmas.{all_below, all_below-at}
+use Rattle.gf256.proofs.RootLemmas.{IsByte}
+use Rattle.lane_kernel.proofs.LaneLemmas.{AreBytes-from_lanes}
 use Rattle.lane_kernel.proofs.sums.doubled.Goals as goal
 use lib.Lanes.{zip2, sel_l, top}
 

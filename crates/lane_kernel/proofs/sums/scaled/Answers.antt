@@ -6,9 +6,9 @@ use Rattle.std.proofs.lemmas.Nat.Bits.{shr_and_one, bit_at-lt}
 use Rattle.std.proofs.lemmas.Nat.{and_mask, leading_length}
 use Rattle.gf256.specs.Field.{field_power}
 use Rattle.gf256.specs.Polynomial.{scaled}
-use Rattle.gf256.proofs.FieldLaws.{power_lt, power-zero, power-suc}
-use Rattle.gf256.proofs.Steps.{low_bits_set, low_bits_clear}
-use Rattle.lane_kernel.proofs.Lanes.{scaled-zero, scaled-one, zip2-scaled, scaled-scaled, AreBytes-from_lanes}
+use Rattle.gf256.proofs.FieldLemmas.{power_lt, power-zero, power-suc}
+use Rattle.gf256.proofs.LoopStepLemmas.{low_bits_set, low_bits_clear}
+use Rattle.lane_kernel.proofs.LaneLemmas.{scaled-zero, scaled-one, zip2-scaled, scaled-scaled, AreBytes-from_lanes}
 use Rattle.lane_kernel.proofs.sums.scaled.Goals as goal
 use Rattle.lane_kernel.proofs.sums.scaled.Goals.{then-c-eq1, else-c-eq1, then-c-i-eq1, else-c-i-eq1}
 use lib.Count.{count_leading_zeros}

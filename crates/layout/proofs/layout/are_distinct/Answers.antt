@@ -4,7 +4,7 @@ use Rattle.std.proofs.lemmas.List.{take_more, take_all}
 use Rattle.std.specs.Cmp.{nat_cmp_total}
 use Rattle.std.specs.FinSet as set
 use Rattle.std.specs.Ordering.{nat_cmp}
-use Rattle.layout.proofs.Distinct.{size, distinct_from_size, size_from_distinct}
+use Rattle.layout.proofs.DistinctMemberLemmas.{size, distinct_from_size, size_from_distinct}
 use Rattle.layout.proofs.layout.are_distinct.Goals as goal
 
 pub loop-member-preserved : goal.loop-member-preserved

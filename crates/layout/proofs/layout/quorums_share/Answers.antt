@@ -1,4 +1,4 @@
-use Rattle.layout.proofs.Quorums.{quorums_share}
+use Rattle.layout.proofs.QuorumLemmas.{quorums_share}
 use Rattle.layout.proofs.layout.quorums_share.Goals as goal
 
 pub returns : goal.returns

@@ -1,6 +1,6 @@
 use Rattle.record.specs.Steps.{Step}
-use Rattle.locked_steps.proofs.Becoming.{goes_on_both}
-use Rattle.locked_steps.proofs.Booking.{counted_ok, numbered_ok}
+use Rattle.locked_steps.proofs.ClusterCallCountLemmas.{counted_ok, numbered_ok}
+use Rattle.locked_steps.proofs.ReachableLemmas.{goes_on_both}
 use Rattle.locked_steps.proofs.begin.begin_call.Goals as goal
 
 pub returns-in-Read-clause-count : goal.returns-in-Read-clause-count

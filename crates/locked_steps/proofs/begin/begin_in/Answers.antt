@@ -2,7 +2,7 @@ use Rattle.std.proofs.Common.{◌≡◌, ◌<◌, ◌≤◌, suc, false, None, r
 use Rattle.std.specs.Prelude.{is_some, vec_len, vec_capacity}
 use Rattle.std.specs.String.{string_bytes}
 use Rattle.locked_steps.specs.declared.call_record.CallRecord.{CallRecord}
-use Rattle.locked_steps.proofs.Rising.{rising_begun, length_begun}
+use Rattle.locked_steps.proofs.RecordOrderLemmas.{rising_begun, length_begun}
 use Rattle.locked_steps.proofs.begin.begin_in.Goals as goal
 
 pub invariant_of-seat-2 : goal.invariant_of-seat-2

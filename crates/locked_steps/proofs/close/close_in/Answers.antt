@@ -4,7 +4,7 @@ use Rattle.cluster.specs.Cluster.{Cluster}
 use Rattle.locked_steps.specs.Calls.{client_calls}
 use Rattle.locked_steps.specs.Seats.{SeatState, IsRising, records_of}
 use Rattle.locked_steps.specs.Closing.{Fit, IsAccounted, all_records}
-use Rattle.locked_steps.proofs.Closes.{accounted}
+use Rattle.locked_steps.proofs.FittingSeatLemmas.{accounted}
 use Rattle.locked_steps.proofs.close.close_in.Goals as goal
 
 pub returns-clause-accounted : goal.returns-clause-accounted

@@ -1,6 +1,6 @@
 use Rattle.std.proofs.Common.{◌≡◌, ◌++◌, ◌∷◌, [], length, rules, arith, ap, refl}
 use Rattle.locked_steps.specs.Closing.{all_records}
-use Rattle.locked_steps.proofs.Accounts.{length_all_records-push}
+use Rattle.locked_steps.proofs.SeatRecordLemmas.{length_all_records-push}
 use Rattle.locked_steps.proofs.fitting.account.Goals as goal
 
 pub loop-seat-preserved : goal.loop-seat-preserved

@@ -3,7 +3,7 @@ use Rattle.std.specs.Prelude.{map, IsTrue}
 use Rattle.std.proofs.lemmas.List.{map-append}
 use Rattle.locked_steps.specs.Closing.{AllStand, key_of}
 use Rattle.locked_steps.specs.Seats.{SeatState, records_of}
-use Rattle.locked_steps.proofs.Accounts.{all_records_more, all_seats_more, stand_at, all_append}
+use Rattle.locked_steps.proofs.SeatRecordLemmas.{all_records_more, all_seats_more, stand_at, all_append}
 use Rattle.locked_steps.proofs.fitting.fit.Goals as goal
 
 pub returns-then-not-branch-clause-fit : goal.returns-then-not-branch-clause-fit

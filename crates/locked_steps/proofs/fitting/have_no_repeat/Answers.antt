@@ -1,7 +1,7 @@
 use Rattle.std.proofs.Common.{rules}
 use Rattle.std.specs.Ordering.{is_lt}
 use Rattle.std.proofs.lemmas.List.Sorted.{answers_always}
-use Rattle.locked_steps.proofs.Distinct.{key_cmp, distinct_in_order}
+use Rattle.locked_steps.proofs.DistinctKeyLemmas.{key_cmp, distinct_in_order}
 use Rattle.locked_steps.proofs.fitting.have_no_repeat.Goals as goal
 
 pub returns : goal.returns

@@ -1,7 +1,7 @@
 use Rattle.std.proofs.Common.{◌≡◌, ◌<◌, ◌+◌, length, get_or, List, ap, rules, arith}
 use Rattle.locked_steps.specs.Closing.{receipts_of}
 use Rattle.locked_steps.specs.Seats.{SeatState, records_of}
-use Rattle.locked_steps.proofs.Accounts.{receipts_more, receipts_few}
+use Rattle.locked_steps.proofs.SeatRecordLemmas.{receipts_more, receipts_few}
 use Rattle.locked_steps.proofs.fitting.receipts.Goals as goal
 
 pub overflow_add-total : goal.overflow_add-total

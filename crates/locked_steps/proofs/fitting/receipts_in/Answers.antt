@@ -2,7 +2,7 @@ use Rattle.std.proofs.Common.{sym, ap, ◌∙◌}
 use Rattle.std.specs.String.{string_bytes}
 use Rattle.locked_steps.specs.Closing.{receipts_of}
 use Rattle.locked_steps.specs.Seats.{SeatState, pending_of, records_of}
-use Rattle.locked_steps.proofs.Accounts.{receipts_alone}
+use Rattle.locked_steps.proofs.SeatRecordLemmas.{receipts_alone}
 use Rattle.locked_steps.proofs.fitting.receipts_in.Goals as goal
 
 pub returns : goal.returns

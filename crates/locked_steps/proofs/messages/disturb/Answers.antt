@@ -1,10 +1,10 @@
 use Rattle.std.proofs.Common.{◌%◌, length, inl, inr, refl, sym, ap, ◌∙◌}
 use Rattle.record.specs.Steps.{Step}
 use Rattle.cluster.specs.Steps.{stepped}
-use Rattle.locked_steps.proofs.Becoming.{goes_on_step}
-use Rattle.locked_steps.proofs.Going.{kept_step}
-use Rattle.driver.proofs.Limits.{err_of}
-use Rattle.locked_steps.proofs.Stirring.{disturbed, even, odd, lose_is, repeat_is, moved_by}
+use Rattle.locked_steps.proofs.ReachableLemmas.{goes_on_step}
+use Rattle.locked_steps.proofs.RoundLemmas.{kept_step}
+use Rattle.driver.proofs.LimitRefusalLemmas.{err_of}
+use Rattle.locked_steps.proofs.ChosenMessageLemmas.{disturbed, even, odd, lose_is, repeat_is, moved_by}
 use Rattle.locked_steps.proofs.messages.disturb.Goals as goal
 
 pub returns-in_err-lose-clause-refused : goal.returns-in_err-lose-clause-refused

@@ -1,9 +1,9 @@
 use Rattle.std.proofs.Common.{inr, ap, ◌∙◌}
 use Rattle.cluster.specs.Steps.{stepped}
-use Rattle.locked_steps.proofs.Becoming.{goes_on_step}
-use Rattle.locked_steps.proofs.Going.{kept_step, quiet_handling}
-use Rattle.driver.proofs.Limits.{err_of}
-use Rattle.locked_steps.proofs.Stirring.{stirred, handled_step}
+use Rattle.locked_steps.proofs.ReachableLemmas.{goes_on_step}
+use Rattle.locked_steps.proofs.RoundLemmas.{kept_step, quiet_handling}
+use Rattle.driver.proofs.LimitRefusalLemmas.{err_of}
+use Rattle.locked_steps.proofs.ChosenMessageLemmas.{stirred, handled_step}
 use Rattle.locked_steps.proofs.messages.stir.Goals as goal
 
 pub returns-in_err-handle-clause-refused : goal.returns-in_err-handle-clause-refused

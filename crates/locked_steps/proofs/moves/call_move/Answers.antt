@@ -1,8 +1,8 @@
 use Rattle.std.proofs.Common.{refl}
 use Rattle.record.specs.Steps.{Step}
 use Rattle.cluster.specs.Cluster.{layout_of}
-use Rattle.locked_steps.proofs.Becoming.{goes_on_both}
-use Rattle.locked_steps.proofs.Going.{kept_both}
+use Rattle.locked_steps.proofs.ReachableLemmas.{goes_on_both}
+use Rattle.locked_steps.proofs.RoundLemmas.{kept_both}
 use Rattle.locked_steps.proofs.moves.call_move.Goals as goal
 
 pub returns-clause-count : goal.returns-clause-count

@@ -1,9 +1,9 @@
 use Rattle.std.proofs.Common.{ap, inl, inr, ◌∙◌}
 use Rattle.cluster.specs.Cluster.{layout_of}
 use Rattle.locked_steps.specs.Calls.{client_calls}
-use Rattle.locked_steps.proofs.Becoming.{goes_on}
-use Rattle.locked_steps.proofs.Booking.{calls_created}
-use Rattle.locked_steps.proofs.Sound.{created_lawful}
+use Rattle.locked_steps.proofs.ClusterCallCountLemmas.{calls_created}
+use Rattle.locked_steps.proofs.ReachableLemmas.{goes_on}
+use Rattle.locked_steps.proofs.SoundClusterLemmas.{created_lawful}
 use Rattle.locked_steps.proofs.orders.carry_out.Goals as goal
 
 pub returns-in_ok-add_layout-in-AddLayout-clause-course : goal.returns-in_ok-add_layout-in-AddLayout-clause-course

@@ -3,14 +3,14 @@ use Rattle.std.specs.List.{AllByRecursion}
 use Rattle.record.specs.Records.{Call}
 use Rattle.soundness.specs.Sound.{IsCallPast}
 use Rattle.register.specs.State.{State}
-use Rattle.register.proofs.Lists.{all_weaker}
-use Rattle.cluster.proofs.Keeping.{placed}
-use Rattle.driver.proofs.Named.{one_state}
+use Rattle.register.proofs.ListLemmas.{all_weaker}
+use Rattle.cluster.proofs.StepInvariantLemmas.{placed}
+use Rattle.driver.proofs.NamedObjectLemmas.{one_state}
 use Rattle.locked_steps.proofs.rounds.past_calls.Goals as goal
 
 pub returns-in-Ok : goal.returns-in-Ok
 returns-in-Ok c state at =
-    let kept = c.keeping.ensures.1.1 in
+    let kept = c.invariant.ensures.1.1 in
     let old = c.in-Ok.register.now in
     let p = placed c.args.name.now old kept c.in-Ok.ensures.object in
     let past = p.1.past in

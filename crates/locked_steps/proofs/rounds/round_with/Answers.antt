@@ -1,7 +1,7 @@
 use Rattle.std.proofs.Common.{pred, refl}
 use Rattle.record.specs.Steps.{Step}
-use Rattle.locked_steps.proofs.Becoming.{goes_on_round, goes_on_step}
-use Rattle.locked_steps.proofs.Going.{counted_round, kept_step}
+use Rattle.locked_steps.proofs.ReachableLemmas.{goes_on_round, goes_on_step}
+use Rattle.locked_steps.proofs.RoundLemmas.{counted_round, kept_step}
 use Rattle.locked_steps.proofs.rounds.round_with.Goals as goal
 
 pub returns-in-Ok-clause-count : goal.returns-in-Ok-clause-count

@@ -1,7 +1,7 @@
 use Rattle.std.proofs.Common.{inr, ap, subst, sym, ◌∙◌, Some}
 use Rattle.locked_steps.specs.Rounds.{Copies, GoesNot}
-use Rattle.locked_steps.proofs.Going.{copies, memory_refused}
-use Rattle.locked_steps.proofs.Stirring.{err_match}
+use Rattle.locked_steps.proofs.ChosenMessageLemmas.{err_match}
+use Rattle.locked_steps.proofs.RoundLemmas.{copies, memory_refused}
 use Rattle.locked_steps.proofs.rounds.round_with_copy.Goals as goal
 
 pub returns-in_err-copy-clause-cause : goal.returns-in_err-copy-clause-cause
@@ -24,4 +24,4 @@ returns-clause-copy g c =
     c.round_with.new.chooser c.args.hand
     c.in_ok-round.round c.in_ok-want.want c.in_ok-copy.copy c.in_ok-round.ensures.steps c.in_ok-want.ensures.want c.in_ok-copy.ensures.value
     c.past_calls_at_end.ensures
-    c.keeping.ensures.1.1.few_steps)
+    c.invariant.ensures.1.1.few_steps)

@@ -1,5 +1,5 @@
 use Rattle.std.proofs.Common.{sym}
-use Rattle.mail.proofs.Bounding.{last_at}
+use Rattle.mail.proofs.CallBoundLemmas.{last_at}
 use Rattle.mail.proofs.mail.last_of.Goals as goal
 
 pub returns-in-Some : goal.returns-in-Some

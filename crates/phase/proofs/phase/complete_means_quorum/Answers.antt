@@ -1,4 +1,4 @@
-use Rattle.phase.proofs.Completing.{complete_means_quorum}
+use Rattle.phase.proofs.CompletePhaseLemmas.{complete_means_quorum}
 use Rattle.phase.proofs.phase.complete_means_quorum.Goals as goal
 
 pub returns : goal.returns

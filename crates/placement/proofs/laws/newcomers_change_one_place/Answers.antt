@@ -1,7 +1,7 @@
 use Rattle.std.proofs.Common.{ap, take, ◌∙◌}
 use Rattle.placement.specs.Placement.{in_order}
-use Rattle.placement.proofs.Order.{in_order-push}
-use Rattle.placement.proofs.Placed.{take-with_node}
+use Rattle.placement.proofs.FirstNodesLemmas.{take-with_node}
+use Rattle.placement.proofs.NodeOrderLemmas.{in_order-push}
 use Rattle.placement.proofs.laws.newcomers_change_one_place.Goals as goal
 
 pub returns : goal.returns

@@ -1,6 +1,6 @@
 use Rattle.std.proofs.Common.{ap, take, List, ℕ}
 use Rattle.layout.specs.Layout.{Layout}
-use Rattle.placement.proofs.Order.{in_order-IsPermutation}
+use Rattle.placement.proofs.NodeOrderLemmas.{in_order-IsPermutation}
 use Rattle.placement.proofs.laws.order_of_listing_does_not_matter.Goals as goal
 
 pub returns : goal.returns

@@ -1,8 +1,8 @@
 use Rattle.std.proofs.Common.{ap, take, List, ℕ, ◌++◌, ◌∙◌, sym}
 use Rattle.layout.specs.Layout.{Layout}
 use Rattle.placement.specs.Placement.{in_order}
-use Rattle.placement.proofs.Order.{in_order-middle}
-use Rattle.placement.proofs.Placed.{take-with_other}
+use Rattle.placement.proofs.FirstNodesLemmas.{take-with_other}
+use Rattle.placement.proofs.NodeOrderLemmas.{in_order-middle}
 use Rattle.placement.proofs.laws.others_may_leave.Goals as goal
 
 pub returns : goal.returns

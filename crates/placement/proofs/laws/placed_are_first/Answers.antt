@@ -1,4 +1,4 @@
-use Rattle.placement.proofs.Placed.{placed-AreFirst}
+use Rattle.placement.proofs.FirstNodesLemmas.{placed-AreFirst}
 use Rattle.placement.proofs.laws.placed_are_first.Goals as goal
 
 pub returns : goal.returns

@@ -1,4 +1,4 @@
-use Rattle.placement.proofs.Placed.{placed-IsLawful}
+use Rattle.placement.proofs.FirstNodesLemmas.{placed-IsLawful}
 use Rattle.placement.proofs.laws.placed_are_lawful.Goals as goal
 
 pub returns : goal.returns

@@ -3,8 +3,8 @@ use Rattle.std.proofs.lemmas.List.{length-take-le}
 use Rattle.placement.specs.declared.scored.Scored.{Scored}
 use Rattle.placement.specs.Scored.{scored}
 use Rattle.placement.specs.Placement.{in_order}
-use Rattle.placement.proofs.Placed.{length-in_order}
-use Rattle.placement.proofs.Listed.{length-scored, numbers_of_scored-take}
+use Rattle.placement.proofs.FirstNodesLemmas.{length-in_order}
+use Rattle.placement.proofs.ScoredListLemmas.{length-scored, numbers_of_scored-take}
 use Rattle.placement.proofs.nodes.first_of.Goals as goal
 
 pub slice_bounds-numbers_of-end : goal.slice_bounds-numbers_of-end

@@ -1,4 +1,4 @@
-use Rattle.player.proofs.Stepping.{growth, moved_to}
+use Rattle.player.proofs.StepCommandLemmas.{growth, moved_to}
 use Rattle.player.proofs.call_commands.call_move.Goals as goal
 
 pub returns : goal.returns

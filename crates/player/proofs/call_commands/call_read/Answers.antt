@@ -1,4 +1,4 @@
-use Rattle.player.proofs.Stepping.{growth}
+use Rattle.player.proofs.StepCommandLemmas.{growth}
 use Rattle.player.proofs.call_commands.call_read.Goals as goal
 
 pub returns : goal.returns

@@ -1,6 +1,6 @@
 use Rattle.std.proofs.Common.{Some, sym, ap, ◌∙◌, arith}
 use Rattle.record.specs.Sending.{value_or_empty}
-use Rattle.player.proofs.SuppliedAs.{too_long, other_value, own_value}
+use Rattle.player.proofs.SupplyAsLemmas.{too_long, other_value, own_value}
 use Rattle.player.proofs.call_commands.expect_own.Goals as goal
 
 pub returns-then-len-gt-LONGEST_VALUE-clause-other : goal.returns-then-len-gt-LONGEST_VALUE-clause-other

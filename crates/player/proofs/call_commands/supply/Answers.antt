@@ -1,4 +1,4 @@
-use Rattle.player.proofs.Stepping.{growth_done}
+use Rattle.player.proofs.StepCommandLemmas.{growth_done}
 use Rattle.player.proofs.call_commands.supply.Goals as goal
 
 pub returns : goal.returns

@@ -1,4 +1,4 @@
-use Rattle.player.proofs.Stepping.{growth_done, created_with}
+use Rattle.player.proofs.StepCommandLemmas.{growth_done, created_with}
 use Rattle.player.proofs.cluster_commands.object.Goals as goal
 
 pub returns : goal.returns

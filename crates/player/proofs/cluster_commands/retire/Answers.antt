@@ -1,4 +1,4 @@
-use Rattle.player.proofs.Stepping.{frees}
+use Rattle.player.proofs.StepCommandLemmas.{frees}
 use Rattle.player.proofs.cluster_commands.retire.Goals as goal
 
 pub returns : goal.returns

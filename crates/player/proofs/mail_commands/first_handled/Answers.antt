@@ -1,4 +1,4 @@
-use Rattle.player.proofs.Delivering.{found}
+use Rattle.player.proofs.DeliverLemmas.{found}
 use Rattle.player.proofs.mail_commands.first_handled.Goals as goal
 
 pub returns-in-Ok-clause-first : goal.returns-in-Ok-clause-first

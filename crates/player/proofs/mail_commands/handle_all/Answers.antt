@@ -2,7 +2,7 @@ use Rattle.std.proofs.Common.{◌≡◌, ℕ, suc, Option, MatchOption, subst, a
 use Rattle.cluster.specs.Cluster.{Cluster}
 use Rattle.player.specs.Deliver.{IsFirst, HasNoneToHandle}
 use Rattle.player.specs.Deliver.Delivers.{nothing}
-use Rattle.player.proofs.Delivering.{handles, still_none_in}
+use Rattle.player.proofs.DeliverLemmas.{handles, still_none_in}
 use Rattle.player.proofs.mail_commands.handle_all.Goals as goal
 
 pub loop-place-init : goal.loop-place-init

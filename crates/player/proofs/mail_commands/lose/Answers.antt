@@ -1,4 +1,4 @@
-use Rattle.player.proofs.Stepping.{sure_done}
+use Rattle.player.proofs.StepCommandLemmas.{sure_done}
 use Rattle.player.proofs.mail_commands.lose.Goals as goal
 
 pub returns : goal.returns

@@ -1,4 +1,4 @@
-use Rattle.player.proofs.Stepping.{sure}
+use Rattle.player.proofs.StepCommandLemmas.{sure}
 use Rattle.player.proofs.mail_commands.take.Goals as goal
 
 pub returns : goal.returns

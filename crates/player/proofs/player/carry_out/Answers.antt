@@ -1,7 +1,7 @@
 use Rattle.std.proofs.Common.{List, ℕ, refl, subst}
 use Rattle.player.specs.Shown.{ShowsCall, ShowsSequence, ShowsCheck, HasNoCall}
 use Rattle.player.specs.Play.{Prints}
-use Rattle.player.proofs.Playing.{shown, may_change, changed, no_bad}
+use Rattle.player.proofs.CommandResultLemmas.{shown, may_change, changed, no_bad}
 use Rattle.player.proofs.player.carry_out.Goals as goal
 
 pub returns-in-Show : goal.returns-in-Show

@@ -1,4 +1,4 @@
-use Rattle.player.proofs.Playing.{no_other}
+use Rattle.player.proofs.CommandResultLemmas.{no_other}
 use Rattle.player.proofs.player.change.Goals as goal
 
 pub unreachable-requires : goal.unreachable-requires

@@ -1,5 +1,5 @@
 use Rattle.std.proofs.Common.{refl}
-use Rattle.player.proofs.Playing.{begun}
+use Rattle.player.proofs.CommandResultLemmas.{begun}
 use Rattle.player.proofs.player.play.Goals as goal
 
 pub returns : goal.returns

@@ -1,5 +1,5 @@
 use Rattle.std.proofs.Common.{◌<◌, length, arith}
-use Rattle.player.proofs.Running.{nothing_played, one_more, last_line, line_at, stopped}
+use Rattle.player.proofs.ScriptRunLemmas.{nothing_played, one_more, last_line, line_at, stopped}
 use Rattle.player.proofs.run.play_lines.Goals as goal
 
 pub loop-index-init : goal.loop-index-init

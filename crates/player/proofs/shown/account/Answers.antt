@@ -1,5 +1,5 @@
 use Rattle.std.proofs.Common.{refl}
-use Rattle.player.proofs.Printing.{prints_as}
+use Rattle.player.proofs.PrintedLineLemmas.{prints_as}
 use Rattle.player.proofs.shown.account.Goals as goal
 
 pub returns : goal.returns

@@ -4,10 +4,10 @@ use Rattle.std.proofs.KnownBytes.{Keeps-refl}
 use Rattle.bank.specs.Bank.{Bank}
 use Rattle.register.specs.View.{bank_there}
 use Rattle.printing.specs.BankLine.{bank_text}
-use Rattle.driver.proofs.Named.{read_there}
+use Rattle.driver.proofs.NamedObjectLemmas.{read_there}
 use Rattle.player.specs.Shown.{line_of}
-use Rattle.player.proofs.Printing.{prints_as}
-use Rattle.player.proofs.Reading.{no_member}
+use Rattle.player.proofs.FoundObjectLemmas.{no_member}
+use Rattle.player.proofs.PrintedLineLemmas.{prints_as}
 use Rattle.player.proofs.shown.bank.Goals as goal
 
 pub returns-in-Err : goal.returns-in-Err

@@ -3,7 +3,7 @@ use Rattle.std.specs.Prelude.{option_map}
 use Rattle.register.specs.declared.receipt.CallView.{CallView}
 use Rattle.printing.specs.CallLine.{call_text}
 use Rattle.player.specs.Shown.{line_of}
-use Rattle.player.proofs.Printing.{prints_as}
+use Rattle.player.proofs.PrintedLineLemmas.{prints_as}
 use Rattle.player.proofs.shown.call.Goals as goal
 
 pub returns-in-Ok : goal.returns-in-Ok

@@ -4,10 +4,10 @@ use Rattle.std.specs.List.{list_all}
 use Rattle.register.specs.Causes.{call_at}
 use Rattle.record.specs.declared.call.Entry.{Entry}
 use Rattle.atomicity.specs.Atomic.{IsSequence}
-use Rattle.history.specs.Check.{AreLawful}
+use Rattle.history.specs.Check.{AreLawfulEntries}
 use Rattle.player.specs.Shown.{IsChecked}
-use Rattle.player.proofs.Printing.{prints_as}
-use Rattle.player.proofs.Checking.{none_missing, none_missing-unknown}
+use Rattle.player.proofs.PrintedLineLemmas.{prints_as}
+use Rattle.player.proofs.MissingCallLemmas.{none_missing, none_missing-unknown}
 use Rattle.player.proofs.shown.check_of.Goals as goal
 
 pub returns-in-Err : goal.returns-in-Err
@@ -25,7 +25,7 @@ returns-in-Ok-entries g c =
     let checked : IsChecked c.args.cluster.now c.args.name.now c.args.calls.now c.check.result = record {
       state = c.in-Ok.register.now;
       there = c.in-Ok.ensures.object;
-      says = subst (λ (es : List Entry). IsTrue c.check.result ↔ (AreLawful es × IsSequence es c.args.calls.now))
+      says = subst (λ (es : List Entry). IsTrue c.check.result ↔ (AreLawfulEntries es × IsSequence es c.args.calls.now))
           (c.deref.ensures.value ∙ c.in-Ok-entries.ensures.entries) c.check.ensures;
     } in
     prints_as _ _ _ _ _ _ (none, inl (c.check.result, checked, refl)) (c.print_line.ensures _ refl)

@@ -1,7 +1,7 @@
 use Rattle.std.proofs.Common.{Some, inl, ap}
 use Rattle.record.specs.Journals.{entries}
 use Rattle.printing.specs.HistoryLines.{history_text}
-use Rattle.player.proofs.Printing.{prints_as, read_as}
+use Rattle.player.proofs.PrintedLineLemmas.{prints_as, read_as}
 use Rattle.player.proofs.shown.history.Goals as goal
 
 pub returns-in-Ok : goal.returns-in-Ok

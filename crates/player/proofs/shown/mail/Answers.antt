@@ -1,7 +1,7 @@
 use Rattle.std.proofs.Common.{Some, inl, inr, refl, ap}
 use Rattle.printing.specs.MailLines.{mail_text}
 use Rattle.cluster.specs.Cluster.{if_some}
-use Rattle.player.proofs.Printing.{prints_as}
+use Rattle.player.proofs.PrintedLineLemmas.{prints_as}
 use Rattle.player.proofs.shown.mail.Goals as goal
 
 pub returns-in-Ok : goal.returns-in-Ok

@@ -1,7 +1,7 @@
 use Rattle.std.proofs.Common.{Some, inl, inr, refl, ap}
 use Rattle.printing.specs.SequenceLine.{sequence_text}
 use Rattle.player.specs.Shown.{IsSequenceOf}
-use Rattle.player.proofs.Printing.{prints_as}
+use Rattle.player.proofs.PrintedLineLemmas.{prints_as}
 use Rattle.player.proofs.shown.sequence_of.Goals as goal
 
 pub returns-in-Err : goal.returns-in-Err

@@ -1,4 +1,4 @@
-use Rattle.player.proofs.Whole.{told_move}
+use Rattle.player.proofs.WholeCallLemmas.{told_move}
 use Rattle.player.proofs.whole_calls.move_to.Goals as goal
 
 pub returns : goal.returns

@@ -1,5 +1,5 @@
 use Rattle.record.specs.Steps.{Step}
-use Rattle.player.proofs.Whole.{told}
+use Rattle.player.proofs.WholeCallLemmas.{told}
 use Rattle.player.proofs.whole_calls.write.Goals as goal
 
 pub returns : goal.returns

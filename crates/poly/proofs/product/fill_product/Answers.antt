@@ -2,7 +2,7 @@ use Rattle.std.proofs.Common.{◌≡◌, ◌<◌, ◌++◌, [], ◌∷◌, ap, s
 use Rattle.std.proofs.lemmas.List.Elements.{All-from_get_or}
 use Rattle.gf256.specs.Polynomial.{AreBytes}
 use Rattle.poly.specs.Basis.{IsProduct}
-use Rattle.poly.proofs.Products.{IsProduct-none, IsProduct-more}
+use Rattle.poly.proofs.PolynomialProductLemmas.{IsProduct-none, IsProduct-more}
 use Rattle.poly.proofs.product.fill_product.Goals as goal
 
 pub loop-point-init : goal.loop-point-init

@@ -1,7 +1,7 @@
 use Rattle.std.proofs.Common.{ap, sym, subst, ◌∙◌, ◌+◌, get_or}
 use Rattle.gf256.specs.Polynomial.{AreBytes, evaluate}
-use Rattle.gf256.proofs.Basis.{AreBytes-times_root, evaluate-times_root}
-use Rattle.poly.proofs.Products.{refill-times_root, highest-times_root, AreBytes-from_padded}
+use Rattle.gf256.proofs.BasisRowLemmas.{AreBytes-times_root, evaluate-times_root}
+use Rattle.poly.proofs.PolynomialProductLemmas.{refill-times_root, highest-times_root, AreBytes-from_padded}
 use Rattle.poly.proofs.product.multiply_by_root.Goals as goal
 
 pub returns-clause-bytes : goal.returns-clause-bytes

@@ -4,7 +4,7 @@ use Rattle.std.proofs.lemmas.Grind.{get_or-set_at}
 use Rattle.std.proofs.lemmas.List.{get_or-set_other, length-set, drop-set-lt}
 use Rattle.gf256.specs.Field.{field_product}
 use Rattle.gf256.specs.Polynomial.{evaluate}
-use Rattle.poly.proofs.Quotients.{evaluate-drop, evaluate-past}
+use Rattle.poly.proofs.PolynomialQuotientLemmas.{evaluate-drop, evaluate-past}
 use Rattle.poly.proofs.quotient.quotient.Goals as goal
 
 pub loop-m-init : goal.loop-m-init

@@ -1,7 +1,7 @@
 use Rattle.std.proofs.Common.{◌≡◌, ◌+◌, ◌-◌, length, drop, get_or, bit_xor, ap, sym, ◌∙◌, arith}
 use Rattle.gf256.specs.Field.{field_product}
 use Rattle.gf256.specs.Polynomial.{evaluate}
-use Rattle.poly.proofs.Quotients.{evaluate-drop, evaluate-past}
+use Rattle.poly.proofs.PolynomialQuotientLemmas.{evaluate-drop, evaluate-past}
 use Rattle.poly.proofs.quotient.value_at.Goals as goal
 
 pub loop-m-init : goal.loop-m-init

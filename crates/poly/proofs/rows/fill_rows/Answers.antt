@@ -1,4 +1,4 @@
-use Rattle.poly.proofs.Lines.{HasRow-more}
+use Rattle.poly.proofs.RowTableLemmas.{HasRow-more}
 use Rattle.poly.proofs.rows.fill_rows.Goals as goal
 
 pub loop-i-preserved : goal.loop-i-preserved

@@ -1,5 +1,5 @@
 use Rattle.std.proofs.Common.{◌+◌, ◌*◌, ◌<◌, ◌≤◌, ◌-◌, length, arith}
-use Rattle.poly.proofs.Lines.{get_or-middle, lines_apart}
+use Rattle.poly.proofs.RowTableLemmas.{get_or-middle, lines_apart}
 use Rattle.poly.proofs.rows.write_line.Goals as goal
 
 pub returns-clause-row : goal.returns-clause-row

@@ -1,8 +1,8 @@
 use Rattle.std.proofs.Common.{◌≡◌, ◌+◌, length, ap, sym, subst, ◌∙◌, arith, pos_of_ne-zero}
 use Rattle.gf256.specs.Field.{field_product}
 use Rattle.gf256.specs.Polynomial.{AreBytes, IsBasisRow, scaled}
-use Rattle.poly.proofs.Products.{scaled_made}
-use Rattle.poly.proofs.Quotients.{not_zero, AreBytes-quotient, IsBasisRow-scaled}
+use Rattle.poly.proofs.PolynomialProductLemmas.{scaled_made}
+use Rattle.poly.proofs.PolynomialQuotientLemmas.{not_zero, AreBytes-quotient, IsBasisRow-scaled}
 use Rattle.poly.proofs.rows.write_row.Goals as goal
 
 pub inv-requires : goal.inv-requires

@@ -1,4 +1,4 @@
-use Rattle.record.proofs.Phases.Attempts.{finds_tag}
+use Rattle.record.proofs.Phases.AttemptLemmas.{finds_tag}
 use Rattle.record.proofs.shape.readings_come_before_tags.Goals as goal
 
 pub returns : goal.returns

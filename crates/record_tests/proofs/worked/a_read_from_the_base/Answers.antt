@@ -1,4 +1,4 @@
-use Rattle.record_tests.proofs.Examples.FromBase.{every_step_of_base, base_history}
+use Rattle.record_tests.proofs.Examples.RetiredPositionLemmas.{every_step_of_base, base_history}
 use Rattle.record_tests.proofs.worked.a_read_from_the_base.Goals as goal
 
 pub returns-clause-may : goal.returns-clause-may

@@ -1,4 +1,4 @@
-use Rattle.record_tests.proofs.Examples.Anew.{anew_goes}
+use Rattle.record_tests.proofs.Examples.RestartedReadLemmas.{anew_goes}
 use Rattle.record_tests.proofs.worked.a_read_that_begins_anew.Goals as goal
 
 pub returns-clause-may : goal.returns-clause-may

@@ -1,4 +1,4 @@
-use Rattle.record_tests.proofs.Examples.WithMove.{every_step_of_move, move_history}
+use Rattle.record_tests.proofs.Examples.WriteMoveReadLemmas.{every_step_of_move, move_history}
 use Rattle.record_tests.proofs.worked.a_write_a_move_and_a_read.Goals as goal
 
 pub returns-clause-may : goal.returns-clause-may

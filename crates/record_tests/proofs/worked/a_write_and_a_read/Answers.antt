@@ -1,4 +1,4 @@
-use Rattle.record_tests.proofs.Examples.WriteAndRead.{every_step, history}
+use Rattle.record_tests.proofs.Examples.WriteAndReadLemmas.{every_step, history}
 use Rattle.record_tests.proofs.worked.a_write_and_a_read.Goals as goal
 
 pub returns-clause-may : goal.returns-clause-may

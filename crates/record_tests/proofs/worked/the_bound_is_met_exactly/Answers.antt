@@ -1,4 +1,4 @@
-use Rattle.record_tests.proofs.Examples.Exactly.{met_exactly}
+use Rattle.record_tests.proofs.Examples.OneOverlapLemmas.{met_exactly}
 use Rattle.record_tests.proofs.worked.the_bound_is_met_exactly.Goals as goal
 
 pub returns : goal.returns

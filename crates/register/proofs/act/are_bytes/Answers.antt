@@ -1,4 +1,4 @@
-use Rattle.register.proofs.Reading.{bytes_at}
+use Rattle.register.proofs.NewReadOrWriteLemmas.{bytes_at}
 use Rattle.register.proofs.act.are_bytes.Goals as goal
 
 pub returns : goal.returns

@@ -1,4 +1,4 @@
-use Rattle.register.proofs.Determined.{fragments_are_code}
+use Rattle.register.proofs.FragmentCodeLemmas.{fragments_are_code}
 use Rattle.register.proofs.code.fragments_are_a_code.Goals as goal
 
 pub returns : goal.returns

@@ -3,7 +3,7 @@ use Rattle.std.proofs.lemmas.Option.{slice_get_read}
 use Rattle.bank.specs.Bytes.{bank_bytes}
 use Rattle.bank.specs.Collect.{retired_bank}
 use Rattle.register.specs.Position.{banks_bytes}
-use Rattle.register.proofs.Emptying.{dropped_so_far, next_is, next_dropped, next_freed, first_least, all_dropped, all_freed}
+use Rattle.register.proofs.EmptiedBankLemmas.{dropped_so_far, next_is, next_dropped, next_freed, first_least, all_dropped, all_freed}
 use Rattle.register.proofs.position.retire_all.Goals as goal
 
 pub loop-member-preserved : goal.loop-member-preserved

@@ -1,7 +1,7 @@
 use Rattle.std.proofs.Common.{◌≡◌, take}
 use Rattle.bank.specs.Collect.{retired_bank}
 use Rattle.register.specs.Position.{banks_bytes}
-use Rattle.register.proofs.Emptying.{dropped_so_far}
+use Rattle.register.proofs.EmptiedBankLemmas.{dropped_so_far}
 use Rattle.register.proofs.position.retire_all.Given as goal
 
 -- the banks before this member have dropped their pieces, and so many bytes are freed

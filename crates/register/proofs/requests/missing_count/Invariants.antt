@@ -1,6 +1,6 @@
 use Rattle.std.proofs.Common.{◌≡◌, ℕ, ◌≤◌, length}
 use Rattle.encoder.specs.declared.fragment.Piece.{Piece}
-use Rattle.register.proofs.Asks.{first_of, missing_for}
+use Rattle.register.proofs.MemberLoopLemmas.{first_of, missing_for}
 use Rattle.register.proofs.requests.missing_count.Given as goal
 
 -- how many are missing of the members so far

@@ -1,7 +1,7 @@
 use Rattle.std.proofs.Common.{◌≡◌}
 use Rattle.std.specs.Option.{option_copied}
 use Rattle.register.specs.Coding.{piece_from}
-use Rattle.register.proofs.Asks.{first_of, requests_for}
+use Rattle.register.proofs.MemberLoopLemmas.{first_of, requests_for}
 use Rattle.register.proofs.requests.requests.Given as goal
 
 -- the requests to the members so far

@@ -1,6 +1,6 @@
 use Rattle.std.proofs.Common.{◌+◌, ◌||◌, drop, sym, ap, ◌∙◌}
 use Rattle.record.specs.Sending.{waits}
-use Rattle.register.proofs.Asks.{waits_behind, waits_here}
+use Rattle.register.proofs.MemberLoopLemmas.{waits_behind, waits_here}
 use Rattle.register.proofs.requests.waits.Goals as goal
 
 pub loop-place-init : goal.loop-place-init

@@ -1,6 +1,6 @@
 use Rattle.std.proofs.Common.{ℕ, List, inl, inr, refl, subst}
 use Rattle.words.specs.Hexadecimal.{IsHexadecimal}
-use Rattle.script.proofs.ArgumentsLemmas.{err_of, second_word}
+use Rattle.script.proofs.NumberWordLemmas.{err_of, second_word}
 use Rattle.script.proofs.arguments.name_and_bytes.Goals as goal
 
 pub returns-in_err-bytes-in-len2-clause-err : goal.returns-in_err-bytes-in-len2-clause-err

@@ -1,6 +1,6 @@
 use Rattle.std.proofs.Common.{ℕ, List, refl, subst}
 use Rattle.words.specs.Number.{IsNumber}
-use Rattle.script.proofs.ArgumentsLemmas.{err_of, third_word}
+use Rattle.script.proofs.NumberWordLemmas.{err_of, third_word}
 use Rattle.script.proofs.arguments.name_and_two_numbers.Goals as goal
 
 pub returns-in_err-number-in-len3-2-clause-err : goal.returns-in_err-number-in-len3-2-clause-err

@@ -1,5 +1,5 @@
 use Rattle.std.proofs.Common.{◌∷◌, codes, map}
-use Rattle.script.proofs.CommandLemmas.{fails_or, none-SupplyAs}
+use Rattle.script.proofs.NoCommandLemmas.{fails_or, none-SupplyAs}
 use Rattle.script.proofs.call_commands.supply_as.Goals as goal
 
 pub returns-in_err-name : goal.returns-in_err-name

@@ -1,5 +1,5 @@
 use Rattle.std.proofs.Common.{◌∷◌, codes, map}
-use Rattle.script.proofs.CommandLemmas.{fails_or, none-Layout}
+use Rattle.script.proofs.NoCommandLemmas.{fails_or, none-Layout}
 use Rattle.script.proofs.cluster_commands.layout.Goals as goal
 
 pub returns-in_err-k : goal.returns-in_err-k

@@ -1,5 +1,5 @@
 use Rattle.std.proofs.Common.{◌∷◌, codes, map}
-use Rattle.script.proofs.CommandLemmas.{fails, none-Servers}
+use Rattle.script.proofs.NoCommandLemmas.{fails, none-Servers}
 use Rattle.script.proofs.cluster_commands.servers.Goals as goal
 
 pub returns-in_err-count : goal.returns-in_err-count

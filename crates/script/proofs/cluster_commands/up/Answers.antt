@@ -1,5 +1,5 @@
 use Rattle.std.proofs.Common.{◌∷◌, codes, map}
-use Rattle.script.proofs.CommandLemmas.{fails, none-Up}
+use Rattle.script.proofs.NoCommandLemmas.{fails, none-Up}
 use Rattle.script.proofs.cluster_commands.up.Goals as goal
 
 pub returns-in_err-server : goal.returns-in_err-server

@@ -1,5 +1,5 @@
 use Rattle.std.proofs.Common.{◌∙◌, sym}
-use Rattle.script.proofs.LineLemmas.{skipped-none, skipped-some}
+use Rattle.script.proofs.LineWordLemmas.{skipped-none, skipped-some}
 use Rattle.script.proofs.line.is_skipped.Goals as goal
 
 pub returns-in-Some : goal.returns-in-Some

@@ -1,5 +1,5 @@
 use Rattle.std.proofs.Common.{◌+◌, ◌∙◌, sym}
-use Rattle.script.proofs.LinesLemmas.{drop-whole, if_none, lines-first, lines-last}
+use Rattle.script.proofs.LineSplitLemmas.{drop-whole, if_none, lines-first, lines-last}
 use Rattle.script.proofs.lines.first_line.Goals as goal
 
 pub returns-in_err-end-clause-last : goal.returns-in_err-end-clause-last

@@ -1,5 +1,5 @@
 use Rattle.std.proofs.Common.{◌∷◌, codes, map}
-use Rattle.script.proofs.CommandLemmas.{fails, none-Lose}
+use Rattle.script.proofs.NoCommandLemmas.{fails, none-Lose}
 use Rattle.script.proofs.mail_commands.lose.Goals as goal
 
 pub returns-in_err-name : goal.returns-in_err-name

@@ -1,5 +1,5 @@
 use Rattle.std.proofs.Common.{◌∷◌, codes, map}
-use Rattle.script.proofs.CommandLemmas.{fails_or, none-Write}
+use Rattle.script.proofs.NoCommandLemmas.{fails_or, none-Write}
 use Rattle.script.proofs.object_commands.write.Goals as goal
 
 pub returns-in_err-name : goal.returns-in_err-name

@@ -1,5 +1,5 @@
 use Rattle.std.proofs.Common.{arith, inr, refl}
-use Rattle.script.proofs.ArgumentsLemmas.{AreNumbers-more, AreNumbers-none, err_of}
+use Rattle.script.proofs.NumberWordLemmas.{AreNumbers-more, AreNumbers-none, err_of}
 use Rattle.script.proofs.values.numbers.Goals as goal
 
 pub returns-in_err-number-clause-err : goal.returns-in_err-number-clause-err

@@ -1,6 +1,6 @@
 use Rattle.std.proofs.Common.{◌+◌, ℕ}
 use Rattle.record.specs.Accounts.{stored}
-use Rattle.soak.proofs.Adding.{capped_more, sum_more}
+use Rattle.soak.proofs.AccountSumLemmas.{capped_more, sum_more}
 use Rattle.soak.proofs.audit.all_anew.Goals as goal
 
 pub loop-server-preserved : goal.loop-server-preserved

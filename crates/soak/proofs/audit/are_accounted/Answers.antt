@@ -1,4 +1,4 @@
-use Rattle.soak.proofs.Adding.{accounted_of}
+use Rattle.soak.proofs.AccountSumLemmas.{accounted_of}
 use Rattle.soak.proofs.audit.are_accounted.Goals as goal
 
 pub returns-clause-accounts : goal.returns-clause-accounts

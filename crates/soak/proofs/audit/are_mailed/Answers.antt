@@ -1,5 +1,5 @@
 use Rattle.std.proofs.Common.{arith, refl}
-use Rattle.soak.proofs.Adding.{capped_equal, capped_more}
+use Rattle.soak.proofs.AccountSumLemmas.{capped_equal, capped_more}
 use Rattle.soak.proofs.audit.are_mailed.Goals as goal
 
 pub returns : goal.returns

@@ -1,7 +1,7 @@
 use Rattle.std.proofs.Common.{◌∙◌, ◌+◌, ℕ, ap, arith}
 use Rattle.record.specs.Accounts.{member_sum, stored}
 use Rattle.soak.specs.Audit.{capped}
-use Rattle.soak.proofs.Adding.{capped_equal}
+use Rattle.soak.proofs.AccountSumLemmas.{capped_equal}
 use Rattle.soak.proofs.audit.are_stored_together.Goals as goal
 
 pub returns : goal.returns

@@ -1,7 +1,7 @@
 use Rattle.std.proofs.Common.{◌≤◌, ◌^◌, arith, length}
 use Rattle.cluster.specs.Accounts as all
-use Rattle.cluster.proofs.Values.{member_part}
-use Rattle.soak.proofs.Adding.{capped_equal}
+use Rattle.cluster.proofs.SumBoundLemmas.{member_part}
+use Rattle.soak.proofs.AccountSumLemmas.{capped_equal}
 use Rattle.soak.proofs.audit.is_stored.Goals as goal
 
 pub returns : goal.returns

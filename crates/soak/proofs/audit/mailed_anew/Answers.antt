@@ -1,7 +1,7 @@
 use Rattle.std.proofs.Common.{◌≡◌, arith, rules}
 use Rattle.std.specs.Prelude.{slice_get, Some}
 use Rattle.mail.specs.Message.{message_bytes}
-use Rattle.soak.proofs.Adding.{capped_more, sum_at, capped_small}
+use Rattle.soak.proofs.AccountSumLemmas.{capped_more, sum_at, capped_small}
 use Rattle.soak.proofs.audit.mailed_anew.Goals as goal
 
 pub loop-place-preserved : goal.loop-place-preserved

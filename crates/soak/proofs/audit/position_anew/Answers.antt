@@ -2,7 +2,7 @@ use Rattle.std.proofs.Common.{◌≡◌, ℕ, arith, subst}
 use Rattle.tag.specs.declared.limits.TheConstants.{MOST_MEMBERS}
 use Rattle.record.specs.Accounts.{member_sum}
 use Rattle.soak.specs.Audit.{bytes_at, capped}
-use Rattle.soak.proofs.Adding.{capped_more, sum_more}
+use Rattle.soak.proofs.AccountSumLemmas.{capped_more, sum_more}
 use Rattle.soak.proofs.audit.position_anew.Goals as goal
 
 pub loop-member-preserved : goal.loop-member-preserved

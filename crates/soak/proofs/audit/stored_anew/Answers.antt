@@ -2,7 +2,7 @@ use Rattle.std.proofs.Common.{◌≡◌, ◌∙◌, ℕ, ap, arith}
 use Rattle.record.specs.Accounts.{member_sum}
 use Rattle.tag.specs.declared.limits.TheConstants.{MOST_MEMBERS, MOST_POSITIONS}
 use Rattle.soak.specs.Audit.{bytes_at, capped}
-use Rattle.soak.proofs.Adding.{capped_more, sum_more, stored_sum}
+use Rattle.soak.proofs.AccountSumLemmas.{capped_more, sum_more, stored_sum}
 use Rattle.soak.proofs.audit.stored_anew.Goals as goal
 
 pub loop-position-preserved : goal.loop-position-preserved

@@ -1,4 +1,4 @@
-use Rattle.soak.proofs.Making.{MakesAll-more}
+use Rattle.soak.proofs.MadeCallLemmas.{MakesAll-more}
 use Rattle.soak.proofs.client_thread.make_calls.Goals as goal
 
 pub loop-call-preserved : goal.loop-call-preserved

@@ -1,5 +1,5 @@
 use Rattle.std.proofs.Common.{◌≡◌, ◌++◌, ◌∷◌, [], rules}
-use Rattle.soak.proofs.Making.{all_popped, all_pushed}
+use Rattle.soak.proofs.MadeCallLemmas.{all_popped, all_pushed}
 use Rattle.soak.proofs.crew.end_all.Goals as goal
 
 pub loop-client-preserved : goal.loop-client-preserved

@@ -1,4 +1,4 @@
-use Rattle.soak.proofs.Making.{MovesAll-more}
+use Rattle.soak.proofs.MadeCallLemmas.{MovesAll-more}
 use Rattle.soak.proofs.moves.make_moves.Goals as goal
 
 pub loop-number-preserved : goal.loop-number-preserved

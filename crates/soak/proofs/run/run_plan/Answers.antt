@@ -1,5 +1,5 @@
 use Rattle.soak.specs.Setting.{setting}
-use Rattle.soak.proofs.Making.{summed_up, summed_up-receipts}
+use Rattle.soak.proofs.MadeCallLemmas.{summed_up, summed_up-receipts}
 use Rattle.soak.proofs.run.run_plan.Goals as goal
 
 pub returns-clause-closed : goal.returns-clause-closed

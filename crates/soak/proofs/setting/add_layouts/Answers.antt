@@ -1,5 +1,5 @@
 use Rattle.std.proofs.lemmas.Bool.{false≢true}
-use Rattle.soak.proofs.Settings.{four_lawful, five_lawful, three_lawful}
+use Rattle.soak.proofs.SoakLayoutLemmas.{four_lawful, five_lawful, three_lawful}
 use Rattle.soak.proofs.setting.add_layouts.Goals as goal
 
 pub returns-in_err-new-clause-refused : goal.returns-in_err-new-clause-refused

@@ -1,4 +1,4 @@
-use Rattle.soundness.proofs.Accounting.MailedBySteps.{mailed-stepped}
+use Rattle.soundness.proofs.Accounting.MailChangeLemmas.{mailed-stepped}
 use Rattle.soundness.proofs.accounts.mailed_bytes_come_and_go.Goals as goal
 
 pub returns : goal.returns

@@ -1,4 +1,4 @@
-use Rattle.soundness.proofs.Accounting.StoredBySteps.{stored-changed}
+use Rattle.soundness.proofs.Accounting.StoredChangeLemmas.{stored-changed}
 use Rattle.soundness.proofs.accounts.stored_bytes_come_and_go.Goals as goal
 
 pub returns : goal.returns

@@ -1,4 +1,4 @@
-use Rattle.soundness.proofs.Sound.Labels.{labels_stepped}
+use Rattle.soundness.proofs.Sound.LabelOriginLemmas.{labels_stepped}
 use Rattle.soundness.proofs.origins.labels_come_with_their_requests.Goals as goal
 
 pub returns : goal.returns

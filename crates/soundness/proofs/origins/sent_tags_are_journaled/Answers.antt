@@ -1,4 +1,4 @@
-use Rattle.soundness.proofs.Values.Journaled.{sent_known}
+use Rattle.soundness.proofs.Values.SentTagLemmas.{sent_known}
 use Rattle.soundness.proofs.origins.sent_tags_are_journaled.Goals as goal
 
 pub returns : goal.returns

@@ -1,7 +1,7 @@
 use Rattle.std.proofs.Common.{[], get_or}
 use Rattle.record.specs.Records.{layout_at, base_of}
-use Rattle.soundness.proofs.Accounting.Retired.{sum_position}
-use Rattle.soundness.proofs.Sound.Due.{base_there}
+use Rattle.soundness.proofs.Accounting.RetiredBytesLemmas.{sum_position}
+use Rattle.soundness.proofs.Sound.DuePositionLemmas.{base_there}
 use Rattle.soundness.proofs.retiring.retiring_frees_the_base.Goals as goal
 
 pub returns : goal.returns

@@ -1,4 +1,4 @@
-use Rattle.soundness.proofs.Sound.Retiring.{raised}
+use Rattle.soundness.proofs.Sound.RetiredBaseSoundLemmas.{raised}
 use Rattle.soundness.proofs.retiring.retiring_raises_the_base.Goals as goal
 
 pub returns : goal.returns

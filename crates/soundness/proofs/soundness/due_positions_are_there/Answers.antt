@@ -1,4 +1,4 @@
-use Rattle.soundness.proofs.Sound.Due.{due_there}
+use Rattle.soundness.proofs.Sound.DuePositionLemmas.{due_there}
 use Rattle.soundness.proofs.soundness.due_positions_are_there.Goals as goal
 
 pub returns : goal.returns

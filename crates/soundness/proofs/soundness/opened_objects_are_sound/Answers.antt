@@ -1,4 +1,4 @@
-use Rattle.soundness.proofs.Sound.Opening.{opening_sound}
+use Rattle.soundness.proofs.Sound.OpenedObjectLemmas.{opening_sound}
 use Rattle.soundness.proofs.soundness.opened_objects_are_sound.Goals as goal
 
 pub returns : goal.returns

@@ -1,4 +1,4 @@
-use Rattle.soundness.proofs.Sound.Running.{opened_run_sound}
+use Rattle.soundness.proofs.Sound.RunSoundLemmas.{opened_run_sound}
 use Rattle.soundness.proofs.soundness.runs_are_sound.Goals as goal
 
 pub returns : goal.returns

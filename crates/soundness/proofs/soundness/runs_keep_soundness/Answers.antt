@@ -1,4 +1,4 @@
-use Rattle.soundness.proofs.Sound.Running.{run_sound}
+use Rattle.soundness.proofs.Sound.RunSoundLemmas.{run_sound}
 use Rattle.soundness.proofs.soundness.runs_keep_soundness.Goals as goal
 
 pub returns : goal.returns

@@ -1,4 +1,4 @@
-use Rattle.soundness.proofs.Sound.Sending.{sent_there}
+use Rattle.soundness.proofs.Sound.SentPieceLemmas.{sent_there}
 use Rattle.soundness.proofs.soundness.sent_values_are_there.Goals as goal
 
 pub returns : goal.returns

@@ -1,4 +1,4 @@
-use Rattle.soundness.proofs.Sound.Running.{step_sound}
+use Rattle.soundness.proofs.Sound.RunSoundLemmas.{step_sound}
 use Rattle.soundness.proofs.soundness.steps_keep_soundness.Goals as goal
 
 pub returns : goal.returns

@@ -1,4 +1,4 @@
-use Rattle.soundness.proofs.Values.Sent.{bank_known_past}
+use Rattle.soundness.proofs.Values.SentValueLemmas.{bank_known_past}
 use Rattle.soundness.proofs.soundness.tags_are_past.Goals as goal
 
 pub returns : goal.returns

@@ -1,4 +1,4 @@
-use Rattle.soundness.proofs.Sound.Sending.{supply_counts}
+use Rattle.soundness.proofs.Sound.SentPieceLemmas.{supply_counts}
 use Rattle.soundness.proofs.soundness.wanted_pieces_fit_the_layout.Goals as goal
 
 pub returns : goal.returns

@@ -1,5 +1,5 @@
 use Rattle.std.proofs.Common.{◌≡◌, drop}
-use Rattle.record.specs.Courses.{later_status, greatest_status}
+use Rattle.record.specs.PhaseOrder.{later_status, greatest_status}
 use Rattle.successor.proofs.replies.greatest_status.Given as goal
 
 abbrev pub invariant-loop-taken : goal.invariant-loop-taken

@@ -1,6 +1,6 @@
 use Rattle.std.proofs.Common.{◌≡◌, drop}
 use Rattle.tag.specs.Tag.{later_tag}
-use Rattle.record.specs.Courses.{greatest_tag}
+use Rattle.record.specs.PhaseOrder.{greatest_tag}
 use Rattle.successor.proofs.replies.greatest_tag.Given as goal
 
 abbrev pub invariant-loop-taken : goal.invariant-loop-taken

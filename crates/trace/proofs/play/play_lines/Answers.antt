@@ -1,7 +1,7 @@
 use Rattle.std.proofs.Common.{ℕ, ◌<◌, List, None, map, Bor, length, arith}
 use Rattle.std.proofs.lemmas.List.{length-map}
-use Rattle.player.proofs.Running.{nothing_played, one_more, line_at}
-use Rattle.trace.proofs.PlayedLemmas.{ends_before, leads_through}
+use Rattle.player.proofs.ScriptRunLemmas.{nothing_played, one_more, line_at}
+use Rattle.trace.proofs.PlayedScriptLemmas.{ends_before, leads_through}
 use Rattle.trace.proofs.play.play_lines.Goals as goal
 
 pub loop-index-init : goal.loop-index-init

@@ -1,5 +1,5 @@
 use Rattle.std.proofs.Common.{ℕ, List, None, map, Bor}
-use Rattle.player.proofs.Running.{IsPlayedSoFar}
+use Rattle.player.proofs.ScriptRunLemmas.{IsPlayedSoFar}
 use Rattle.trace.proofs.play.play_lines.Given as goal
 
 abbrev pub invariant-loop-index : goal.invariant-loop-index

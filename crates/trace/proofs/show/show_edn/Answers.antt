@@ -1,6 +1,6 @@
 use Rattle.std.proofs.Common.{refl}
 use Rattle.exports.specs.Edn.{edn_text}
-use Rattle.trace.proofs.ShownLemmas.{events_shown}
+use Rattle.trace.proofs.ShownTextLemmas.{events_shown}
 use Rattle.trace.proofs.show.show_edn.Goals as goal
 
 pub returns-in-Ok : goal.returns-in-Ok

@@ -1,6 +1,6 @@
 use Rattle.std.proofs.Common.{refl}
 use Rattle.exports.specs.Json.{json_text}
-use Rattle.trace.proofs.ShownLemmas.{events_shown}
+use Rattle.trace.proofs.ShownTextLemmas.{events_shown}
 use Rattle.trace.proofs.show.show_json.Goals as goal
 
 pub returns-in-Ok : goal.returns-in-Ok

@@ -1,8 +1,8 @@
 use Rattle.std.proofs.Common.{◌≡◌, ◌+◌, ◌∷◌, drop, sym, subst, ap, ◌∙◌, arith}
 use Rattle.std.proofs.lemmas.Grind.{common_steps}
 use Rattle.record.specs.declared.call.CallKind.TheVariants.{Move}
-use Rattle.record.specs.Courses.{stage_after}
-use Rattle.transfer.proofs.Moving.{IsMoveFrom, due-moves, move_past}
+use Rattle.record.specs.PhaseOrder.{stage_after}
+use Rattle.transfer.proofs.MoveStageLemmas.{IsMoveFrom, due-moves, move_past}
 use Rattle.transfer.proofs.order.next_phase.Goals as goal
 
 pub returns-clause-order : goal.returns-clause-order

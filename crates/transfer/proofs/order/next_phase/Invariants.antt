@@ -1,8 +1,8 @@
 use Rattle.std.proofs.Common.{◌≡◌, ℕ, drop}
 use Rattle.record.specs.declared.call.CallKind.TheVariants.{Move}
 use Rattle.record.specs.declared.stage.Stage.TheVariants.{MoveSpread}
-use Rattle.record.specs.Courses.{stage_after}
-use Rattle.transfer.proofs.Moving.{IsMoveFrom}
+use Rattle.record.specs.PhaseOrder.{stage_after}
+use Rattle.transfer.proofs.MoveStageLemmas.{IsMoveFrom}
 use Rattle.transfer.proofs.order.next_phase.Given as goal
 
 abbrev pub invariant-loop-phase : goal.invariant-loop-phase

@@ -8,7 +8,7 @@ use Rattle.record.specs.declared.stage.Stage.TheVariants.{ReadBegin, ReadNext, R
 use Rattle.record.specs.declared.stage.Stage.TheVariants.{AgainNext}
 use Rattle.record.specs.declared.stage.Stage.TheVariants.{AgainSpread, MoveSpread, MoveQuery, MoveFetch, MovePreWrite, MoveFinalize}
 use Rattle.record.specs.declared.stage.Stage.TheVariants.{MoveFinal, Ended, Moved}
-use Rattle.record.specs.Courses.{after}
+use Rattle.record.specs.PhaseOrder.{after}
 use Rattle.transfer.specs.Moves.{after_move}
 use Rattle.transfer.proofs.replies.after.Goals as goal
 

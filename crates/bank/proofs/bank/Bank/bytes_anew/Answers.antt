@@ -3,8 +3,8 @@ use Rattle.tag.specs.declared.tag.Tag.{Tag}
 use Rattle.bank.specs.declared.row.Row.{Row}
 use Rattle.bank.specs.Bank.{Bank}
 use Rattle.bank.specs.Bytes.{bank_bytes, entry_bytes}
-use Rattle.bank.proofs.Account.{rows_bytes}
-use Rattle.bank.proofs.Entries.{entries-rise}
+use Rattle.bank.proofs.BankBytesLemmas.{rows_bytes}
+use Rattle.bank.proofs.EntryOrderLemmas.{entries-rise}
 use Rattle.bank.proofs.bank.Bank.bytes_anew.Goals as goal
 
 pub returns : goal.returns

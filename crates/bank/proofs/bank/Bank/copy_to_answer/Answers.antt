@@ -2,7 +2,7 @@ use Rattle.std.proofs.Common.{◌≡◌, inl, inr, Option, IfOk, IsNone, option_
 use Rattle.encoder.specs.declared.fragment.Piece.{Piece}
 use Rattle.bank.specs.Bank.{piece_of_row}
 use Rattle.bank.specs.Collect.{IsCollected}
-use Rattle.bank.proofs.Answering.{fetched_outside, fetched_row}
+use Rattle.bank.proofs.FetchAnswerLemmas.{fetched_outside, fetched_row}
 use Rattle.bank.proofs.bank.Bank.copy_to_answer.Goals as goal
 use Rattle.bank.proofs.bank.Bank.copy_to_answer.Goals.{then-is_some-via-then-is_some, then-is_some-via-else-is_some+then-is_excluded}
 

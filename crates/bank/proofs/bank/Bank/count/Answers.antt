@@ -1,7 +1,7 @@
 use Rattle.std.proofs.Common.{sym, ap, ◌∙◌, length}
 use Rattle.std.specs.FinMap as map
 use Rattle.bank.specs.Bank.{Bank}
-use Rattle.bank.proofs.Entries.{entries-rise}
+use Rattle.bank.proofs.EntryOrderLemmas.{entries-rise}
 use Rattle.bank.proofs.bank.Bank.count.Goals as goal
 
 pub returns : goal.returns

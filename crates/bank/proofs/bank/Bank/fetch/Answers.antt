@@ -1,7 +1,7 @@
 use Rattle.std.proofs.Common.{ap}
 use Rattle.bank.specs.declared.reply.Answer.TheVariants as answer
 use Rattle.bank.specs.declared.request.Request.TheVariants as request
-use Rattle.bank.proofs.Truth.{served_as}
+use Rattle.bank.proofs.TrueAnswerLemmas.{served_as}
 use Rattle.bank.proofs.bank.Bank.fetch.Goals as goal
 
 pub returns-clause-served : goal.returns-clause-served

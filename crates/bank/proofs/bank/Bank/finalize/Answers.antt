@@ -4,8 +4,8 @@ use Rattle.bank.specs.Bank.{Bank, finalized}
 use Rattle.bank.specs.Collect.{collected, IsCollected}
 use Rattle.bank.specs.declared.reply.Answer.TheVariants as answer
 use Rattle.bank.specs.declared.request.Request.TheVariants as request
-use Rattle.bank.proofs.Kept.{bank_finalized, kept_finalized, not_known}
-use Rattle.bank.proofs.Truth.{served_as}
+use Rattle.bank.proofs.BankRequestLemmas.{bank_finalized, kept_finalized, not_known}
+use Rattle.bank.proofs.TrueAnswerLemmas.{served_as}
 use Rattle.bank.proofs.bank.Bank.finalize.Goals as goal
 
 pub returns-in_err-anew-clause-known : goal.returns-in_err-anew-clause-known

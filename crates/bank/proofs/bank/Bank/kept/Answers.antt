@@ -4,7 +4,7 @@ use Rattle.std.specs.Map.Iter.{deref_pair}
 use Rattle.std.proofs.lemmas.Iterator.Consumers.{nth_from_yields_List, YieldsList-from_rest}
 use Rattle.tag.specs.Tag.{tag_cmp}
 use Rattle.bank.specs.Bank.{Bank}
-use Rattle.bank.proofs.Entries.{entries-rise, there}
+use Rattle.bank.proofs.EntryOrderLemmas.{entries-rise, there}
 use Rattle.bank.proofs.bank.Bank.kept.Goals as goal
 
 pub unreachable-requires : goal.unreachable-requires

@@ -5,9 +5,9 @@ use Rattle.bank.specs.Bytes.{bank_bytes}
 use Rattle.bank.specs.Facts.{IsBefore}
 use Rattle.bank.specs.Kept.{bank_of, IsKeptBank}
 use Rattle.bank.specs.declared.status.Pointer.TheVariants.{Unset}
-use Rattle.bank.proofs.Account.{opened_bytes}
-use Rattle.bank.proofs.Opening.{bank_opened, kept_opened}
-use Rattle.bank.proofs.Truth.{opened_before}
+use Rattle.bank.proofs.BankBytesLemmas.{opened_bytes}
+use Rattle.bank.proofs.OpenedOrRetiredLemmas.{bank_opened, kept_opened}
+use Rattle.bank.proofs.TrueAnswerLemmas.{opened_before}
 use Rattle.bank.proofs.bank.Bank.new.Goals as goal
 
 pub invariant_of-result : goal.invariant_of-result

@@ -2,11 +2,11 @@ use Rattle.std.proofs.Common.{sym, ap, ◌∙◌, subst, refl}
 use Rattle.std.proofs.lemmas.Bool.{false≢true}
 use Rattle.bank.specs.Bank.{Bank, pre_written}
 use Rattle.bank.specs.Collect.{collected, IsCollected}
-use Rattle.bank.specs.Window.{found_in, without_piece, freed_by}
+use Rattle.bank.specs.Window.{found_in, without_piece, piece_bytes_at}
 use Rattle.bank.specs.declared.reply.Answer.TheVariants as answer
 use Rattle.bank.specs.declared.request.Request.TheVariants as request
-use Rattle.bank.proofs.Kept.{bank_pre_written, kept_pre_written, not_known}
-use Rattle.bank.proofs.Truth.{served_as}
+use Rattle.bank.proofs.BankRequestLemmas.{bank_pre_written, kept_pre_written, not_known}
+use Rattle.bank.proofs.TrueAnswerLemmas.{served_as}
 use Rattle.bank.proofs.bank.Bank.pre_write.Goals as goal
 
 pub returns-in_err-added-clause-known : goal.returns-in_err-added-clause-known
@@ -24,7 +24,7 @@ invariant_of-self-2 c =
     c.in_ok-added.ensures.rows.0
     (λ q. c.empty-freed.ensures.rows q ∙ ap (λ x. without_piece x q (found_in fs q)) c.late-late.ensures)
     c.in_ok-added.added _ c.empty-freed.result _ c.in_ok-added.ensures.added refl
-    (c.empty-freed.ensures.freed ∙ ap (λ x. freed_by x fs) c.late-late.ensures) c.empty-freed.type_inv refl
+    (c.empty-freed.ensures.freed ∙ ap (λ x. piece_bytes_at x fs) c.late-late.ensures) c.empty-freed.type_inv refl
 
 pub returns-clause-bank : goal.returns-clause-bank
 returns-clause-bank c =

@@ -5,7 +5,7 @@ use Rattle.bank.specs.Pointer.{raised}
 use Rattle.bank.specs.Kept.{bank_of}
 use Rattle.bank.specs.declared.reply.Answer.TheVariants as answer
 use Rattle.bank.specs.declared.request.Request.TheVariants as request
-use Rattle.bank.proofs.Truth.{served_as}
+use Rattle.bank.proofs.TrueAnswerLemmas.{served_as}
 use Rattle.bank.proofs.bank.Bank.put_next.Goals as goal
 
 pub returns-clause-served : goal.returns-clause-served

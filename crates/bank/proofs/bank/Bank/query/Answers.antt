@@ -6,8 +6,8 @@ use Rattle.bank.specs.Knowledge.{finalized_at}
 use Rattle.bank.specs.Serve.{greatest_final}
 use Rattle.bank.specs.declared.request.Request.TheVariants as request
 use Rattle.bank.specs.declared.reply.Answer.TheVariants as answer
-use Rattle.bank.proofs.Query.{greatest_final_is}
-use Rattle.bank.proofs.Truth.{served_as}
+use Rattle.bank.proofs.GreatestTagLemmas.{greatest_final_is}
+use Rattle.bank.proofs.TrueAnswerLemmas.{served_as}
 use Rattle.bank.proofs.bank.Bank.query.Goals as goal
 
 pub returns-clause-greatest : goal.returns-clause-greatest

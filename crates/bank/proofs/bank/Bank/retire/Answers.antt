@@ -3,7 +3,7 @@ use Rattle.bank.specs.Bank.{Bank}
 use Rattle.bank.specs.Bytes.{bank_bytes}
 use Rattle.bank.specs.Collect.{retired_bank}
 use Rattle.bank.specs.Kept.{bank_of, IsKeptBank}
-use Rattle.bank.proofs.Opening.{bank_retired, kept_retired, none_retired, since-none, since-some}
+use Rattle.bank.proofs.OpenedOrRetiredLemmas.{bank_retired, kept_retired, none_retired, since-none, since-some}
 use Rattle.bank.proofs.bank.Bank.retire.Goals as goal
 
 pub invariant_of-self : goal.invariant_of-self

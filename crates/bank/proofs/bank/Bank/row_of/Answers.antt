@@ -1,7 +1,7 @@
 use Rattle.std.proofs.Common.{sym, ap, ◌∙◌}
 use Rattle.std.specs.FinMap as map
 use Rattle.bank.specs.Bank.{Bank}
-use Rattle.bank.proofs.Entries.{get-rise}
+use Rattle.bank.proofs.EntryOrderLemmas.{get-rise}
 use Rattle.bank.proofs.bank.Bank.row_of.Goals as goal
 
 pub returns : goal.returns

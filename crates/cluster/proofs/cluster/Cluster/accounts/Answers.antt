@@ -2,7 +2,7 @@ use Rattle.std.proofs.Common.{◌≡◌, ◌∙◌, ap, arith, rules, length}
 use Rattle.std.proofs.lemmas.Grind.{common_steps}
 use Rattle.std.proofs.lemmas.List.FromFn.{length-map-range_with_len, map-range_with_len_more}
 use Rattle.cluster.specs.Accounts.{stored}
-use Rattle.cluster.proofs.Totals.{objects_total}
+use Rattle.cluster.proofs.ServerTotalLemmas.{objects_total}
 use Rattle.cluster.proofs.cluster.Cluster.accounts.Goals as goal
 
 pub push-requires : goal.push-requires
@@ -19,7 +19,7 @@ loop-server-preserved c =
 pub returns : goal.returns
 returns c =
     let now = c.args.self.now in
-    let total = objects_total (length now.servers) now.counter now.objects c.keeping.ensures.1.1.objects in
+    let total = objects_total (length now.servers) now.counter now.objects c.invariant.ensures.1.1.objects in
     record {
       servers = search rules;
       all = c.stored_all.ensures.value ∙ total;

@@ -4,11 +4,11 @@ use Rattle.cluster.specs.Acts.{IsReady}
 use Rattle.register.specs.Act.{act_cause, answered_by, step_of}
 use Rattle.cluster.specs.Causes.{next}
 use Rattle.cluster.specs.Cluster.{Cluster, place_of}
-use Rattle.cluster.proofs.Acting.{act_at, act_by, act_none, act_some, no_more, no_less}
-use Rattle.cluster.proofs.Mays.{may_at}
-use Rattle.cluster.proofs.Places.{at_place, place_at}
-use Rattle.cluster.proofs.Stepping.{stepped_at, unchanged_at, last_before, cause_at, no_object, next_is, read_at}
-use Rattle.cluster.proofs.Summing.{part_mailed, refused_counted, summed_at}
+use Rattle.cluster.proofs.ActLemmas.{act_at, act_by, act_none, act_some, no_more, no_less}
+use Rattle.cluster.proofs.LookupLemmas.{at_place, place_at}
+use Rattle.cluster.proofs.ObjectStepLemmas.{stepped_at, unchanged_at, last_before, cause_at, no_object, next_is, read_at}
+use Rattle.cluster.proofs.PreconditionLemmas.{may_at}
+use Rattle.cluster.proofs.RunningSumLemmas.{part_mailed, refused_counted, summed_at}
 use Rattle.cluster.proofs.cluster.Cluster.act.Goals as goal
 
 pub returns-in_default-clause-cause : goal.returns-in_default-clause-cause

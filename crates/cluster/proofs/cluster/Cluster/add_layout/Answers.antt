@@ -1,6 +1,6 @@
 use Rattle.std.proofs.Common.{nat_lt, inl, sym, ap, ◌∙◌, arith}
 use Rattle.std.specs.List.{list_all}
-use Rattle.cluster.proofs.Opening.{no_servers, no_step_for_layout, many_layouts, added_counted}
+use Rattle.cluster.proofs.CreationLemmas.{no_servers, no_step_for_layout, many_layouts, added_counted}
 use Rattle.cluster.proofs.cluster.Cluster.add_layout.Goals as goal
 use Rattle.cluster.proofs.cluster.Cluster.add_layout.Goals.{then-self-ge-MOST_STEPS-via-then-self-ge-MOST_STEPS}
 use Rattle.cluster.proofs.cluster.Cluster.add_layout.Goals.{then-self-ge-MOST_STEPS-via-else-self-ge-MOST_STEPS+then-len-ge-MOST_LAYOUTS}

@@ -3,9 +3,9 @@ use Rattle.std.specs.List.{AllByRecursion}
 use Rattle.std.specs.Map.{values_of}
 use Rattle.layout.specs.Layout.{IsLawful}
 use Rattle.cluster.specs.Cluster.{Cluster}
-use Rattle.cluster.proofs.Laws.{all_done}
-use Rattle.cluster.proofs.Mays.{IsAllowing, allowed_act, allowed_move, allowed_retire, allowed_serve}
-use Rattle.cluster.proofs.Places.{objects_of}
+use Rattle.cluster.proofs.AllObjectsLemmas.{all_done}
+use Rattle.cluster.proofs.LookupLemmas.{objects_of}
+use Rattle.cluster.proofs.PreconditionLemmas.{IsAllowing, allowed_act, allowed_move, allowed_retire, allowed_serve}
 use Rattle.cluster.proofs.cluster.Cluster.allowed_steps_may_be_made.Goals as goal
 
 each : (c : goal.In-None) → AllByRecursion (λ o. IsAllowing o.state) (objects_of c.self.inside.objects.entries)

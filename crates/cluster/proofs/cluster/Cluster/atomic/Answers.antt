@@ -5,7 +5,7 @@ use Rattle.soundness.specs.Sound.{IsSound}
 use Rattle.atomicity.specs.Atomic.{IsAtomic}
 use Rattle.register.specs.State.{State}
 use Rattle.cluster.specs.Atomic.{CarriesJournaled, FetchesHaveEnough, HasOneValue, KeepsFew, LacksWhereOvertaken}
-use Rattle.cluster.proofs.Laws.{all_weaker}
+use Rattle.cluster.proofs.AllObjectsLemmas.{all_weaker}
 use Rattle.cluster.proofs.cluster.Cluster.atomic.Goals as goal
 
 -- the record is sound, as it is of each object

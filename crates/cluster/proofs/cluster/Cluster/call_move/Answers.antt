@@ -1,8 +1,8 @@
 use Rattle.std.proofs.Common.{inl, sym, ◌∙◌}
 use Rattle.cluster.specs.Causes.{moving_cause}
-use Rattle.cluster.proofs.Moves.{move_pending, move_nowhere}
-use Rattle.cluster.proofs.Places.{at_place}
-use Rattle.cluster.proofs.Stepping.{own_cause_at, no_object}
+use Rattle.cluster.proofs.LookupLemmas.{at_place}
+use Rattle.cluster.proofs.MoveRefusalLemmas.{move_pending, move_nowhere}
+use Rattle.cluster.proofs.ObjectStepLemmas.{own_cause_at, no_object}
 use Rattle.cluster.proofs.cluster.Cluster.call_move.Goals as goal
 
 pub returns-in_default-clause-cause : goal.returns-in_default-clause-cause

@@ -2,8 +2,8 @@ use Rattle.std.proofs.Common.{◌≡◌, ◌≤◌, length, slice_get, List, Som
 use Rattle.mail.specs.declared.message.Message.{Message}
 use Rattle.cluster.specs.Causes.{place_cause, handled_at}
 use Rattle.cluster.specs.Cluster.{Cluster}
-use Rattle.cluster.proofs.Reading.{named_found, read_found, cause_found, none_found}
-use Rattle.cluster.proofs.Serving.{handled_is, place_past, place_there}
+use Rattle.cluster.proofs.FoundObjectLemmas.{named_found, read_found, cause_found, none_found}
+use Rattle.cluster.proofs.RequestRoomLemmas.{handled_is, place_past, place_there}
 use Rattle.cluster.proofs.cluster.Cluster.can_handle.Goals as goal
 
 pub returns-in_default-clause-cause : goal.returns-in_default-clause-cause

@@ -1,10 +1,10 @@
 use Rattle.std.proofs.Common.{true, false, ◌≤◌, ◌<◌, length, inl, refl, sym, ◌∙◌, arith}
 use Rattle.tag.specs.declared.limits.TheConstants.{MOST_OBJECTS}
-use Rattle.register.proofs.Rooms.{for_memory, handed_on}
-use Rattle.cluster.proofs.Moves.{is_layout}
-use Rattle.cluster.proofs.Opening.{is_named, length_objects, name_taken, no_layout_here, long_name}
-use Rattle.cluster.proofs.Opening.{no_step_for_object, many_objects, may_create, created_is, created_counted}
-use Rattle.cluster.proofs.Places.{objects_of}
+use Rattle.register.proofs.RoomLemmas.{for_memory, handed_on}
+use Rattle.cluster.proofs.CreationLemmas.{is_named, length_objects, name_taken, no_layout_here, long_name}
+use Rattle.cluster.proofs.CreationLemmas.{no_step_for_object, many_objects, may_create, created_is, created_counted}
+use Rattle.cluster.proofs.LookupLemmas.{objects_of}
+use Rattle.cluster.proofs.MoveRefusalLemmas.{is_layout}
 use Rattle.cluster.proofs.cluster.Cluster.create_with.Goals as goal
 use Rattle.cluster.proofs.cluster.Cluster.create_with.Goals.{then-self-ge-MOST_STEPS-via-then-self-ge-MOST_STEPS}
 use Rattle.cluster.proofs.cluster.Cluster.create_with.Goals.{then-self-ge-MOST_STEPS-via-else-self-ge-MOST_STEPS+then-len-ge-MOST_OBJECTS}

@@ -1,7 +1,7 @@
 use Rattle.std.proofs.Common.{Some, None, inl, ap, sym, ◌∙◌}
 use Rattle.record.specs.Journals.{entries}
-use Rattle.cluster.proofs.Reading.{named_found, read_found, cause_found, none_found, if_ok}
-use Rattle.cluster.proofs.Serving.{only_memory}
+use Rattle.cluster.proofs.FoundObjectLemmas.{named_found, read_found, cause_found, none_found, if_ok}
+use Rattle.cluster.proofs.RequestRoomLemmas.{only_memory}
 use Rattle.cluster.proofs.cluster.Cluster.entries.Goals as goal
 
 pub returns-in-Some-clause-entries : goal.returns-in-Some-clause-entries

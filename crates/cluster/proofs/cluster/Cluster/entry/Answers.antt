@@ -5,8 +5,8 @@ use Rattle.record.specs.Journals.{entry_of}
 use Rattle.register.specs.Causes.{call_at, number_cause}
 use Rattle.cluster.specs.Causes.{if_object}
 use Rattle.cluster.specs.Cluster.{if_some}
-use Rattle.cluster.proofs.Reading.{if_ok}
-use Rattle.cluster.proofs.Room.{placed_found, placed_none}
+use Rattle.cluster.proofs.FoundObjectLemmas.{if_ok}
+use Rattle.cluster.proofs.ObjectAtPlaceLemmas.{placed_found, placed_none}
 use Rattle.cluster.proofs.cluster.Cluster.entry.Goals as goal
 
 pub returns-in-Some-clause-entry : goal.returns-in-Some-clause-entry

@@ -1,7 +1,7 @@
 use Rattle.std.proofs.Common.{ap, ◌∙◌, arith}
 use Rattle.cluster.specs.Accounts.{mailed}
 use Rattle.cluster.specs.Cluster.{Cluster}
-use Rattle.cluster.proofs.Summing.{waiting_within}
+use Rattle.cluster.proofs.RunningSumLemmas.{waiting_within}
 use Rattle.cluster.proofs.cluster.Cluster.mailed.Goals as goal
 
 pub returns-clause-value : goal.returns-clause-value

@@ -2,12 +2,12 @@ use Rattle.std.proofs.Common.{◌<◌, ◌≤◌, refl, sym, ap, subst, ◌∙�
 use Rattle.tag.specs.Refusal.{IsExactlyByCause}
 use Rattle.tag.specs.declared.limits.TheConstants.{LONGEST_VALUE}
 use Rattle.tag.specs.declared.refusal.Refusal.TheVariants.{TooLong}
-use Rattle.register.proofs.Rooms.{is_le, not_le}
+use Rattle.register.proofs.RoomLemmas.{is_le, not_le}
 use Rattle.register.specs.Causes.{unless, read_cause}
 use Rattle.cluster.specs.Causes.{next}
-use Rattle.cluster.proofs.Keeping.{placed}
-use Rattle.cluster.proofs.Reading.{named_found, cause_found, none_found}
-use Rattle.cluster.proofs.Stepping.{next_is}
+use Rattle.cluster.proofs.FoundObjectLemmas.{named_found, cause_found, none_found}
+use Rattle.cluster.proofs.ObjectStepLemmas.{next_is}
+use Rattle.cluster.proofs.StepInvariantLemmas.{placed}
 use Rattle.cluster.proofs.cluster.Cluster.may_call.Goals as goal
 
 pub returns-in_default : goal.returns-in_default

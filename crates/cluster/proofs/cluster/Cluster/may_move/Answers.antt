@@ -1,10 +1,10 @@
 use Rattle.std.proofs.Common.{◌<◌, ◌≤◌, length, refl, sym, subst, ◌∙◌, arith}
 use Rattle.tag.specs.Refusal.{IsExactlyByCause}
-use Rattle.register.proofs.Lists.{found}
+use Rattle.register.proofs.ListLemmas.{found}
 use Rattle.cluster.specs.Causes.{moving_cause}
-use Rattle.cluster.proofs.Keeping.{placed}
-use Rattle.cluster.proofs.Moves.{IsLayout, move_pending, move_nowhere, move_to}
-use Rattle.cluster.proofs.Reading.{named_found, cause_found, none_found}
+use Rattle.cluster.proofs.FoundObjectLemmas.{named_found, cause_found, none_found}
+use Rattle.cluster.proofs.MoveRefusalLemmas.{IsLayout, move_pending, move_nowhere, move_to}
+use Rattle.cluster.proofs.StepInvariantLemmas.{placed}
 use Rattle.cluster.proofs.cluster.Cluster.may_move.Goals as goal
 
 pub returns-in_default : goal.returns-in_default

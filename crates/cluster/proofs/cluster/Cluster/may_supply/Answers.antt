@@ -1,9 +1,9 @@
 use Rattle.std.proofs.Common.{refl, sym, ap, subst, ◌∙◌, arith}
 use Rattle.tag.specs.Refusal.{IsExactlyByCause}
 use Rattle.register.specs.Causes.{supplying_cause}
-use Rattle.cluster.proofs.Keeping.{placed}
-use Rattle.cluster.proofs.Reading.{named_found, cause_found, none_found}
-use Rattle.cluster.proofs.Stepping.{next_is}
+use Rattle.cluster.proofs.FoundObjectLemmas.{named_found, cause_found, none_found}
+use Rattle.cluster.proofs.ObjectStepLemmas.{next_is}
+use Rattle.cluster.proofs.StepInvariantLemmas.{placed}
 use Rattle.cluster.proofs.cluster.Cluster.may_supply.Goals as goal
 
 pub may_supply-requires : goal.may_supply-requires

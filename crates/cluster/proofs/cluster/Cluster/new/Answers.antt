@@ -1,4 +1,4 @@
-use Rattle.cluster.proofs.Summing.{new_counted}
+use Rattle.cluster.proofs.RunningSumLemmas.{new_counted}
 use Rattle.cluster.proofs.cluster.Cluster.new.Goals as goal
 
 pub invariant_of-result : goal.invariant_of-result

@@ -2,7 +2,7 @@ use Rattle.std.proofs.Common.{Some, inl, sym, subst, ap, ◌∙◌}
 use Rattle.tag.specs.Refusal.{IsByCause}
 use Rattle.register.specs.Causes.{pieces_cause}
 use Rattle.register.specs.View.{pieces_at}
-use Rattle.cluster.proofs.Reading.{named_found, read_found, cause_found, none_found, if_ok}
+use Rattle.cluster.proofs.FoundObjectLemmas.{named_found, read_found, cause_found, none_found, if_ok}
 use Rattle.cluster.proofs.cluster.Cluster.pieces.Goals as goal
 
 pub returns-in-Some-clause-pieces : goal.returns-in-Some-clause-pieces

@@ -1,9 +1,9 @@
 use Rattle.std.proofs.Common.{◌<◌, None, ap, sym, subst, ◌∙◌}
 use Rattle.std.specs.Map.{values_of}
-use Rattle.register.proofs.Lists.{found, length_map}
+use Rattle.register.proofs.ListLemmas.{found, length_map}
 use Rattle.cluster.specs.Cluster.{Cluster, place_of}
-use Rattle.cluster.proofs.Places.{Entry, at_place, place_at}
-use Rattle.cluster.proofs.Stepping.{own_cause_at, no_object}
+use Rattle.cluster.proofs.LookupLemmas.{Entry, at_place, place_at}
+use Rattle.cluster.proofs.ObjectStepLemmas.{own_cause_at, no_object}
 use Rattle.cluster.proofs.cluster.Cluster.place.Goals as goal
 
 pub returns-in-Some-clause-place : goal.returns-in-Some-clause-place

@@ -1,5 +1,5 @@
 use Rattle.std.proofs.Common.{None}
-use Rattle.cluster.proofs.Reading.{named_found, cause_found, none_found}
+use Rattle.cluster.proofs.FoundObjectLemmas.{named_found, cause_found, none_found}
 use Rattle.cluster.proofs.cluster.Cluster.register.Goals as goal
 
 pub returns-in-Some-clause-object : goal.returns-in-Some-clause-object

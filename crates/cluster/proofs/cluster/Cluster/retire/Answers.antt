@@ -2,11 +2,11 @@ use Rattle.std.proofs.Common.{◌+◌, ◌≤◌, refl, sym, ◌∙◌, arith}
 use Rattle.tag.specs.declared.limits.TheConstants.{MOST_STEPS}
 use Rattle.record.specs.Steps.{Step}
 use Rattle.register.specs.Retiring.{retire_cause}
-use Rattle.cluster.proofs.Mays.{may_at}
-use Rattle.cluster.proofs.Places.{at_place}
-use Rattle.cluster.proofs.Retiring.{past_retired, part_loaded, load_within, part_freed, retire_counted, freed_exactly}
-use Rattle.cluster.proofs.Stepping.{stepped_at, unchanged_at, last_before, cause_at, no_object}
-use Rattle.cluster.proofs.Summing.{refused_counted}
+use Rattle.cluster.proofs.LookupLemmas.{at_place}
+use Rattle.cluster.proofs.ObjectStepLemmas.{stepped_at, unchanged_at, last_before, cause_at, no_object}
+use Rattle.cluster.proofs.PreconditionLemmas.{may_at}
+use Rattle.cluster.proofs.RetiredSumLemmas.{past_retired, part_loaded, load_within, part_freed, retire_counted, freed_exactly}
+use Rattle.cluster.proofs.RunningSumLemmas.{refused_counted}
 use Rattle.cluster.proofs.cluster.Cluster.retire.Goals as goal
 
 pub returns-in_default-clause-cause : goal.returns-in_default-clause-cause

@@ -3,13 +3,13 @@ use Rattle.tag.specs.declared.limits.TheConstants.{MOST_STEPS}
 use Rattle.record.specs.Steps.{Step}
 use Rattle.register.specs.declared.act.Act.TheVariants as act
 use Rattle.cluster.specs.Causes.{serving_cause}
-use Rattle.cluster.proofs.Growing.{part_at}
-use Rattle.cluster.proofs.Loading.{served_exchanges, serve_counted}
-use Rattle.cluster.proofs.Mays.{may_at}
-use Rattle.cluster.proofs.Places.{at_place}
-use Rattle.cluster.proofs.Serving.{has_room, own_none, own_of, is_of, memory_left}
-use Rattle.cluster.proofs.Stepping.{cluster_of, stepped_at, unchanged_at, last_before, own_cause_at, no_object}
-use Rattle.cluster.proofs.Summing.{part_mailed, refused_counted}
+use Rattle.cluster.proofs.LookupLemmas.{at_place}
+use Rattle.cluster.proofs.ObjectStepLemmas.{cluster_of, stepped_at, unchanged_at, last_before, own_cause_at, no_object}
+use Rattle.cluster.proofs.PreconditionLemmas.{may_at}
+use Rattle.cluster.proofs.RequestRoomLemmas.{has_room, own_none, own_of, is_of, memory_left}
+use Rattle.cluster.proofs.RunningSumLemmas.{part_mailed, refused_counted}
+use Rattle.cluster.proofs.ServedBytesLemmas.{part_at}
+use Rattle.cluster.proofs.ServedSumLemmas.{served_exchanges, serve_counted}
 use Rattle.cluster.proofs.cluster.Cluster.serve.Goals as goal
 
 pub returns-in_default-clause-cause : goal.returns-in_default-clause-cause
@@ -55,7 +55,7 @@ invariant_of-self-in-Ok-serve c =
     serve_counted c.self.invariant at room c.in-Ok.server c.in-Ok.ensures.server c.waiting-waited.ensures.sound c.serve.new.self
     c.in-Ok-serve.ensures.step few
     c.stored_in_all-before.result c.stored_in_all-after.result c.stored_in_all-before.ensures.value c.stored_in_all-after.ensures.value
-    c.exchanged-self-inside.result c.exchanged-self-inside.ensures c.exchange.new.self c.exchange.ensures
+    c.exchanged-self-inside.result c.exchanged-self-inside.ensures c.replace_part.new.self c.replace_part.ensures
     c.waiting-waited.result c.waiting.result c.exchanged-self-inside-in-Ok-serve.result c.waiting-waited.ensures.value
     c.waiting.ensures.value c.waiting.ensures.within c.exchanged-self-inside-in-Ok-serve.ensures
 
@@ -122,8 +122,8 @@ exchanged-self-inside-requires c =
     c.stored_in_all-before.result c.stored_in_all-after.result c.stored_in_all-before.ensures.value c.stored_in_all-after.ensures.value in
     record { part = sums.within.0; within = sums.within.1 }
 
-pub exchange-requires : goal.exchange-requires
-exchange-requires c =
+pub replace_part-requires : goal.replace_part-requires
+replace_part-requires c =
     let at = at_place c.self.inside.objects.entries c.args.name.now c.in-Some.index c.index_mut-register.result.now c.in-Some.ensures.index
     c.index_mut-register.ensures.value in
     let here = c.in-Ok.ensures.cause

@@ -8,9 +8,9 @@ use Rattle.cluster.specs.Accounts.{banks_all, calls}
 use Rattle.cluster.specs.Atomic.{AreSound, AreWithinLimits}
 use Rattle.cluster.specs.Cluster.{Cluster}
 use Rattle.cluster.specs.Kept.{IsKeptCluster}
-use Rattle.cluster.proofs.Laws.{IsObjectSound, all_done, all_weaker}
-use Rattle.cluster.proofs.Places.{objects_of}
-use Rattle.cluster.proofs.Stepping.{cluster_of}
+use Rattle.cluster.proofs.AllObjectsLemmas.{IsObjectSound, all_done, all_weaker}
+use Rattle.cluster.proofs.LookupLemmas.{objects_of}
+use Rattle.cluster.proofs.ObjectStepLemmas.{cluster_of}
 use Rattle.cluster.proofs.cluster.Cluster.soundness.Goals as goal
 
 each : (c : goal.In-None) → AllByRecursion (λ o. IsObjectSound o.state) (objects_of c.self.inside.objects.entries)

@@ -1,5 +1,5 @@
 use Rattle.std.specs.List.{AllByRecursion}
-use Rattle.cluster.proofs.Laws.{IsObjectSound}
+use Rattle.cluster.proofs.AllObjectsLemmas.{IsObjectSound}
 use Rattle.cluster.proofs.cluster.Cluster.soundness.Given as goal
 
 abbrev pub invariant-loop-register : goal.invariant-loop-register

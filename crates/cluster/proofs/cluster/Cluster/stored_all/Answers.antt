@@ -1,8 +1,8 @@
 use Rattle.std.proofs.Common.{length, sym, ap, ◌∙◌}
 use Rattle.cluster.specs.Accounts.{stored_all}
 use Rattle.cluster.specs.Cluster.{Cluster}
-use Rattle.cluster.proofs.Places.{objects_of}
-use Rattle.cluster.proofs.Totals.{objects_total}
+use Rattle.cluster.proofs.LookupLemmas.{objects_of}
+use Rattle.cluster.proofs.ServerTotalLemmas.{objects_total}
 use Rattle.cluster.proofs.cluster.Cluster.stored_all.Goals as goal
 
 pub returns-clause-value : goal.returns-clause-value

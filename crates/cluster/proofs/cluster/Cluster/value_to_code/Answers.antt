@@ -2,7 +2,7 @@ use Rattle.std.proofs.Common.{inl, sym, subst, ◌∙◌}
 use Rattle.tag.specs.Refusal.{IsByCause}
 use Rattle.register.specs.Causes.{value_cause}
 use Rattle.register.specs.View.{coding_at}
-use Rattle.cluster.proofs.Reading.{named_found, read_found, cause_found, none_found, if_ok}
+use Rattle.cluster.proofs.FoundObjectLemmas.{named_found, read_found, cause_found, none_found, if_ok}
 use Rattle.cluster.proofs.cluster.Cluster.value_to_code.Goals as goal
 
 pub returns-in-Some-clause-value : goal.returns-in-Some-clause-value

@@ -2,7 +2,7 @@ use Rattle.std.proofs.Common.{sym, subst, ◌∙◌}
 use Rattle.tag.specs.Refusal.{IsExactlyByCause}
 use Rattle.register.specs.Causes.{number_cause}
 use Rattle.register.specs.View.{want_at}
-use Rattle.cluster.proofs.Reading.{named_found, read_found, cause_found, none_found, if_ok}
+use Rattle.cluster.proofs.FoundObjectLemmas.{named_found, read_found, cause_found, none_found, if_ok}
 use Rattle.cluster.proofs.cluster.Cluster.want.Goals as goal
 
 pub returns-in-Some-clause-want : goal.returns-in-Some-clause-want

@@ -2,7 +2,7 @@ use Rattle.std.proofs.Common.{◌≡◌, ◌<◌, length, get_or, take, rules, s
 use Rattle.std.specs.List.{AllByRecursion}
 use Rattle.std.proofs.lemmas.List.{take_more}
 use Rattle.layout.specs.Layout.{IsLawful, Layout}
-use Rattle.register.proofs.Lists.{all_pushed}
+use Rattle.register.proofs.ListLemmas.{all_pushed}
 use Rattle.cluster.proofs.cluster.laws.are_lawful.Goals as goal
 
 pub loop-layout-preserved : goal.loop-layout-preserved

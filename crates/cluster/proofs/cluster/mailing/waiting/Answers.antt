@@ -1,7 +1,7 @@
 use Rattle.std.proofs.Common.{◌≤◌, length, List, subst, arith}
 use Rattle.tag.specs.declared.limits.TheConstants.{MOST_MESSAGES}
 use Rattle.mail.specs.declared.message.Message.{Message}
-use Rattle.cluster.proofs.Values.{waiting_few}
+use Rattle.cluster.proofs.SumBoundLemmas.{waiting_few}
 use Rattle.cluster.proofs.cluster.mailing.waiting.Goals as goal
 
 pub returns-clause-within : goal.returns-clause-within

@@ -1,6 +1,6 @@
 use Rattle.std.proofs.Common.{◌≡◌, ◌∷◌, ◌<◌, [], arith, rules, sym}
 use Rattle.std.proofs.Output.{has_written_append, has_written_of_eq}
-use Rattle.coding_commands.proofs.FragmentsLemmas.{fragments_text-more}
+use Rattle.coding_commands.proofs.FragmentLineLemmas.{fragments_text-more}
 use Rattle.coding_commands.proofs.fragments.FragmentsLineDisplay.fmt.Goals as goal
 use Rattle.coding_commands.proofs.fragments.FragmentsLineDisplay.fmt.Goals.{then-i-eq0, else-i-eq0}
 

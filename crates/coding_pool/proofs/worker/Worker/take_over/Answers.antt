@@ -1,4 +1,4 @@
-use Rattle.coding_pool.proofs.Rule.{merges}
+use Rattle.coding_pool.proofs.QueueRuleLemmas.{merges}
 use Rattle.coding_pool.proofs.worker.Worker.take_over.Goals as goal
 
 pub absorb-requires-clause-rule : goal.absorb-requires-clause-rule

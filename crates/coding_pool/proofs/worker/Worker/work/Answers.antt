@@ -6,8 +6,8 @@ use Rattle.encoder.specs.declared.fragment.Piece.{Piece}
 use Rattle.coding_pool.specs.declared.jobs.Known.{Known}
 use Rattle.coding_pool.specs.Jobs.{known}
 use Rattle.coding_pool.specs.Worker.{point_of}
-use Rattle.coding_pool.proofs.Rule.{pops, learns_whole}
-use Rattle.coding_pool.proofs.Work.{each_popped, popped_more}
+use Rattle.coding_pool.proofs.PoppedJobLemmas.{each_popped, popped_more}
+use Rattle.coding_pool.proofs.QueueRuleLemmas.{pops, learns_whole}
 use Rattle.coding_pool.proofs.worker.Worker.work.Goals as goal
 
 pub pop_as-requires-clause-rule : goal.pop_as-requires-clause-rule

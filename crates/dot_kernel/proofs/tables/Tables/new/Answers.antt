@@ -1,6 +1,6 @@
 use Rattle.std.proofs.Common.{◌≡◌, get_or, sym, ap, ◌∙◌}
 use Rattle.gf256.specs.Polynomial.{scaled}
-use Rattle.gf256.proofs.FieldLaws.{product-one_right}
+use Rattle.gf256.proofs.FieldLemmas.{product-one_right}
 use Rattle.dot_kernel.specs.declared.tables.TheConstants.{HALVES}
 use Rattle.dot_kernel.proofs.tables.Tables.new.Goals as goal
 

@@ -2,7 +2,7 @@ use Rattle.std.proofs.Common.{◌≡◌, get_or, refl, sym, ap, ap₂, ◌∙◌
 use Rattle.gf256.specs.Field.{field_product}
 use Rattle.gf256.specs.Polynomial.{scaled}
 use Rattle.dot_kernel.specs.declared.tables.TheConstants.{HALVES}
-use Rattle.dot_kernel.proofs.Halves.{products_of_products}
+use Rattle.dot_kernel.proofs.HalfByteLemmas.{products_of_products}
 use Rattle.dot_kernel.proofs.tables.Tables.product.Goals as goal
 
 -- the products, and the first of them

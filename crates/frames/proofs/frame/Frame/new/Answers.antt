@@ -1,5 +1,5 @@
 use Rattle.std.proofs.Common.{refl, arith, rules}
-use Rattle.frames.proofs.Lengths.{all_short, not_short}
+use Rattle.frames.proofs.StringLengthLemmas.{all_short, not_short}
 use Rattle.frames.proofs.frame.Frame.new.Goals as goal
 
 pub returns-then-not-are_short-clause-lawful : goal.returns-then-not-are_short-clause-lawful

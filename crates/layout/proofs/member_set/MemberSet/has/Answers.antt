@@ -1,5 +1,5 @@
 use Rattle.std.proofs.Common.{sym}
-use Rattle.layout.proofs.Places.{contains-marked}
+use Rattle.layout.proofs.MarkedPlaceLemmas.{contains-marked}
 use Rattle.layout.proofs.member_set.MemberSet.has.Goals as goal
 
 pub returns : goal.returns

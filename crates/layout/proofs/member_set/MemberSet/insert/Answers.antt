@@ -1,5 +1,5 @@
 use Rattle.std.proofs.Common.{rules, ◌<◌, ◌∙◌, not, length, sym, ap, arith}
-use Rattle.layout.proofs.Places.{contains-marked, marked-set, insert_present, len-marked-set, len-marked-le}
+use Rattle.layout.proofs.MarkedPlaceLemmas.{contains-marked, marked-set, insert_present, len-marked-set, len-marked-le}
 use Rattle.layout.proofs.member_set.MemberSet.insert.Goals as goal
 
 -- the member was there

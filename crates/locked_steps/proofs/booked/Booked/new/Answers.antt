@@ -1,5 +1,5 @@
 use Rattle.std.proofs.Common.{sym, ◌∙◌}
-use Rattle.locked_steps.proofs.Booking.{none_called}
+use Rattle.locked_steps.proofs.ClusterCallCountLemmas.{none_called}
 use Rattle.locked_steps.proofs.booked.Booked.new.Goals as goal
 
 pub invariant_of-result : goal.invariant_of-result

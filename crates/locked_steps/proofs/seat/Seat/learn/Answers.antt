@@ -1,5 +1,5 @@
 use Rattle.std.proofs.Common.{arith}
-use Rattle.locked_steps.proofs.Rising.{rising_higher}
+use Rattle.locked_steps.proofs.RecordOrderLemmas.{rising_higher}
 use Rattle.locked_steps.proofs.seat.Seat.learn.Goals as goal
 
 pub invariant_of-self : goal.invariant_of-self

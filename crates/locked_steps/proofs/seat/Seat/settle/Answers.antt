@@ -5,7 +5,7 @@ use Rattle.std.proofs.lemmas.List.{append-nil}
 use Rattle.register.specs.declared.receipt.Receipt.{Receipt}
 use Rattle.locked_steps.specs.Seats.{listed, pending_of}
 use Rattle.locked_steps.specs.declared.call_record.CallRecord.{CallRecord}
-use Rattle.locked_steps.proofs.Rising.{rising_settled, length_settled}
+use Rattle.locked_steps.proofs.RecordOrderLemmas.{rising_settled, length_settled}
 use Rattle.locked_steps.proofs.seat.Seat.settle.Goals as goal
 
 pub invariant_of-self : goal.invariant_of-self

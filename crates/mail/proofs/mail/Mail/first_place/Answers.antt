@@ -1,7 +1,7 @@
 use Rattle.std.proofs.Common.{List, ℕ, ◌≤◌, length, ◌∙◌, sym, subst}
 use Rattle.mail.specs.Bounds.{AreOthers, AreRising}
 use Rattle.mail.specs.declared.message.Message.{Message}
-use Rattle.mail.proofs.Bounding.{bounds_rise, others_below}
+use Rattle.mail.proofs.CallBoundLemmas.{bounds_rise, others_below}
 use Rattle.mail.proofs.mail.Mail.first_place.Goals as goal
 
 pub first_at_least-requires : goal.first_at_least-requires

@@ -1,6 +1,6 @@
 use Rattle.std.proofs.Common.{arith}
 use Rattle.std.proofs.lemmas.Grind.{common_steps}
-use Rattle.mail.proofs.Bounding.{bounds_append}
+use Rattle.mail.proofs.CallBoundLemmas.{bounds_append}
 use Rattle.mail.proofs.mail.Mail.post_all.Goals as goal
 
 pub invariant_of-self-2 : goal.invariant_of-self-2

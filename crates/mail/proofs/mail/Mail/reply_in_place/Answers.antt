@@ -3,7 +3,7 @@ use Rattle.std.proofs.lemmas.Grind.{common_steps}
 use Rattle.std.proofs.lemmas.Option.{slice_get_read}
 use Rattle.mail.specs.declared.message.Message.{Message}
 use Rattle.mail.specs.Mail.{replied_message}
-use Rattle.mail.proofs.Bounding.{bounds_set}
+use Rattle.mail.proofs.CallBoundLemmas.{bounds_set}
 use Rattle.mail.proofs.mail.Mail.reply_in_place.Goals as goal
 
 pub invariant_of-self : goal.invariant_of-self

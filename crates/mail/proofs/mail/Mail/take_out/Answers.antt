@@ -1,7 +1,7 @@
 use Rattle.std.proofs.Common.{◌≡◌, length, refl, ap, arith}
 use Rattle.std.proofs.lemmas.Grind.{common_steps}
 use Rattle.std.proofs.lemmas.Option.{slice_get_read}
-use Rattle.mail.proofs.Bounding.{bounds_count, bounds_remove}
+use Rattle.mail.proofs.CallBoundLemmas.{bounds_count, bounds_remove}
 use Rattle.mail.proofs.mail.Mail.take_out.Goals as goal
 
 pub remove-requires : goal.remove-requires

@@ -2,7 +2,7 @@ use Rattle.std.proofs.Common.{◌≡◌, ◌-◌, length, slice_get, Some, List,
 use Rattle.std.proofs.lemmas.Bool.Decides.{nat_tests}
 use Rattle.phase.specs.declared.phase.Taken.{Taken}
 use Rattle.phase.specs.Phase.{Phase, end_of}
-use Rattle.phase.proofs.Takes.{end_last}
+use Rattle.phase.proofs.TakenReplyLemmas.{end_last}
 use Rattle.phase.proofs.phase.Phase.end.Goals as goal
 
 pub returns-in-Some : goal.returns-in-Some

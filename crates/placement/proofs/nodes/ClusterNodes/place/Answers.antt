@@ -1,7 +1,7 @@
 use Rattle.std.proofs.Common.{◌≡◌, List, ℕ, take, ap, subst, sym, ◌∙◌}
 use Rattle.layout.specs.Layout.{Layout, IsLawful as IsLawfulLayout}
 use Rattle.placement.specs.Placement.{ClusterNodes, in_order, placed}
-use Rattle.placement.proofs.Placed.{placed-IsLawful}
+use Rattle.placement.proofs.FirstNodesLemmas.{placed-IsLawful}
 use Rattle.placement.proofs.nodes.ClusterNodes.place.Goals as goal
 
 pub unreachable-requires : goal.unreachable-requires

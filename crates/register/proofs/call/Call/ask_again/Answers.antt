@@ -9,10 +9,10 @@ use Rattle.phase.specs.Phase.{Phase}
 use Rattle.record.specs.Wants.{current_phase}
 use Rattle.register.specs.Coding.{HavePieces, piece_from}
 use Rattle.register.specs.Tracked.{Tracked, asked_again}
-use Rattle.register.proofs.Lists.{same_some, on_ok}
-use Rattle.register.proofs.Takes.{current_last}
-use Rattle.register.proofs.Asks.{same_requests}
-use Rattle.register.proofs.Rooms.{few_room, many_full, more_few, handed_on}
+use Rattle.register.proofs.ListLemmas.{same_some, on_ok}
+use Rattle.register.proofs.TakenCallLemmas.{current_last}
+use Rattle.register.proofs.MemberLoopLemmas.{same_requests}
+use Rattle.register.proofs.RoomLemmas.{few_room, many_full, more_few, handed_on}
 use Rattle.register.proofs.call.Call.ask_again.Goals as goal
 
 pub returns-then-not-has_room-clause-cause : goal.returns-then-not-has_room-clause-cause

@@ -10,7 +10,7 @@ use Rattle.record.specs.Sending.{requests}
 use Rattle.register.specs.Causes.{unless}
 use Rattle.register.specs.Coding.{piece_from}
 use Rattle.register.specs.Tracked.{Tracked}
-use Rattle.register.proofs.Rooms.{is_lt, few_room, many_full, sum_few, for_memory, handed_on, same_cause}
+use Rattle.register.proofs.RoomLemmas.{is_lt, few_room, many_full, sum_few, for_memory, handed_on, same_cause}
 use Rattle.register.proofs.call.Call.begin.Goals as goal
 
 pub returns-then-not-has_room-clause-cause : goal.returns-then-not-has_room-clause-cause

@@ -4,10 +4,10 @@ use Rattle.tag.specs.declared.limits.TheConstants.{MOST_MESSAGES}
 use Rattle.phase.specs.Phase.{Phase}
 use Rattle.record.specs.Wants.{current_phase}
 use Rattle.register.specs.Tracked.{Tracked, asked_again}
-use Rattle.register.proofs.Lists.{same_some}
-use Rattle.register.proofs.Takes.{current_last}
-use Rattle.register.proofs.Asks.{same_requests}
-use Rattle.register.proofs.Rooms.{more_few}
+use Rattle.register.proofs.ListLemmas.{same_some}
+use Rattle.register.proofs.TakenCallLemmas.{current_last}
+use Rattle.register.proofs.MemberLoopLemmas.{same_requests}
+use Rattle.register.proofs.RoomLemmas.{more_few}
 use Rattle.register.proofs.call.Call.can_ask_again.Goals as goal
 
 pub returns : goal.returns

@@ -2,7 +2,7 @@ use Rattle.std.proofs.Common.{◌-◌, List, length, slice_get, ap, ◌∙◌}
 use Rattle.phase.specs.Phase.{Phase}
 use Rattle.record.specs.Wants.{current_phase}
 use Rattle.register.specs.Tracked.{Tracked}
-use Rattle.register.proofs.Takes.{current_last}
+use Rattle.register.proofs.TakenCallLemmas.{current_last}
 use Rattle.register.proofs.call.Call.current.Goals as goal
 
 pub returns : goal.returns

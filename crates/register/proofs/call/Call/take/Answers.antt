@@ -3,15 +3,16 @@ use Rattle.std.proofs.lemmas.List.{get_or_read, get_or-set_same}
 use Rattle.phase.specs.Phase.{Phase, after_take}
 use Rattle.record.specs.declared.call.CallKind.{CallKind}
 use Rattle.record.specs.declared.stage.Stage.{Stage}
-use Rattle.record.specs.Courses.{begun_at, stage_past}
+use Rattle.record.specs.PhaseOrder.{begun_at, stage_past}
 use Rattle.record.specs.Steps.{taking_phases}
 use Rattle.record.specs.Wants.{current_phase}
 use Rattle.transfer.specs.Limits.{IsBelowLimit, HasNextTag}
 use Rattle.register.specs.Tracked.{Tracked, taken_tracked, took_current, stage_taken}
-use Rattle.register.proofs.Bases.{take_position}
-use Rattle.register.proofs.Lists.{set_read}
-use Rattle.register.proofs.Takes.{ended_same, ended_stale, current_at, taking_at, taking_none, current_none, taken_same, stage_ended}
-use Rattle.register.proofs.Takes.{stage_open}
+use Rattle.register.proofs.FirstReadingLemmas.{take_position}
+use Rattle.register.proofs.ListLemmas.{set_read}
+use Rattle.register.proofs.TakenCallLemmas.{ended_same, ended_stale, current_at, taking_at, taking_none, current_none, taken_same}
+use Rattle.register.proofs.TakenCallLemmas.{stage_ended}
+use Rattle.register.proofs.TakenCallLemmas.{stage_open}
 use Rattle.register.proofs.call.Call.take.Goals as goal
 
 -- a call by its parts

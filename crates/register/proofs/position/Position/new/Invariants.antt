@@ -1,5 +1,5 @@
 use Rattle.std.proofs.Common.{◌≡◌}
-use Rattle.register.proofs.Asks.{first_of, bank_for}
+use Rattle.register.proofs.MemberLoopLemmas.{first_of, bank_for}
 use Rattle.register.proofs.position.Position.new.Given as goal
 
 -- the banks of the members so far

@@ -1,7 +1,7 @@
 use Rattle.std.proofs.Common.{◌≡◌, ◌<◌, ◌^◌, ◌==◌, option_copied, Some, sym, ap, subst, ◌∙◌}
 use Rattle.std.specs.List.{position}
 use Rattle.register.specs.Position.{Position}
-use Rattle.register.proofs.Servers.{bytes_of, stored_by, stored_none}
+use Rattle.register.proofs.ServerBankLemmas.{bytes_of, stored_by, stored_none}
 use Rattle.register.proofs.position.Position.stored.Goals as goal
 
 pub bytes-requires : goal.bytes-requires

@@ -1,13 +1,13 @@
 use Rattle.std.proofs.Common.{◌≡◌, ℕ, None, subst}
 use Rattle.encoder.specs.Fragment.{fragment}
-use Rattle.record.specs.May.{MayStep}
+use Rattle.record.specs.Preconditions.{MayStep}
 use Rattle.record.specs.Steps.{Step}
 use Rattle.register.specs.Act.{HasLawfulValues, act_cause, step_of}
 use Rattle.register.specs.Retiring.{retire_cause}
 use Rattle.register.specs.State.{State}
 use Rattle.register.specs.declared.act.Act.{Act}
-use Rattle.register.proofs.Mays.{may_act}
-use Rattle.register.proofs.Retiring.{may_retire}
+use Rattle.register.proofs.PreconditionLemmas.{may_act}
+use Rattle.register.proofs.RetireLemmas.{may_retire}
 use Rattle.register.proofs.register.Register.allowed_steps_may_be_made.Goals as goal
 
 pub returns-clause-acts : goal.returns-clause-acts

@@ -1,7 +1,7 @@
 use Rattle.std.proofs.Common.{inl, inr, refl, Some}
-use Rattle.register.proofs.Answering.{answer_refused, answer_cause_none, answer_past, answer_step, answer_kept, operation_again}
-use Rattle.register.proofs.Answering.{called_again, value_again, receipt_is}
-use Rattle.register.proofs.Found.{is_found, wanting, below_those, few_those}
+use Rattle.register.proofs.AnswerLemmas.{answer_refused, answer_cause_none, answer_past, answer_step, answer_kept, operation_again}
+use Rattle.register.proofs.AnswerLemmas.{called_again, value_again, receipt_is}
+use Rattle.register.proofs.FoundCallLemmas.{is_found, wanting, below_those, few_those}
 use Rattle.register.proofs.register.Register.answer.Goals as goal
 
 pub want_of-requires-clause-below : goal.want_of-requires-clause-below

@@ -1,8 +1,8 @@
 use Rattle.std.proofs.Common.{length, inl, refl, sym, ap, arith, ◌∙◌}
-use Rattle.register.proofs.Advancing.{stage_below, due_read, due_there, due_refused, due_past, some_due, needs_none, beginning}
-use Rattle.register.proofs.Beginning.{begin_room, begin_cause, begin_step, begin_kept}
-use Rattle.register.proofs.Found.{is_found, again, wanting, below_those, few_those}
-use Rattle.register.proofs.Rooms.{by_cause}
+use Rattle.register.proofs.AdvanceLemmas.{stage_below, due_read, due_there, due_refused, due_past, some_due, needs_none, beginning}
+use Rattle.register.proofs.BeginPhaseLemmas.{begin_room, begin_cause, begin_step, begin_kept}
+use Rattle.register.proofs.FoundCallLemmas.{is_found, again, wanting, below_those, few_those}
+use Rattle.register.proofs.RoomLemmas.{by_cause}
 use Rattle.register.proofs.register.Register.begin_due.Goals as goal
 
 pub want_of-requires-clause-below : goal.want_of-requires-clause-below

@@ -1,7 +1,7 @@
 use Rattle.std.proofs.Common.{◌≡◌, length, arith}
-use Rattle.register.proofs.Begun.{begun, begun_may, begun_room, begun_cause, begun_kept, begun_step}
-use Rattle.register.proofs.Keeps.{base_within}
-use Rattle.register.proofs.Rooms.{same_cause, by_cause}
+use Rattle.register.proofs.BeginReadOrWriteLemmas.{begun, begun_may, begun_room, begun_cause, begun_kept, begun_step}
+use Rattle.register.proofs.RoomLemmas.{same_cause, by_cause}
+use Rattle.register.proofs.StepInvariantLemmas.{base_within}
 use Rattle.register.proofs.register.Register.begin_reading.Goals as goal
 
 pub index-requires : goal.index-requires

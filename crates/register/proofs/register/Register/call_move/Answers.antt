@@ -1,6 +1,6 @@
 use Rattle.std.proofs.Common.{◌≡◌, length, arith}
-use Rattle.register.proofs.Moved.{moved, moved_may, moved_room, moved_cause, move_kept, move_step}
-use Rattle.register.proofs.Rooms.{same_cause, by_cause}
+use Rattle.register.proofs.BeginMoveLemmas.{moved, moved_may, moved_room, moved_cause, move_kept, move_step}
+use Rattle.register.proofs.RoomLemmas.{same_cause, by_cause}
 use Rattle.register.proofs.register.Register.call_move.Goals as goal
 
 pub begin-requires-clause-room : goal.begin-requires-clause-room

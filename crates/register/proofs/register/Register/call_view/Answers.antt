@@ -1,8 +1,8 @@
 use Rattle.std.proofs.Common.{length, Some, sym, ap, ◌∙◌, refl, arith}
 use Rattle.record.specs.Journals.{stage_tag}
 use Rattle.record.specs.Wants.{fetched_or}
-use Rattle.register.proofs.Found.{is_found, wanting, below_those, few_those, begun, caused}
-use Rattle.register.proofs.Viewed.{replies_few, view_is}
+use Rattle.register.proofs.CallViewLemmas.{replies_few, view_is}
+use Rattle.register.proofs.FoundCallLemmas.{is_found, wanting, below_those, few_those, begun, caused}
 use Rattle.register.proofs.register.Register.call_view.Goals as goal
 
 pub unreachable-requires : goal.unreachable-requires

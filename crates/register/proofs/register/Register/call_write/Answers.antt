@@ -1,5 +1,5 @@
 use Rattle.std.proofs.Common.{inr, refl}
-use Rattle.register.proofs.Reading.{value_of}
+use Rattle.register.proofs.NewReadOrWriteLemmas.{value_of}
 use Rattle.register.proofs.register.Register.call_write.Goals as goal
 
 pub begin_reading-requires-clause-kind : goal.begin_reading-requires-clause-kind

@@ -1,7 +1,7 @@
 use Rattle.std.proofs.Common.{◌<◌, length, sym, subst, arith}
 use Rattle.register.specs.State.{Contents, State}
 use Rattle.register.specs.Kept.{IsKept}
-use Rattle.register.proofs.Mails.{losing_keeps}
+use Rattle.register.proofs.LoseAndRepeatLemmas.{losing_keeps}
 use Rattle.register.proofs.register.Register.lose.Goals as goal
 
 pub invariant_of-self : goal.invariant_of-self

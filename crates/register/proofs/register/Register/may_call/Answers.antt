@@ -4,12 +4,12 @@ use Rattle.std.proofs.lemmas.Option.{slice_get_read}
 use Rattle.tag.specs.declared.limits.TheConstants.{MOST_CALLS}
 use Rattle.record.specs.Records.{layout_at}
 use Rattle.register.specs.State.{Contents, State, state_of}
-use Rattle.register.proofs.Calling.{layout_is}
-use Rattle.register.proofs.Rooms.{few_room, many_full}
-use Rattle.register.proofs.Calling.{sound_room}
-use Rattle.register.proofs.Keeps.{base_within}
-use Rattle.register.proofs.Reading.{called_sound, reading_cause, reading_mail, reading_past, many_calls, reading_cause_is}
-use Rattle.register.proofs.Reading.{reading_room}
+use Rattle.register.proofs.ChangedCallLemmas.{layout_is}
+use Rattle.register.proofs.RoomLemmas.{few_room, many_full}
+use Rattle.register.proofs.ChangedCallLemmas.{sound_room}
+use Rattle.register.proofs.StepInvariantLemmas.{base_within}
+use Rattle.register.proofs.NewReadOrWriteLemmas.{called_sound, reading_cause, reading_mail, reading_past, many_calls, reading_cause_is}
+use Rattle.register.proofs.NewReadOrWriteLemmas.{reading_room}
 use Rattle.register.proofs.register.Register.may_call.Goals as goal
 
 pub index-requires : goal.index-requires

@@ -3,8 +3,8 @@ use Rattle.tag.specs.declared.limits.TheConstants.{MOST_CALLS, MOST_POSITIONS}
 use Rattle.layout.specs.Layout.{Layout}
 use Rattle.register.specs.Causes.{move_cause}
 use Rattle.register.specs.State.{Contents, State}
-use Rattle.register.proofs.Last.{IsLast, last_of}
-use Rattle.register.proofs.Refusing.{many_messages, no_cause}
+use Rattle.register.proofs.BeginRefusalLemmas.{many_messages, no_cause}
+use Rattle.register.proofs.LastPositionLemmas.{IsLast, last_of}
 use Rattle.register.proofs.register.Register.may_move.Goals as goal
 
 pub returns-then-not-has_room : goal.returns-then-not-has_room

@@ -1,6 +1,6 @@
 use Rattle.std.proofs.Common.{◌≡◌, ◌-◌, sym, ◌∙◌, arith}
-use Rattle.register.proofs.Keeps.{base_within}
-use Rattle.register.proofs.Retiring.{base_refused, left_is, other_refused, retire_free, retire_past}
+use Rattle.register.proofs.RetireLemmas.{base_refused, left_is, other_refused, retire_free, retire_past}
+use Rattle.register.proofs.StepInvariantLemmas.{base_within}
 use Rattle.register.proofs.register.Register.may_retire.Goals as goal
 
 pub returns-then-position-from : goal.returns-then-position-from

@@ -1,11 +1,11 @@
 use Rattle.std.proofs.Common.{length, Option, sym, ap, subst, arith}
 use Rattle.tag.specs.declared.refusal.Refusal.{Refusal}
 use Rattle.tag.specs.Refusal.{IsExactlyByCause}
-use Rattle.register.proofs.Calling.{if_no_such}
-use Rattle.register.proofs.Found.{is_found, below_those, few_those}
-use Rattle.register.proofs.Permitting.{or_wrong, permitted_is, past_permitted, permits_begin, permits_asking}
-use Rattle.register.proofs.Sendings.{sending, position_there}
-use Rattle.register.proofs.Supplying.{none_of}
+use Rattle.register.proofs.ChangedCallLemmas.{if_no_such}
+use Rattle.register.proofs.FoundCallLemmas.{is_found, below_those, few_those}
+use Rattle.register.proofs.SentPieceLemmas.{sending, position_there}
+use Rattle.register.proofs.SuppliedPieceLemmas.{none_of}
+use Rattle.register.proofs.SupplyPermissionLemmas.{or_wrong, permitted_is, past_permitted, permits_begin, permits_asking}
 use Rattle.register.proofs.register.Register.may_supply.Goals as goal
 
 pub pieces_position-requires-clause-count : goal.pieces_position-requires-clause-count

@@ -6,7 +6,7 @@ use Rattle.register.specs.Position.{Position}
 use Rattle.register.specs.Tracked.{Tracked}
 use Rattle.register.specs.State.{Contents}
 use Rattle.register.specs.Kept.{IsKept}
-use Rattle.register.proofs.Opened.{opened_keeps}
+use Rattle.register.proofs.OpenedObjectLemmas.{opened_keeps}
 use Rattle.register.proofs.register.Register.new.Goals as goal
 
 abbrev contents : Option ℕ → List Position → List Message → List Tracked → ℕ → Contents

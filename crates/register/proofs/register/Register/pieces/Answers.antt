@@ -2,10 +2,10 @@ use Rattle.std.proofs.Common.{[], ◌≡◌, ℕ, suc, ◌+◌, length, take, No
 use Rattle.std.proofs.Common.{vec_len}
 use Rattle.encoder.specs.declared.fragment.Piece.{Piece}
 use Rattle.register.specs.Coding.{pieces_below, piece_by}
-use Rattle.register.proofs.Found.{is_found, wanting, below_those, few_those, current_again, not_settle}
-use Rattle.register.proofs.Least.{take_none, least_pushed, least_full, pieces_cause_is, pieces_are}
-use Rattle.register.proofs.Lists.{length_push}
-use Rattle.register.proofs.Sendings.{for_memory}
+use Rattle.register.proofs.FoundCallLemmas.{is_found, wanting, below_those, few_those, current_again, not_settle}
+use Rattle.register.proofs.LeastPointLemmas.{take_none, least_pushed, least_full, pieces_cause_is, pieces_are}
+use Rattle.register.proofs.ListLemmas.{length_push}
+use Rattle.register.proofs.SentPieceLemmas.{for_memory}
 use Rattle.register.proofs.register.Register.pieces.Goals as goal
 use Rattle.register.proofs.register.Register.pieces.Goals.{then-len-from+in_ok-clone+in_ok-push, else-len-from}
 

@@ -1,9 +1,9 @@
 use Rattle.std.proofs.Common.{inl, refl, ◌≡◌, Option, None}
 use Rattle.tag.specs.Cause.{IsRefusalBy}
 use Rattle.tag.specs.declared.refusal.Refusal.{Refusal}
-use Rattle.register.proofs.Found.{is_found, wanting, below_those, few_those, current_again}
-use Rattle.register.proofs.Posting.{post_refused, post_pieces, post_past, posting}
-use Rattle.register.proofs.Resending.{again_room, again_by, again_step, again_kept}
+use Rattle.register.proofs.AskAgainLemmas.{again_room, again_by, again_step, again_kept}
+use Rattle.register.proofs.FoundCallLemmas.{is_found, wanting, below_those, few_those, current_again}
+use Rattle.register.proofs.PostLemmas.{post_refused, post_pieces, post_past, posting}
 use Rattle.register.proofs.register.Register.post.Goals as goal
 
 pub want_of-requires-clause-below : goal.want_of-requires-clause-below

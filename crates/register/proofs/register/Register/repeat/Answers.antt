@@ -8,8 +8,8 @@ use Rattle.register.specs.State.{Contents, State, made, object_of}
 use Rattle.register.specs.Kept.{IsKept}
 use Rattle.record.specs.Steps.{Step}
 use Rattle.register.specs.Causes.{if_message, repeat_cause}
-use Rattle.register.proofs.Mails.{repeating_is, repeating_keeps, repeat_cause_is}
-use Rattle.register.proofs.Rooms.{step_within}
+use Rattle.register.proofs.LoseAndRepeatLemmas.{repeating_is, repeating_keeps, repeat_cause_is}
+use Rattle.register.proofs.RoomLemmas.{step_within}
 use Rattle.register.proofs.register.Register.repeat.Goals as goal
 
 abbrev at_step : Object → ℕ → State

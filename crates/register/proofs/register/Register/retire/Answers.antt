@@ -1,8 +1,8 @@
 use Rattle.std.proofs.Common.{ap, ◌∙◌, arith}
 use Rattle.record.specs.Accounts.{base_bytes}
 use Rattle.register.specs.State.{State}
-use Rattle.register.proofs.Keeps.{base_within, few_positions}
-use Rattle.register.proofs.Retiring.{base_part, freed_is, retire_kept, retire_step, retiring}
+use Rattle.register.proofs.RetireLemmas.{base_part, freed_is, retire_kept, retire_step, retiring}
+use Rattle.register.proofs.StepInvariantLemmas.{base_within, few_positions}
 use Rattle.register.proofs.register.Register.retire.Goals as goal
 
 pub index_mut-requires : goal.index_mut-requires

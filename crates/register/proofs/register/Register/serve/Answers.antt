@@ -1,7 +1,7 @@
 use Rattle.std.proofs.Common.{arith}
 use Rattle.bank.specs.Serve.{served_bank}
-use Rattle.register.proofs.Served.{position_there, serving, member_there, part_stored, bytes_few}
-use Rattle.register.proofs.Serving.{served, put, new_there, new_fits, new_few, reply_fits, serve_step, serve_kept}
+use Rattle.register.proofs.ServeRequestLemmas.{position_there, serving, member_there, part_stored, bytes_few}
+use Rattle.register.proofs.ServedRegisterLemmas.{served, put, new_there, new_fits, new_few, reply_fits, serve_step, serve_kept}
 use Rattle.register.proofs.register.Register.serve.Goals as goal
 
 pub index_mut-position-requires : goal.index_mut-position-requires

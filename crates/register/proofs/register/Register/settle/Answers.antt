@@ -1,9 +1,9 @@
 use Rattle.std.proofs.Common.{sym, subst, ◌∙◌, refl}
 use Rattle.tag.specs.declared.refusal.Refusal.TheVariants.{NotNow, Collected}
 use Rattle.decoder.specs.Decoded.{IsDecoded}
-use Rattle.register.proofs.Found.{is_found, wanting, below_those, few_those, current_again, not_settle}
-use Rattle.register.proofs.Settling.{settle_refused, settle_wrong, settle_none, settle_past, settle_is, settle_kept, settled_as, told}
-use Rattle.register.proofs.Settling.{may_settle}
+use Rattle.register.proofs.FoundCallLemmas.{is_found, wanting, below_those, few_those, current_again, not_settle}
+use Rattle.register.proofs.SettleLemmas.{settle_refused, settle_wrong, settle_none, settle_past, settle_is, settle_kept, settled_as, told}
+use Rattle.register.proofs.SettleLemmas.{may_settle}
 use Rattle.register.proofs.register.Register.settle.Goals as goal
 
 pub want_of-requires-clause-count : goal.want_of-requires-clause-count

@@ -4,7 +4,7 @@ use Rattle.layout.specs.Layout.{IsLawful}
 use Rattle.tag.specs.declared.limits.TheConstants.{MOST_BYTES}
 use Rattle.record.specs.Accounts.{stored_bytes}
 use Rattle.register.specs.Position.{layouts_of, banks_of, all_bytes}
-use Rattle.register.proofs.Stored.{stored_next, stored_most, layout_at_lawful}
+use Rattle.register.proofs.StoredBytesLemmas.{stored_next, stored_most, layout_at_lawful}
 use Rattle.register.proofs.register.Register.stored.Goals as goal
 
 pub stored-total-requires-clause-lawful : goal.stored-total-requires-clause-lawful

@@ -1,6 +1,6 @@
 use Rattle.std.proofs.Common.{ap, ◌∙◌, arith}
-use Rattle.register.proofs.Keeps.{base_within}
-use Rattle.register.proofs.Stored.{base_stored, layout_at_lawful, part_of}
+use Rattle.register.proofs.StepInvariantLemmas.{base_within}
+use Rattle.register.proofs.StoredBytesLemmas.{base_stored, layout_at_lawful, part_of}
 use Rattle.register.specs.State.{State}
 use Rattle.record.specs.Accounts.{base_bytes_of}
 use Rattle.register.proofs.register.Register.stored_at_base.Goals as goal

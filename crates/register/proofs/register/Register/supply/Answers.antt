@@ -1,15 +1,15 @@
 use Rattle.std.proofs.Common.{length, None, inl, sym, ap, ◌∙◌, ◌≡◌, arith, Option}
 use Rattle.tag.specs.Cause.{IsRefusalBy}
 use Rattle.tag.specs.declared.refusal.Refusal.{Refusal}
-use Rattle.register.proofs.Advancing.{stage_near}
-use Rattle.register.proofs.Beginning.{begin_room, begin_cause, begin_step, begin_kept}
-use Rattle.register.proofs.Calling.{if_no_such}
-use Rattle.register.proofs.Found.{is_found, below_those, few_those}
-use Rattle.register.proofs.Resending.{again_pieces, again_room, again_by, again_step, again_kept}
-use Rattle.register.proofs.Rooms.{by_cause, same_cause}
-use Rattle.register.proofs.Sendings.{sending, position_there, sent_value_there, layout_there}
-use Rattle.register.proofs.Supplying.{supplied, unsent_is, past_full, wrong_is, none_of}
-use Rattle.register.proofs.Supplied.{beginning, asking}
+use Rattle.register.proofs.AdvanceLemmas.{stage_near}
+use Rattle.register.proofs.BeginPhaseLemmas.{begin_room, begin_cause, begin_step, begin_kept}
+use Rattle.register.proofs.ChangedCallLemmas.{if_no_such}
+use Rattle.register.proofs.FoundCallLemmas.{is_found, below_those, few_those}
+use Rattle.register.proofs.AskAgainLemmas.{again_pieces, again_room, again_by, again_step, again_kept}
+use Rattle.register.proofs.RoomLemmas.{by_cause, same_cause}
+use Rattle.register.proofs.SentPieceLemmas.{sending, position_there, sent_value_there, layout_there}
+use Rattle.register.proofs.SuppliedPieceLemmas.{supplied, unsent_is, past_full, wrong_is, none_of}
+use Rattle.register.proofs.SupplyStepLemmas.{beginning, asking}
 use Rattle.register.proofs.register.Register.supply.Goals as goal
 
 pub returns-in_err-index-clause-cause : goal.returns-in_err-index-clause-cause

@@ -1,5 +1,5 @@
 use Rattle.std.proofs.Common.{arith}
-use Rattle.register.proofs.Taking.{call_there, taking, below_limit, next_tag, same_body, take_kept, take_step, took_is}
+use Rattle.register.proofs.TakeReplyLemmas.{call_there, taking, below_limit, next_tag, same_body, take_kept, take_step, took_is}
 use Rattle.register.proofs.register.Register.take.Goals as goal
 
 pub index_mut-requires : goal.index_mut-requires

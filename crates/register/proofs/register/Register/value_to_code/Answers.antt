@@ -1,8 +1,8 @@
 use Rattle.std.proofs.Common.{Some, None, sym, ap, ◌∙◌, inl, arith, rules, length, refl}
 use Rattle.tag.specs.declared.refusal.Refusal.TheVariants.{NotNow}
 use Rattle.register.specs.Causes.{unless}
-use Rattle.register.proofs.Found.{is_found, below_those, few_those, not_some}
-use Rattle.register.proofs.Sendings.{sending, value_cause_is, position_there, sent_value_there, coding_is, layout_there, for_memory}
+use Rattle.register.proofs.FoundCallLemmas.{is_found, below_those, few_those, not_some}
+use Rattle.register.proofs.SentPieceLemmas.{sending, value_cause_is, position_there, sent_value_there, coding_is, layout_there, for_memory}
 use Rattle.register.proofs.register.Register.value_to_code.Goals as goal
 
 pub pieces_position-requires-clause-count : goal.pieces_position-requires-clause-count

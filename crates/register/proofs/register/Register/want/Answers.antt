@@ -1,6 +1,6 @@
 use Rattle.std.proofs.Common.{None, refl}
-use Rattle.register.proofs.Calling.{if_no_such}
-use Rattle.register.proofs.Found.{is_found, wanting, below_those, few_those, caused, want_at_is}
+use Rattle.register.proofs.ChangedCallLemmas.{if_no_such}
+use Rattle.register.proofs.FoundCallLemmas.{is_found, wanting, below_those, few_those, caused, want_at_is}
 use Rattle.register.proofs.register.Register.want.Goals as goal
 
 pub want_of-requires-clause-below : goal.want_of-requires-clause-below

@@ -1,4 +1,4 @@
-use Rattle.register.proofs.Reading.{bytes_at}
+use Rattle.register.proofs.NewReadOrWriteLemmas.{bytes_at}
 use Rattle.register.proofs.register.calls.is_short.Goals as goal
 
 pub returns-clause-bytes : goal.returns-clause-bytes

@@ -1,6 +1,6 @@
 use Rattle.std.proofs.Common.{◌≡◌, true, rules}
 use Rattle.locked_steps.specs.Orders.{has_pending_move}
-use Rattle.client.proofs.Callers.{err_from, move_stops}
+use Rattle.client.proofs.CallerRoundLemmas.{err_from, move_stops}
 use Rattle.client.proofs.store.caller.AdminCaller.round.Goals as goal
 
 pub returns-clause-refused : goal.returns-clause-refused

@@ -1,4 +1,4 @@
-use Rattle.client.proofs.Callers.{err_from, seat_stops}
+use Rattle.client.proofs.CallerRoundLemmas.{err_from, seat_stops}
 use Rattle.client.proofs.store.caller.SeatCaller.round.Goals as goal
 
 pub returns-clause-refused : goal.returns-clause-refused

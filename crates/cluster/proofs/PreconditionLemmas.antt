@@ -1,0 +1,102 @@
+-- A step of a cluster's object that no cause refuses may be made.
+use Rattle.std.proofs.Common.{◌≡◌, ℕ, Bool, true, false, not, bytes_eq, if◌then◌else◌, List, [], ◌∷◌, slice_get}
+use Rattle.std.proofs.Common.{Option, Some, None, refl, sym, ap, subst, ◌∙◌}
+use Rattle.std.specs.List.{AllByRecursion}
+use Rattle.tag.specs.declared.refusal.Refusal.{Refusal}
+use Rattle.encoder.specs.Fragment.{fragment}
+use Rattle.layout.specs.Layout.{Layout, IsLawful}
+use Rattle.mail.specs.declared.message.Message.{Message}
+use Rattle.mail.specs.declared.message.Body.{Body}
+use Rattle.mail.specs.declared.message.Body.TheVariants as body
+use Rattle.record.specs.Preconditions.{MayStep}
+use Rattle.record.specs.Records.{Object, no_layout}
+use Rattle.record.specs.Steps.{Step}
+use Rattle.register.specs.Act.{HasLawfulValues, act_cause, step_of}
+use Rattle.register.specs.Kept.{has_open_move}
+use Rattle.register.specs.Retiring.{retire_cause}
+use Rattle.register.specs.State.{State}
+use Rattle.register.specs.declared.act.Act.{Act}
+use Rattle.register.proofs.ListLemmas.{all_found, found_or, same_some}
+use Rattle.register.proofs.NewMoveLemmas.{none_open}
+use Rattle.register.proofs.PreconditionLemmas.{not_true, passed, some_message}
+use Rattle.cluster.specs.Causes.{if_layout, if_object, moving_cause, next, object_cause, served_cause, serving_cause}
+use Rattle.cluster.specs.Cluster.{Cluster, Named, layout_of, named}
+use Rattle.cluster.specs.Preconditions.{MayMake}
+use Rattle.cluster.proofs.LookupLemmas.{Entry, IsAt, named_at}
+use Rattle.cluster.proofs.ObjectStepLemmas.{cluster_of}
+
+-- a step of the object that a look-up found
+pub may_at : {servers : List Bool} {layouts : List Layout} {counter : ℕ} {entries : List Entry} {name : List ℕ} {place : ℕ}
+    {old : State} {now : Cluster} → cluster_of servers layouts entries counter ≡ now → IsAt entries name place old → (step : Step)
+    → MayStep fragment old.object step → MayMake now name step
+may_at {name = name} {old = old} same at step may =
+    (old, ap (λ (k : Cluster). named k.objects name) (sym same) ∙ named_at at, may)
+
+-- an act of the object, or its retiring, that no cause refuses may be made
+pub record IsAllowing (state : State) : Type 0 where
+  pub acts : (a : Act) (now : ℕ) → HasLawfulValues a → act_cause a now state.object ≡ None → MayStep fragment state.object (step_of a)
+  pub retire : (position now : ℕ) → retire_cause now state.object position ≡ None → MayStep fragment state.object Step.Retire
+
+-- where nothing refuses, there is an object of this name
+some_object : (o : Option State) (cause : Object → Option Refusal) → if_object o cause ≡ None
+    → (state : State) × (o ≡ Some state) × (cause state.object ≡ None)
+some_object None cause none = absurd (cc)
+some_object (Some state) cause none = (state, refl, none)
+
+-- what holds of each object holds of the one of this name
+held_named : (P : State → Type 0) (objects : List Named) (name : List ℕ) (state : State) → AllByRecursion (λ o. P o.state) objects
+    → named objects name ≡ Some state → P state
+held_named P [] name state all at = absurd (cc)
+held_named P (o ∷ os) name state all at = pick (bytes_eq name o.name) (held_named P os name state all.1) at
+  where
+    pick : (b : Bool) → (named os name ≡ Some state → P state) → (if b then Some o.state else named os name) ≡ Some state → P state
+    pick true later e = subst P (same_some o.state state e) all.0
+    pick false later e = later e
+
+-- where nothing refuses, there is a layout
+some_layout : (o : Option Layout) (cause : Layout → Option Refusal) → if_layout o cause ≡ None → (layout : Layout) × (o ≡ Some layout)
+some_layout None cause none = absurd (cc)
+some_layout (Some layout) cause none = (layout, refl)
+
+module _ (cluster : Cluster) (name : List ℕ) where
+  pub allowed_act : AllByRecursion (λ o. IsAllowing o.state) cluster.objects → (a : Act) → HasLawfulValues a
+      → object_cause cluster name (act_cause a (next cluster)) ≡ None → MayMake cluster name (step_of a)
+  allowed_act all a lawful none =
+      let found = some_object (named cluster.objects name) _ none in
+      let held = held_named IsAllowing cluster.objects name found.0 all found.1 in
+      (found.0, found.1, held.acts a (next cluster) lawful found.2)
+
+  pub allowed_retire : AllByRecursion (λ o. IsAllowing o.state) cluster.objects → (position : ℕ)
+      → object_cause cluster name (λ object. retire_cause (next cluster) object position) ≡ None → MayMake cluster name Step.Retire
+  allowed_retire all position none =
+      let found = some_object (named cluster.objects name) _ none in
+      let held = held_named IsAllowing cluster.objects name found.0 all found.1 in
+      (found.0, found.1, held.retire position (next cluster) found.2)
+
+  may_move : AllByRecursion IsLawful cluster.layouts → (id : ℕ) (object : Object) → moving_cause cluster id object ≡ None
+      → MayStep fragment object (Step.CallMove (layout_of cluster id))
+  may_move lawful id object none =
+      let open_none = passed (not (has_open_move object.calls)) _ _ none in
+      let there = some_layout (slice_get cluster.layouts id) _ open_none.1 in (
+        subst IsLawful (sym (found_or cluster.layouts id there.0 no_layout there.1))
+            (all_found IsLawful cluster.layouts id there.0 lawful there.1),
+        none_open object (not_true (has_open_move object.calls) open_none.0),
+      )
+
+  pub allowed_move : AllByRecursion IsLawful cluster.layouts → (id : ℕ) → object_cause cluster name (moving_cause cluster id) ≡ None
+      → MayMake cluster name (Step.CallMove (layout_of cluster id))
+  allowed_move lawful id none =
+      let found = some_object (named cluster.objects name) _ none in
+      (found.0, found.1, may_move lawful id found.0.object found.2)
+
+  may_serve : (place : ℕ) (object : Object) (message : Message) (it : Body) → slice_get object.mail place ≡ Some message
+      → message.body ≡ it → served_cause cluster object message it ≡ None → MayStep fragment object (Step.Serve place)
+  may_serve place object message (body.Request asked) at is none = (message, (at, (asked, is)))
+  may_serve place object message (body.Reply kind made) at is none = absurd (cc)
+
+  pub allowed_serve : (place : ℕ) → object_cause cluster name (serving_cause cluster place) ≡ None
+      → MayMake cluster name (Step.Serve place)
+  allowed_serve place none =
+      let found = some_object (named cluster.objects name) _ none in
+      let m = some_message (slice_get found.0.object.mail place) _ found.2 in
+      (found.0, found.1, may_serve place found.0.object m.0 m.0.body m.1 refl m.2)

@@ -1,0 +1,105 @@
+-- What the functions that read bytes give.
+use Rattle.std.proofs.Common.{◌≡◌, ℕ, ◌+◌, ◌<◌, cond, ltb, eqb, List, [], ◌∷◌, ◌++◌, length, Some, None}
+use Rattle.std.proofs.Common.{◌≤◌, take, Result, Ok, Err, sym, ap, subst, ◌∙◌, arith, take_all}
+use Rattle.std.specs.Io.KnownBytes.{Consumes, IsAtEnd, Keeps}
+use Rattle.std.proofs.lemmas.Bool.{cond-true, cond-false, eq-eqb, ne_eqb, lt-ltb}
+use Rattle.std.proofs.lemmas.List.{length-append, length-take}
+use Rattle.frames.specs.declared.error.Fault.{Fault}
+use Rattle.frames.specs.declared.error.Fault.TheVariants.{NoLineEnd, UnexpectedEnd}
+use Rattle.frames.specs.declared.error.FrameError.{FrameError}
+use Rattle.frames.specs.declared.error.FrameError.TheVariants as errors
+use Rattle.frames.specs.Reading.{Parsed, and_then, GivesAs, Gives, byte_at, expected_at, line_end_at, bytes_at}
+use Rattle.frames.proofs.ReadPartLemmas.{bytes_again}
+use Rattle.frames.proofs.ReadSequenceLemmas.{Left, Between_as, then_ok, then_err, fails, succeeds, Gives_err}
+
+-- ---- one byte
+
+pub byte_read : (old new : Left) (byte : ℕ) → Consumes old new (byte ∷ []) → Gives byte_at old new (succeeds byte)
+unfolding byte_at
+byte_read None new byte p = tt
+byte_read (Some xs) None byte p = absurd p
+byte_read (Some xs) (Some ys) byte p = ap byte_at p
+
+pub byte_ended : (old new : Left) → IsAtEnd old → Keeps old new → Gives byte_at old new (fails ℕ (errors.Fault UnexpectedEnd))
+unfolding byte_at
+byte_ended None new p q = tt
+byte_ended (Some xs) None p q = absurd q
+byte_ended (Some xs) (Some ys) p q = ap byte_at p ∙ ap (λ (l : List ℕ). Err (UnexpectedEnd, l)) (sym (q ∙ p))
+
+-- what follows the byte that was to be another
+abbrev tested : ℕ → Fault → ℕ × List ℕ → Parsed ℕ
+tested expected fault b = cond (eqb b.0 expected) (Ok b) (Err (fault, b.1))
+
+pub expected_err : (expected : ℕ) (fault : Fault) (old new : Left) (e : FrameError) → Gives byte_at old new (fails ℕ e)
+    → Gives (expected_at expected fault) old new (fails ℕ e)
+unfolding expected_at
+expected_err expected fault old new e p = then_err byte_at (tested expected fault) old new e p
+
+pub expected_other : (expected : ℕ) (fault : Fault) (old new : Left) (byte : ℕ) → Gives byte_at old new (succeeds byte)
+    → (byte ≡ expected → ⊥) → Gives (expected_at expected fault) old new (fails ℕ (errors.Fault fault))
+unfolding expected_at
+expected_other expected fault old new byte p other =
+    Between_as old new (λ xs ys a. ap (λ (r : Parsed ℕ). and_then r (tested expected fault)) a
+    ∙ cond-false (eqb byte expected) _ _ (ne_eqb byte expected other)) p
+
+pub expected_same : (expected : ℕ) (fault : Fault) (old new : Left) (byte : ℕ) → Gives byte_at old new (succeeds byte)
+    → byte ≡ expected → Gives (expected_at expected fault) old new (succeeds byte)
+unfolding expected_at
+expected_same expected fault old new byte p same =
+    Between_as old new (λ xs ys a. ap (λ (r : Parsed ℕ). and_then r (tested expected fault)) a
+    ∙ cond-true (eqb byte expected) _ _ (eq-eqb byte expected same)) p
+
+pub line_end_err : (old new : Left) (e : FrameError) → Gives (expected_at 13 NoLineEnd) old new (fails ℕ e)
+    → Gives line_end_at old new (fails ℕ e)
+unfolding line_end_at
+line_end_err old new e p = then_err (expected_at 13 NoLineEnd) (λ cr. expected_at 10 NoLineEnd cr.1) old new e p
+
+pub line_end_then : (old mid new : Left) (byte : ℕ) (r : Result ℕ FrameError) → Gives (expected_at 13 NoLineEnd) old mid (succeeds byte)
+    → Gives (expected_at 10 NoLineEnd) mid new r → Gives line_end_at old new r
+unfolding line_end_at
+line_end_then old mid new byte r p q = then_ok (expected_at 13 NoLineEnd) (λ cr. expected_at 10 NoLineEnd cr.1) old mid new byte r p q
+
+-- ---- many bytes
+
+bytes_ended : {X : Type 0} (see : X → List ℕ) (n : ℕ) (old mid new : Left) (front : List ℕ) → length front < n
+    → Consumes old mid front → Consumes mid new [] → IsAtEnd new → GivesAs see (bytes_at n) old new (fails X (errors.Fault UnexpectedEnd))
+unfolding bytes_at
+bytes_ended see n None mid new front lt p q r = tt
+bytes_ended see n (Some xs) None new front lt p q r = absurd p
+bytes_ended see n (Some xs) (Some ms) None front lt p q r = absurd q
+bytes_ended see n (Some xs) (Some ms) (Some ys) front lt p q r =
+    let e : xs ≡ front ++ [] = p ∙ ap (λ (t : List ℕ). front ++ t) (q ∙ r) in
+    let len : length xs ≡ length front + 0 = ap (λ (t : List ℕ). length t) e ∙ length-append front [] in
+    cond-true (ltb (length xs) n) _ _ (lt-ltb _ _ (omega arith)) ∙ ap (λ (l : List ℕ). Err (UnexpectedEnd, l)) (sym r)
+
+bytes_done : {X : Type 0} (n : ℕ) (old new : Left) (buf : List ℕ) (x : X) → length buf ≡ n → Consumes old new buf
+    → GivesAs (λ (_ : X). buf) (bytes_at n) old new (succeeds x)
+bytes_done n None new buf x len p = tt
+bytes_done n (Some xs) None buf x len p = absurd p
+bytes_done n (Some xs) (Some ys) buf x len p =
+    ap (bytes_at n) p ∙ ap (λ (k : ℕ). bytes_at k (buf ++ ys)) (sym len) ∙ bytes_again buf ys
+
+-- a read that got nothing, before the buffer was full
+pub bytes_cut : {X : Type 0} (see : X → List ℕ) (old mid new : Left) (buf part : List ℕ) (filled count n : ℕ) → length buf ≡ n
+    → filled < length buf → count ≡ 0 → Consumes old mid (take filled buf) → Consumes mid new (take count part)
+    → (count ≡ 0 → IsAtEnd new) → GivesAs see (bytes_at n) old new (fails X (errors.Fault UnexpectedEnd))
+bytes_cut see old mid new buf part filled count n len lt none p q end =
+    let short : length (take filled buf) < n = omega (arith, length-take filled buf) in
+    bytes_ended see n old mid new (take filled buf) short p (subst (λ (k : ℕ). Consumes mid new (take k part)) none q) (end none)
+
+-- a buffer that is full
+pub bytes_filled : {X : Type 0} (n : ℕ) (old new : Left) (buf : List ℕ) (filled : ℕ) (x : X) → length buf ≡ n → length buf ≤ filled
+    → Consumes old new (take filled buf) → GivesAs (λ (_ : X). buf) (bytes_at n) old new (succeeds x)
+bytes_filled n old new buf filled x len full p = bytes_done n old new buf x len (subst (Consumes old new) (take_all filled buf full) p)
+
+-- ---- so many bytes, into a buffer of that length
+
+pub bytes_same_err : {X Z : Type 0} (view : X → List ℕ) (see : Z → List ℕ) (m n : ℕ) (old new : Left) (e : FrameError) → m ≡ n
+    → GivesAs view (bytes_at m) old new (fails X e) → GivesAs see (bytes_at n) old new (fails Z e)
+bytes_same_err {Z = Z} view see m n old new e is p =
+    subst (λ (k : ℕ). GivesAs see (bytes_at k) old new (fails Z e)) is (Gives_err view see (bytes_at m) old new e p)
+
+pub bytes_same : {X Z : Type 0} (see : Z → List ℕ) (m n : ℕ) (old new : Left) (buf : List ℕ) (x : X) (z : Z) → m ≡ n → buf ≡ see z
+    → GivesAs (λ (_ : X). buf) (bytes_at m) old new (succeeds x) → GivesAs see (bytes_at n) old new (succeeds z)
+bytes_same see m n old new buf x z is same p =
+    Between_as old new (λ xs ys a. ap (λ (k : ℕ). bytes_at k xs) (sym is) ∙ a ∙ ap (λ (b : List ℕ). Ok (b, ys)) same) p

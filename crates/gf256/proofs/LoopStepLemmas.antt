@@ -1,0 +1,62 @@
+-- One step of the loops of `mul` and `pow`.
+use Rattle.std.proofs.Common.{◌≡◌, ℕ, suc, ◌+◌, ◌*◌, ◌/◌, ◌%◌, ◌^◌, ◌<◌, bit_xor, refl, sym, ap, ◌∙◌}
+use Rattle.std.proofs.Common.{true, eqb, eqb-true, arith, lit<, mod-lt, pow_pos, one-mul, zero-mul}
+use Rattle.std.specs.Int.Bits.{xor_comm, xor_shifted, xor_zero_r}
+use Rattle.std.specs.Int.{bit_at}
+use Rattle.std.proofs.lemmas.Nat.{mod-pow-add}
+use Rattle.gf256.specs.Field.{field_product, field_power, remainder, polynomial_product}
+use Rattle.gf256.proofs.AdditiveFunctionLemmas.{all_below, all_below-at}
+use Rattle.gf256.proofs.FieldLemmas.{product_assoc, product-sum_left, power_lt, power-suc, power-square}
+
+-- x^i is the power i of x, by computing
+powers_of_two : all_below 8 (λ i. eqb (field_power 2 i) (2 ^ i)) ≡ true
+unfolding field_power field_product remainder polynomial_product
+powers_of_two = refl
+
+power_of_two : (i : ℕ) → i < 8 → field_power 2 i ≡ 2 ^ i
+power_of_two i hi = eqb-true _ _ (all_below-at 8 (λ i. eqb (field_power 2 i) (2 ^ i)) powers_of_two i hi)
+
+-- the low bits, with one more
+low_bits_more : (a i : ℕ) → a % 2 ^ (i + 1) ≡ bit_xor (a % 2 ^ i) (bit_at a i * 2 ^ i)
+low_bits_more a i =
+    let e : i + 1 ≡ 1 + i = omega arith in
+    ap (λ k. a % 2 ^ k) e ∙ mod-pow-add a 1 i
+    ∙ sym (xor_shifted (bit_at a i) i (a % 2 ^ i) (mod-lt a (pow_pos i)))
+    ∙ xor_comm (bit_at a i * 2 ^ i) (a % 2 ^ i)
+
+pub low_bits_set : (a i : ℕ) → i < 8 → bit_at a i ≡ 1 → a % 2 ^ (i + 1) ≡ bit_xor (a % 2 ^ i) (field_power 2 i)
+low_bits_set a i hi set =
+    low_bits_more a i ∙ ap (λ d. bit_xor (a % 2 ^ i) (d * 2 ^ i)) set ∙ ap (bit_xor (a % 2 ^ i)) (one-mul (2 ^ i) ∙ sym (power_of_two i hi))
+
+pub low_bits_clear : (a i : ℕ) → bit_at a i ≡ 0 → a % 2 ^ (i + 1) ≡ a % 2 ^ i
+low_bits_clear a i clear =
+    low_bits_more a i ∙ ap (λ d. bit_xor (a % 2 ^ i) (d * 2 ^ i)) clear ∙ ap (bit_xor (a % 2 ^ i)) (zero-mul (2 ^ i))
+    ∙ xor_zero_r (a % 2 ^ i)
+
+pub product_more_set : (a b i : ℕ) → i < 8 → bit_at a i ≡ 1
+    → field_product (a % 2 ^ (i + 1)) b ≡ bit_xor (field_product (a % 2 ^ i) b) (field_product (field_power 2 i) b)
+product_more_set a b i hi set = ap (λ x. field_product x b) (low_bits_set a i hi set) ∙ product-sum_left (a % 2 ^ i) (field_power 2 i) b
+
+pub product_more_clear : (a b i : ℕ) → bit_at a i ≡ 0 → field_product (a % 2 ^ (i + 1)) b ≡ field_product (a % 2 ^ i) b
+product_more_clear a b i clear = ap (λ x. field_product x b) (low_bits_clear a i clear)
+
+pub power_of_two_more : (b i : ℕ) → b < 256 → field_product 2 (field_product (field_power 2 i) b) ≡ field_product (field_power 2 (i + 1)) b
+power_of_two_more b i hb =
+    let e : suc i ≡ i + 1 = omega arith in
+    sym (product_assoc 2 (field_power 2 i) b (lit< tt) (power_lt 2 i (lit< tt)) hb)
+    ∙ ap (λ x. field_product x b) (sym (power-suc 2 i) ∙ ap (field_power 2) e)
+
+-- the base is squared and the exponent halved
+pub power_half_even : (base left : ℕ) → base < 256 → left % 2 ≡ 0 → field_power (field_product base base) (left / 2) ≡ field_power base left
+power_half_even base left hb even =
+    let e : left / 2 * 2 ≡ left = omega arith in
+    power-square base (left / 2) hb ∙ ap (field_power base) e
+
+pub power_half_odd : (product base left : ℕ) → product < 256 → base < 256 → left % 2 ≡ 1 →
+    field_product (field_product product base) (field_power (field_product base base) (left / 2))
+    ≡ field_product product (field_power base left)
+power_half_odd product base left hp hb odd =
+    let e : suc (left / 2 * 2) ≡ left = omega arith in
+    ap (field_product (field_product product base)) (power-square base (left / 2) hb)
+    ∙ product_assoc product base (field_power base (left / 2 * 2)) hp hb (power_lt base (left / 2 * 2) hb)
+    ∙ ap (field_product product) (sym (power-suc base (left / 2 * 2)) ∙ ap (field_power base) e)

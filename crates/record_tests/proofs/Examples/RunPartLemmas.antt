@@ -1,0 +1,78 @@
+-- Runs of steps, a few at a time.
+use Rattle.std.proofs.Common.{◌≡◌, ℕ, nat_eq, suc, ◌+◌, ◌≤◌, List, []}
+use Rattle.std.proofs.Common.{◌∷◌, ◌++◌, length, refl, sym, subst, ap, ◌∙◌, arith}
+use Rattle.std.specs.List.{AllByRecursion, IsDistinct}
+use Rattle.record.specs.declared.call.Entry.{Entry}
+use Rattle.record.specs.Records.{Object}
+use Rattle.record.specs.Journals.{entries}
+use Rattle.record_tests.specs.Examples.{whole}
+use Rattle.tag.specs.declared.limits.TheConstants.{LONGEST_VALUE}
+use Rattle.record.specs.Fragments.{IsCode}
+use Rattle.record.specs.Preconditions.{MayRun}
+use Rattle.record.specs.Steps.{Step, stepped, run}
+
+pub letter_fits : 1 ≤ LONGEST_VALUE
+letter_fits = omega arith
+
+pub whole_is_code : IsCode whole
+whole_is_code = record {
+  determines = λ k points v w some few enough distinct below one other same all. first k points v w some enough all;
+  empty = λ k point. refl;
+}
+  where
+    first : (k : ℕ) (points : List ℕ) (v w : List ℕ) → 1 ≤ k → k ≤ length points →
+        AllByRecursion (λ i. v ≡ w) points → v ≡ w
+    first k [] v w some enough all = absurd (omega arith)
+    first k (point ∷ points) v w some enough all = all.0
+
+pub one_distinct : IsDistinct nat_eq (0 ∷ [])
+unfolding IsDistinct
+one_distinct = (tt, tt)
+
+pub other_distinct : IsDistinct nat_eq (1 ∷ [])
+unfolding IsDistinct
+other_distinct = (tt, tt)
+
+-- Runs in parts: a map does not compute, so a run stops where a bank answers from its rows, and goes on with what that answer is
+
+abbrev pub also : {A B : Type 0} → A → B → A × B
+also a b = (a, b)
+
+-- these steps may be made, and leave these entries
+pub record Goes (steps : List Step) (now : ℕ) (object : Object) (history : List Entry) : Type 0 where
+  pub may : MayRun whole steps now object
+  pub gives : entries (run whole steps now object) ≡ history
+
+-- what a part of a run leads to
+pub record Leads (steps : List Step) (now : ℕ) (object : Object) (later : Object) : Type 0 where
+  pub may : MayRun whole steps now object
+  pub gives : run whole steps now object ≡ later
+
+run_append : (xs ys : List Step) (now then : ℕ) (object : Object) → then ≡ now + length xs →
+    run whole (xs ++ ys) now object ≡ run whole ys then (run whole xs now object)
+run_append [] ys now then object e = let same : now ≡ then = omega arith in ap (λ n. run whole ys n object) same
+run_append (x ∷ xs) ys now then object e = run_append xs ys (suc now) then (stepped whole x now object) (omega arith)
+
+may_append : (xs ys : List Step) (now then : ℕ) (object : Object) → then ≡ now + length xs → MayRun whole xs now object →
+    MayRun whole ys then (run whole xs now object) →
+    MayRun whole (xs ++ ys) now object
+may_append [] ys now then object e first rest = let same : then ≡ now = omega arith in subst (λ n. MayRun whole ys n object) same rest
+may_append (x ∷ xs) ys now then object e first rest =
+    (first.0, may_append xs ys (suc now) then (stepped whole x now object) (omega arith) first.1 rest)
+
+pub goes_on : (xs ys : List Step) (now then : ℕ) (object later : Object) (history : List Entry) → then ≡ now + length xs →
+    Leads xs now object later → Goes ys then later history → Goes (xs ++ ys) now object history
+goes_on xs ys now then object later history e leads goes =
+    let here = subst (λ o. Goes ys then o history) (sym leads.gives) goes in
+    record {
+      may = may_append xs ys now then object e leads.may here.may;
+      gives = ap entries (run_append xs ys now then object e) ∙ here.gives;
+    }
+
+-- parts that lead one to another
+pub leads_on : (xs ys : List Step) (now then : ℕ) (object middle later : Object) → then ≡ now + length xs →
+    Leads xs now object middle → Leads ys then middle later → Leads (xs ++ ys) now object later
+leads_on xs ys now then object middle later e first rest = record {
+  may = may_append xs ys now then object e first.may (subst (λ o. MayRun whole ys then o) (sym first.gives) rest.may);
+  gives = run_append xs ys now then object e ∙ (ap (λ o. run whole ys then o) first.gives ∙ rest.gives);
+}

@@ -1,0 +1,73 @@
+-- Of the pieces that a phase took, those of least points.
+use Rattle.std.proofs.Common.{◌≡◌, ℕ, zero, suc, ◌<◌, ◌≤◌, List, [], ◌∷◌, ◌++◌, length, take, Some, None, sym, ap, subst, ◌∙◌, refl}
+use Rattle.std.proofs.Common.{arith}
+use Rattle.encoder.specs.declared.fragment.Piece.{Piece}
+use Rattle.phase.specs.declared.phase.Taken.{Taken}
+use Rattle.phase.specs.Phase.{Phase}
+use Rattle.record.specs.Records.{layout_at}
+use Rattle.record.specs.Wants.{current_phase}
+use Rattle.record.specs.declared.stage.Want.{Want}
+use Rattle.record.specs.declared.stage.Want.TheVariants as want
+use Rattle.register.specs.Causes.{pieces_cause, if_settle}
+use Rattle.register.specs.Coding.{piece_by, listed, pieces_below, least_of}
+use Rattle.register.specs.State.{Contents, state_of}
+use Rattle.register.specs.Tracked.{Tracked}
+use Rattle.register.specs.View.{pieces_at, pieces_of}
+use Rattle.register.proofs.CallViewLemmas.{truth}
+use Rattle.register.proofs.FoundCallLemmas.{IsWanting, at_number, caused}
+use Rattle.register.proofs.SettleLemmas.{k_is}
+
+pub take_none : {X : Type 0} (k : ℕ) (none : List X) → none ≡ [] → take k none ≡ []
+take_none zero none e = refl
+take_none (suc k) [] e = refl
+take_none (suc k) (x ∷ xs) e = absurd (cc)
+
+pub take_push : {X : Type 0} (k : ℕ) (xs : List X) (x : X) → length (take k xs) < k → take k (xs ++ x ∷ []) ≡ take k xs ++ x ∷ []
+take_push zero xs x less = absurd (omega (arith, less))
+take_push (suc k) [] x less = ap (λ ys. x ∷ ys) (take_none k [] refl)
+take_push (suc k) (y ∷ ys) x less = ap (λ zs. y ∷ zs) (take_push k ys x (omega (arith, less)))
+
+pub take_full : {X : Type 0} (k : ℕ) (xs ys : List X) → k ≤ length (take k xs) → take k (xs ++ ys) ≡ take k xs
+take_full zero xs ys full = refl
+take_full (suc k) [] ys full = absurd (omega (arith, full))
+take_full (suc k) (x ∷ xs) ys full = ap (λ zs. x ∷ zs) (take_full k xs ys (omega (arith, full)))
+
+nil_end : {X : Type 0} (xs : List X) → xs ++ [] ≡ xs
+nil_end [] = refl
+nil_end (x ∷ xs) = ap (λ ys. x ∷ ys) (nil_end xs)
+
+-- one more member
+pub least_pushed : (k member : ℕ) (replies : List Taken) (items : List Piece) (piece : Piece) → items ≡ take k (pieces_below replies member)
+    → length items < k
+    → Some piece ≡ piece_by replies member → items ++ piece ∷ [] ≡ take k (pieces_below replies (suc member))
+least_pushed k member replies items piece is less by =
+    ap (λ xs. xs ++ piece ∷ []) is
+    ∙ sym (take_push k (pieces_below replies member) piece (subst (λ (xs : List Piece). length xs < k) is less))
+    ∙ ap (λ o. take k (pieces_below replies member ++ listed o)) by
+
+pub least_full : (k member : ℕ) (replies : List Taken) (items : List Piece) → items ≡ take k (pieces_below replies member)
+    → k ≤ length items
+    → items ≡ take k (pieces_below replies (suc member))
+least_full k member replies items is full =
+    is ∙ sym (take_full k (pieces_below replies member) (listed (piece_by replies member))
+    (subst (λ (xs : List Piece). k ≤ length xs) is full))
+
+pub least_none : (k member : ℕ) (replies : List Taken) (items : List Piece) → items ≡ take k (pieces_below replies member)
+    → None ≡ piece_by replies member
+    → items ≡ take k (pieces_below replies (suc member))
+least_none k member replies items is none =
+    is ∙ ap (take k) (sym (nil_end (pieces_below replies member))) ∙ ap (λ o. take k (pieces_below replies member ++ listed o)) none
+
+pub pieces_cause_is : {c : Contents} {number index : ℕ} {t : Tracked} {w : Want} → IsWanting c number index t w
+    → pieces_cause (state_of c).object number ≡ if_settle w None
+pieces_cause_is wanted = caused wanted.found _ ∙ ap (λ v. if_settle v None) wanted.wants
+
+pub pieces_are : {c : Contents} {number index : ℕ} {t : Tracked} {k len : ℕ} {phase : Phase}
+    → IsWanting c number index t (want.Settle k len)
+    → current_phase t.call.phases ≡ Some phase → pieces_at (state_of c).object number ≡ take k (pieces_below phase.replies phase.members)
+pieces_are {c = c} {t = t} {k = k} {phase = phase} wanted current =
+    ap (pieces_of (state_of c).object) (at_number wanted.found)
+    ∙ ap (least_of (state_of c).object) current
+    ∙ ap (λ k. take k (pieces_below phase.replies (length (layout_at (state_of c).object phase.position).members)))
+    (sym (k_is wanted current))
+    ∙ ap (λ n. take k (pieces_below phase.replies n)) (sym (truth wanted.found current).sized.members)

@@ -1,0 +1,200 @@
+-- What the call of a read or a write makes of a register.
+use Rattle.std.proofs.Common.{get_or, nat_lt, nat_le, ◌+◌, ◌≡◌, ℕ, zero, suc, ◌<◌, ◌≤◌, ◌⊎◌, Bool, true, false, ◌&&◌, ◌||◌, cond, List, []}
+use Rattle.std.proofs.Common.{◌∷◌, ◌++◌, length, set, take, Option, Some, refl, sym, subst, ap, ◌∙◌, inl, inr, arith, slice_get}
+use Rattle.std.specs.List.{AllByRecursion}
+use Rattle.std.proofs.lemmas.Option.{slice_get_within}
+use Rattle.tag.specs.declared.limits.TheConstants.{LONGEST_VALUE, MOST_CALLS, MOST_MESSAGES, MOST_PHASES, MOST_STEPS}
+use Rattle.layout.specs.Layout.{Layout}
+use Rattle.encoder.specs.Fragment.{fragment}
+use Rattle.bank.specs.Bank.{empty_piece}
+use Rattle.bank.specs.declared.kind.Kind.TheVariants.{Next}
+use Rattle.soundness.proofs.Sound.NewPhaseSoundLemmas.{get_pushed}
+use Rattle.record.specs.declared.call.CallKind.{CallKind}
+use Rattle.record.specs.declared.call.CallKind.TheVariants.{Read, Write}
+use Rattle.record.specs.declared.stage.Stage.TheVariants.{ReadBegin}
+use Rattle.record.specs.PhaseOrder.{begun_at, stage_after}
+use Rattle.record.specs.Fragments.{AreBytes, IsValue}
+use Rattle.record.specs.Legal.{is_move, moves_in, first_stage, source_of, stage_of}
+use Rattle.record.specs.Records.{Call, Object, layout_at, base_of}
+use Rattle.soundness.specs.Sound.{IsSound}
+use Rattle.record.specs.Steps.{Step, new_call, called_object}
+use Rattle.record.specs.Sending.{requests}
+use Rattle.register.specs.Kept.{is_open_move, has_open_move, IsKept}
+use Rattle.register.specs.Position.{Position, layouts_of, banks_of}
+use Rattle.register.specs.State.{Contents, state_of}
+use Rattle.register.specs.Tracked.{Tracked, calls_of, with_begun}
+use Rattle.register.proofs.ListLemmas.{map_push, set_push, length_map, length_push, all_pushed}
+use Rattle.register.proofs.StepInvariantLemmas.{steps_on}
+use Rattle.register.proofs.ChangedCallLemmas.{any_push}
+use Rattle.register.proofs.RoomLemmas.{le_of, is_lt, not_lt, sum_few, step_within, step_past}
+use Rattle.register.specs.Causes.{unless, if_step}
+use Rattle.mail.specs.declared.message.Message.{Message}
+use Rattle.mail.specs.Mail.{mail_cause}
+use Rattle.tag.specs.declared.refusal.Refusal.{Refusal}
+use Rattle.tag.specs.declared.refusal.Refusal.TheVariants.{Full}
+
+-- what a call that reads the sequence of layouts may be
+abbrev pub IsReading : CallKind → Type 0
+IsReading kind = (kind ≡ Read) ⊎ ((value : List ℕ) × (kind ≡ Write value) × IsValue value)
+
+-- a call before its first phase, and with it
+abbrev pub fresh : CallKind → (now : ℕ) → Tracked
+fresh kind now = record { call = new_call kind now; stage = ReadBegin }
+
+abbrev pub reading : CallKind → (number base : ℕ) → Layout → (now : ℕ) → Tracked
+reading kind number base layout now = with_begun (fresh kind now) number Next base layout now
+
+abbrev pub with_reading : Contents → CallKind → (number : ℕ) → Layout → (now : ℕ) → Contents
+with_reading c kind number layout now = record c {
+  mail = c.mail ++ requests number 1 Next c.base layout.members 0 empty_piece;
+  calls = c.calls ++ reading kind number c.base layout now ∷ [];
+  last = now;
+}
+
+-- the record with a call numbered `number` that begins at a position, whose layout this is
+abbrev built : Contents → CallKind → (now base : ℕ) → Layout → (number : ℕ) → Object
+built c kind now base layout number = record {
+  delta = c.delta;
+  layouts = layouts_of c.positions;
+  banks = banks_of c.positions;
+  mail = c.mail ++ requests number 1 Next base layout.members 0 empty_piece;
+  calls = set (calls_of c.calls ++ new_call kind now ∷ []) (length (calls_of c.calls)) (reading kind number base layout now).call;
+}
+
+pub called_is : (c : Contents) (kind : CallKind) (now number : ℕ) (layout : Layout) → c.base ≡ base_of (state_of c).object
+    → layout_at (state_of c).object c.base ≡ layout → number ≡ suc (length c.calls) →
+    called_object (state_of c).object kind now ≡ (state_of (with_reading c kind number layout now)).object
+called_is c kind now number layout based same is =
+    ap (λ b. built c kind now b (layout_at (state_of c).object b) (suc (length (calls_of c.calls)))) (sym based)
+    ∙ ap (λ (l : Layout). built c kind now c.base l (suc (length (calls_of c.calls)))) same
+    ∙ ap (λ n. built c kind now c.base layout n) (ap suc (length_map (λ (u : Tracked). u.call) c.calls) ∙ sym is)
+    ∙ ap (λ cs. record {
+      delta = c.delta;
+      layouts = layouts_of c.positions;
+      banks = banks_of c.positions;
+      mail = c.mail ++ requests number 1 Next c.base layout.members 0 empty_piece;
+      calls = cs;
+    }) (set_push (calls_of c.calls) (new_call kind now) (reading kind number c.base layout now).call
+    ∙ sym (map_push (λ (u : Tracked). u.call) c.calls (reading kind number c.base layout now)))
+
+-- sources of the calls before one more
+pub moves_push : (calls : List Call) (call : Call) (i : ℕ) → i ≤ length calls
+    → moves_in (take i (calls ++ call ∷ [])) ≡ moves_in (take i calls)
+moves_push [] call zero h = refl
+moves_push [] call (suc i) h = absurd (omega arith)
+moves_push (c ∷ calls) call zero h = refl
+moves_push (c ∷ calls) call (suc i) h = ap (λ m. cond (is_move c.kind) (suc m) m) (moves_push calls call i (omega arith))
+
+pub reading_first : (kind : CallKind) (moves : ℕ) → IsReading kind → ReadBegin ≡ first_stage kind moves
+reading_first kind moves (inl is) = ap (λ k. first_stage k moves) (sym is)
+reading_first kind moves (inr is) = ap (λ k. first_stage k moves) (sym is.1)
+
+reading_stays : (kind : CallKind) → IsReading kind → is_move kind ≡ false
+reading_stays kind (inl is) = ap is_move is
+reading_stays kind (inr is) = ap is_move is.1
+
+module _ (c : Contents) (kind : CallKind) (now number : ℕ) (layout : Layout) (kept : IsKept c) (is_reading : IsReading kind)
+    (same : layout_at (state_of c).object c.base ≡ layout) (is : number ≡ suc (length c.calls)) (after : c.last < now) where
+  pub called_sound : IsSound fragment (state_of (with_reading c kind number layout now)).object now
+  called_sound = subst (λ o. IsSound fragment o now) (called_is c kind now number layout kept.based same is) (go is_reading)
+    where
+      go : IsReading kind → IsSound fragment (called_object (state_of c).object kind now) now
+      go (inl read) = subst (λ k. IsSound fragment (called_object (state_of c).object k now) now) (sym read)
+          (steps_on c now Step.CallRead after kept tt)
+      go (inr write) =
+          subst (λ k. IsSound fragment (called_object (state_of c).object k now) now) (sym write.1)
+          (steps_on c now (Step.CallWrite write.0) after kept write.2)
+
+  abbrev new : Tracked
+  new = reading kind number c.base layout now
+
+  abbrev later : Object
+  later = (state_of (with_reading c kind number layout now)).object
+
+  pushed : calls_of (c.calls ++ new ∷ []) ≡ calls_of c.calls ++ new.call ∷ []
+  pushed = map_push (λ (u : Tracked). u.call) c.calls new
+
+  same_source : (i : ℕ) → i ≤ length c.calls → source_of later i ≡ source_of (state_of c).object i
+  same_source i within =
+      ap (λ cs. moves_in (take i cs)) pushed
+      ∙ moves_push (calls_of c.calls) new.call i (subst (λ n. i ≤ n) (sym (length_map (λ (u : Tracked). u.call) c.calls)) within)
+
+  staged : (i : ℕ) (u : Tracked) → (slice_get c.calls i ≡ Some u) ⊎ ((i ≡ length c.calls) × (new ≡ u)) → u.stage ≡ stage_of later i u.call
+  staged i u (inl found) =
+      let within = slice_get_within c.calls i u found in
+      kept.staged i u found ∙ ap (λ m. stage_after u.call.kind (suc i) (first_stage u.call.kind m) u.call.phases)
+      (sym (same_source i (omega (arith, within))))
+  staged i u (inr here) = subst (λ (u : Tracked). u.stage ≡ stage_of later i u.call) here.1
+      (ap (λ s. begun_at s c.base) (reading_first kind (source_of later i) is_reading))
+
+  pub called_kept : length c.calls < MOST_CALLS → IsKept (with_reading c kind number layout now)
+  called_kept few = record {
+    sound = called_sound;
+    limits = record {
+      positions = kept.limits.positions;
+      calls = subst (λ n. n ≤ MOST_CALLS) (sym (length_map (λ (u : Tracked). u.call) (c.calls ++ new ∷ []) ∙ length_push c.calls new))
+          (omega (arith, few));
+      phases = subst (λ cs. AllByRecursion (λ (call : Call). length call.phases ≤ MOST_PHASES) cs) (sym pushed)
+          (all_pushed (λ (call : Call). length call.phases ≤ MOST_PHASES) (calls_of c.calls) new.call kept.limits.phases (omega arith));
+      stored = kept.limits.stored;
+    };
+    based = kept.based;
+    staged = λ i u e. staged i u (get_pushed c.calls new u i e);
+    moving = kept.moving ∙ sym (ap has_open_move pushed ∙ any_push is_open_move (calls_of c.calls) new.call
+        ∙ ap (λ b. has_open_move (calls_of c.calls) || (b && true)) (reading_stays kind is_reading)
+        ∙ or_none (has_open_move (calls_of c.calls)));
+    stored = kept.stored;
+  }
+    where
+      or_none : (b : Bool) → (b || false) ≡ b
+      or_none true = refl
+      or_none false = refl
+
+-- there is a position
+pub some_position : (c : Contents) → IsKept c → 0 < length c.positions
+some_position c kept =
+    let count = kept.sound.shape.positions in
+    let same = length_map (λ (p : Position). p.layout) c.positions in
+    omega (arith, count, same)
+
+-- why the call is refused
+abbrev pub reading_cause : Object → CallKind → (now : ℕ) → Option Refusal
+reading_cause object kind now = if_step now (unless (nat_lt (length object.calls) MOST_CALLS) Full
+    (mail_cause (called_object object kind now).mail))
+
+-- past the limit of steps
+pub reading_past : (object : Object) (kind : CallKind) (now : ℕ) → MOST_STEPS < now → reading_cause object kind now ≡ Some Full
+reading_past object kind now past = step_past now _ past
+
+abbrev pub reading_mail : Contents → (number : ℕ) → Layout → List Message
+reading_mail c number layout = c.mail ++ requests number 1 Next c.base layout.members 0 empty_piece
+
+pub many_calls : (c : Contents) (kind : CallKind) (now : ℕ) → now ≤ MOST_STEPS → MOST_CALLS ≤ length c.calls
+    → reading_cause (state_of c).object kind now ≡ Some Full
+many_calls c kind now within many =
+    step_within now _ within ∙ ap (λ b. unless b Full (mail_cause (called_object (state_of c).object kind now).mail))
+    (not_lt (length (calls_of c.calls)) MOST_CALLS (subst (λ n. MOST_CALLS ≤ n) (sym (length_map (λ (u : Tracked). u.call) c.calls)) many))
+
+pub reading_cause_is : (c : Contents) (kind : CallKind) (now number : ℕ) (layout : Layout) → c.base ≡ base_of (state_of c).object
+    → layout_at (state_of c).object c.base ≡ layout → number ≡ suc (length c.calls) →
+    now ≤ MOST_STEPS → length c.calls < MOST_CALLS → reading_cause (state_of c).object kind now ≡ mail_cause (reading_mail c number layout)
+reading_cause_is c kind now number layout based same is within few =
+    step_within now _ within ∙ ap (λ b. unless b Full (mail_cause (called_object (state_of c).object kind now).mail))
+    (is_lt (length (calls_of c.calls)) MOST_CALLS (subst (λ n. n < MOST_CALLS) (sym (length_map (λ (u : Tracked). u.call) c.calls)) few))
+    ∙ ap (λ (o : Object). mail_cause o.mail) (called_is c kind now number layout based same is)
+
+pub reading_room : (c : Contents) (number : ℕ) (layout : Layout) (count : ℕ) (b : Bool) → count ≡ length layout.members
+    → b ≡ nat_le (length c.mail + count) MOST_MESSAGES →
+    nat_le (length (reading_mail c number layout)) MOST_MESSAGES ≡ b
+reading_room c number layout count b is room = sum_few c.mail number 1 Next c.base layout.members empty_piece count b is room
+
+-- bytes, by their places
+pub bytes_at : (xs : List ℕ) → ((i : ℕ) → get_or xs i 0 < 256) → AreBytes xs
+bytes_at [] at = tt
+bytes_at (x ∷ xs) at = (at 0, bytes_at xs (λ i. at (suc i)))
+
+-- a value that is short
+pub value_of : (value read : List ℕ) (b : Bool) → AreBytes read → b ≡ nat_le (length read) LONGEST_VALUE → b ≡ true → read ≡ value
+    → IsValue value
+value_of value read b bytes short is same =
+    subst IsValue same (bytes, le_of (length read) LONGEST_VALUE (sym short ∙ is))

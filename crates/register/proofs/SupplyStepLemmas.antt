@@ -1,0 +1,196 @@
+-- The pieces of a call begin the phase that is due, or go out again.
+use Rattle.std.proofs.Common.{◌≡◌, ℕ, pred, ◌⊎◌, Bool, true, false, cond, is_some, List, ◌++◌, length, get_or}
+use Rattle.std.proofs.Common.{Option, Some, None, sym, ap, subst, ◌∙◌, inl, inr, refl}
+use Rattle.tag.specs.declared.tag.Tag.{Tag}
+use Rattle.bank.specs.declared.kind.Kind.{Kind}
+use Rattle.bank.specs.declared.kind.Kind.TheVariants.{Next, PreWrite}
+use Rattle.mail.specs.Mail.{mail_cause}
+use Rattle.encoder.specs.Coded.{Coding}
+use Rattle.encoder.specs.Fragment.{fragment}
+use Rattle.encoder.specs.declared.fragment.Piece.{Piece}
+use Rattle.layout.specs.Layout.{Layout}
+use Rattle.phase.specs.Phase.{Phase, members_of}
+use Rattle.record.specs.PhaseOrder.{due}
+use Rattle.record.specs.Legal.{due_of}
+use Rattle.record.specs.Preconditions.{WantsPieces, AwaitsPieces}
+use Rattle.record.specs.Records.{Object, layout_at}
+use Rattle.record.specs.Steps.{Step, stepped}
+use Rattle.record.specs.Sending.{sent_pieces}
+use Rattle.record.specs.Steps.{begun_object}
+use Rattle.record.specs.Sending.{requests, missing}
+use Rattle.record.specs.Wants.{current_phase}
+use Rattle.record.specs.declared.stage.Stage.{Stage}
+use Rattle.record.specs.declared.stage.Want.TheVariants as want
+use Rattle.soundness.proofs.Sound.WantPreconditionLemmas.{waiting_of, supply_ready}
+use Rattle.register.specs.Causes.{supply_cause, new_phase_cause, is_replied, if_step}
+use Rattle.register.specs.Coding.{pieces_position, piece_from, HavePieces}
+use Rattle.register.specs.Position.{layouts_of, banks_of}
+use Rattle.register.specs.State.{Contents, made, state_of}
+use Rattle.register.specs.Tracked.{Tracked, calls_of, asked_again}
+use Rattle.register.proofs.BeginPhaseLemmas.{IsBeginning}
+use Rattle.register.proofs.ChangedCallLemmas.{with_due, with_due_is}
+use Rattle.register.proofs.FirstReadingLemmas.{begun_due}
+use Rattle.register.proofs.FoundCallLemmas.{IsFound, same, place, due_kept}
+use Rattle.register.proofs.AskAgainLemmas.{IsAsking, phase_members, phase_call}
+use Rattle.register.proofs.SentPieceLemmas.{IsSending, sending_of, takes}
+use Rattle.register.proofs.SuppliedPieceLemmas.{IsSupplied, members_are, pieces_are, room_is, step_is}
+
+some_number : (a b : ℕ) → Some a ≡ Some b → a ≡ b
+some_number a b e = cc
+
+-- a call has replies of a quorum where its current phase is there, and has ended
+ended_phase : (o : Option Phase) → is_replied o ≡ true → (phase : Phase) × (o ≡ Some phase) × (is_some phase.end ≡ true)
+ended_phase None e = absurd (cc)
+ended_phase (Some phase) e = (phase, refl, e)
+
+-- what sends pieces is no first phase of a reading
+not_first : (tag : Tag) (position p : ℕ) → ◌≡◌ {A = Option (Kind × ℕ)} (Some (PreWrite tag, position)) (Some (Next, p)) → ⊥
+not_first tag position p e = let clash : PreWrite tag ≡ Next = ap kind_of e in absurd (cc)
+  where
+    kind_of : Option (Kind × ℕ) → Kind
+    kind_of None = Next
+    kind_of (Some asked) = asked.0
+
+module _ {c : Contents} {number index : ℕ} {t : Tracked} {coded : Coding} {position : ℕ} {layout : Layout} {value : List ℕ}
+    (s : IsSupplied c number index t coded position layout value) where
+  abbrev object : Object
+  object = (state_of c).object
+
+  abbrev found : IsFound c number index t
+  found = s.to.found
+
+  -- it has replies of a quorum, and wants its pieces
+  pub wants_pieces : is_replied (current_phase t.call.phases) ≡ true → WantsPieces object (pred number) t.call
+  wants_pieces replied = go (takes s.to)
+    where
+      go : WantsPieces object (pred number) t.call ⊎ AwaitsPieces object (pred number) t.call → WantsPieces object (pred number) t.call
+      go (inl wants) = wants
+      go (inr awaits) =
+          let open_end = (waiting_of object (pred number) t.call awaits.1.wants.1).unended awaits.0 awaits.1.current in
+          let clash : true ≡ false = sym replied ∙ ap is_replied awaits.1.current ∙ ap is_some open_end in
+          absurd (cc)
+
+  -- so the phase that is due, by the stage that is kept, is that of the record
+  pub same_due : WantsPieces object (pred number) t.call → due t.stage ≡ due_of object (pred number) t.call
+  same_due wants =
+      let sends = (supply_ready object (pred number) t.call wants.0 wants.1 wants.2.1).1 in
+      begun_due t.stage c.base (λ p e. not_first sends.tag sends.position p (sym sends.is_due ∙ sym (due_kept found) ∙ e)) ∙ due_kept found
+
+  -- the phase that is due begins
+  module _ (replied : is_replied (current_phase t.call.phases) ≡ true) {kind : Kind} {target : ℕ}
+      (due_is : due t.stage ≡ Some (kind, target)) where
+    abbrev wanted : WantsPieces object (pred number) t.call
+    wanted = wants_pieces replied
+
+    target_is : target ≡ position
+    target_is = some_number target position
+        (ap (λ next. pieces_position (want.Supply wanted.0 wanted.1) next (current_phase t.call.phases))
+        (sym due_is ∙ same_due wanted)
+        ∙ ap (λ w. pieces_position w (due_of object (pred number) t.call) (current_phase t.call.phases)) (sym wanted.2.1)
+        ∙ s.to.due)
+
+    begun_is : (now : ℕ) → made (Step.Supply (pred number)) now (state_of c)
+        ≡ state_of (with_due c index t kind target layout now (piece_from (Some coded)))
+    begun_is now =
+        let ended = ended_phase (current_phase t.call.phases) replied in
+        ap (λ o. record { object = o; last = now })
+        (step_is s now ended.0 ended.1 true ended.2
+        ∙ ap (λ d. begun_object fragment object index t.call d now)
+        (ap (λ i. due_of object i t.call) (place found) ∙ sym (same_due wanted) ∙ due_is)
+        ∙ with_due_is c index t kind target layout now (sent_pieces fragment object t.call target)
+        (ap (layout_at object) target_is ∙ s.placed)
+        ∙ ap (λ (piece : ℕ → Piece). (state_of (with_due c index t kind target layout now piece)).object)
+        (ap (λ p. sent_pieces fragment object t.call p) target_is ∙ pieces_are s))
+
+    pub begins : IsBeginning c number index t (Step.Supply (pred number)) (λ now. supply_cause now object number coded)
+        (Some coded) kind target layout
+    begins = record {
+      found = found;
+      may = record { call = t.call; takes = takes s.to };
+      makes = begun_is;
+      causes = λ now. room_is s now ∙ ap (λ r. cond r (new_phase_cause (Step.Supply (pred number)) now object t.call)
+          (if_step now (mail_cause (stepped fragment (Step.Supply (pred number)) now object).mail))) replied;
+    }
+
+  -- it lacks a quorum of replies, and asks again
+  module _ (lacks : is_replied (current_phase t.call.phases) ≡ false) where
+    awaited : AwaitsPieces object (pred number) t.call
+    awaited = go (takes s.to)
+      where
+        go : WantsPieces object (pred number) t.call ⊎ AwaitsPieces object (pred number) t.call → AwaitsPieces object (pred number) t.call
+        go (inl wants) =
+            let ready = (supply_ready object (pred number) t.call wants.0 wants.1 wants.2.1).0 in
+            let clash : false ≡ true = sym lacks ∙ ap is_replied ready.current ∙ ap is_some ready.ended in
+            absurd (cc)
+        go (inr awaits) = awaits
+
+    -- its current phase sends the pieces
+    current : IsSending (current_phase t.call.phases) position
+    current = sending_of (current_phase t.call.phases) position
+        (ap (λ w. pieces_position w (due_of object (pred number) t.call) (current_phase t.call.phases)) (sym awaited.1.wants.1)
+        ∙ s.to.due)
+
+    phase_layout : layout_at object current.phase.position ≡ layout
+    phase_layout = ap (layout_at object) current.same ∙ s.placed
+
+    members_of_phase : length layout.members ≡ current.phase.members
+    members_of_phase = ap (λ (l : Layout). length l.members) (sym phase_layout) ∙ phase_members found current.is
+
+    again_is : (now : ℕ) → made (Step.Supply (pred number)) now (state_of c)
+        ≡ state_of (record c {
+          mail = c.mail ++ asked_again number current.phase layout.members c.mail (piece_from (Some coded));
+          last = now;
+        })
+    again_is now =
+        let p = current.phase in
+        ap (λ o. record { object = o; last = now })
+        (step_is s now p current.is false (ap is_replied (sym current.is) ∙ lacks)
+        ∙ ap (λ rs. record {
+          delta = c.delta;
+          layouts = layouts_of c.positions;
+          banks = banks_of c.positions;
+          mail = c.mail ++ missing c.mail (members_of p.replies) rs;
+          calls = calls_of c.calls;
+        })
+        (ap (λ n. requests n p.number p.kind p.position (layout_at object p.position).members 0
+        (sent_pieces fragment object t.call p.position)) (phase_call found current.is)
+        ∙ ap (λ (l : Layout). requests number p.number p.kind p.position l.members 0 (sent_pieces fragment object t.call p.position))
+        phase_layout
+        ∙ ap (λ (piece : ℕ → Piece). requests number p.number p.kind p.position layout.members 0 piece)
+        (ap (λ n. sent_pieces fragment object t.call n) current.same ∙ pieces_are s)))
+
+    pub asks : IsAsking c number index t (Step.Supply (pred number)) (λ now. supply_cause now object number coded) (Some coded)
+    asks = record {
+      found = found;
+      may = record { call = t.call; takes = takes s.to };
+      phase = current.phase;
+      current = current.is;
+      servers = layout.members;
+      members = members_of_phase;
+      sends = subst (λ (k : Kind). HavePieces k current.phase.members (Some coded)) (sym current.kind.1) (members_are s ∙ members_of_phase);
+      makes = again_is;
+      causes = λ now. room_is s now ∙ ap (λ r. cond r (new_phase_cause (Step.Supply (pred number)) now object t.call)
+          (if_step now (mail_cause (stepped fragment (Step.Supply (pred number)) now object).mail))) lacks;
+    }
+
+  module _ {phase : Option Phase} {replied : Bool} {old : Tracked} (current_is : phase ≡ current_phase t.call.phases)
+      (tested : replied ≡ is_replied phase)
+      (read : old ≡ get_or c.calls index old) where
+    -- what was read of the call, at its second reading
+    pub beginning : {stage : Stage} {next : Option (Kind × ℕ)} {kind : Kind} {target : ℕ} → replied ≡ true → stage ≡ t.stage
+        → next ≡ due stage
+        → next ≡ Some (kind, target)
+        → IsBeginning c number index old (Step.Supply (pred number)) (λ now. supply_cause now object number coded)
+        (Some coded) kind target layout
+    beginning {kind = kind} {target = target} passed stage_is next_is is =
+        subst (λ (u : Tracked). IsBeginning c number index u (Step.Supply (pred number)) (λ now. supply_cause now object number coded)
+        (Some coded) kind target layout)
+        (same found read)
+        (begins (ap is_replied (sym current_is) ∙ sym tested ∙ passed) (ap due (sym stage_is) ∙ sym next_is ∙ is))
+
+    pub asking : replied ≡ false → IsAsking c number index old (Step.Supply (pred number)) (λ now. supply_cause now object number coded)
+        (Some coded)
+    asking failed =
+        subst (λ (u : Tracked). IsAsking c number index u (Step.Supply (pred number)) (λ now. supply_cause now object number coded)
+        (Some coded))
+        (same found read) (asks (ap is_replied (sym current_is) ∙ sym tested ∙ failed))

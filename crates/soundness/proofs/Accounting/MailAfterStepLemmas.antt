@@ -1,0 +1,147 @@
+-- What each step leaves in messages.
+use Rattle.std.proofs.Common.{◌≡◌, ℕ, suc, pred, ◌+◌, ◌≤◌, List, [], ◌∷◌, Option}
+use Rattle.std.proofs.Common.{◌++◌, length, Some, refl, ap, ◌∙◌, arith, slice_get}
+use Rattle.tag.specs.declared.tag.Tag.{Tag}
+use Rattle.layout.specs.Layout.{Layout}
+use Rattle.encoder.specs.declared.fragment.Piece.{Piece}
+use Rattle.bank.specs.Bank.{empty_piece}
+use Rattle.bank.specs.Answer.{answer_bytes}
+use Rattle.bank.specs.Serve.{answer_to, reply_to}
+use Rattle.bank.specs.declared.kind.Kind.{Kind}
+use Rattle.bank.specs.declared.kind.Kind.TheVariants.{Next, Spread, PreWrite}
+use Rattle.bank.specs.declared.request.Request.{Request}
+use Rattle.mail.specs.declared.message.Message.{Message}
+use Rattle.mail.specs.Message.{request_bytes, body_bytes, message_bytes, answered}
+use Rattle.mail.specs.Mail.{mail_bytes}
+use Rattle.phase.specs.Phase.{Phase, members_of}
+use Rattle.bank.specs.declared.status.Status.TheVariants.{Pending}
+use Rattle.record.specs.declared.call.CallKind.{CallKind}
+use Rattle.record.specs.declared.call.CallKind.TheVariants.{Move}
+use Rattle.record.specs.Records.{Call, Object, layout_at, bank_at, base_of}
+use Rattle.record.specs.Fragments.{Code}
+use Rattle.record.specs.Accounts.{position_bytes, stored, mailed, member_sum}
+use Rattle.record.specs.Sending.{sent_pieces, request_to, requests}
+use Rattle.record.specs.Steps.{new_call, with_phase, opened_banks, opened_object}
+use Rattle.record.specs.Steps.{called_object, moving_object, settled_object, answered_object, handled_object}
+use Rattle.record.specs.Steps.{taken_object, lost_object, repeated_object, asked_again}
+use Rattle.record.specs.Sending.{missing_requests}
+use Rattle.mail.specs.declared.message.Body.TheVariants as body
+use Rattle.soundness.proofs.Accounting.MessageBytesLemmas.{mail-append, mail-one, mail-set, mail-remove, requests_bytes, none_sum, no_piece}
+use Rattle.soundness.proofs.Accounting.MessageBytesLemmas.{missing-le}
+use Rattle.soundness.proofs.Accounting.StoredBytesLemmas.{position-opened}
+
+-- an object that was just opened stores nothing, and nothing waits
+pub stored-opened : (layout : Layout) (delta : Option ℕ) (now server : ℕ) → stored (opened_object layout delta now) server ≡ 0
+stored-opened layout delta now server = more (position_bytes server layout.members (opened_banks layout.members 0 delta now))
+    (position-opened server layout.members layout.members 0 delta now)
+  where
+    more : (b : ℕ) → b ≡ 0 → b + 0 ≡ 0
+    more b e = omega arith
+
+pub mailed-opened : (layout : Layout) (delta : Option ℕ) (now : ℕ) → mailed (opened_object layout delta now) ≡ 0
+mailed-opened layout delta now = refl
+
+-- a request's bytes leave the mail, and its reply's come
+pub mailed-handled : (object : Object) (place : ℕ) (message : Message) (asked : Request) (now : ℕ) →
+    slice_get object.mail place ≡ Some message → message.body ≡ body.Request asked →
+    mailed (handled_object object place message asked now) + request_bytes asked
+    ≡ mailed object + answer_bytes (answer_to (bank_at object message.position message.member) asked)
+mailed-handled object place message asked now at is =
+    subst_right (mailed (handled_object object place message asked now)) (message_bytes message) (request_bytes asked)
+    (mailed object + answer_bytes (answer_to (bank_at object message.position message.member) asked)) (ap body_bytes is)
+    (mail-set object.mail place message (answered message (reply_to (bank_at object message.position message.member) asked now)) at)
+  where
+    subst_right : (a b c d : ℕ) → b ≡ c → a + b ≡ d → a + c ≡ d
+    subst_right a b c d e f = omega arith
+
+-- a phase that begins adds the lengths of the pieces that it sends
+pub mailed-with_phase : (object : Object) (index : ℕ) (call : Call) (kind : Kind) (position now : ℕ) (piece : ℕ → Piece) →
+    mailed (with_phase object index call kind position now piece)
+    ≡ mailed object + member_sum (λ i. request_bytes (request_to kind (piece i))) 0 (length (layout_at object position).members)
+mailed-with_phase object index call kind position now piece =
+    mail-append object.mail (requests (suc index) (suc (length call.phases)) kind position (layout_at object position).members 0 piece)
+    ∙ ap (λ n. mailed object + n)
+    (requests_bytes (suc index) (suc (length call.phases)) kind position (layout_at object position).members 0 piece)
+
+pub mailed-pre_write : (object : Object) (index : ℕ) (call : Call) (tag : Tag) (position now : ℕ) (piece : ℕ → Piece) →
+    mailed (with_phase object index call (PreWrite tag) position now piece)
+    ≡ mailed object + member_sum (λ i. length (piece i).bytes) 0 (length (layout_at object position).members)
+mailed-pre_write object index call tag position now piece = mailed-with_phase object index call (PreWrite tag) position now piece
+
+nothing_more : (a b c : ℕ) → a ≡ b + c → c ≡ 0 → a ≡ b
+nothing_more a b c e none = omega arith
+
+pub mailed-plain : (object : Object) (index : ℕ) (call : Call) (kind : Kind) (position now : ℕ) (piece : ℕ → Piece) →
+    ((tag : Tag) → kind ≡ PreWrite tag → ⊥) → mailed (with_phase object index call kind position now piece) ≡ mailed object
+mailed-plain object index call kind position now piece plain =
+    let count = length (layout_at object position).members in
+    nothing_more (mailed (with_phase object index call kind position now piece)) (mailed object)
+    (member_sum (λ i. request_bytes (request_to kind (piece i))) 0 count)
+    (mailed-with_phase object index call kind position now piece)
+    (none_sum (λ i. request_bytes (request_to kind (piece i))) (λ i. no_piece kind plain (piece i)) 0 count)
+
+-- calls add nothing
+pub mailed-called : (object : Object) (kind : CallKind) (now : ℕ) → mailed (called_object object kind now) ≡ mailed object
+mailed-called object kind now =
+    mailed-plain (record object { calls = object.calls ++ new_call kind now ∷ [] }) (length object.calls)
+    (new_call kind now) Next (base_of object) now empty_piece
+    (λ tag e. cc)
+
+pub mailed-moving : (object : Object) (layout : Layout) (now : ℕ) → mailed (moving_object object layout now) ≡ mailed object
+mailed-moving object layout now =
+    mailed-plain
+    (record object {
+      layouts = object.layouts ++ layout ∷ [];
+      banks = object.banks ++ opened_banks layout.members 0 object.delta now ∷ [];
+      calls = object.calls ++ new_call Move now ∷ [];
+    }) (length object.calls) (new_call Move now) (Spread Pending) (pred (length object.layouts)) now empty_piece (λ tag e. cc)
+
+-- requests that go out again are some of a phase's requests
+pub mailed-asked_again : (fragment : Code) (object : Object) (call : Call) (phase : Phase) →
+    mailed (asked_again fragment object call (Some phase))
+    ≡ mailed object + mail_bytes (missing_requests object phase (sent_pieces fragment object call phase.position))
+mailed-asked_again fragment object call phase =
+    mail-append object.mail (missing_requests object phase (sent_pieces fragment object call phase.position))
+
+pub missing_requests-le : (object : Object) (phase : Phase) (piece : ℕ → Piece) →
+    mail_bytes (missing_requests object phase piece) ≤ member_sum (λ i. request_bytes (request_to phase.kind (piece i))) 0
+    (length (layout_at object phase.position).members)
+missing_requests-le object phase piece =
+    let all = requests phase.call phase.number phase.kind phase.position (layout_at object phase.position).members 0 piece in
+    let at_most = missing-le object.mail (members_of phase.replies) all in
+    within (mail_bytes (missing_requests object phase piece)) (mail_bytes all)
+    (member_sum (λ i. request_bytes (request_to phase.kind (piece i))) 0 (length (layout_at object phase.position).members))
+    at_most (requests_bytes phase.call phase.number phase.kind phase.position (layout_at object phase.position).members 0 piece)
+  where
+    within : (a b c : ℕ) → a ≤ b → b ≡ c → a ≤ c
+    within a b c h e = omega arith
+
+-- a message that is taken or lost leaves the mail, and one that is repeated comes again
+pub mailed-taken : (object : Object) (place : ℕ) (message : Message) (now : ℕ) → slice_get object.mail place ≡ Some message →
+    mailed (taken_object object place message now) + message_bytes message ≡ mailed object
+mailed-taken object place message now at = mail-remove object.mail place message at
+
+pub mailed-lost : (object : Object) (place : ℕ) (message : Message) → slice_get object.mail place ≡ Some message →
+    mailed (lost_object object place) + message_bytes message ≡ mailed object
+mailed-lost object place message at = mail-remove object.mail place message at
+
+pub mailed-repeated : (object : Object) (message : Message) →
+    mailed (repeated_object object message) ≡ mailed object + message_bytes message
+mailed-repeated object message = mail-append object.mail (message ∷ []) ∙ ap (λ n. mailed object + n) (mail-one message)
+
+-- to settle a value, and to answer, changes neither
+pub mailed-settled : (object : Object) (index : ℕ) (call : Call) (value : List ℕ) →
+    mailed (settled_object object index call value) ≡ mailed object
+mailed-settled object index call value = refl
+
+pub mailed-answered : (object : Object) (index : ℕ) (call : Call) (now : ℕ) →
+    mailed (answered_object object index call now) ≡ mailed object
+mailed-answered object index call now = refl
+
+pub stored-settled : (object : Object) (index : ℕ) (call : Call) (value : List ℕ) (server : ℕ) →
+    stored (settled_object object index call value) server ≡ stored object server
+stored-settled object index call value server = refl
+
+pub stored-answered : (object : Object) (index : ℕ) (call : Call) (now server : ℕ) →
+    stored (answered_object object index call now) server ≡ stored object server
+stored-answered object index call now server = refl

@@ -1,0 +1,199 @@
+-- The bytes that a server stores.
+use Rattle.std.proofs.Common.{◌≡◌, ℕ, zero, suc, ◌+◌, ◌<◌, ◌==◌, Bool, true, false, cond, List, []}
+use Rattle.std.proofs.Common.{◌∷◌, ◌++◌, length, set, get_or, Option, Some, None, is_some, refl, sym, ap, ◌∙◌, arith}
+use Rattle.layout.specs.Layout.{Layout}
+use Rattle.encoder.specs.declared.fragment.Piece.{Piece}
+use Rattle.bank.specs.Bank.{Bank, opened_bank}
+use Rattle.bank.specs.Bytes.{bank_bytes, added_bytes}
+use Rattle.bank.specs.Serve.{served_bank, freed_bytes}
+use Rattle.bank.specs.declared.kind.Kind.{Kind}
+use Rattle.bank.specs.declared.request.Request.{Request}
+use Rattle.bank.proofs.BankBytesLemmas.{served_bytes, opened_bytes}
+use Rattle.mail.specs.declared.message.Message.{Message}
+use Rattle.mail.specs.declared.message.Body.{Body}
+use Rattle.phase.specs.Phase.{Phase}
+use Rattle.record.specs.Records.{Call, Object, layout_at, bank_at, no_bank, no_layout}
+use Rattle.record.specs.Legal.{due_of}
+use Rattle.record.specs.Fragments.{Code}
+use Rattle.record.specs.Accounts.{position_bytes, stored_bytes, stored, server_at, for_server, stored_by_body, freed_by_body}
+use Rattle.record.specs.Steps.{with_bank, with_phase, opened_banks, moving_object, begun_object}
+use Rattle.record.specs.Steps.{advanced_object, handled_object, taken_by, asked_again, supplied_by}
+use Rattle.mail.specs.declared.message.Body.TheVariants as body
+
+-- Banks
+
+for_server-sum : (server other a b : ℕ) → for_server server other (a + b) ≡ for_server server other a + for_server server other b
+for_server-sum server other a b = go (other == server)
+  where
+    go : (c : Bool) → cond c (a + b) 0 ≡ cond c a 0 + cond c b 0
+    go true = refl
+    go false = refl
+
+exchanged : (new rest old : ℕ) → new + rest + old ≡ old + rest + new
+exchanged new rest old = omega arith
+
+behind : (first p q old new : ℕ) → p + old ≡ q + new → first + p + old ≡ first + q + new
+behind first p q old new e = omega arith
+
+-- another bank for a member of a position
+position-set : (server : ℕ) (members : List ℕ) (banks : List Bank) (member : ℕ) (bank : Bank) →
+    member < length members → member < length banks → position_bytes server members (set banks member bank)
+    + for_server server (get_or members member 0) (bank_bytes (get_or banks member no_bank))
+    ≡ position_bytes server members banks + for_server server (get_or members member 0) (bank_bytes bank)
+position-set server [] banks member bank m b = absurd (omega arith)
+position-set server (x ∷ members) [] member bank m b = absurd (omega arith)
+position-set server (x ∷ members) (old ∷ banks) zero bank m b =
+    exchanged (for_server server x (bank_bytes bank)) (position_bytes server members banks) (for_server server x (bank_bytes old))
+position-set server (x ∷ members) (old ∷ banks) (suc member) bank m b =
+    let below : member < length members = omega arith in
+    let there : member < length banks = omega arith in
+    behind (for_server server x (bank_bytes old)) (position_bytes server members (set banks member bank))
+    (position_bytes server members banks)
+    (for_server server (get_or members member 0) (bank_bytes (get_or banks member no_bank)))
+    (for_server server (get_or members member 0) (bank_bytes bank))
+    (position-set server members banks member bank below there)
+
+-- other banks for a position
+pub stored-set : (server : ℕ) (layouts : List Layout) (banks : List (List Bank)) (position : ℕ) (row : List Bank) →
+    position < length layouts → position < length banks → stored_bytes server layouts (set banks position row)
+    + position_bytes server (get_or layouts position no_layout).members (get_or banks position [])
+    ≡ stored_bytes server layouts banks + position_bytes server (get_or layouts position no_layout).members row
+stored-set server [] banks position row p b = absurd (omega arith)
+stored-set server (layout ∷ layouts) [] position row p b = absurd (omega arith)
+stored-set server (layout ∷ layouts) (old ∷ banks) zero row p b =
+    exchanged (position_bytes server layout.members row) (stored_bytes server layouts banks) (position_bytes server layout.members old)
+stored-set server (layout ∷ layouts) (old ∷ banks) (suc position) row p b =
+    let below : position < length layouts = omega arith in
+    let there : position < length banks = omega arith in
+    behind (position_bytes server layout.members old) (stored_bytes server layouts (set banks position row))
+    (stored_bytes server layouts banks)
+    (position_bytes server (get_or layouts position no_layout).members (get_or banks position []))
+    (position_bytes server (get_or layouts position no_layout).members row)
+    (stored-set server layouts banks position row below there)
+
+two_steps : (s t p q old new : ℕ) → s + p ≡ t + q → q + old ≡ p + new → s + old ≡ t + new
+two_steps s t p q old new e f = omega arith
+
+-- the record with another bank of one member
+pub stored-with_bank : (object : Object) (position member : ℕ) (bank : Bank) (server : ℕ) →
+    position < length object.layouts → position < length object.banks → member < length (layout_at object position).members →
+    member < length (get_or object.banks position []) → stored (with_bank object position member bank) server
+    + for_server server (server_at object position member) (bank_bytes (bank_at object position member))
+    ≡ stored object server + for_server server (server_at object position member) (bank_bytes bank)
+stored-with_bank object position member bank server p b m n =
+    two_steps (stored (with_bank object position member bank) server) (stored object server)
+    (position_bytes server (layout_at object position).members (get_or object.banks position []))
+    (position_bytes server (layout_at object position).members (set (get_or object.banks position []) member bank))
+    (for_server server (server_at object position member) (bank_bytes (bank_at object position member)))
+    (for_server server (server_at object position member) (bank_bytes bank))
+    (stored-set server object.layouts object.banks position (set (get_or object.banks position []) member bank) p b)
+    (position-set server (layout_at object position).members (get_or object.banks position []) member bank m n)
+
+-- what is there after a request, by what it adds and what it frees
+more_and_less : (s t old new added freed : ℕ) → s + old ≡ t + new → new + freed ≡ old + added → s + freed ≡ t + added
+more_and_less s t old new added freed e f = omega arith
+
+pub stored-served : (object : Object) (position member : ℕ) (asked : Request) (now server : ℕ) → position < length object.layouts →
+    position < length object.banks →
+    member < length (layout_at object position).members → member < length (get_or object.banks position []) →
+    stored (with_bank object position member (served_bank (bank_at object position member) asked now)) server
+    + for_server server (server_at object position member) (freed_bytes (bank_at object position member) asked now)
+    ≡ stored object server + for_server server (server_at object position member) (added_bytes (bank_at object position member) asked)
+stored-served object position member asked now server p b m n =
+    let bank = bank_at object position member in
+    let new = served_bank bank asked now in
+    let there = for_server server (server_at object position member) in
+    more_and_less (stored (with_bank object position member new) server) (stored object server)
+    (there (bank_bytes bank)) (there (bank_bytes new)) (there (added_bytes bank asked)) (there (freed_bytes bank asked now))
+    (stored-with_bank object position member new server p b m n)
+    (sym (for_server-sum server (server_at object position member) (bank_bytes new) (freed_bytes bank asked now))
+    ∙ ap there (served_bytes bank asked now)
+    ∙ for_server-sum server (server_at object position member) (bank_bytes bank) (added_bytes bank asked))
+
+-- banks that were just opened
+pub position-opened : (server : ℕ) (members servers : List ℕ) (member : ℕ) (delta : Option ℕ) (now : ℕ) →
+    position_bytes server members (opened_banks servers member delta now) ≡ 0
+position-opened server [] servers member delta now = refl
+position-opened server (x ∷ members) [] member delta now = refl
+position-opened server (x ∷ members) (y ∷ servers) member delta now =
+    let rest = position-opened server members servers (suc member) delta now in
+    let first : for_server server x (bank_bytes (opened_bank member delta now)) ≡ 0 = ap (for_server server x)
+    (opened_bytes member delta now)
+    ∙ none (x == server) 0 in
+    sum_none (for_server server x (bank_bytes (opened_bank member delta now)))
+    (position_bytes server members (opened_banks servers (suc member) delta now)) first rest
+  where
+    none : (c : Bool) (n : ℕ) → cond c n n ≡ n
+    none true n = refl
+    none false n = refl
+
+    sum_none : (a b : ℕ) → a ≡ 0 → b ≡ 0 → a + b ≡ 0
+    sum_none a b e f = omega arith
+
+stored-append : (server : ℕ) (layouts : List Layout) (banks : List (List Bank)) (layout : Layout) (row : List Bank) →
+    length banks ≡ length layouts → stored_bytes server (layouts ++ layout ∷ []) (banks ++ row ∷ [])
+    ≡ stored_bytes server layouts banks + position_bytes server layout.members row
+stored-append server [] [] layout row e = omega arith
+stored-append server [] (b ∷ banks) layout row e = absurd (omega arith)
+stored-append server (l ∷ layouts) [] layout row e = absurd (omega arith)
+stored-append server (l ∷ layouts) (b ∷ banks) layout row e =
+    let rest = stored-append server layouts banks layout row (omega arith) in
+    placed (position_bytes server l.members b)
+    (stored_bytes server (layouts ++ layout ∷ []) (banks ++ row ∷ [])) (stored_bytes server layouts banks)
+    (position_bytes server layout.members row) rest
+  where
+    placed : (a s t r : ℕ) → s ≡ t + r → a + s ≡ a + t + r
+    placed a s t r e = omega arith
+
+-- Each step, by the records that it leaves
+
+module _ (object : Object) (server : ℕ) where
+  -- a server handles a request: it stores what the request adds, without what it frees, and the reply waits in its place
+  pub stored-handled : (place : ℕ) (message : Message) (asked : Request) (now : ℕ) → message.position < length object.layouts →
+      message.position < length object.banks → message.member < length (layout_at object message.position).members →
+      message.member < length (get_or object.banks message.position []) →
+      stored (handled_object object place message asked now) server + freed_by_body object message (body.Request asked) now server
+      ≡ stored object server + stored_by_body object message (body.Request asked) server
+  stored-handled place message asked now p b m n = stored-served object message.position message.member asked now server p b m n
+
+  -- the beginning of a phase, and every step on calls and messages alone
+  pub stored-with_phase : (index : ℕ) (call : Call) (kind : Kind) (position now : ℕ) (piece : ℕ → Piece) →
+      stored (with_phase object index call kind position now piece) server ≡ stored object server
+  stored-with_phase index call kind position now piece = refl
+
+  pub stored-begun : (fragment : Code) (index : ℕ) (call : Call) (next : Option (Kind × ℕ)) (now : ℕ) →
+      stored (begun_object fragment object index call next now) server ≡ stored object server
+  stored-begun fragment index call None now = refl
+  stored-begun fragment index call (Some next) now = refl
+
+  pub stored-asked_again : (fragment : Code) (call : Call) (phase : Option Phase) → stored (asked_again fragment object call phase) server
+      ≡ stored object server
+  stored-asked_again fragment call None = refl
+  stored-asked_again fragment call (Some phase) = refl
+
+  pub stored-supplied : (fragment : Code) (index : ℕ) (call : Call) (now : ℕ) (phase : Option Phase) →
+      stored (supplied_by fragment object index call now phase) server ≡ stored object server
+  stored-supplied fragment index call now None = refl
+  stored-supplied fragment index call now (Some phase) = go (is_some phase.end)
+    where
+      go : (b : Bool) →
+          stored (cond b (advanced_object fragment object index call now) (asked_again fragment object call (Some phase))) server
+          ≡ stored object server
+      go true = stored-begun fragment index call (due_of object index call) now
+      go false = refl
+
+  pub stored-taken : (place : ℕ) (message : Message) (b : Body) (now : ℕ) →
+      stored (taken_by object place message b now) server ≡ stored object server
+  stored-taken place message (body.Request asked) now = refl
+  stored-taken place message (body.Reply kind made) now = refl
+
+  -- a call of a move appends a position, whose banks store nothing
+  pub stored-moving : (layout : Layout) (now : ℕ) → length object.banks ≡ length object.layouts →
+      stored (moving_object object layout now) server ≡ stored object server
+  stored-moving layout now e =
+      stored-append server object.layouts object.banks layout (opened_banks layout.members 0 object.delta now) e
+      ∙ more (stored object server) (position_bytes server layout.members (opened_banks layout.members 0 object.delta now))
+      (position-opened server layout.members layout.members 0 object.delta now)
+    where
+      more : (a b : ℕ) → b ≡ 0 → a + b ≡ a
+      more a b e = omega arith

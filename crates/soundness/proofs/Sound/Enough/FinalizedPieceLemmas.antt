@@ -1,0 +1,161 @@
+-- What was fetched before had its pieces.
+use Rattle.std.proofs.Common.{◌≡◌, ℕ, zero, suc, ◌<◌, ◌≤◌, ◌⊎◌, true, Option}
+use Rattle.std.proofs.Common.{Some, None, refl, subst₂, inl, inr, arith, le_of_lt, leb-true}
+use Rattle.std.proofs.lemmas.Option.{some_pair_parts}
+use Rattle.tag.specs.declared.tag.Tag.{Tag}
+use Rattle.tag.specs.Tag.{opening_tag}
+use Rattle.bank.specs.declared.kind.Kind.{Kind}
+use Rattle.record.specs.Records.{Object, bank_at}
+use Rattle.bank.specs.declared.status.Status.TheVariants.{Pending, Final}
+use Rattle.bank.specs.declared.kind.Kind.TheVariants.{Next, Spread, Query, PreWrite, Finalize, Fetch}
+use Rattle.bank.specs.Knowledge.{came_by, finalized_at, HasFinalized}
+use Rattle.record.specs.PhaseOrder.{due}
+use Rattle.record.specs.declared.stage.Stage.{Stage}
+use Rattle.record.specs.declared.stage.Stage.TheVariants.{ReadBegin, ReadNext, ReadSpread, QueryFrom, FetchAt, PreWriteAt}
+use Rattle.record.specs.declared.stage.Stage.TheVariants.{FinalizeAt, AgainNext, AgainSpread, MoveSpread, MoveQuery}
+use Rattle.record.specs.declared.stage.Stage.TheVariants.{MoveFetch, MovePreWrite, MoveFinalize, MoveFinal, Ended, Moved}
+use Rattle.record.specs.Legal.{IsLegal, HasBegun}
+use Rattle.soundness.proofs.Sound.Enough.QuorumPieceLemmas.{Had, had_later, Somewhere}
+use Rattle.soundness.proofs.Sound.Enough.StagePieceLemmas.{PieceFacts, AtPhase, call_at_phase}
+
+-- before a tag is fetched, it was finalized there
+pub fetch_rests : (object : Object) (now position : ℕ) (stage : Stage) (tag : Tag) → PieceFacts object now stage →
+    due stage ≡ Some (Fetch tag, position) → Somewhere object position tag now
+fetch_rests object now position (FetchAt q l t) tag facts e =
+    let parts = some_pair_parts (Fetch t) (Fetch tag) q position e in
+    let same : t ≡ tag = (let k = parts.0 in cc) in
+    subst₂ (λ p u. Somewhere object p u now) parts.1 same facts
+fetch_rests object now position (MoveFetch q t) tag facts e =
+    let parts = some_pair_parts (Fetch t) (Fetch tag) q position e in
+    let same : t ≡ tag = (let k = parts.0 in cc) in
+    subst₂ (λ p u. Somewhere object p u now) parts.1 same facts
+fetch_rests object now position ReadBegin tag facts e = absurd (let other = (some_pair_parts Next (Fetch tag) 0 position e).0 in cc)
+fetch_rests object now position (ReadNext a b) tag facts e = absurd (let other = (some_pair_parts Next (Fetch tag) a position e).0 in cc)
+fetch_rests object now position (ReadSpread a b c) tag facts e =
+    absurd (let other = (some_pair_parts (Spread c) (Fetch tag) a position e).0 in cc)
+fetch_rests object now position (QueryFrom a b c d) tag facts e =
+    absurd (let other = (some_pair_parts Query (Fetch tag) a position e).0 in cc)
+fetch_rests object now position (PreWriteAt a b) tag facts e =
+    absurd (let other = (some_pair_parts (PreWrite b) (Fetch tag) a position e).0 in cc)
+fetch_rests object now position (FinalizeAt a b) tag facts e =
+    absurd (let other = (some_pair_parts (Finalize b) (Fetch tag) a position e).0 in cc)
+fetch_rests object now position (AgainNext a b c) tag facts e = absurd (let other = (some_pair_parts Next (Fetch tag) b position e).0 in cc)
+fetch_rests object now position (AgainSpread a b c d) tag facts e =
+    absurd (let other = (some_pair_parts (Spread d) (Fetch tag) b position e).0 in cc)
+fetch_rests object now position (MoveSpread a) tag facts e =
+    absurd (let other = (some_pair_parts (Spread Pending) (Fetch tag) a position e).0 in cc)
+fetch_rests object now position (MoveQuery a) tag facts e = absurd (let other = (some_pair_parts Query (Fetch tag) a position e).0 in cc)
+fetch_rests object now position (MovePreWrite a b) tag facts e =
+    absurd (let other = (some_pair_parts (PreWrite b) (Fetch tag) (suc a) position e).0 in cc)
+fetch_rests object now position (MoveFinalize a b) tag facts e =
+    absurd (let other = (some_pair_parts (Finalize b) (Fetch tag) (suc a) position e).0 in cc)
+fetch_rests object now position (MoveFinal a b) tag facts e =
+    absurd (let other = (some_pair_parts (Spread Final) (Fetch tag) a position e).0 in cc)
+fetch_rests object now position (Ended a b) tag facts e = absurd (cc)
+fetch_rests object now position (Moved a b) tag facts e = absurd (cc)
+
+-- before a tag is finalized by its own request, a quorum had its pieces
+fin_rests : (object : Object) (now position : ℕ) (stage : Stage) (tag : Tag) → PieceFacts object now stage →
+    due stage ≡ Some (Finalize tag, position) → Had object position tag now
+fin_rests object now position (FinalizeAt q t) tag facts e =
+    let parts = some_pair_parts (Finalize t) (Finalize tag) q position e in
+    let same : t ≡ tag = (let k = parts.0 in cc) in
+    subst₂ (λ p u. Had object p u now) parts.1 same facts
+fin_rests object now position (MoveFinalize q t) tag facts e =
+    let parts = some_pair_parts (Finalize t) (Finalize tag) (suc q) position e in
+    let same : t ≡ tag = (let k = parts.0 in cc) in
+    subst₂ (λ p u. Had object p u now) parts.1 same facts
+fin_rests object now position ReadBegin tag facts e = absurd (let other = (some_pair_parts Next (Finalize tag) 0 position e).0 in cc)
+fin_rests object now position (ReadNext a b) tag facts e = absurd (let other = (some_pair_parts Next (Finalize tag) a position e).0 in cc)
+fin_rests object now position (ReadSpread a b c) tag facts e =
+    absurd (let other = (some_pair_parts (Spread c) (Finalize tag) a position e).0 in cc)
+fin_rests object now position (QueryFrom a b c d) tag facts e =
+    absurd (let other = (some_pair_parts Query (Finalize tag) a position e).0 in cc)
+fin_rests object now position (FetchAt a b c) tag facts e =
+    absurd (let other = (some_pair_parts (Fetch c) (Finalize tag) a position e).0 in cc)
+fin_rests object now position (PreWriteAt a b) tag facts e =
+    absurd (let other = (some_pair_parts (PreWrite b) (Finalize tag) a position e).0 in cc)
+fin_rests object now position (AgainNext a b c) tag facts e =
+    absurd (let other = (some_pair_parts Next (Finalize tag) b position e).0 in cc)
+fin_rests object now position (AgainSpread a b c d) tag facts e =
+    absurd (let other = (some_pair_parts (Spread d) (Finalize tag) b position e).0 in cc)
+fin_rests object now position (MoveSpread a) tag facts e =
+    absurd (let other = (some_pair_parts (Spread Pending) (Finalize tag) a position e).0 in cc)
+fin_rests object now position (MoveQuery a) tag facts e = absurd (let other = (some_pair_parts Query (Finalize tag) a position e).0 in cc)
+fin_rests object now position (MoveFetch a b) tag facts e =
+    absurd (let other = (some_pair_parts (Fetch b) (Finalize tag) a position e).0 in cc)
+fin_rests object now position (MovePreWrite a b) tag facts e =
+    absurd (let other = (some_pair_parts (PreWrite b) (Finalize tag) (suc a) position e).0 in cc)
+fin_rests object now position (MoveFinal a b) tag facts e =
+    absurd (let other = (some_pair_parts (Spread Final) (Finalize tag) a position e).0 in cc)
+fin_rests object now position (Ended a b) tag facts e = absurd (cc)
+fin_rests object now position (Moved a b) tag facts e = absurd (cc)
+
+pub came_at : (o : Option ℕ) (step : ℕ) → came_by o step ≡ true → (came : ℕ) × (o ≡ Some came) × (came ≤ step)
+came_at None step e = absurd (cc)
+came_at (Some came) step e = (came, refl, leb-true came step e)
+
+-- one step back from a finalized tag
+record Back (object : Object) (position : ℕ) (tag : Tag) (step : ℕ) : Type 0 where
+  now : ℕ
+  earlier : now < step
+  rests : Had object position tag now ⊎ Somewhere object position tag now
+
+step_back : (object : Object) → IsLegal object → (position i : ℕ) (tag : Tag) (step : ℕ) →
+    HasFinalized (bank_at object position i) tag step → (tag ≡ opening_tag) ⊎ Back object position tag step
+step_back object legal position i tag step fin = go ((legal.banks position i).finalized tag came.0 came.1)
+  where
+    came : (c : ℕ) × (finalized_at (bank_at object position i) tag ≡ Some c) × (c ≤ step)
+    came = came_at (finalized_at (bank_at object position i) tag) step fin
+
+    is_due_at : (kind : Kind) (begun : HasBegun object kind position came.0) (there : AtPhase object begun.phase) →
+        due there.stage ≡ Some (kind, position)
+    is_due_at kind begun there = subst₂ (λ k p. due there.stage ≡ Some (k, p)) begun.same_kind begun.same_position there.is_due
+
+    go : (tag ≡ opening_tag) ⊎ (HasBegun object (Finalize tag) position came.0 ⊎ HasBegun object (Fetch tag) position came.0) →
+        (tag ≡ opening_tag) ⊎ Back object position tag step
+    go (inl opening) = inl opening
+    go (inr (inl begun)) =
+        let there = call_at_phase object legal begun.index begun.call begun.at begun.place begun.phase begun.within in
+        inr (record {
+          now = there.now;
+          earlier = (let a = there.before in let b = begun.before in let c = came.2 in omega arith);
+          rests = inl (fin_rests object there.now position there.stage tag there.facts (is_due_at (Finalize tag) begun there));
+        })
+    go (inr (inr begun)) =
+        let there = call_at_phase object legal begun.index begun.call begun.at begun.place begun.phase begun.within in
+        inr (record {
+          now = there.now;
+          earlier = (let a = there.before in let b = begun.before in let c = came.2 in omega arith);
+          rests = inr (fetch_rests object there.now position there.stage tag there.facts (is_due_at (Fetch tag) begun there));
+        })
+
+-- a tag that was finalized anywhere at a position had its pieces at a quorum there
+pub had_before : (object : Object) → IsLegal object → (fuel : ℕ) (position : ℕ) (tag : Tag) (step : ℕ) → step ≤ fuel →
+    Somewhere object position tag step → (tag ≡ opening_tag) ⊎ Had object position tag step
+had_before object legal fuel position tag step h (inl opening) = inl opening
+had_before object legal zero position tag step h (inr (i, fin)) = go (step_back object legal position i tag step fin)
+  where
+    go : (tag ≡ opening_tag) ⊎ Back object position tag step → (tag ≡ opening_tag) ⊎ Had object position tag step
+    go (inl opening) = inl opening
+    go (inr back) = absurd (let e = back.earlier in omega arith)
+had_before object legal (suc fuel) position tag step h (inr (i, fin)) =
+    go (step_back object legal position i tag step fin) (λ now less some. had_before object legal fuel position tag now less some)
+  where
+    on : (now : ℕ) → now < step → (tag ≡ opening_tag) ⊎ Had object position tag now →
+        (tag ≡ opening_tag) ⊎ Had object position tag step
+    on now less (inl opening) = inl opening
+    on now less (inr had) = inr (had_later object position tag now step (le_of_lt less) had)
+
+    deeper : (back : Back object position tag step) →
+        ((now : ℕ) → now ≤ fuel → Somewhere object position tag now → (tag ≡ opening_tag) ⊎ Had object position tag now) →
+        Had object position tag back.now ⊎ Somewhere object position tag back.now →
+        (tag ≡ opening_tag) ⊎ Had object position tag step
+    deeper back rest (inl had) = on back.now back.earlier (inr had)
+    deeper back rest (inr some) = on back.now back.earlier (rest back.now (let e = back.earlier in omega arith) some)
+
+    go : (tag ≡ opening_tag) ⊎ Back object position tag step →
+        ((now : ℕ) → now ≤ fuel → Somewhere object position tag now → (tag ≡ opening_tag) ⊎ Had object position tag now) →
+        (tag ≡ opening_tag) ⊎ Had object position tag step
+    go (inl opening) rest = inl opening
+    go (inr back) rest = deeper back rest back.rests

@@ -1,0 +1,223 @@
+-- The label of a tag comes with a request for the tag, or with its bank's opening.
+use Rattle.std.proofs.Common.{◌≡◌, ℕ, zero, suc, ◌+◌, ◌<◌, ◌⊎◌, Bool, true, false, cond, List, [], ◌∷◌, ◌++◌, length, get_or}
+use Rattle.std.proofs.Common.{Option, Some, None, is_some, refl, sym, subst, subst₂, ap, ◌∙◌, inl, inr, arith, slice_get}
+use Rattle.tag.specs.declared.tag.Tag.{Tag}
+use Rattle.layout.specs.Layout.{Layout}
+use Rattle.bank.specs.declared.kind.Kind.{Kind}
+use Rattle.bank.specs.declared.request.Request.{Request}
+use Rattle.bank.specs.declared.row.Label.{Label}
+use Rattle.bank.specs.Bank.{Bank}
+use Rattle.bank.specs.Bank.{opened_bank}
+use Rattle.bank.specs.Serve.{kind_of, served_bank}
+use Rattle.mail.specs.declared.message.Message.{Message}
+use Rattle.mail.specs.declared.message.Body.{Body}
+use Rattle.mail.specs.declared.message.Body.TheVariants as body
+use Rattle.phase.specs.Phase.{Phase}
+use Rattle.record.specs.Records.{Call, Object, bank_at, no_bank, base_of}
+use Rattle.record.specs.Legal.{due_of}
+use Rattle.record.specs.Fragments.{Code}
+use Rattle.record.specs.Wants.{current_phase}
+use Rattle.soundness.specs.Sound.{IsPosted, IsPhasePast, IsCallPast, IsSound}
+use Rattle.record.specs.Steps.{Step, stepped, on_call, on_message, opened_banks, moving_object, begun_object, advanced_object}
+use Rattle.record.specs.Steps.{settled_object, answered_object, handled_object, served_by, taken_by, repeated_object, retired_object}
+use Rattle.record.specs.Steps.{asked_again, supplied_by, supplied_object}
+use Rattle.soundness.specs.Origins.{label_at, Gives, ComesByRequest, ComesByOpening, ComesWithIts}
+use Rattle.soundness.proofs.ListLemmas.{all_get}
+use Rattle.soundness.proofs.Sound.KnownSinceLemmas.{bank_at_set}
+use Rattle.soundness.proofs.Sound.OpenedObjectLemmas.{opened_get}
+use Rattle.soundness.proofs.Sound.RetiredBankLemmas.{retired_cases}
+use Rattle.soundness.proofs.Sound.BankLabelLemmas.{retired_label, served_gives, opened_label, unknown_label}
+use Rattle.bank.specs.Collect.{retired_bank}
+
+appended : {A : Type 0} (xs : List A) (y d : A) (i : ℕ) →
+    (get_or (xs ++ y ∷ []) i d ≡ get_or xs i d) ⊎ ((i ≡ length xs) × (get_or (xs ++ y ∷ []) i d ≡ y))
+appended [] y d zero = inr (refl, refl)
+appended [] y d (suc i) = inl refl
+appended (x ∷ xs) y d zero = inl refl
+appended (x ∷ xs) y d (suc i) = go (appended xs y d i)
+  where
+    go : (get_or (xs ++ y ∷ []) i d ≡ get_or xs i d) ⊎ ((i ≡ length xs) × (get_or (xs ++ y ∷ []) i d ≡ y)) →
+        (get_or (xs ++ y ∷ []) i d ≡ get_or xs i d) ⊎ ((suc i ≡ suc (length xs)) × (get_or (xs ++ y ∷ []) i d ≡ y))
+    go (inl old) = inl old
+    go (inr new) = inr (ap suc new.0, new.1)
+
+banks_on_call : (object : Object) (o : Option Call) (change : Call → Object) →
+    ((call : Call) → (change call).banks ≡ object.banks) → (on_call object o change).banks ≡ object.banks
+banks_on_call object None change kept = refl
+banks_on_call object (Some call) change kept = kept call
+
+banks_on_message : (object : Object) (o : Option Message) (change : Message → Object) →
+    ((message : Message) → (change message).banks ≡ object.banks) → (on_message object o change).banks ≡ object.banks
+banks_on_message object None change kept = refl
+banks_on_message object (Some message) change kept = kept message
+
+banks_begun : (fragment : Code) (object : Object) (index : ℕ) (call : Call) (next : Option (Kind × ℕ)) (now : ℕ) →
+    (begun_object fragment object index call next now).banks ≡ object.banks
+banks_begun fragment object index call None now = refl
+banks_begun fragment object index call (Some next) now = refl
+
+banks_asked : (fragment : Code) (object : Object) (call : Call) (phase : Option Phase) →
+    (asked_again fragment object call phase).banks ≡ object.banks
+banks_asked fragment object call None = refl
+banks_asked fragment object call (Some phase) = refl
+
+banks_supplied : (fragment : Code) (object : Object) (index : ℕ) (call : Call) (now : ℕ) (phase : Option Phase) →
+    (supplied_by fragment object index call now phase).banks ≡ object.banks
+banks_supplied fragment object index call now None = refl
+banks_supplied fragment object index call now (Some phase) = go (is_some phase.end)
+  where
+    go : (b : Bool) →
+        (cond b (advanced_object fragment object index call now) (asked_again fragment object call (Some phase))).banks ≡ object.banks
+    go true = banks_begun fragment object index call (due_of object index call) now
+    go false = refl
+
+banks_taken : (object : Object) (place : ℕ) (message : Message) (b : Body) (now : ℕ) →
+    (taken_by object place message b now).banks ≡ object.banks
+banks_taken object place message (body.Request asked) now = refl
+banks_taken object place message (body.Reply kind made) now = refl
+
+module _ (fragment : Code) (object : Object) (last now position member : ℕ) (tag : Tag) (label : Label) (less : last < now)
+    (sound : IsSound fragment object last) where
+  abbrev Comes : Step → Type 0
+  Comes step = (label_at (bank_at object position member) tag ≡ Some label)
+      ⊎ (ComesByRequest object step now position member tag label ⊎ ComesByOpening object step now position tag label)
+
+  -- a step that leaves the banks as they are
+  kept : (step : Step) (new : Object) → new.banks ≡ object.banks → label_at (bank_at new position member) tag ≡ Some label → Comes step
+  kept step new same e = inl (subst (λ banks. label_at (get_or (get_or banks position []) member no_bank) tag ≡ Some label) same e)
+
+  started : (message : Message) (posted : IsPosted object message) → posted.phase.start < now
+  started message posted =
+      let call = all_get (IsCallPast last) object.calls posted.index posted.call sound.past.calls posted.at in
+      let phase = (all_get (IsPhasePast last) posted.call.phases posted.place posted.phase call.phases posted.within).start in
+      omega arith
+
+  -- a bank serves what is asked
+  handled : (place : ℕ) (message : Message) (asked : Request) → slice_get object.mail place ≡ Some message →
+      message.body ≡ body.Request asked →
+      label_at (bank_at (handled_object object place message asked now) position member) tag ≡ Some label → Comes (Step.Serve place)
+  handled place message asked at is e = go (bank_at_set object message.position message.member served position member)
+    where
+      old : Bank
+      old = bank_at object message.position message.member
+
+      served : Bank
+      served = served_bank old asked now
+
+      new : Bank
+      new = bank_at (handled_object object place message asked now) position member
+
+      by_bank : (position ≡ message.position) → (member ≡ message.member) →
+          (label_at old tag ≡ Some label) ⊎ Gives (kind_of asked) tag label now → Comes (Step.Serve place)
+      by_bank p i (inl was) =
+          inl (subst₂ (λ q j. label_at (bank_at object q j) tag ≡ Some label) (sym p) (sym i) was)
+      by_bank p i (inr gives) = inr (inl (record {
+        place = place;
+        serves = refl;
+        message = message;
+        at = at;
+        asked = asked;
+        request = is;
+        same_position = sym p;
+        same_member = sym i;
+        gives = gives;
+        posted = all_get (IsPosted object) object.mail place message sound.mail at;
+        begun = started message (all_get (IsPosted object) object.mail place message sound.mail at);
+      }))
+
+      go : (new ≡ bank_at object position member)
+          ⊎ ((position ≡ message.position) × (member ≡ message.member) × (new ≡ served)) → Comes (Step.Serve place)
+      go (inl same) = inl (sym (ap (λ bank. label_at bank tag) same) ∙ e)
+      go (inr here) =
+          by_bank here.0 here.1 (served_gives old asked now tag label (sym (ap (λ bank. label_at bank tag) here.2) ∙ e))
+
+  served : (place : ℕ) → label_at (bank_at (stepped fragment (Step.Serve place) now object) position member) tag ≡ Some label →
+      Comes (Step.Serve place)
+  served place e = found (slice_get object.mail place) refl e
+    where
+      by_body : (message : Message) → slice_get object.mail place ≡ Some message → (b : Body) → message.body ≡ b →
+          label_at (bank_at (served_by object place message b now) position member) tag ≡ Some label → Comes (Step.Serve place)
+      by_body message at (body.Request asked) is e = handled place message asked at is e
+      by_body message at (body.Reply kind made) is e = inl e
+
+      found : (o : Option Message) → slice_get object.mail place ≡ o →
+          label_at (bank_at (on_message object o (λ message. served_by object place message message.body now)) position member) tag
+          ≡ Some label → Comes (Step.Serve place)
+      found None at e = inl e
+      found (Some message) at e = by_body message at message.body refl e
+
+  -- a move opens the banks of one more position
+  moved : (layout : Layout) → label_at (bank_at (moving_object object layout now) position member) tag ≡ Some label →
+      Comes (Step.CallMove layout)
+  moved layout e = at_position (appended object.banks fresh [] position)
+    where
+      fresh : List Bank
+      fresh = opened_banks layout.members 0 object.delta now
+
+      here : position ≡ length object.banks → (get_or fresh member no_bank ≡ no_bank)
+          ⊎ (get_or fresh member no_bank ≡ opened_bank (0 + member) object.delta now) →
+          label_at (get_or fresh member no_bank) tag ≡ Some label → Comes (Step.CallMove layout)
+      here p (inl none) e = absurd (unknown_label tag label (sym (ap (λ bank. label_at bank tag) none) ∙ e))
+      here p (inr new) e =
+          let opening = opened_label (0 + member) object.delta now tag label (sym (ap (λ bank. label_at bank tag) new) ∙ e) in
+          inr (inr (record {
+            layout = layout;
+            moves = refl;
+            new = p ∙ sound.shape.banks;
+            opening = opening.0;
+            finalized = opening.1;
+          }))
+
+      at_position : (get_or (object.banks ++ fresh ∷ []) position [] ≡ get_or object.banks position [])
+          ⊎ ((position ≡ length object.banks) × (get_or (object.banks ++ fresh ∷ []) position [] ≡ fresh)) →
+          Comes (Step.CallMove layout)
+      at_position (inl old) = inl (sym (ap (λ banks. label_at (get_or banks member no_bank) tag) old) ∙ e)
+      at_position (inr new) =
+          here new.0 (opened_get layout.members 0 object.delta now member)
+          (sym (ap (λ banks. label_at (get_or banks member no_bank) tag) new.1) ∙ e)
+
+  pub labels_stepped : (step : Step) → ComesWithIts fragment object step now position member tag label
+  labels_stepped Step.CallRead e = inl e
+  labels_stepped (Step.CallWrite value) e = inl e
+  labels_stepped (Step.CallMove layout) e = moved layout e
+  labels_stepped (Step.Advance index) e =
+      kept (Step.Advance index) (stepped fragment (Step.Advance index) now object)
+      (banks_on_call object (slice_get object.calls index) (λ call. advanced_object fragment object index call now)
+      (λ call. banks_begun fragment object index call (due_of object index call) now)) e
+  labels_stepped (Step.Again index) e =
+      kept (Step.Again index) (stepped fragment (Step.Again index) now object)
+      (banks_on_call object (slice_get object.calls index) (λ call. advanced_object fragment object index call now)
+      (λ call. banks_begun fragment object index call (due_of object index call) now)) e
+  labels_stepped (Step.Supply index) e =
+      kept (Step.Supply index) (stepped fragment (Step.Supply index) now object)
+      (banks_on_call object (slice_get object.calls index) (λ call. supplied_object fragment object index call now)
+      (λ call. banks_supplied fragment object index call now (current_phase call.phases))) e
+  labels_stepped (Step.Post index) e =
+      kept (Step.Post index) (stepped fragment (Step.Post index) now object)
+      (banks_on_call object (slice_get object.calls index) (λ call. asked_again fragment object call (current_phase call.phases))
+      (λ call. banks_asked fragment object call (current_phase call.phases))) e
+  labels_stepped (Step.Settle index value) e =
+      kept (Step.Settle index value) (stepped fragment (Step.Settle index value) now object)
+      (banks_on_call object (slice_get object.calls index) (λ call. settled_object object index call value) (λ call. refl)) e
+  labels_stepped (Step.AnswerCall index) e =
+      kept (Step.AnswerCall index) (stepped fragment (Step.AnswerCall index) now object)
+      (banks_on_call object (slice_get object.calls index) (λ call. answered_object object index call now) (λ call. refl)) e
+  labels_stepped (Step.Serve place) e = served place e
+  labels_stepped (Step.Take place) e =
+      kept (Step.Take place) (stepped fragment (Step.Take place) now object)
+      (banks_on_message object (slice_get object.mail place) (λ message. taken_by object place message message.body now)
+      (λ message. banks_taken object place message message.body now)) e
+  labels_stepped (Step.Lose place) e = inl e
+  labels_stepped (Step.Repeat place) e =
+      kept (Step.Repeat place) (stepped fragment (Step.Repeat place) now object)
+      (banks_on_message object (slice_get object.mail place) (λ message. repeated_object object message) (λ message. refl)) e
+  labels_stepped Step.Retire e = go (retired_cases object now position member)
+    where
+      new : Bank
+      new = bank_at (retired_object object now) position member
+
+      go : (new ≡ bank_at object position member)
+          ⊎ ((position ≡ base_of object) × (new ≡ retired_bank (bank_at object position member) now)) → Comes Step.Retire
+      go (inl same) = inl (sym (ap (λ bank. label_at bank tag) same) ∙ e)
+      go (inr at_base) =
+          inl (sym (ap (λ bank. label_at bank tag) at_base.1 ∙ retired_label (bank_at object position member) now tag) ∙ e)

@@ -1,0 +1,216 @@
+-- What a bank of the record is after a request, and what it answers, as far as the journal's pieces go.
+use Rattle.std.proofs.Common.{◌≡◌, ℕ, suc, Bool, true, false, cond, Option, Some, None, IsSome}
+use Rattle.std.proofs.Common.{is_some, option_map, refl, sym, subst, ap, ◌∙◌, inl, inr, arith}
+use Rattle.tag.specs.declared.tag.Tag.{Tag}
+use Rattle.tag.specs.Tag.{opening_tag}
+use Rattle.encoder.specs.declared.fragment.Piece.{Piece}
+use Rattle.bank.specs.declared.row.Arrival.{Arrival}
+use Rattle.bank.specs.declared.row.Row.{Row}
+use Rattle.bank.specs.declared.request.Request.{Request}
+use Rattle.bank.specs.Bank.{Bank, filled_arrival, row_after_pre_write, row_after_finalize, pre_written, finalized, piece_of}
+use Rattle.bank.specs.Bank.{piece_that_came}
+use Rattle.bank.specs.Bank.{piece_of_row, knows}
+use Rattle.bank.specs.Collect.{emptied_arrival, emptied_row, collected, IsCollected, is_outside, retired_bank}
+use Rattle.bank.specs.Knowledge.{since, row_finalized, finalized_at, arrived_at, is_dropped, IsTrueAnswer}
+use Rattle.bank.specs.Facts.{IsBefore, SameBefore}
+use Rattle.bank.specs.Serve.{kind_of, greatest_final, served_bank, answer_to}
+use Rattle.bank.proofs.CollectedBankLemmas.{get-collected, finalized_at-collected, arrived_at-collected}
+use Rattle.bank.proofs.RowChangeLemmas.{Comes, with_row, all_rows}
+use Rattle.bank.proofs.MonotoneLemmas.{served_grows, retired_grows}
+use Rattle.bank.proofs.GreatestTagLemmas.{greatest_final_is}
+use Rattle.bank.proofs.TrueAnswerLemmas.{grows_order, grows_past, served_truth}
+use Rattle.record.specs.Records.{Object}
+use Rattle.record.specs.Legal.{IsOpenedAt}
+use Rattle.record.specs.Fragments.{Code, IsCoded, IfCoded, answer_tag, answer_piece, request_tag, request_piece}
+use Rattle.soundness.specs.Sound.{HasNext}
+use Rattle.std.specs.FinMap as map
+use Rattle.bank.specs.declared.request.Request.TheVariants as request
+use Rattle.soundness.proofs.Sound.StagePositionLemmas.{KindPlaced}
+
+-- Steps
+
+-- what is known once a request is served came by that step
+pub served_past : (bank : Bank) (asked : Request) (now : ℕ) → IsBefore bank now → IsBefore (served_bank bank asked now) (suc now)
+served_past bank asked now before =
+    grows_order bank (served_bank bank asked now) now (suc now) (served_grows bank asked now) (omega arith) before
+
+-- a pointer that a request raises names the next position
+pub served_next : (count position : ℕ) (bank : Bank) (asked : Request) (now : ℕ) → KindPlaced count (kind_of asked) position →
+    HasNext count position bank → HasNext count position (served_bank bank asked now)
+served_next count position bank request.Next now placed next = next
+served_next count position bank (request.Spread status) now placed next = record { pending = λ step e. placed; final = λ step e. placed }
+served_next count position bank request.Query now placed next = next
+served_next count position bank (request.PreWrite tag piece) now placed next = record { pending = next.pending; final = next.final }
+served_next count position bank (request.Finalize tag) now placed next = record { pending = next.pending; final = next.final }
+served_next count position bank (request.Fetch tag) now placed next = record { pending = next.pending; final = next.final }
+
+-- what has come stays
+comes_stays : (now : ℕ) (old new : Option ℕ) → Comes now old new → (step : ℕ) → old ≡ Some step → new ≡ Some step
+comes_stays now old new (inl same) step e = same ∙ e
+comes_stays now old new (inr first) step e = first ∙ ap (λ o. since o now) e
+
+-- so a bank stays opened since its step
+pub served_opened_at : (bank : Bank) (asked : Request) (now step : ℕ) → IsOpenedAt bank step →
+    IsOpenedAt (served_bank bank asked now) step
+served_opened_at bank asked now step opened =
+    let grows = served_grows bank asked now in
+    record {
+      finalized = comes_stays now (finalized_at bank opening_tag) (finalized_at (served_bank bank asked now) opening_tag)
+          (grows.finalized opening_tag) step opened.finalized;
+      arrived = comes_stays now (arrived_at bank opening_tag) (arrived_at (served_bank bank asked now) opening_tag)
+          (grows.arrived opening_tag) step opened.arrived;
+    }
+
+-- what it answers is true of the bank that it leaves
+pub served_true : (bank : Bank) (asked : Request) (now step : ℕ) → IsBefore bank now → IsOpenedAt bank step → IsCollected bank →
+    IsTrueAnswer (served_bank bank asked now) now (kind_of asked) (answer_to bank asked)
+served_true bank asked now step before opened collects =
+    served_truth bank asked now before (λ query. ap is_some opened.finalized) collects
+
+-- Pieces
+
+-- what holds of each tag with its row holds after pieces are dropped, where it holds without them
+collected_rows : (P : Tag → Option Row → Type 0) → ((t : Tag) (row : Row) → P t (Some row) → P t (Some (emptied_row row))) →
+    (bank : Bank) → ((t : Tag) → P t (map.get bank.rows t)) → (t : Tag) → P t (map.get (collected bank).rows t)
+collected_rows P emptied bank all t =
+    subst (P t) (sym (get-collected bank t)) (go (map.get bank.rows t) (is_dropped bank t) (all t))
+  where
+    go : (row : Option Row) (dropped : Bool) → P t row → P t (option_map (λ r. cond dropped (emptied_row r) r) row)
+    go None dropped here = here
+    go (Some row) true here = emptied t row here
+    go (Some row) false here = here
+
+module _ (fragment : Code) (object : Object) (position member : ℕ) where
+  -- a tag that a bank knows is in the journal, with its piece
+  abbrev RowCoded : Tag → Option Row → Type 0
+  RowCoded tag row = is_some row ≡ true → IsCoded fragment object position member tag (piece_of_row row)
+
+  abbrev pub BankCoded : Bank → Type 0
+  BankCoded bank = (tag : Tag) → knows bank tag ≡ true → IsCoded fragment object position member tag (piece_of bank tag)
+
+  without_piece : (tag : Tag) (piece : Option Piece) → IsCoded fragment object position member tag piece →
+      IsCoded fragment object position member tag None
+  without_piece tag piece coded = record { value = coded.value; journaled = coded.journaled; fits = λ kept e. absurd (cc) }
+
+  pre_write_coded : (tag : Tag) (piece : Piece) (now : ℕ) → IsCoded fragment object position member tag (Some piece) →
+      (row : Option Row) → RowCoded tag row → RowCoded tag (Some (row_after_pre_write row piece now))
+  pre_write_coded tag piece now new None coded some = new
+  pre_write_coded tag piece now new (Some row) coded some = go row.arrival (coded refl)
+    where
+      go : (arrival : Option Arrival) → IsCoded fragment object position member tag (piece_that_came arrival) →
+          IsCoded fragment object position member tag (piece_that_came (filled_arrival arrival piece now))
+      go None old = new
+      go (Some arrival) old = old
+
+  finalize_coded : (tag : Tag) (now : ℕ) → IsCoded fragment object position member tag None → (row : Option Row) →
+      RowCoded tag row → RowCoded tag (Some (row_after_finalize row now))
+  finalize_coded tag now new None coded some = new
+  finalize_coded tag now new (Some row) coded some = coded refl
+
+  finalized_coded : (bank : Bank) (tag : Tag) (now : ℕ) → IsCoded fragment object position member tag None → BankCoded bank →
+      (t : Tag) → RowCoded t (map.get (with_row bank.rows tag (λ row. row_after_finalize row now)) t)
+  finalized_coded bank tag now new coded =
+      all_rows bank.rows tag (λ row. row_after_finalize row now) RowCoded
+      (finalize_coded tag now new (map.get bank.rows tag) (coded tag)) coded
+
+  emptied_coded : (tag : Tag) (row : Row) → RowCoded tag (Some row) → RowCoded tag (Some (emptied_row row))
+  emptied_coded tag row coded some = go row.arrival (coded refl)
+    where
+      go : (arrival : Option Arrival) → IsCoded fragment object position member tag (piece_that_came arrival) →
+          IsCoded fragment object position member tag (piece_that_came (emptied_arrival arrival))
+      go None old = old
+      go (Some arrival) old = without_piece tag arrival.piece old
+
+  -- so is each tag that it knows after a request
+  pub served_coded : (bank : Bank) (asked : Request) (now : ℕ) →
+      IfCoded fragment object position member (request_tag asked) (request_piece asked) → BankCoded bank →
+      BankCoded (served_bank bank asked now)
+  served_coded bank request.Next now new coded = coded
+  served_coded bank (request.Spread status) now new coded = coded
+  served_coded bank request.Query now new coded = coded
+  served_coded bank (request.PreWrite tag piece) now new coded =
+      collected_rows RowCoded emptied_coded (pre_written bank tag piece now)
+      (all_rows bank.rows tag (λ row. row_after_pre_write row piece now) RowCoded
+      (pre_write_coded tag piece now new (map.get bank.rows tag) (coded tag)) coded)
+  served_coded bank (request.Finalize tag) now new coded =
+      collected_rows RowCoded emptied_coded (finalized bank tag now) (finalized_coded bank tag now new coded)
+  served_coded bank (request.Fetch tag) now new coded =
+      collected_rows RowCoded emptied_coded (finalized bank tag now) (finalized_coded bank tag now new coded)
+
+  -- and once it is retired
+  pub retired_coded : (bank : Bank) (now : ℕ) → BankCoded bank → BankCoded (retired_bank bank now)
+  retired_coded bank now coded =
+      collected_rows RowCoded emptied_coded
+      (record { rows = bank.rows; pointer = bank.pointer; delta = bank.delta; retired = since bank.retired now }) coded
+
+  finalized_known : (bank : Bank) (tag : Tag) → IsSome (finalized_at bank tag) → knows bank tag ≡ true
+  finalized_known bank tag some = go (map.get bank.rows tag) some
+    where
+      go : (row : Option Row) → IsSome (row_finalized row) → is_some row ≡ true
+      go None e = absurd (cc)
+      go (Some row) e = refl
+
+  -- and what it answers
+  pub answer_coded : (bank : Bank) (asked : Request) (step : ℕ) → IsOpenedAt bank step →
+      IfCoded fragment object position member (request_tag asked) (request_piece asked) → BankCoded bank →
+      IfCoded fragment object position member (answer_tag (kind_of asked) (answer_to bank asked)) (answer_piece (answer_to bank asked))
+  answer_coded bank request.Next step opened new coded = tt
+  answer_coded bank (request.Spread status) step opened new coded = tt
+  answer_coded bank request.Query step opened new coded =
+      let greatest = greatest_final_is bank (ap is_some opened.finalized) in
+      without_piece (greatest_final bank) (piece_of bank (greatest_final bank))
+      (coded (greatest_final bank) (finalized_known bank (greatest_final bank) greatest.final))
+  answer_coded bank (request.PreWrite tag piece) step opened new coded = without_piece tag (Some piece) new
+  answer_coded bank (request.Finalize tag) step opened new coded = new
+  answer_coded bank (request.Fetch tag) step opened new coded =
+      kept (is_outside bank tag) (piece_of bank tag) (go (map.get bank.rows tag) (coded tag))
+    where
+      go : (row : Option Row) → RowCoded tag row → IsCoded fragment object position member tag (piece_of_row row)
+      go None old = new
+      go (Some row) old = old refl
+
+      kept : (outside : Bool) (piece : Option Piece) → IsCoded fragment object position member tag piece →
+          IsCoded fragment object position member tag (cond outside None piece)
+      kept true piece here = new
+      kept false piece here = here
+
+-- what a request leaves as it is
+pub served-delta : (bank : Bank) (asked : Request) (now : ℕ) → (served_bank bank asked now).delta ≡ bank.delta
+served-delta bank request.Next now = refl
+served-delta bank (request.Spread status) now = refl
+served-delta bank request.Query now = refl
+served-delta bank (request.PreWrite tag piece) now = refl
+served-delta bank (request.Finalize tag) now = refl
+served-delta bank (request.Fetch tag) now = refl
+
+pub served-retired : (bank : Bank) (asked : Request) (now : ℕ) → (served_bank bank asked now).retired ≡ bank.retired
+served-retired bank request.Next now = refl
+served-retired bank (request.Spread status) now = refl
+served-retired bank request.Query now = refl
+served-retired bank (request.PreWrite tag piece) now = refl
+served-retired bank (request.Finalize tag) now = refl
+served-retired bank (request.Fetch tag) now = refl
+
+-- A bank that is retired keeps labels and arrivals
+pub retired_finalized : (bank : Bank) (now : ℕ) (tag : Tag) → finalized_at (retired_bank bank now) tag ≡ finalized_at bank tag
+retired_finalized bank now tag =
+    finalized_at-collected
+    (record { rows = bank.rows; pointer = bank.pointer; delta = bank.delta; retired = since bank.retired now }) tag
+
+pub retired_arrived : (bank : Bank) (now : ℕ) (tag : Tag) → arrived_at (retired_bank bank now) tag ≡ arrived_at bank tag
+retired_arrived bank now tag =
+    arrived_at-collected
+    (record { rows = bank.rows; pointer = bank.pointer; delta = bank.delta; retired = since bank.retired now }) tag
+
+pub retired_past : (bank : Bank) (now : ℕ) → IsBefore bank now → IsBefore (retired_bank bank now) (suc now)
+retired_past bank now before =
+    grows_order bank (retired_bank bank now) now (suc now) (retired_grows bank now) (omega arith) before
+
+pub retired_opened_at : (bank : Bank) (now step : ℕ) → IsOpenedAt bank step → IsOpenedAt (retired_bank bank now) step
+retired_opened_at bank now step opened = record {
+  finalized = retired_finalized bank now opening_tag ∙ opened.finalized;
+  arrived = retired_arrived bank now opening_tag ∙ opened.arrived;
+}
+
+pub retired_agrees : (bank : Bank) (now : ℕ) → SameBefore bank (retired_bank bank now) now
+retired_agrees bank now = grows_past bank (retired_bank bank now) now (retired_grows bank now)

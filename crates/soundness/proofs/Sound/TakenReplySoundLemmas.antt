@@ -1,0 +1,93 @@
+-- A reply that is taken, recorded or stale, keeps a record sound.
+use Rattle.std.proofs.Common.{◌≡◌, ℕ, suc, pred, ◌+◌, ◌<◌, ◌⊎◌, List, length, set}
+use Rattle.std.proofs.Common.{Some, refl, sym, subst, subst₂, ap, ◌∙◌, inl, inr, arith, slice_get}
+use Rattle.std.proofs.lemmas.Option.{same_Some}
+use Rattle.std.specs.List.{remove}
+use Rattle.bank.specs.declared.kind.Kind.{Kind}
+use Rattle.bank.specs.declared.reply.Reply.{Reply}
+use Rattle.mail.specs.declared.message.Message.{Message}
+use Rattle.phase.specs.Phase.{Phase, after_body, after_reply, after_take}
+use Rattle.record.specs.Records.{Call, Object}
+use Rattle.record.specs.Fragments.{Code}
+use Rattle.soundness.specs.Sound.{IsPosted, IsSound}
+use Rattle.record.specs.Steps.{taking_phases, taken_object}
+use Rattle.mail.specs.declared.message.Body.TheVariants as body
+use Rattle.soundness.proofs.ListLemmas.{all_get}
+use Rattle.soundness.proofs.Sound.CallStepSoundLemmas.{WithCall}
+use Rattle.soundness.proofs.Sound.ChangedCallLemmas.{Others}
+use Rattle.soundness.proofs.Sound.MailSoundLemmas.{Mailed, all_without, mailed_sound}
+use Rattle.soundness.proofs.Sound.RecordedReplySoundLemmas.{recorded_sound}
+use Rattle.soundness.proofs.Sound.SoundnessPartLemmas.{MessageRest, mail_rest}
+use Rattle.soundness.proofs.Sound.TakenReplyLemmas.{numbered_at, taken_reply, Recorded, take_result, TakesAt, takes_at, set_same}
+
+-- the object after the take, where the message names this call, of which this phase is the last
+taken_is : (object : Object) (place : ℕ) (message : Message) (now index : ℕ) (call : Call) → message.call ≡ suc index →
+    slice_get object.calls index ≡ Some call → (takes : TakesAt call.phases message now) →
+    taken_object object place message now ≡ WithCall object (remove object.mail place) index
+    (record call { phases = set call.phases takes.place (after_take takes.phase message now) })
+taken_is object place message now index call c at takes =
+    let pc : pred message.call ≡ index = ap pred c in
+    let at' : slice_get object.calls (pred message.call) ≡ Some call = subst (λ i. slice_get object.calls i ≡ Some call) (sym pc) at in
+    let one : taken_object object place message now ≡ outcome (pred message.call) (taking_phases call.phases message now) = rw at' refl in
+    subst₂ (λ i phases. taken_object object place message now ≡ outcome i phases) pc takes.is one
+  where
+    outcome : ℕ → List Phase → Object
+    outcome i phases = WithCall object (remove object.mail place) i (record call { phases = phases })
+
+pub taken_sound : (fragment : Code) (object : Object) (step now place : ℕ) → step < now → IsSound fragment object step →
+    (message : Message) (kind : Kind) (made : Reply) → slice_get object.mail place ≡ Some message →
+    message.body ≡ body.Reply kind made → IsSound fragment (taken_object object place message now) now
+taken_sound fragment object step now place less sound message kind made at body_is =
+    subst (λ o. IsSound fragment o now) (sym (taken_is object place message now posted.index posted.call posted.same_call posted.at takes))
+    (subst (λ p. IsSound fragment (with_next p) now) (sym taken)
+    (go (take_result takes.phase message.call message.phase message.member made now)))
+  where
+    rest : MessageRest fragment object step message
+    rest = all_get (MessageRest fragment object step) object.mail place message (mail_rest fragment object step sound) at
+
+    posted : IsPosted object message
+    posted = rest.posted
+
+    takes : TakesAt posted.call.phases message now
+    takes = takes_at posted.call.phases message now posted.place posted.phase posted.within
+
+    next : Phase
+    next = after_reply takes.phase message.call message.phase message.member made now
+
+    taken : after_take takes.phase message now ≡ next
+    taken = ap (λ b. after_body takes.phase message.call message.phase message.member b now) body_is
+
+    with_next : Phase → Object
+    with_next phase = WithCall object (remove object.mail place) posted.index
+        (record posted.call { phases = set posted.call.phases takes.place phase })
+
+    same : with_next takes.phase ≡ Mailed object (remove object.mail place)
+    same =
+        ap (λ phases. WithCall object (remove object.mail place) posted.index (record posted.call { phases = phases }))
+        (set_same posted.call.phases takes.place takes.phase takes.within)
+        ∙ ap (λ calls. Others object (remove object.mail place) calls) (set_same object.calls posted.index posted.call posted.at)
+
+    numbers : (takes.phase.call ≡ suc posted.index) × (takes.phase.number ≡ 1 + takes.place)
+    numbers = numbered_at (suc posted.index) 1 posted.call.phases takes.place takes.phase
+        (sound.legal.calls posted.index posted.call posted.at).numbered
+        takes.within
+
+    go : (next ≡ takes.phase) ⊎ Recorded takes.phase message.call message.phase (taken_reply message made now) now next →
+        IsSound fragment (with_next next) now
+    go (inl idle) =
+        subst (λ o. IsSound fragment o now) (sym (ap with_next idle ∙ same))
+        (mailed_sound fragment object step now (remove object.mail place) less sound
+        (all_without (MessageRest fragment object step) object.mail place (mail_rest fragment object step sound)))
+    go (inr recorded) =
+        let here : posted.place
+        ≡ takes.place = (let a = posted.same_phase in let b = numbers.1 in let n = recorded.same_number in omega arith) in
+        let phase_is : takes.phase ≡ posted.phase = same_Some takes.phase posted.phase
+        (sym takes.within ∙ ap (λ i. slice_get posted.call.phases i) (sym here) ∙ posted.within) in
+        let last : suc posted.place ≡ length posted.call.phases = (let l = takes.last in omega arith) in
+        let took : Recorded posted.phase message.call message.phase (taken_reply message made now) now next =
+        subst (λ (p : Phase). Recorded p message.call message.phase (taken_reply message made now) now next) phase_is recorded in
+        subst₂
+        (λ i p. IsSound fragment
+        (WithCall object (remove object.mail place) posted.index (record posted.call { phases = set posted.call.phases i p })) now)
+        here (sym took.grown)
+        (recorded_sound fragment object step now place less sound message kind made body_is rest posted last next took)
