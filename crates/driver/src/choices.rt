@@ -6,6 +6,7 @@ use crate::Chooser;
 use cluster::Cluster;
 use mail::Message;
 use register::Register;
+use tag::CallId;
 
 /// The messages of an object from which one is chosen.
 #[derive(Clone, Copy, Debug)]
@@ -13,7 +14,7 @@ pub enum Filter {
     /// All that wait for the object.
     All,
     /// Those of the call of this number.
-    Call(u64),
+    Call(CallId),
 }
 
 /// The place of the chosen message. The choice is made among the messages that pass `filter` and that can be handled,

@@ -7,7 +7,7 @@ use phase::Took;
 use printing::{AnswerLine, Outcome};
 use register::Receipt;
 use std::fmt;
-use tag::Refusal;
+use tag::{CallId, Refusal};
 
 /// What is reported of a command that may change the cluster. It prints as one line, without its line feed.
 #[derive(Drop)]
@@ -50,7 +50,7 @@ impl Report {
     }
 
     /// The report of a step that begins a call.
-    pub(crate) fn of_call(begun: Result<u64, Refusal>) -> Report
+    pub(crate) fn of_call(begun: Result<CallId, Refusal>) -> Report
         ensures { result ≡ report_of called begun }
     {
         match begun {

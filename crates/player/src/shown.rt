@@ -139,7 +139,7 @@ pub(crate) fn sequence_of<W: Write>(
 pub(crate) fn check_of<W: Write>(
     cluster: &Cluster,
     name: &str,
-    calls: &[u64],
+    calls: &[CallId],
     out: &mut W,
 ) -> Result<(), Stop>
     ensures { Prints (W.contents out.old) (W.contents out.new) (ShowsCheck cluster.now name.now calls.now)
@@ -158,7 +158,7 @@ pub(crate) fn check_of<W: Write>(
     }
 }
 
-fn has_calls(register: &Register, calls: &[u64]) -> bool
+fn has_calls(register: &Register, calls: &[CallId]) -> bool
     ensures { result ≡ list_all (λ call. is_some (call_at register.now.object call)) calls.now }
 {
     calls.iter().all(|call| register.call_view(*call).is_ok())

@@ -15,7 +15,7 @@ pub enum Outcome {
     /// `layout ID`
     Layout(u32),
     /// `call C`
-    Called(u64),
+    Called(CallId),
     /// `recorded`, `complete`, `stale` or `doubled`
     Took(Took),
     /// `handled N`, where N is the number of steps made

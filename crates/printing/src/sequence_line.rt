@@ -3,10 +3,11 @@ ghost use Rattle.std.specs.Prelude.{Some};
 ghost use Rattle.printing.specs.SequenceLine.{sequence_text};
 
 use std::fmt;
+use tag::CallId;
 
 /// The line of a sequence: the numbers of the calls, separated by spaces, or `-` where there is none.
 #[derive(Clone, Copy)]
-pub struct SequenceLine<'a>(pub &'a [u64]);
+pub struct SequenceLine<'a>(pub &'a [CallId]);
 
 impl fmt::Display for SequenceLine<'_> {
     ghost output = { λ line. Some (sequence_text line.0.now) };

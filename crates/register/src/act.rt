@@ -12,7 +12,7 @@ use decoder::Decoded;
 use encoder::Coded;
 use layout::Layout;
 use phase::Took;
-use tag::{Refusal, Stamp};
+use tag::{CallId, Refusal, Stamp};
 
 /// A step that a caller asks of an object. It names a call by its number, from 1, and a message by its place in the
 /// mail, from 0.
@@ -25,17 +25,17 @@ pub enum Act {
     /// Begins a move to this layout.
     CallMove(Layout),
     /// The call of this number begins the phase that is due.
-    Advance(u64),
+    Advance(CallId),
     /// Restarts the call of this number.
-    Again(u64),
+    Again(CallId),
     /// Hands in the encoded value of the call of this number.
-    Supply(u64, Coded),
+    Supply(CallId, Coded),
     /// Resends the requests of the current phase of the call of this number.
-    Post(u64),
+    Post(CallId),
     /// Hands in the value that was decoded for the call of this number.
-    Settle(u64, Decoded),
+    Settle(CallId, Decoded),
     /// Answers the call of this number.
-    Answer(u64),
+    Answer(CallId),
     /// The request at this place is served.
     Serve(usize),
     /// The reply at this place is taken.
@@ -50,7 +50,7 @@ pub enum Act {
 #[derive(Debug, Drop)]
 pub enum Answered {
     /// The number of the call that began.
-    Call(u64),
+    Call(CallId),
     /// The receipt of the call that was answered.
     Receipt(Receipt),
     /// What the call did with the reply.
