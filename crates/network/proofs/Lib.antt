@@ -1,0 +1,5 @@
+pub mod OpenCallLemmas
+pub mod RestartedNodeLemmas
+pub mod StepLemmas
+pub mod UnstampedBankLemmas
+pub mod UnstampedPhaseLemmas

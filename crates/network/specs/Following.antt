@@ -13,7 +13,7 @@ use Rattle.record.specs.Records.{Call, Object, retired_at}
 use Rattle.record.specs.Steps.{Step, stepped}
 use Rattle.soundness.specs.Sound.{IsSound}
 use Rattle.network.specs.Unstamped.{unstamped_bank, unstamped_message, unstamped_phase}
-use Rattle.network.specs.Worlds.{World, OpenCall}
+use Rattle.network.specs.Worlds.{World, OpenCall, open_call}
 
 -- the number of the record's last step after this many events: there is room for two steps in each event
 abbrev pub last_step : (events : ℕ) → ℕ
@@ -42,13 +42,11 @@ pub record IsOpenIn (object : Object) (carried : OpenCall) : Type 0 where
       ≡ begun_at (stage_after call.kind (suc index) (first_stage call.kind (source_of object index)) earlier)
       last.position
 
--- a node that moves objects has this call open, which is a move
+-- the node that moves objects carries out the call with this number, which is a move
 pub record IsOpenMove (world : World) (number : ℕ) : Type 0 where
-  pub place : ℕ
   pub carried : OpenCall
-  pub at : slice_get world.calls place ≡ Some carried
+  pub found : open_call world.calls number ≡ Some carried
   pub kind : carried.kind ≡ Move
-  pub same_number : carried.number ≡ number
   pub node : carried.node ≡ world.mover
 
 -- the world follows the record: but for stamps it has the same layouts, banks, messages and history; each of its open

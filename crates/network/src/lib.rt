@@ -5,8 +5,6 @@
 //! empty body.
 #![tactic(auto)]
 
-pub use events::{
-    restarts_are_followed, serves_are_followed, takes_are_followed,
-};
+pub use events::{restarts_are_followed, serves_are_followed, takes_are_followed};
 
 mod events;
