@@ -1,5 +1,6 @@
 pub mod OpenCallLemmas
 pub mod RestartedNodeLemmas
+pub mod ServedRequestLemmas
 pub mod StepLemmas
 pub mod UnstampedBankLemmas
 pub mod UnstampedPhaseLemmas
