@@ -69,3 +69,17 @@ message_there xs place message at = go (slice_get xs place) refl (sym (slice_get
 pub get_end : {A : Type 0} (xs : List A) (x : A) → slice_get (xs ++ x ∷ []) (length xs) ≡ Some x
 get_end [] x = refl
 get_end (y ∷ ys) x = get_end ys x
+
+-- the world one event later, in which nothing else changed
+pub ticked_follow : (world : World) (object : Object) → Follows world object → Follows (record world { now = suc world.now }) object
+ticked_follow world object follows = record {
+  delta = follows.delta;
+  layouts = follows.layouts;
+  banks = follows.banks;
+  sent = follows.sent;
+  history = follows.history;
+  calls = follows.calls;
+  moves = λ index call at kind none. let move = follows.moves index call at kind none in
+      record { carried = move.carried; found = move.found; kind = move.kind; node = move.node };
+  kept = follows.kept;
+}
