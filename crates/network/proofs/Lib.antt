@@ -1,8 +1,12 @@
+pub mod AnsweredCallLemmas
 pub mod ChangedCallLemmas
+pub mod CurrentPhaseLemmas
 pub mod OpenCallLemmas
 pub mod RestartedNodeLemmas
 pub mod ServedRequestLemmas
+pub mod SettledValueLemmas
 pub mod StepLemmas
 pub mod TakenReplyLemmas
 pub mod UnstampedBankLemmas
 pub mod UnstampedPhaseLemmas
+pub mod WorldRunLemmas

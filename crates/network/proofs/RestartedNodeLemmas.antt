@@ -1,5 +1,5 @@
--- A world whose calls are fewer, but for the moves, still follows the record.
-use Rattle.std.proofs.Common.{◌≡◌, ℕ, suc, Bool, true, false, ◌&&◌, not, eqb, List, refl, sym, subst, ap, ◌∙◌}
+-- A world whose open calls become fewer, but for the moves, still follows the record.
+use Rattle.std.proofs.Common.{◌≡◌, ℕ, suc, Bool, true, false, ◌&&◌, not, eqb, eqb-true, List, Some, refl, sym, subst, ap, ◌∙◌}
 use Rattle.std.specs.List.{AllByRecursion, filter}
 use Rattle.bank.specs.Bank.{Bank}
 use Rattle.record.specs.Fragments.{Code, IsCode}
@@ -7,20 +7,21 @@ use Rattle.record.specs.Legal.{is_move}
 use Rattle.record.specs.Records.{Object}
 use Rattle.record.specs.declared.call.CallKind.TheVariants.{Move}
 use Rattle.soundness.specs.Sound.{IsSound}
-use Rattle.network.specs.Worlds.{World, OpenCall, open_call, after_restart}
+use Rattle.network.specs.Worlds.{World, OpenCall, open_call, after_restart, without_call}
 use Rattle.network.specs.Events.{Event, happens}
 use Rattle.network.specs.Premises.{IsPremised}
 use Rattle.network.specs.Following.{Follows, LeadsOn, IsOpenIn, IsOpenMove, last_step}
 use Rattle.network.specs.Laws.{IsFollowed}
-use Rattle.network.proofs.OpenCallLemmas.{all_filter, found_filter}
+use Rattle.network.proofs.OpenCallLemmas.{all_filter, found, found_filter}
 use Rattle.network.proofs.StepLemmas.{no_step}
 
 -- the world with other calls, one event later
 abbrev pub with_calls : World → List OpenCall → World
 with_calls world calls = record world { calls = calls; now = suc world.now }
 
--- the world with those calls alone that pass a test, which each move does
-pub fewer_follow : (world : World) (object : Object) (test : OpenCall → Bool) → ((call : OpenCall) → call.kind ≡ Move → test call ≡ true) →
+-- the world with those calls alone that pass a test, which each move that is found does
+pub fewer_follow : (world : World) (object : Object) (test : OpenCall → Bool) →
+    ((number : ℕ) (call : OpenCall) → open_call world.calls number ≡ Some call → call.kind ≡ Move → test call ≡ true) →
     Follows world object → Follows (with_calls world (filter test world.calls)) object
 fewer_follow world object test moves follows = record {
   delta = follows.delta;
@@ -31,7 +32,7 @@ fewer_follow world object test moves follows = record {
   calls = all_filter (IsOpenIn object) test world.calls follows.calls;
   moves = λ index call at kind none. let move = follows.moves index call at kind none in record {
     carried = move.carried;
-    found = found_filter test world.calls (suc index) move.carried move.found (moves move.carried move.kind);
+    found = found_filter test world.calls (suc index) move.carried move.found (moves (suc index) move.carried move.found move.kind);
     kind = move.kind;
     node = move.node;
   };
@@ -52,4 +53,16 @@ restart_followed node banks calls fragment world object code sound follows may p
     subst (LeadsOn fragment object (last_step world.now)) same
     (no_step fragment object world.now restarted refl sound
     (fewer_follow world object (λ call. not (eqb call.node node && not (is_move call.kind)))
-    (λ call kind. subst (λ k. not (eqb call.node node && not (is_move k)) ≡ true) (sym kind) (stays (eqb call.node node))) follows))
+    (λ number call found kind. subst (λ k. not (eqb call.node node && not (is_move k)) ≡ true) (sym kind) (stays (eqb call.node node))) follows))
+
+passes : (b : Bool) → (b ≡ true → ⊥) → not b ≡ true
+passes true no_true = absurd (no_true refl)
+passes false no_true = refl
+
+pub give_up_followed : (number : ℕ) → IsFollowed (Event.GiveUp number)
+give_up_followed number fragment world object code sound follows may premised =
+    no_step fragment object world.now (with_calls world (without_call number world.calls)) refl sound
+    (fewer_follow world object (λ call. not (eqb call.number number))
+    (λ n call at kind. passes (eqb call.number number)
+    (λ same. (found (λ call. call.number ≡ number → call.kind ≡ Move → ⊥) world.calls n call may at).0
+    (eqb-true call.number number same) kind)) follows)

@@ -34,7 +34,7 @@ use Rattle.network.proofs.UnstampedPhaseLemmas.{kind-bare}
 
 -- Banks by position and member
 
-bare_empty : bare map.empty ≡ map.empty
+pub bare_empty : bare map.empty ≡ map.empty
 bare_empty = map.empty_of_len (bare map.empty)
     (map.len-entries (bare map.empty) ∙ ap length (entries-bare map.empty) ∙ length-map (map.entries map.empty) _
     ∙ sym (map.len-entries (map.empty {X = Row} {R = tag_cmp})) ∙ map.len-empty tag_cmp Row)

@@ -33,6 +33,20 @@ no_step fragment object events new now sound follows =
       follows = follows;
     }
 
+-- one step
+pub one_step : (fragment : Code) (object : Object) (events : ℕ) (step : Step) (result : Object) (new : World) → IsCode fragment →
+    new.now ≡ suc events → IsSound fragment object (last_step events) → MayStep fragment object step →
+    stepped fragment step (last_step (suc events)) object ≡ result → Follows new result → LeadsOn fragment object (last_step events) new
+one_step fragment object events step result new code now sound may is follows =
+    let last = last_step events in
+    let end : last_step new.now ≡ suc (suc last) = ap last_step now in record {
+      steps = (step, suc (suc last)) ∷ [];
+      may = (omega arith, may, omega arith);
+      sound = subst (IsSound fragment (stepped fragment step (suc (suc last)) object)) (sym end)
+          (step_sound fragment object last (suc (suc last)) code (omega arith) sound step may);
+      follows = subst (Follows new) (sym is) follows;
+    }
+
 -- the copy of a message and a step
 pub copy_and_step : (fragment : Code) (object : Object) (events place : ℕ) (message : Message) (second : Step) (result : Object)
     (new : World) → IsCode fragment → new.now ≡ suc events → IsSound fragment object (last_step events) →

@@ -171,10 +171,17 @@ run fragment (event ∷ events) world = run fragment events (happens fragment wo
 
 -- When a node may act
 
--- the current phase of the call has a quorum, and after a fetch the call has its value, or lacks pieces
+-- the current phase of the call has a quorum, and where it is a fetch, its value is settled
 pub record IsReady (call : OpenCall) : Type 0 where
   pub complete : IsSome call.phase.end
-  pub fetched : IsFetch call.phase.kind → IsSome call.settled ⊎ (lacks_pieces call.phase ≡ true)
+  pub fetched : IsFetch call.phase.kind → IsSome call.settled
+
+-- the current phase of the call is a complete fetch that lacks pieces, so the call begins anew
+pub record IsLacking (call : OpenCall) : Type 0 where
+  pub complete : IsSome call.phase.end
+  pub fetch : IsFetch call.phase.kind
+  pub unsettled : call.settled ≡ None
+  pub lacks : lacks_pieces call.phase ≡ true
 
 -- the value may be settled: the current phase is a complete fetch, which took k pieces of it
 pub record IsFetched (fragment : Code) (world : World) (call : OpenCall) (value : List ℕ) : Type 0 where
@@ -196,7 +203,7 @@ MayHappen fragment world (Event.BeginWrite node number value) = IsValue value
 MayHappen fragment world (Event.BeginMove node number layout) =
     IsLawful layout × AllByRecursion (λ call. call.node ≡ node → call.kind ≢ Move) world.calls
 MayHappen fragment world (Event.Advance number) =
-    (call : OpenCall) × IsOpen world number call × IsReady call × IsSome (next_of call)
+    (call : OpenCall) × IsOpen world number call × ((IsReady call × IsSome (next_of call)) ⊎ IsLacking call)
 MayHappen fragment world (Event.Serve message) = (asked : Request) × (message.body ≡ body.Request asked)
 MayHappen fragment world (Event.Take message) =
     (kind : Kind) × (made : Reply) × (message.body ≡ body.Reply kind made)

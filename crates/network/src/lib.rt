@@ -5,6 +5,12 @@
 //! empty body.
 #![tactic(auto)]
 
-pub use events::{restarts_are_followed, serves_are_followed, takes_are_followed};
+pub use events::{
+    advances_are_followed, answers_are_followed, begun_calls_are_followed,
+    begun_moves_are_followed, given_up_calls_are_followed, restarts_are_followed,
+    serves_are_followed, settles_are_followed, takes_are_followed,
+};
+pub use runs::{runs_are_followed, worlds_are_atomic, worlds_keep_fragments};
 
 mod events;
+mod runs;

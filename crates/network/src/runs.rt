@@ -1,0 +1,18 @@
+//! Every run of worlds follows a run of the record, and so keeps what the record promises.
+ghost use Rattle.network.specs.Laws.{RunsAreFollowed, WorldsAreAtomic, WorldsKeepFragments};
+
+/// A law: whatever events happen, steps of the record that may be made lead to a sound record, which the world follows.
+pub fn runs_are_followed()
+    ensures { RunsAreFollowed }
+{}
+
+/// A law: the history of each world that is reached is atomic.
+pub fn worlds_are_atomic()
+    ensures { WorldsAreAtomic }
+{}
+
+/// A law: in each world that is reached, every piece in a bank or in a message ever sent is its member's fragment of
+/// the value that the journal has for its tag.
+pub fn worlds_keep_fragments()
+    ensures { WorldsKeepFragments }
+{}
