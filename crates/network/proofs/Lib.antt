@@ -1,4 +1,6 @@
 pub mod AnsweredCallLemmas
+pub mod BegunCallLemmas
+pub mod BegunPhaseLemmas
 pub mod ChangedCallLemmas
 pub mod CurrentPhaseLemmas
 pub mod OpenCallLemmas
