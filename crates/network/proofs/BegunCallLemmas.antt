@@ -129,15 +129,15 @@ added_follow world object follows node number kind stage phase_kind position num
   kept = follows.kept;
 }
   where
-    abbrev record_call : Unit {0} → Call
+    record_call : Unit {0} → Call
     record_call u = record (new_call kind (last_step (suc world.now))) {
       phases = new_phase (suc (length object.calls)) 1 phase_kind position (layout_at object position) (last_step (suc world.now)) ∷ [];
     }
 
-    abbrev new : Unit {0} → Object
+    new : Unit {0} → Object
     new u = with_begun object kind phase_kind position (last_step (suc world.now))
 
-    abbrev carried : Unit {0} → OpenCall
+    carried : Unit {0} → OpenCall
     carried u = record {
       node = node;
       number = number;
@@ -147,7 +147,7 @@ added_follow world object follows node number kind stage phase_kind position num
       phase = new_phase number 1 phase_kind position (layout_of world position) 0;
     }
 
-    abbrev new_entry : Unit {0} → Entry
+    new_entry : Unit {0} → Entry
     new_entry u = record {
       call = number;
       kind = operation_of kind;
