@@ -1,5 +1,6 @@
 pub mod AnsweredCallLemmas
 pub mod BegunCallLemmas
+pub mod BegunMoveLemmas
 pub mod BegunPhaseLemmas
 pub mod ChangedCallLemmas
 pub mod CurrentPhaseLemmas
@@ -11,4 +12,6 @@ pub mod StepLemmas
 pub mod TakenReplyLemmas
 pub mod UnstampedBankLemmas
 pub mod UnstampedPhaseLemmas
+pub mod WorldAtomicLemmas
+pub mod WorldLawLemmas
 pub mod WorldRunLemmas

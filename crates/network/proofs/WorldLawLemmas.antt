@@ -1,0 +1,126 @@
+-- What holds of each world that is reached.
+use Rattle.std.proofs.Common.{◌≡◌, ℕ, List, map, Option, Some, None, is_some, true, get_or, []}
+use Rattle.std.proofs.Common.{refl, sym, subst, ap, ◌∙◌, slice_get}
+use Rattle.std.specs.FinMap as map
+use Rattle.tag.specs.declared.tag.Tag.{Tag}
+use Rattle.layout.specs.Layout.{Layout}
+use Rattle.encoder.specs.declared.fragment.Piece.{Piece}
+use Rattle.bank.specs.Bank.{Bank, knows, piece_of, piece_of_row}
+use Rattle.bank.specs.declared.row.Row.{Row}
+use Rattle.mail.specs.declared.message.Body.{Body}
+use Rattle.mail.specs.declared.message.Body.TheVariants as body
+use Rattle.mail.specs.declared.message.Message.{Message}
+use Rattle.record.specs.Fragments.{Code, IsCode, IfCoded, IsCoded, IsFragment, body_piece, body_tag}
+use Rattle.record.specs.Journals.{IsJournaled, entries}
+use Rattle.record.specs.Records.{Object, bank_at, layout_at, no_bank, no_layout}
+use Rattle.record.specs.Steps.{opened_object}
+use Rattle.atomicity.specs.Atomic.{IsAtomic}
+use Rattle.atomicity.proofs.AtomicRunLemmas.{sound_atomic}
+use Rattle.soundness.proofs.ListLemmas.{all_get}
+use Rattle.network.specs.Unstamped.{unstamped_body, unstamped_bank}
+use Rattle.network.specs.Worlds.{World, bank_of, layout_of, opened_world}
+use Rattle.network.specs.Events.{Event, run}
+use Rattle.network.specs.Events.Event.{BeginRead, BeginWrite, BeginMove, Advance, Serve, Take, Settle, Answer, GiveUp, Restart}
+use Rattle.network.specs.Following.{Follows, LeadsOn, entry_in_steps, last_step, run_numbered}
+use Rattle.network.specs.Laws.{AreFragments, IsFollowed, IsReached, RunsAreFollowed, WorldsAreAtomic, WorldsKeepFragments}
+use Rattle.network.specs.Premises.{WasSent}
+use Rattle.network.proofs.AnsweredCallLemmas.{answer_followed}
+use Rattle.network.proofs.BegunCallLemmas.{read_followed, write_followed}
+use Rattle.network.proofs.BegunMoveLemmas.{move_followed}
+use Rattle.network.proofs.BegunPhaseLemmas.{advance_followed}
+use Rattle.network.proofs.RestartedNodeLemmas.{give_up_followed, restart_followed}
+use Rattle.network.proofs.ServedRequestLemmas.{bank-bare, serve_followed}
+use Rattle.network.proofs.SettledValueLemmas.{settle_followed}
+use Rattle.network.proofs.StepLemmas.{message_there}
+use Rattle.network.proofs.TakenReplyLemmas.{take_followed}
+use Rattle.network.proofs.UnstampedBankLemmas.{piece_of-bare}
+use Rattle.network.proofs.WorldAtomicLemmas.{atomic_back}
+use Rattle.network.proofs.WorldRunLemmas.{runs_followed}
+use Rattle.soundness.specs.Sound.{IsSound}
+
+-- each event is followed
+each_followed : (event : Event) → IsFollowed event
+each_followed (Event.BeginRead node number) = read_followed node number
+each_followed (Event.BeginWrite node number value) = write_followed node number value
+each_followed (Event.BeginMove node number layout) = move_followed node number layout
+each_followed (Event.Advance number) = advance_followed number
+each_followed (Event.Serve message) = serve_followed message
+each_followed (Event.Take message) = take_followed message
+each_followed (Event.Settle number value) = settle_followed number value
+each_followed (Event.Answer number) = answer_followed number
+each_followed (Event.GiveUp number) = give_up_followed number
+each_followed (Event.Restart node banks calls) = restart_followed node banks calls
+
+pub all_runs_followed : RunsAreFollowed
+all_runs_followed = runs_followed each_followed
+
+-- a world that is reached follows a sound record
+record Mirrored (fragment : Code) (world : World) : Type 0 where
+  object : Object
+  sound : IsSound fragment object (last_step world.now)
+  follows : Follows world object
+
+mirrored : (fragment : Code) (world : World) → IsCode fragment → IsReached fragment world → Mirrored fragment world
+mirrored fragment world code reached =
+    subst (Mirrored fragment) reached.result
+    (let led = all_runs_followed fragment reached.layout reached.delta reached.mover reached.events code reached.lawful reached.may in record {
+      object = run_numbered fragment led.steps (opened_object reached.layout reached.delta 0);
+      sound = led.sound;
+      follows = led.follows;
+    })
+
+pub atomic_worlds : WorldsAreAtomic
+atomic_worlds fragment world code reached =
+    let m = mirrored fragment world code reached in
+    atomic_back world.history (subst IsAtomic m.follows.history (sound_atomic fragment code m.object (last_step world.now) m.sound))
+
+-- Fragments
+
+known : (o : Option Row) (piece : Piece) → piece_of_row o ≡ Some piece → is_some o ≡ true
+known None piece e = absurd (cc)
+known (Some row) piece e = refl
+
+tag-bare : (b : Body) → body_tag (unstamped_body b) ≡ body_tag b
+tag-bare (body.Request asked) = refl
+tag-bare (body.Reply kind made) = refl
+
+piece-bare : (b : Body) → body_piece (unstamped_body b) ≡ body_piece b
+piece-bare (body.Request asked) = refl
+piece-bare (body.Reply kind made) = refl
+
+-- a piece that is coded is its member's fragment of the journal's value
+coded_there : (fragment : Code) (world : World) (object : Object) → object.layouts ≡ world.layouts → (position member : ℕ) (tag : Tag)
+    (piece : Piece) (o : Option Piece) → o ≡ Some piece → IsCoded fragment object position member tag o →
+    (value : List ℕ) × IsJournaled object tag value × IsFragment fragment (layout_of world position) member value piece
+coded_there fragment world object layouts position member tag piece o e coded =
+    (coded.value, coded.journaled,
+    subst (λ (l : List Layout). IsFragment fragment (get_or l position no_layout) member coded.value piece) layouts (coded.fits piece e))
+
+pub fragment_worlds : WorldsKeepFragments
+fragment_worlds fragment world code reached =
+    let m = mirrored fragment world code reached in
+    let object = m.object in
+    let follows = m.follows in record {
+      object = object;
+      follows = follows;
+      banks = λ position member tag piece e.
+          let same : bank_of world position member ≡ unstamped_bank (bank_at object position member) =
+              ap (λ banks. get_or (get_or banks position []) member no_bank) (sym follows.banks) ∙ bank-bare object.banks position member in
+          let there : piece_of (bank_at object position member) tag ≡ Some piece =
+              sym (piece_of-bare (bank_at object position member) tag) ∙ ap (λ b. piece_of b tag) (sym same) ∙ e in
+          coded_there fragment world object follows.layouts position member tag piece (piece_of (bank_at object position member) tag) there
+          (m.sound.coded.banks position member tag (known (map.get (bank_at object position member).rows tag) piece there));
+      messages = λ message tag piece sent tagged carries.
+          let there = message_there object.mail sent.0 message (ap (λ l. slice_get l sent.0) follows.sent ∙ sent.1) in
+          let original = there.0 in
+          let body_is : unstamped_body original.body ≡ message.body = ap (λ (x : Message). x.body) there.2 in
+          let coded = all_get (λ x. IfCoded fragment object x.position x.member (body_tag x.body) (body_piece x.body)) object.mail sent.0
+              original m.sound.coded.mail there.1 in
+          let tag_is : body_tag original.body ≡ Some tag = sym (tag-bare original.body) ∙ ap body_tag body_is ∙ tagged in
+          let piece_is : body_piece original.body ≡ Some piece = sym (piece-bare original.body) ∙ ap body_piece body_is ∙ carries in
+          let at_original = coded_there fragment world object follows.layouts original.position original.member tag piece
+              (body_piece original.body) piece_is
+              (subst (λ o. IfCoded fragment object original.position original.member o (body_piece original.body)) tag_is coded) in
+          subst (λ (x : Message). (value : List ℕ) × IsJournaled object tag value
+          × IsFragment fragment (layout_of world x.position) x.member value piece) there.2 at_original;
+    }
