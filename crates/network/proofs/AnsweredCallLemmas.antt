@@ -3,7 +3,7 @@ use Rattle.std.proofs.Common.{◌≡◌, ℕ, zero, suc, pred, ◌+◌, ◌<◌,
 use Rattle.std.proofs.Common.{Option, Some, None, IsSome, refl, sym, subst, ap, ◌∙◌, inl, inr, slice_get, arith, eq-eqb, eqb-true}
 use Rattle.std.proofs.lemmas.Bool.Decides.{nat_tests}
 use Rattle.std.proofs.lemmas.Option.{same_Some}
-use Rattle.std.specs.List.{AllByRecursion, filter}
+use Rattle.std.specs.List.{AllByRecursion}
 use Rattle.bank.specs.declared.kind.Kind.{Kind}
 use Rattle.bank.specs.declared.kind.Kind.TheVariants as kinds
 use Rattle.phase.specs.Phase.{Phase}
@@ -11,14 +11,14 @@ use Rattle.record.specs.declared.call.CallKind.{CallKind}
 use Rattle.record.specs.declared.call.CallKind.TheVariants.{Read, Write, Move}
 use Rattle.record.specs.declared.call.Entry.{Entry}
 use Rattle.record.specs.declared.stage.Want.TheVariants as want
-use Rattle.record.specs.Fragments.{Code, IsCode, IsFetch}
+use Rattle.record.specs.Fragments.{IsFetch}
 use Rattle.record.specs.Journals.{entry_of, entry_value, entries_from}
 use Rattle.record.specs.Legal.{due_of}
 use Rattle.record.specs.Records.{Call, Object}
-use Rattle.record.specs.Steps.{Step, stepped, on_call, answered_object}
+use Rattle.record.specs.Steps.{Step, on_call, answered_object}
 use Rattle.record.specs.Wants.{is_fetch, want_after, want_for, want_of_fetch}
 use Rattle.soundness.proofs.ListLemmas.{get_set, set_here}
-use Rattle.network.specs.Worlds.{World, OpenCall, open_call, without_call}
+use Rattle.network.specs.Worlds.{World, OpenCall, without_call}
 use Rattle.network.specs.Events.{Event, on_open, answered_entry, answered_world}
 use Rattle.network.specs.Following.{Follows, LeadsOn, IsOpenIn, IsOpenMove, entry_in_steps, last_step}
 use Rattle.network.specs.Laws.{IsFollowed}
@@ -158,7 +158,7 @@ answered_follow world object old is follows =
     never index other at none same =
         let here = set_here object.calls is.index is.call (record is.call { answered = Some (last_step (suc world.now)) }) is.at in
         let both = same_Some other (record is.call { answered = Some (last_step (suc world.now)) })
-            (sym at ∙ ap (slice_get (set object.calls is.index (record is.call { answered = Some (last_step (suc world.now)) }))) same ∙ here) in
+        (sym at ∙ ap (slice_get (set object.calls is.index (record is.call { answered = Some (last_step (suc world.now)) }))) same ∙ here) in
         let wrong : Some (last_step (suc world.now)) ≡ None = sym (ap (λ (c : Call). c.answered) both) ∙ none in
         absurd (cc)
 
@@ -202,13 +202,13 @@ answer_followed number fragment world object code sound follows may premised =
     let ready = may.2 in
     let due = sym (next_is object old is follows.kept) ∙ may.3 in
     let wants = want_is object old is
-        ∙ want_ready object (due_of object is.index is.call) is.call.settled is.last (ended_is object old is ready.complete)
-        (λ fetch. ap is_some (sym is.settled) ∙ ready.fetched (fetch.0, kind_is object old is ∙ fetch.1))
-        ∙ ap (want_for object) due in
+    ∙ want_ready object (due_of object is.index is.call) is.call.settled is.last (ended_is object old is ready.complete)
+    (λ fetch. ap is_some (sym is.settled) ∙ ready.fetched (fetch.0, kind_is object old is ∙ fetch.1))
+    ∙ ap (want_for object) due in
     let new = answered_world (record world { now = suc world.now }) old in
     let led : LeadsOn fragment object (last_step world.now) new =
-        one_step fragment object world.now (Step.AnswerCall is.index) (with_new object object.mail is.index call) new code refl sound
-        (is.call, (is.at, wants)) (ap (λ o. on_call object o (λ c. answered_object object is.index c now)) is.at)
-        (answered_follow world object old is follows) in
+    one_step fragment object world.now (Step.AnswerCall is.index) (with_new object object.mail is.index call) new code refl sound
+    (is.call, (is.at, wants)) (ap (λ o. on_call object o (λ c. answered_object object is.index c now)) is.at)
+    (answered_follow world object old is follows) in
     subst (λ o. LeadsOn fragment object (last_step world.now) (on_open (record world { now = suc world.now }) o
     (λ c. answered_world (record world { now = suc world.now }) c))) (sym may.1) led

@@ -1,35 +1,32 @@
 -- A world in which a node begins a call still follows the record, which begins the call too.
-use Rattle.std.proofs.Common.{◌≡◌, ℕ, zero, suc, pred, ◌+◌, ◌<◌, ◌⊎◌, Bool, true, false, cond, eqb, List, [], ◌∷◌, ◌++◌, length, map}
-use Rattle.std.proofs.Common.{Option, Some, None, set, take, get_or, refl, sym, subst, ap, ◌∙◌, inl, inr, slice_get, arith, eq-eqb, eqb-true}
+use Rattle.std.proofs.Common.{◌≡◌, ℕ, zero, suc, ◌+◌, ◌<◌, ◌⊎◌, Bool, true, false, cond, eqb, List, [], ◌∷◌, ◌++◌, length, map}
+use Rattle.std.proofs.Common.{Some, None, take, get_or, refl, sym, ap, ◌∙◌, inl, inr, slice_get, arith, eq-eqb}
 use Rattle.std.proofs.lemmas.Bool.Decides.{nat_tests}
-use Rattle.std.proofs.lemmas.List.{map-append, length-map, length-append}
+use Rattle.std.proofs.lemmas.List.{map-append, length-map}
 use Rattle.std.proofs.lemmas.Option.{same_Some, slice_get_within}
 use Rattle.std.proofs.Math.Seq.{set-append_seam}
 use Rattle.std.specs.List.{AllByRecursion}
 use Rattle.layout.specs.Layout.{Layout}
-use Rattle.bank.specs.Bank.{Bank, empty_piece}
+use Rattle.bank.specs.Bank.{empty_piece}
 use Rattle.bank.specs.declared.kind.Kind.{Kind}
-use Rattle.bank.specs.declared.kind.Kind.TheVariants.{Next, Spread}
-use Rattle.bank.specs.declared.status.Status.TheVariants.{Pending}
-use Rattle.mail.specs.declared.message.Message.{Message}
-use Rattle.phase.specs.Phase.{Phase}
+use Rattle.bank.specs.declared.kind.Kind.TheVariants.{Next}
 use Rattle.record.specs.declared.call.CallKind.{CallKind}
 use Rattle.record.specs.declared.call.CallKind.TheVariants.{Read, Write, Move}
 use Rattle.record.specs.declared.call.Entry.{Entry}
 use Rattle.record.specs.declared.stage.Stage.{Stage}
 use Rattle.record.specs.Fragments.{Code, IsCode}
 use Rattle.record.specs.Journals.{entry_of, entries_from, entry_value, operation_of}
-use Rattle.record.specs.Legal.{first_stage, is_move, moves_in, source_of}
+use Rattle.record.specs.Legal.{first_stage, is_move, moves_in}
 use Rattle.record.specs.PhaseOrder.{begun_at, stage_after}
 use Rattle.record.specs.Preconditions.{MayStep}
 use Rattle.record.specs.Records.{Call, Object, base_of, layout_at, no_layout}
 use Rattle.record.specs.Sending.{requests}
 use Rattle.record.specs.Steps.{Step, stepped, called_object, new_call, new_phase, with_phase}
-use Rattle.soundness.proofs.ListLemmas.{all_get, all_push, all_weaker, get_push}
+use Rattle.soundness.proofs.ListLemmas.{all_push, all_weaker, get_push}
 use Rattle.soundness.specs.Sound.{IsSound}
-use Rattle.network.specs.Unstamped.{unstamped_message, unstamped_phase}
+use Rattle.network.specs.Unstamped.{unstamped_message}
 use Rattle.network.specs.Worlds.{World, OpenCall, layout_of, open_call}
-use Rattle.network.specs.Events.{Event, begun_world, called_world, happens, phase_requests}
+use Rattle.network.specs.Events.{Event, begun_world, called_world}
 use Rattle.network.specs.Following.{Follows, LeadsOn, IsOpenIn, IsOpenMove, entry_in_steps, last_step}
 use Rattle.network.specs.Laws.{IsFollowed}
 use Rattle.network.proofs.BegunPhaseLemmas.{requests-bare}
@@ -112,7 +109,7 @@ added_follow world object follows node number kind stage phase_kind position num
   layouts = follows.layouts;
   banks = follows.banks;
   sent = map-append unstamped_message object.mail
-          (requests (suc (length object.calls)) 1 phase_kind position (layout_at object position).members 0 empty_piece)
+      (requests (suc (length object.calls)) 1 phase_kind position (layout_at object position).members 0 empty_piece)
       ∙ ap (λ l. l ++ map unstamped_message
       (requests (suc (length object.calls)) 1 phase_kind position (layout_at object position).members 0 empty_piece)) follows.sent
       ∙ ap (λ l. world.sent ++ l)

@@ -1,6 +1,6 @@
 -- A world in which a node begins a move still follows the record, which begins the move too.
-use Rattle.std.proofs.Common.{◌≡◌, ℕ, zero, suc, pred, List, [], ◌∷◌, ◌++◌, length, map, Option, Some, None, IsSome, get_or}
-use Rattle.std.proofs.Common.{refl, sym, subst, ap, ◌∙◌, slice_get}
+use Rattle.std.proofs.Common.{◌≡◌, ℕ, suc, pred, List, [], ◌∷◌, ◌++◌, length, map, Option, Some, None, IsSome, get_or}
+use Rattle.std.proofs.Common.{refl, sym, ap, ◌∙◌}
 use Rattle.std.proofs.lemmas.List.{map-append}
 use Rattle.std.proofs.Math.Seq.{set-append_seam}
 use Rattle.layout.specs.Layout.{Layout}
@@ -9,18 +9,16 @@ use Rattle.bank.specs.declared.kind.Kind.TheVariants.{Spread}
 use Rattle.bank.specs.declared.status.Status.TheVariants.{Pending}
 use Rattle.record.specs.declared.call.CallKind.TheVariants.{Move}
 use Rattle.record.specs.declared.stage.Stage.TheVariants.{MoveSpread}
-use Rattle.record.specs.Fragments.{Code, IsCode}
 use Rattle.record.specs.Legal.{moves_in}
 use Rattle.record.specs.Preconditions.{NoOpenMove}
-use Rattle.record.specs.Records.{Call, Object, layout_at, no_bank}
+use Rattle.record.specs.Records.{Object, layout_at, no_bank}
 use Rattle.record.specs.Sending.{requests}
 use Rattle.record.specs.Steps.{Step, moving_object, new_call, new_phase, opened_banks}
 use Rattle.soundness.proofs.ListLemmas.{all_weaker}
-use Rattle.soundness.specs.Sound.{IsSound}
 use Rattle.network.specs.Unstamped.{unstamped_bank}
-use Rattle.network.specs.Worlds.{World, OpenCall, open_call}
+use Rattle.network.specs.Worlds.{World}
 use Rattle.network.specs.Events.{Event, moving_world}
-use Rattle.network.specs.Following.{Follows, LeadsOn, IsOpenIn, last_step}
+use Rattle.network.specs.Following.{Follows, IsOpenIn, last_step}
 use Rattle.network.specs.Laws.{IsFollowed}
 use Rattle.network.proofs.BegunCallLemmas.{added_follow, with_begun}
 use Rattle.network.proofs.OpenCallLemmas.{found}

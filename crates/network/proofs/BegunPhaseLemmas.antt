@@ -1,5 +1,5 @@
 -- A world in which a call begins a phase still follows the record, where the call begins it too.
-use Rattle.std.proofs.Common.{◌≡◌, ℕ, zero, suc, ◌+◌, ◌⊎◌, Bool, true, false, cond, is_some, List, [], ◌∷◌, ◌++◌, length, map, get_or}
+use Rattle.std.proofs.Common.{◌≡◌, ℕ, suc, ◌+◌, ◌⊎◌, true, cond, is_some, List, [], ◌∷◌, ◌++◌, length, map, get_or}
 use Rattle.std.proofs.Common.{Option, Some, None, IsSome, refl, sym, subst, ap, ◌∙◌, inl, inr, slice_get, arith}
 use Rattle.std.proofs.lemmas.List.{map-append}
 use Rattle.layout.specs.Layout.{Layout}
@@ -8,9 +8,8 @@ use Rattle.bank.specs.declared.kind.Kind.{Kind}
 use Rattle.bank.specs.declared.kind.Kind.TheVariants.{Next, Spread, Query, PreWrite, Finalize, Fetch}
 use Rattle.mail.specs.declared.message.Message.{Message}
 use Rattle.phase.specs.Phase.{Phase, lacks_pieces}
-use Rattle.record.specs.declared.call.CallKind.{CallKind}
 use Rattle.record.specs.declared.stage.Want.TheVariants as want
-use Rattle.record.specs.Fragments.{Code, IsCode}
+use Rattle.record.specs.Fragments.{Code}
 use Rattle.record.specs.Legal.{AreNumbered, due_of, first_stage}
 use Rattle.record.specs.PhaseOrder.{begun_at, stage_after}
 use Rattle.record.specs.Preconditions.{MayStep}
@@ -21,8 +20,7 @@ use Rattle.record.specs.Steps.{Step, stepped, on_call, asked_again, advanced_obj
 use Rattle.record.specs.Wants.{current_phase, is_fetch, want_after, want_for, want_of, want_to_begin}
 use Rattle.soundness.proofs.ListLemmas.{set_here}
 use Rattle.soundness.proofs.Sound.ChangedCallLemmas.{begun_call, moves_set}
-use Rattle.soundness.specs.Sound.{IsSound}
-use Rattle.network.specs.Unstamped.{unstamped_message, unstamped_phase}
+use Rattle.network.specs.Unstamped.{unstamped_message}
 use Rattle.network.specs.Worlds.{World, OpenCall, layout_of, next_of, open_call, reached}
 use Rattle.network.specs.Events.{Event, IsLacking, IsReady, advanced_world, call_pieces, on_open, phase_requests}
 use Rattle.network.specs.Following.{Follows, LeadsOn, IsOpenIn, last_step}
@@ -172,10 +170,16 @@ begins fragment object old is now next due (inl ready) =
     ∙ ap (want_for object) due) (current_is object old is) (ended_is object old is ready.0.complete)
 begins fragment object old is now next due (inr lacking) = record {
   step = Step.Again is.index;
-  may = (is.call, (is.at, want_is object old is
-      ∙ want_lacking object (due_of object is.index is.call) is.call.settled is.last (ended_is object old is lacking.complete)
-      (fetch_is is.last.kind (lacking.fetch.0, sym (kind_is object old is) ∙ lacking.fetch.1)) (sym is.settled ∙ lacking.unsettled)
-      (sym (lacks_is object old is) ∙ lacking.lacks)));
+  may = (
+    is.call,
+    (
+      is.at,
+      want_is object old is
+          ∙ want_lacking object (due_of object is.index is.call) is.call.settled is.last (ended_is object old is lacking.complete)
+          (fetch_is is.last.kind (lacking.fetch.0, sym (kind_is object old is) ∙ lacking.fetch.1)) (sym is.settled ∙ lacking.unsettled)
+          (sym (lacks_is object old is) ∙ lacking.lacks),
+    ),
+  );
   is = ap (λ o. on_call object o (λ c. advanced_object fragment object is.index c now)) is.at;
 }
 

@@ -1,12 +1,11 @@
 -- A world follows the record still where one call is changed in both.
-use Rattle.std.proofs.Common.{◌≡◌, ℕ, zero, suc, Bool, true, false, cond, eqb, ◌⊎◌, List, [], ◌∷◌, ◌++◌, map, set, Option, Some, None}
+use Rattle.std.proofs.Common.{◌≡◌, ℕ, zero, suc, Bool, true, false, cond, eqb, ◌⊎◌, List, [], ◌∷◌, map, set, Some, None}
 use Rattle.std.proofs.Common.{refl, sym, subst, ap, ◌∙◌, inl, inr, slice_get, eqb-true, eq-eqb}
 use Rattle.std.proofs.lemmas.Option.{same_Some}
-use Rattle.std.specs.List.{AllByRecursion}
 use Rattle.mail.specs.declared.message.Message.{Message}
 use Rattle.record.specs.declared.call.CallKind.TheVariants.{Move}
 use Rattle.record.specs.Journals.{entry_of, entries_from}
-use Rattle.record.specs.Legal.{first_stage, source_of}
+use Rattle.record.specs.Legal.{first_stage}
 use Rattle.record.specs.PhaseOrder.{begun_at, stage_after}
 use Rattle.record.specs.Records.{Call, Object}
 use Rattle.soundness.proofs.ListLemmas.{get_set, set_there}

@@ -1,10 +1,9 @@
 -- What the current phase of an open call says: the stage that it leads to, and what the record's call wants.
-use Rattle.std.proofs.Common.{◌≡◌, ℕ, zero, suc, ◌+◌, Bool, true, false, cond, nat_lt, is_some, count_by, List, [], ◌∷◌, ◌++◌, length, map}
-use Rattle.std.proofs.Common.{Option, Some, None, IsSome, refl, sym, subst, ap, ◌∙◌, get_or, slice_get}
+use Rattle.std.proofs.Common.{◌≡◌, ℕ, suc, ◌+◌, Bool, true, cond, nat_lt, is_some, List, [], ◌∷◌, ◌++◌, map}
+use Rattle.std.proofs.Common.{Option, Some, None, IsSome, refl, sym, ap, ◌∙◌, get_or}
 use Rattle.std.proofs.lemmas.List.Sums.{sum_by-cons}
 use Rattle.tag.specs.Tag.{later_tag}
 use Rattle.bank.specs.declared.kind.Kind.{Kind}
-use Rattle.bank.specs.declared.kind.Kind.TheVariants.{Fetch}
 use Rattle.bank.specs.Bank.{Bank}
 use Rattle.phase.specs.declared.phase.Taken.{Taken}
 use Rattle.phase.specs.Phase.{Phase, has_piece, lacks_pieces, pieces_in}
@@ -16,10 +15,10 @@ use Rattle.record.specs.declared.stage.Stage.TheVariants.{MoveSpread, MoveQuery,
 use Rattle.record.specs.declared.stage.Stage.TheVariants.{MoveFinalize, MoveFinal, Ended, Moved}
 use Rattle.record.specs.Fragments.{IsFetch}
 use Rattle.record.specs.Legal.{due_of, first_stage, source_of, stage_of}
-use Rattle.record.specs.PhaseOrder.{after, after_again, after_next, after_query, after_spread, begun_at, due, greatest_status}
+use Rattle.record.specs.PhaseOrder.{after, after_again, after_next, after_query, begun_at, due, greatest_status}
 use Rattle.record.specs.PhaseOrder.{greatest_tag, later_status, passed, shown_status, shown_tag, stage_after, stage_past}
 use Rattle.record.specs.declared.stage.Want.TheVariants as want
-use Rattle.record.specs.Records.{Call, Object, base_of, no_bank, retired_first, retired_at}
+use Rattle.record.specs.Records.{Object, base_of, no_bank, retired_first, retired_at}
 use Rattle.record.specs.Wants.{current_phase, is_fetch, want_after, want_of}
 use Rattle.network.specs.Unstamped.{unstamped, unstamped_phase, unstamped_taken}
 use Rattle.network.specs.Worlds.{OpenCall, next_of, reached}

@@ -1,5 +1,5 @@
 -- Open calls: the one that is found by its number, and lists in which one is changed or some are gone.
-use Rattle.std.proofs.Common.{◌≡◌, ℕ, Bool, true, false, cond, eqb, List, [], ◌∷◌, map, Option, Some, None}
+use Rattle.std.proofs.Common.{◌≡◌, ℕ, Bool, true, false, cond, eqb, List, [], ◌∷◌, Some}
 use Rattle.std.proofs.Common.{refl, sym, subst, ap, ◌∙◌, eqb-true}
 use Rattle.std.proofs.lemmas.Option.{same_Some}
 use Rattle.std.specs.List.{AllByRecursion, filter}

@@ -1,16 +1,13 @@
 -- A world whose open calls become fewer, but for the moves, still follows the record.
 use Rattle.std.proofs.Common.{◌≡◌, ℕ, suc, Bool, true, false, ◌&&◌, not, eqb, eqb-true, List, Some, refl, sym, subst, ap, ◌∙◌}
-use Rattle.std.specs.List.{AllByRecursion, filter}
+use Rattle.std.specs.List.{filter}
 use Rattle.bank.specs.Bank.{Bank}
-use Rattle.record.specs.Fragments.{Code, IsCode}
 use Rattle.record.specs.Legal.{is_move}
 use Rattle.record.specs.Records.{Object}
 use Rattle.record.specs.declared.call.CallKind.TheVariants.{Move}
-use Rattle.soundness.specs.Sound.{IsSound}
 use Rattle.network.specs.Worlds.{World, OpenCall, open_call, after_restart, without_call}
 use Rattle.network.specs.Events.{Event, happens}
-use Rattle.network.specs.Premises.{IsPremised}
-use Rattle.network.specs.Following.{Follows, LeadsOn, IsOpenIn, IsOpenMove, last_step}
+use Rattle.network.specs.Following.{Follows, LeadsOn, IsOpenIn, last_step}
 use Rattle.network.specs.Laws.{IsFollowed}
 use Rattle.network.proofs.OpenCallLemmas.{all_filter, found, found_filter}
 use Rattle.network.proofs.StepLemmas.{no_step}
@@ -48,8 +45,8 @@ restart_followed node banks calls fragment world object code sound follows may p
     let restarted = with_calls world (after_restart node world.calls) in
     let new = happens fragment world (Event.Restart node banks calls) in
     let same : restarted ≡ new =
-        ap (λ b. let w : World = record world { banks = b; calls = after_restart node world.calls; now = suc world.now } in w) (sym premised.log.0)
-        ∙ ap (λ c. let w : World = record world { banks = banks; calls = c; now = suc world.now } in w) (sym premised.log.1) in
+    ap (λ b. let w : World = record world { banks = b; calls = after_restart node world.calls; now = suc world.now } in w) (sym premised.log.0)
+    ∙ ap (λ c. let w : World = record world { banks = banks; calls = c; now = suc world.now } in w) (sym premised.log.1) in
     subst (LeadsOn fragment object (last_step world.now)) same
     (no_step fragment object world.now restarted refl sound
     (fewer_follow world object (λ call. not (eqb call.node node && not (is_move call.kind)))

@@ -1,5 +1,5 @@
 -- A world in which a node serves a request still follows the record, which serves a copy of the request.
-use Rattle.std.proofs.Common.{◌≡◌, ℕ, zero, suc, List, [], ◌∷◌, ◌++◌, length, map, set, get_or, Option, Some, None}
+use Rattle.std.proofs.Common.{◌≡◌, ℕ, zero, suc, List, [], ◌∷◌, ◌++◌, length, map, set, get_or, None}
 use Rattle.std.proofs.Common.{refl, sym, subst, ap, ◌∙◌, slice_get}
 use Rattle.std.proofs.lemmas.List.{map-append, map-set, length-map}
 use Rattle.std.proofs.Math.ListN.{get_or-map}
@@ -17,16 +17,14 @@ use Rattle.mail.specs.declared.message.Body.{Body}
 use Rattle.mail.specs.declared.message.Body.TheVariants as body
 use Rattle.mail.specs.declared.message.Message.{Message}
 use Rattle.mail.specs.Message.{answered, body_kind}
-use Rattle.record.specs.Fragments.{Code, IsCode}
 use Rattle.record.specs.Records.{Object, no_bank, bank_at}
 use Rattle.record.specs.Steps.{Step, stepped, on_message, served_by, handled_object, repeated_object}
 use Rattle.soundness.proofs.ListLemmas.{all_weaker}
 use Rattle.soundness.proofs.Sound.ServedBankLemmas.{served-retired}
-use Rattle.soundness.specs.Sound.{IsSound}
 use Rattle.network.specs.Unstamped.{unstamped_bank, unstamped_body, unstamped_message}
 use Rattle.network.specs.Worlds.{World, bank_of}
-use Rattle.network.specs.Events.{Event, happens, handled_world, served_world}
-use Rattle.network.specs.Following.{Follows, LeadsOn, IsOpenIn, IsOpenMove, last_step}
+use Rattle.network.specs.Events.{Event, handled_world, served_world}
+use Rattle.network.specs.Following.{Follows, LeadsOn, IsOpenIn, last_step}
 use Rattle.network.specs.Laws.{IsFollowed}
 use Rattle.network.proofs.StepLemmas.{copy_and_step, get_end, message_there}
 use Rattle.network.proofs.UnstampedBankLemmas.{answer-bare, bare, entries-bare, served-bare}
@@ -96,12 +94,12 @@ served_follow world object original asked now follows =
     let bank = bank_at object position member in
     let new = served_copy object original asked now in
     let bank_same : unstamped_bank bank ≡ bank_of world position member =
-        sym (bank-bare object.banks position member)
-        ∙ ap (λ banks. get_or (get_or banks position []) member no_bank) follows.banks in
+    sym (bank-bare object.banks position member)
+    ∙ ap (λ banks. get_or (get_or banks position []) member no_bank) follows.banks in
     let served_same : unstamped_bank (served_bank bank asked now) ≡ served_bank (bank_of world position member) asked 0 =
-        served-bare bank asked now ∙ ap (λ b. served_bank b asked 0) bank_same in
+    served-bare bank asked now ∙ ap (λ b. served_bank b asked 0) bank_same in
     let answer_same : answer_to bank asked ≡ answer_to (bank_of world position member) asked =
-        sym (answer-bare bank asked) ∙ ap (λ b. answer_to b asked) bank_same in record {
+    sym (answer-bare bank asked) ∙ ap (λ b. answer_to b asked) bank_same in record {
       delta = follows.delta;
       layouts = follows.layouts;
       banks = set-bare object.banks position member (served_bank bank asked now)
@@ -138,18 +136,18 @@ serve_followed message fragment world object code sound follows may premised =
     let now = last_step (suc world.now) in
     let ticked : World = record world { now = suc world.now } in
     let there = message_there object.mail premised.network.0 message
-        (ap (λ sent. slice_get sent premised.network.0) follows.sent ∙ premised.network.1) in
+    (ap (λ sent. slice_get sent premised.network.0) follows.sent ∙ premised.network.1) in
     let original = there.0 in
     let asked = may.0 in
     let request = body_request original.body asked (ap (λ (m : Message). m.body) there.2 ∙ may.1) in
     let copied = repeated_object object original in
     let at_end = get_end object.mail original in
     let is : stepped fragment (Step.Serve (length object.mail)) now copied ≡ served_copy object original asked now =
-        ap (λ o. on_message copied o (λ m. served_by copied (length object.mail) m m.body now)) at_end
-        ∙ ap (λ b. served_by copied (length object.mail) original b now) request in
+    ap (λ o. on_message copied o (λ m. served_by copied (length object.mail) m m.body now)) at_end
+    ∙ ap (λ b. served_by copied (length object.mail) original b now) request in
     let led : LeadsOn fragment object (last_step world.now) (handled_world ticked (unstamped_message original) asked) =
-        copy_and_step fragment object world.now premised.network.0 original (Step.Serve (length object.mail))
-        (served_copy object original asked now) (handled_world ticked (unstamped_message original) asked) code refl sound there.1
-        (original, (at_end, (asked, request))) is (served_follow world object original asked now follows) in
+    copy_and_step fragment object world.now premised.network.0 original (Step.Serve (length object.mail))
+    (served_copy object original asked now) (handled_world ticked (unstamped_message original) asked) code refl sound there.1
+    (original, (at_end, (asked, request))) is (served_follow world object original asked now follows) in
     subst (λ b. LeadsOn fragment object (last_step world.now) (served_world ticked message b)) (sym may.1)
     (subst (λ m. LeadsOn fragment object (last_step world.now) (handled_world ticked m asked)) there.2 led)

@@ -1,5 +1,5 @@
 -- A world in which a call settles a value still follows the record, where the call settles it too.
-use Rattle.std.proofs.Common.{◌≡◌, ℕ, suc, ◌≤◌, Bool, true, false, cond, is_some, List, length, map, get_or, Option, Some, None, option_map, IsSome}
+use Rattle.std.proofs.Common.{◌≡◌, ℕ, suc, ◌≤◌, true, false, List, length, map, get_or, Option, Some, None, option_map, IsSome}
 use Rattle.std.proofs.Common.{refl, sym, subst, ap, ◌∙◌, slice_get}
 use Rattle.std.proofs.lemmas.Option.{same_Some, slice_get-map}
 use Rattle.layout.specs.Layout.{Layout}
@@ -10,19 +10,19 @@ use Rattle.record.specs.declared.call.CallKind.{CallKind}
 use Rattle.record.specs.declared.call.CallKind.TheVariants.{Read, Write, Move}
 use Rattle.record.specs.declared.call.Entry.{Entry}
 use Rattle.record.specs.declared.stage.Want.TheVariants as want
-use Rattle.record.specs.Fragments.{Code, IsCode, HasPiece, HasPieces, IsFragment}
+use Rattle.record.specs.Fragments.{Code, HasPiece, HasPieces, IsFragment}
 use Rattle.record.specs.Journals.{entry_of, entry_value, operation_of}
 use Rattle.record.specs.Legal.{first_stage, due_of}
 use Rattle.record.specs.PhaseOrder.{begun_at, stage_after}
 use Rattle.record.specs.Records.{Call, Object, layout_at, no_layout}
-use Rattle.record.specs.Steps.{Step, stepped, on_call, settled_object}
+use Rattle.record.specs.Steps.{Step, on_call, settled_object}
 use Rattle.record.specs.Wants.{is_fetch, value_len, want_after}
 use Rattle.soundness.proofs.ListLemmas.{all_weaker, set_here}
 use Rattle.soundness.proofs.Sound.ChangedCallLemmas.{moves_set}
 use Rattle.network.specs.Unstamped.{unstamped_phase, unstamped_taken}
 use Rattle.network.specs.Worlds.{World, OpenCall, open_call, parts_of}
 use Rattle.network.specs.Events.{Event, on_open}
-use Rattle.network.specs.Following.{Follows, LeadsOn, IsOpenIn, last_step}
+use Rattle.network.specs.Following.{LeadsOn, IsOpenIn, last_step}
 use Rattle.network.specs.Laws.{IsFollowed}
 use Rattle.network.proofs.ChangedCallLemmas.{changed_follow, with_new, with_one}
 use Rattle.network.proofs.CurrentPhaseLemmas.{current_is, ended_is, fetch_is, kind_is, lacks_is, want_is}
@@ -116,25 +116,25 @@ settle_followed number value fragment world object code sound follows may premis
     let unsettled : is.call.settled ≡ None = sym is.settled ∙ fetched.unsettled in
     let enough : lacks_pieces is.last ≡ false = sym (lacks_is object old is) ∙ fetched.enough in
     let wants = want_is object old is
-        ∙ want_settle object (due_of object is.index is.call) is.call.settled is.last (ended_is object old is fetched.complete)
-        (fetch_is is.last.kind (fetched.fetch.0, sym kind ∙ fetched.fetch.1)) unsettled enough in
+    ∙ want_settle object (due_of object is.index is.call) is.call.settled is.last (ended_is object old is fetched.complete)
+    (fetch_is is.last.kind (fetched.fetch.0, sym kind ∙ fetched.fetch.1)) unsettled enough in
     let pieces = has_pieces fragment world object is.last value follows.layouts
-        (subst (λ p. HasPieces fragment (parts_of world) p value) is.phase fetched.pieces) in
+    (subst (λ p. HasPieces fragment (parts_of world) p value) is.phase fetched.pieces) in
     let led : LeadsOn fragment object (last_step world.now) (with_one world new world.sent) =
-        one_step fragment object world.now (Step.Settle is.index value) (with_new object object.mail is.index call)
-        (with_one world new world.sent) code refl sound
-        (record {
-          call = is.call;
-          k = (layout_at object is.last.position).k;
-          len = value_len is.last.replies;
-          wants = (is.at, wants);
-          phase = is.last;
-          current = current_is object old is;
-          pieces = pieces;
-          is_value = fetched.is_value;
-        })
-        (ap (λ o. on_call object o (λ c. settled_object object is.index c value)) is.at)
-        (changed_follow world object old new is call object.mail world.sent follows (ap (open_call world.calls) held.1 ∙ may.1)
-        refl refl refl refl (entry_settled is.call (Some value) is.unanswered) follows.sent (settled_open object value old is)) in
+    one_step fragment object world.now (Step.Settle is.index value) (with_new object object.mail is.index call)
+    (with_one world new world.sent) code refl sound
+    (record {
+      call = is.call;
+      k = (layout_at object is.last.position).k;
+      len = value_len is.last.replies;
+      wants = (is.at, wants);
+      phase = is.last;
+      current = current_is object old is;
+      pieces = pieces;
+      is_value = fetched.is_value;
+    })
+    (ap (λ o. on_call object o (λ c. settled_object object is.index c value)) is.at)
+    (changed_follow world object old new is call object.mail world.sent follows (ap (open_call world.calls) held.1 ∙ may.1)
+    refl refl refl refl (entry_settled is.call (Some value) is.unanswered) follows.sent (settled_open object value old is)) in
     subst (λ o. LeadsOn fragment object (last_step world.now) (on_open (record world { now = suc world.now }) o
     (λ c. with_one world (record c { settled = Some value }) world.sent))) (sym may.1) led

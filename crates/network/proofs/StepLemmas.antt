@@ -1,5 +1,5 @@
 -- The steps of the record that an event needs: none, or a copy of a message and a step with the copy.
-use Rattle.std.proofs.Common.{◌≡◌, ℕ, zero, suc, ◌+◌, ◌<◌, ◌≤◌, List, [], ◌∷◌, ◌++◌, length, map, Option, Some, None, option_map}
+use Rattle.std.proofs.Common.{◌≡◌, ℕ, suc, ◌<◌, ◌≤◌, List, [], ◌∷◌, ◌++◌, length, map, Option, Some, None, option_map}
 use Rattle.std.proofs.Common.{refl, sym, subst, ap, ◌∙◌, arith, slice_get}
 use Rattle.std.proofs.lemmas.Option.{same_Some, slice_get-map}
 use Rattle.mail.specs.declared.message.Message.{Message}
@@ -56,7 +56,7 @@ pub copy_and_step : (fragment : Code) (object : Object) (events place : ℕ) (me
 copy_and_step fragment object events place message second result new code now sound at may is follows =
     let last = last_step events in
     let copied : stepped fragment (Step.Repeat place) (suc last) object ≡ repeated_object object message =
-        ap (λ o. on_message object o (λ m. repeated_object object m)) at in
+    ap (λ o. on_message object o (λ m. repeated_object object m)) at in
     let may_second = subst (λ o. MayStep fragment o second) (sym copied) may in
     let both = ap (stepped fragment second (suc (suc last))) copied ∙ is in
     let end : last_step new.now ≡ suc (suc last) = ap last_step now in record {

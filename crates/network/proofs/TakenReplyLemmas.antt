@@ -1,5 +1,5 @@
 -- A world in which a call takes a reply still follows the record, where the call takes a copy of the reply.
-use Rattle.std.proofs.Common.{◌≡◌, ℕ, zero, suc, pred, List, [], ◌∷◌, ◌++◌, length, set, Option, Some, None}
+use Rattle.std.proofs.Common.{◌≡◌, ℕ, suc, pred, List, [], ◌∷◌, ◌++◌, length, set, Option, Some, None}
 use Rattle.std.proofs.Common.{refl, sym, subst, ap, ◌∙◌, slice_get}
 use Rattle.std.specs.List.{remove}
 use Rattle.bank.specs.declared.kind.Kind.{Kind}
@@ -8,18 +8,16 @@ use Rattle.mail.specs.declared.message.Body.{Body}
 use Rattle.mail.specs.declared.message.Body.TheVariants as body
 use Rattle.mail.specs.declared.message.Message.{Message}
 use Rattle.phase.specs.Phase.{after_take}
-use Rattle.record.specs.Fragments.{Code, IsCode}
 use Rattle.record.specs.Legal.{first_stage, source_of}
 use Rattle.record.specs.PhaseOrder.{begun_at, stage_after}
-use Rattle.record.specs.Records.{Call, Object}
+use Rattle.record.specs.Records.{Object}
 use Rattle.record.specs.Steps.{Step, stepped, on_message, repeated_object, taken_by, taken_calls, taking_call, taking_phases}
 use Rattle.soundness.proofs.ListLemmas.{set_here}
 use Rattle.soundness.proofs.Sound.ChangedCallLemmas.{moves_set}
-use Rattle.soundness.specs.Sound.{IsSound}
 use Rattle.network.specs.Unstamped.{unstamped_body, unstamped_message}
-use Rattle.network.specs.Worlds.{World, OpenCall, open_call}
+use Rattle.network.specs.Worlds.{OpenCall, open_call}
 use Rattle.network.specs.Events.{Event, on_open, taking_open}
-use Rattle.network.specs.Following.{Follows, LeadsOn, IsOpenIn, last_step}
+use Rattle.network.specs.Following.{LeadsOn, IsOpenIn, last_step}
 use Rattle.network.specs.Laws.{IsFollowed}
 use Rattle.network.proofs.ChangedCallLemmas.{changed_follow, with_new, with_one}
 use Rattle.network.proofs.OpenCallLemmas.{found}
@@ -69,7 +67,7 @@ take_followed message fragment world object code sound follows may premised =
     go (Some old) e =
         let now = last_step (suc world.now) in
         let there = message_there object.mail premised.network.0 message
-            (ap (λ sent. slice_get sent premised.network.0) follows.sent ∙ premised.network.1) in
+        (ap (λ sent. slice_get sent premised.network.0) follows.sent ∙ premised.network.1) in
         let original = there.0 in
         let held = found (IsOpenIn object) world.calls message.call old follows.calls e in
         let is = held.0 in
@@ -80,19 +78,19 @@ take_followed message fragment world object code sound follows may premised =
         let call = taking_call original now is.call in
         let number : original.call ≡ suc is.index = ap (λ (m : Message). m.call) there.2 ∙ sym held.1 ∙ is.number in
         let calls : taken_calls object.calls original now (slice_get object.calls (pred original.call)) ≡ set object.calls is.index call =
-            ap (λ o. taken_calls object.calls original now o) (ap (λ k. slice_get object.calls (pred k)) number ∙ is.at)
-            ∙ ap (λ k. set object.calls (pred k) call) number in
+        ap (λ o. taken_calls object.calls original now o) (ap (λ k. slice_get object.calls (pred k)) number ∙ is.at)
+        ∙ ap (λ k. set object.calls (pred k) call) number in
         let made : stepped fragment (Step.Take place) now copied ≡ with_new object object.mail is.index call =
-            ap (λ o. on_message copied o (λ m. taken_by copied place m m.body now)) at_end
-            ∙ ap (λ b. taken_by copied place original b now) reply.2
-            ∙ ap (λ calls. let o : Object = record object { calls = calls; mail = remove copied.mail place } in o) calls
-            ∙ ap (λ mail. with_new object mail is.index call) (remove_end object.mail original) in
+        ap (λ o. on_message copied o (λ m. taken_by copied place m m.body now)) at_end
+        ∙ ap (λ b. taken_by copied place original b now) reply.2
+        ∙ ap (λ calls. let o : Object = record object { calls = calls; mail = remove copied.mail place } in o) calls
+        ∙ ap (λ mail. with_new object mail is.index call) (remove_end object.mail original) in
         let new = taking_open (unstamped_message original) old in
         let led : LeadsOn fragment object (last_step world.now) (with_one world new world.sent) =
-            copy_and_step fragment object world.now premised.network.0 original (Step.Take place)
-            (with_new object object.mail is.index call) (with_one world new world.sent) code refl sound there.1
-            (original, (at_end, (reply.0, reply.1, reply.2))) made
-            (changed_follow world object old new is call object.mail world.sent follows
-            (ap (open_call world.calls) held.1 ∙ e) refl refl refl refl (λ n. refl) follows.sent
-            (taken_open object original now old is)) in
+        copy_and_step fragment object world.now premised.network.0 original (Step.Take place)
+        (with_new object object.mail is.index call) (with_one world new world.sent) code refl sound there.1
+        (original, (at_end, (reply.0, reply.1, reply.2))) made
+        (changed_follow world object old new is call object.mail world.sent follows
+        (ap (open_call world.calls) held.1 ∙ e) refl refl refl refl (λ n. refl) follows.sent
+        (taken_open object original now old is)) in
         subst (λ m. LeadsOn fragment object (last_step world.now) (with_one world (taking_open m old) world.sent)) there.2 led

@@ -1,5 +1,5 @@
 -- A bank without stamps serves and answers as the bank does.
-use Rattle.std.proofs.Common.{◌≡◌, ℕ, ◌+◌, Bool, true, false, cond, ◌&&◌, ◌||◌, List, [], ◌∷◌, map, T, Option, Some, None, is_some, option_map}
+use Rattle.std.proofs.Common.{◌≡◌, ℕ, ◌+◌, Bool, true, false, cond, ◌&&◌, ◌||◌, [], ◌∷◌, map, T, Option, Some, None, is_some, option_map}
 use Rattle.std.proofs.Common.{refl, sym, subst, ap, ◌∙◌}
 use Rattle.std.specs.FinMap as map
 use Rattle.std.specs.FinMap.Entries.{below_all, by_order}
@@ -21,12 +21,12 @@ use Rattle.bank.specs.declared.status.Pointer.{Pointer}
 use Rattle.bank.specs.declared.status.Pointer.TheVariants as pointer
 use Rattle.bank.specs.declared.status.Status.{Status}
 use Rattle.bank.specs.declared.status.Status.TheVariants as status
-use Rattle.bank.specs.Bank.{Bank, with_rows, pre_written, finalized, row_after_pre_write, row_after_finalize, filled_arrival}
+use Rattle.bank.specs.Bank.{Bank, pre_written, finalized, row_after_pre_write, row_after_finalize, filled_arrival}
 use Rattle.bank.specs.Bank.{finalized_label, piece_of, piece_of_row, piece_that_came}
-use Rattle.bank.specs.Collect.{collected, emptied_arrival, emptied_row, kept_entry, kept_row, fetched_piece}
+use Rattle.bank.specs.Collect.{collected, emptied_arrival, emptied_row, kept_entry, fetched_piece}
 use Rattle.bank.specs.Knowledge.{row_finalized, is_finalized, count_above, finals_above, exceeds, is_dropped, finalized_at}
 use Rattle.bank.specs.Pointer.{raised, status_of}
-use Rattle.bank.specs.Serve.{served_bank, answer_to, greatest_among, greatest_final}
+use Rattle.bank.specs.Serve.{served_bank, answer_to, greatest_among}
 use Rattle.bank.proofs.CollectedBankLemmas.{entries-collected}
 use Rattle.bank.proofs.EntryOrderLemmas.{Rows}
 use Rattle.network.specs.Unstamped.{unstamped, unstamped_arrival, unstamped_bank, unstamped_entry, unstamped_label, unstamped_pointer}
@@ -136,9 +136,9 @@ kept-bare : (b : Bank) (es : Rows) →
 kept-bare b [] = refl
 kept-bare b (e ∷ es) =
     let first : unstamped_entry (kept_entry b e) ≡ kept_entry (unstamped_bank b) (unstamped_entry e) =
-        ap (λ r. let p : Tag × Row = (e.0, r) in p)
-        (rest-bare (is_dropped b e.0) e.1
-        ∙ ap (λ d. cond d (emptied_row (unstamped_row e.1)) (unstamped_row e.1)) (sym (dropped-bare b e.0))) in
+    ap (λ r. let p : Tag × Row = (e.0, r) in p)
+    (rest-bare (is_dropped b e.0) e.1
+    ∙ ap (λ d. cond d (emptied_row (unstamped_row e.1)) (unstamped_row e.1)) (sym (dropped-bare b e.0))) in
     ap (λ x. x ∷ map unstamped_entry (map (kept_entry b) es)) first
     ∙ ap (λ l. kept_entry (unstamped_bank b) (unstamped_entry e) ∷ l) (kept-bare b es)
 

@@ -2,7 +2,6 @@
 use Rattle.std.proofs.Common.{◌≡◌, ℕ, suc, ◌+◌, Bool, true, false, cond, ◌&&◌, ◌||◌, not, eqb, nat_lt, List, [], ◌∷◌, ◌++◌, length, map}
 use Rattle.std.proofs.Common.{Option, Some, None, is_some, refl, sym, ap, ◌∙◌}
 use Rattle.std.proofs.lemmas.List.{map-append}
-use Rattle.bank.specs.declared.kind.Kind.{Kind}
 use Rattle.bank.specs.declared.reply.Reply.{Reply}
 use Rattle.mail.specs.declared.message.Body.{Body}
 use Rattle.mail.specs.declared.message.Body.TheVariants as body

@@ -1,12 +1,11 @@
 -- A history is atomic where it is with the numbers of steps in the place of those of events.
-use Rattle.std.proofs.Common.{◌≡◌, ℕ, zero, suc, ◌<◌, List, [], ◌∷◌, map, Option, Some, None, IsSome, is_some, option_map}
+use Rattle.std.proofs.Common.{◌≡◌, ℕ, zero, suc, ◌<◌, List, [], ◌∷◌, map, Option, Some, None, is_some, option_map}
 use Rattle.std.proofs.Common.{refl, sym, subst, ap, ◌∙◌, arith}
 use Rattle.std.proofs.Math.ListN.{get_or-map}
 use Rattle.std.specs.List.{AllByRecursion}
 use Rattle.record.specs.declared.call.Entry.{Entry}
-use Rattle.record.specs.declared.call.Operation.TheVariants as operation
 use Rattle.soundness.proofs.ListLemmas.{all_weaker}
-use Rattle.atomicity.specs.Atomic.{IsAnsweredBefore, IsAtomic, IsRegister, IsSequence, KeepsOrder, MayStand, entry_at, no_entry}
+use Rattle.atomicity.specs.Atomic.{IsAnsweredBefore, IsAtomic, IsRegister, KeepsOrder, MayStand, entry_at, no_entry}
 use Rattle.network.specs.Following.{entry_in_steps, last_step}
 
 steps_rise : (a b : ℕ) → a < b → last_step a < last_step b
@@ -53,15 +52,17 @@ pub atomic_back : (entries : List Entry) → IsAtomic (map entry_in_steps entrie
 atomic_back entries atomic =
     let order = atomic.0 in
     let s = atomic.1 in
-    let same = entries_at-steps entries order in
-    (order, record {
-      distinct = s.distinct;
-      fitting = all_weaker (λ number. MayStand (entry_at (map entry_in_steps entries) number)) (λ number. MayStand (entry_at entries number))
-          (λ number may. stands (entry_at entries number) (subst MayStand (entry_at-steps entries number) may)) order s.fitting;
-      complete = λ number kind answered. s.complete number
-          (λ move. kind (sym (ap (λ (e : Entry). e.kind) (entry_at-steps entries number)) ∙ move))
-          (ap (λ (e : Entry). is_some e.answered) (entry_at-steps entries number)
-          ∙ some_same (entry_at entries number).answered ∙ answered);
-      one_register = register_back [] (map (λ number. entry_at entries number) order) (subst (IsRegister []) same s.one_register);
-      in_order = order_back (map (λ number. entry_at entries number) order) (subst KeepsOrder same s.in_order);
-    })
+    let same = entries_at-steps entries order in (
+      order,
+      record {
+        distinct = s.distinct;
+        fitting = all_weaker (λ number. MayStand (entry_at (map entry_in_steps entries) number)) (λ number. MayStand (entry_at entries number))
+            (λ number may. stands (entry_at entries number) (subst MayStand (entry_at-steps entries number) may)) order s.fitting;
+        complete = λ number kind answered. s.complete number
+            (λ move. kind (sym (ap (λ (e : Entry). e.kind) (entry_at-steps entries number)) ∙ move))
+            (ap (λ (e : Entry). is_some e.answered) (entry_at-steps entries number)
+            ∙ some_same (entry_at entries number).answered ∙ answered);
+        one_register = register_back [] (map (λ number. entry_at entries number) order) (subst (IsRegister []) same s.one_register);
+        in_order = order_back (map (λ number. entry_at entries number) order) (subst KeepsOrder same s.in_order);
+      },
+    )

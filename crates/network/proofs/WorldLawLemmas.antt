@@ -1,29 +1,27 @@
 -- What holds of each world that is reached.
-use Rattle.std.proofs.Common.{◌≡◌, ℕ, List, map, Option, Some, None, is_some, true, get_or, []}
+use Rattle.std.proofs.Common.{◌≡◌, ℕ, List, Option, Some, None, is_some, true, get_or, []}
 use Rattle.std.proofs.Common.{refl, sym, subst, ap, ◌∙◌, slice_get}
 use Rattle.std.specs.FinMap as map
 use Rattle.tag.specs.declared.tag.Tag.{Tag}
 use Rattle.layout.specs.Layout.{Layout}
 use Rattle.encoder.specs.declared.fragment.Piece.{Piece}
-use Rattle.bank.specs.Bank.{Bank, knows, piece_of, piece_of_row}
+use Rattle.bank.specs.Bank.{piece_of, piece_of_row}
 use Rattle.bank.specs.declared.row.Row.{Row}
 use Rattle.mail.specs.declared.message.Body.{Body}
 use Rattle.mail.specs.declared.message.Body.TheVariants as body
 use Rattle.mail.specs.declared.message.Message.{Message}
 use Rattle.record.specs.Fragments.{Code, IsCode, IfCoded, IsCoded, IsFragment, body_piece, body_tag}
-use Rattle.record.specs.Journals.{IsJournaled, entries}
-use Rattle.record.specs.Records.{Object, bank_at, layout_at, no_bank, no_layout}
+use Rattle.record.specs.Journals.{IsJournaled}
+use Rattle.record.specs.Records.{Object, bank_at, no_bank, no_layout}
 use Rattle.record.specs.Steps.{opened_object}
 use Rattle.atomicity.specs.Atomic.{IsAtomic}
 use Rattle.atomicity.proofs.AtomicRunLemmas.{sound_atomic}
 use Rattle.soundness.proofs.ListLemmas.{all_get}
 use Rattle.network.specs.Unstamped.{unstamped_body, unstamped_bank}
-use Rattle.network.specs.Worlds.{World, bank_of, layout_of, opened_world}
-use Rattle.network.specs.Events.{Event, run}
-use Rattle.network.specs.Events.Event.{BeginRead, BeginWrite, BeginMove, Advance, Serve, Take, Settle, Answer, GiveUp, Restart}
-use Rattle.network.specs.Following.{Follows, LeadsOn, entry_in_steps, last_step, run_numbered}
-use Rattle.network.specs.Laws.{AreFragments, IsFollowed, IsReached, RunsAreFollowed, WorldsAreAtomic, WorldsKeepFragments}
-use Rattle.network.specs.Premises.{WasSent}
+use Rattle.network.specs.Worlds.{World, bank_of, layout_of}
+use Rattle.network.specs.Events.{Event}
+use Rattle.network.specs.Following.{Follows, last_step, run_numbered}
+use Rattle.network.specs.Laws.{IsFollowed, IsReached, RunsAreFollowed, WorldsAreAtomic, WorldsKeepFragments}
 use Rattle.network.proofs.AnsweredCallLemmas.{answer_followed}
 use Rattle.network.proofs.BegunCallLemmas.{read_followed, write_followed}
 use Rattle.network.proofs.BegunMoveLemmas.{move_followed}
@@ -92,9 +90,11 @@ piece-bare (body.Reply kind made) = refl
 coded_there : (fragment : Code) (world : World) (object : Object) → object.layouts ≡ world.layouts → (position member : ℕ) (tag : Tag)
     (piece : Piece) (o : Option Piece) → o ≡ Some piece → IsCoded fragment object position member tag o →
     (value : List ℕ) × IsJournaled object tag value × IsFragment fragment (layout_of world position) member value piece
-coded_there fragment world object layouts position member tag piece o e coded =
-    (coded.value, coded.journaled,
-    subst (λ (l : List Layout). IsFragment fragment (get_or l position no_layout) member coded.value piece) layouts (coded.fits piece e))
+coded_there fragment world object layouts position member tag piece o e coded = (
+  coded.value,
+  coded.journaled,
+  subst (λ (l : List Layout). IsFragment fragment (get_or l position no_layout) member coded.value piece) layouts (coded.fits piece e),
+)
 
 pub fragment_worlds : WorldsKeepFragments
 fragment_worlds fragment world code reached =
@@ -105,9 +105,9 @@ fragment_worlds fragment world code reached =
       follows = follows;
       banks = λ position member tag piece e.
           let same : bank_of world position member ≡ unstamped_bank (bank_at object position member) =
-              ap (λ banks. get_or (get_or banks position []) member no_bank) (sym follows.banks) ∙ bank-bare object.banks position member in
+          ap (λ banks. get_or (get_or banks position []) member no_bank) (sym follows.banks) ∙ bank-bare object.banks position member in
           let there : piece_of (bank_at object position member) tag ≡ Some piece =
-              sym (piece_of-bare (bank_at object position member) tag) ∙ ap (λ b. piece_of b tag) (sym same) ∙ e in
+          sym (piece_of-bare (bank_at object position member) tag) ∙ ap (λ b. piece_of b tag) (sym same) ∙ e in
           coded_there fragment world object follows.layouts position member tag piece (piece_of (bank_at object position member) tag) there
           (m.sound.coded.banks position member tag (known (map.get (bank_at object position member).rows tag) piece there));
       messages = λ message tag piece sent tagged carries.
@@ -115,12 +115,12 @@ fragment_worlds fragment world code reached =
           let original = there.0 in
           let body_is : unstamped_body original.body ≡ message.body = ap (λ (x : Message). x.body) there.2 in
           let coded = all_get (λ x. IfCoded fragment object x.position x.member (body_tag x.body) (body_piece x.body)) object.mail sent.0
-              original m.sound.coded.mail there.1 in
+          original m.sound.coded.mail there.1 in
           let tag_is : body_tag original.body ≡ Some tag = sym (tag-bare original.body) ∙ ap body_tag body_is ∙ tagged in
           let piece_is : body_piece original.body ≡ Some piece = sym (piece-bare original.body) ∙ ap body_piece body_is ∙ carries in
           let at_original = coded_there fragment world object follows.layouts original.position original.member tag piece
-              (body_piece original.body) piece_is
-              (subst (λ o. IfCoded fragment object original.position original.member o (body_piece original.body)) tag_is coded) in
+          (body_piece original.body) piece_is
+          (subst (λ o. IfCoded fragment object original.position original.member o (body_piece original.body)) tag_is coded) in
           subst (λ (x : Message). (value : List ℕ) × IsJournaled object tag value
           × IsFragment fragment (layout_of world x.position) x.member value piece) there.2 at_original;
     }

@@ -1,8 +1,8 @@
 -- Every run of worlds follows a run of the record.
-use Rattle.std.proofs.Common.{◌≡◌, ℕ, zero, suc, ◌+◌, ◌<◌, ◌≤◌, List, [], ◌∷◌, ◌++◌, map, get_or, Option, None}
+use Rattle.std.proofs.Common.{◌≡◌, ℕ, suc, ◌≤◌, List, [], ◌∷◌, ◌++◌, map, get_or, Option, None}
 use Rattle.std.proofs.Common.{refl, sym, subst, ap, ◌∙◌, arith}
 use Rattle.std.specs.FinMap as map
-use Rattle.layout.specs.Layout.{Layout, IsLawful}
+use Rattle.layout.specs.Layout.{Layout}
 use Rattle.bank.specs.Bank.{Bank, opened_bank, opening_row}
 use Rattle.bank.specs.declared.status.Pointer.TheVariants as pointer
 use Rattle.tag.specs.Tag.{opening_tag}
@@ -18,7 +18,7 @@ use Rattle.network.specs.Premises.{MayRun}
 use Rattle.network.specs.Following.{Follows, LeadsOn, MayRunNumbered, run_numbered, last_step}
 use Rattle.network.specs.Laws.{IsFollowed, RunsAreFollowed}
 use Rattle.network.proofs.ServedRequestLemmas.{bare_empty}
-use Rattle.network.proofs.UnstampedBankLemmas.{bare, insert-bare}
+use Rattle.network.proofs.UnstampedBankLemmas.{insert-bare}
 
 -- Steps, and then more steps
 

@@ -1,9 +1,9 @@
 -- The statements: one for each event, and the laws of runs.
-use Rattle.std.specs.Prelude.{◌≡◌, ℕ, true, List, Option, Some, slice_get}
+use Rattle.std.specs.Prelude.{◌≡◌, ℕ, List, Option, Some}
 use Rattle.tag.specs.declared.tag.Tag.{Tag}
 use Rattle.layout.specs.Layout.{Layout, IsLawful}
 use Rattle.encoder.specs.declared.fragment.Piece.{Piece}
-use Rattle.bank.specs.Bank.{Bank, knows, piece_of}
+use Rattle.bank.specs.Bank.{Bank, piece_of}
 use Rattle.mail.specs.declared.message.Message.{Message}
 use Rattle.record.specs.Fragments.{Code, IsCode, IsFragment, body_tag, body_piece}
 use Rattle.record.specs.Journals.{IsJournaled}

@@ -1,5 +1,5 @@
 -- Banks, messages and phases without stamps. A stamp is the number of a step; without stamps each of them is 0.
-use Rattle.std.specs.Prelude.{ℕ, List, map, Option, option_map}
+use Rattle.std.specs.Prelude.{ℕ, map, Option, option_map}
 use Rattle.std.specs.FinMap as map
 use Rattle.tag.specs.declared.tag.Tag.{Tag}
 use Rattle.bank.specs.Bank.{Bank}
