@@ -1,5 +1,5 @@
 -- What holds of each world that is reached.
-use Rattle.std.proofs.Common.{◌≡◌, ℕ, List, Option, Some, None, is_some, true, get_or, []}
+use Rattle.std.proofs.Common.{◌≡◌, ℕ, List, Option, Some, None, is_some, true, get_or, [], ◌+◌, option_map, slice_get}
 use Rattle.std.proofs.Common.{refl, sym, subst, ap, ◌∙◌, slice_get}
 use Rattle.std.specs.FinMap as map
 use Rattle.tag.specs.declared.tag.Tag.{Tag}
@@ -11,17 +11,24 @@ use Rattle.mail.specs.declared.message.Body.{Body}
 use Rattle.mail.specs.declared.message.Body.TheVariants as body
 use Rattle.mail.specs.declared.message.Message.{Message}
 use Rattle.record.specs.Fragments.{Code, IsCode, IfCoded, IsCoded, IsFragment, body_piece, body_tag}
-use Rattle.record.specs.Journals.{IsJournaled}
-use Rattle.record.specs.Records.{Object, bank_at, no_bank, no_layout}
+use Rattle.record.specs.Journals.{IsJournaled, entry_of, entry_value, operation_of}
+use Rattle.record.specs.Records.{Call, Object, bank_at, no_bank, no_layout}
 use Rattle.record.specs.Steps.{opened_object}
 use Rattle.atomicity.specs.Atomic.{IsAtomic}
+use Rattle.std.proofs.lemmas.Option.{same_Some, slice_get-map}
+use Rattle.record.specs.declared.call.CallKind.{CallKind}
+use Rattle.record.specs.declared.call.CallKind.TheVariants.{Read, Write, Move}
+use Rattle.record.specs.declared.call.Entry.{Entry}
+use Rattle.record.specs.declared.call.Operation.TheVariants as operation
 use Rattle.atomicity.proofs.AtomicRunLemmas.{sound_atomic}
+use Rattle.atomicity.proofs.Sequences.ItemEntryLemmas.{entries_from-get}
+use Rattle.soundness.proofs.Values.ReadValueLemmas.{journal_unique, reads_journaled}
 use Rattle.soundness.proofs.ListLemmas.{all_get}
 use Rattle.network.specs.Unstamped.{unstamped_body, unstamped_bank}
 use Rattle.network.specs.Worlds.{World, bank_of, layout_of}
 use Rattle.network.specs.Events.{Event}
-use Rattle.network.specs.Following.{Follows, last_step, run_numbered}
-use Rattle.network.specs.Laws.{IsFollowed, IsReached, RunsAreFollowed, WorldsAreAtomic, WorldsKeepFragments}
+use Rattle.network.specs.Following.{Follows, last_step, run_numbered, entry_in_steps}
+use Rattle.network.specs.Laws.{IsFollowed, IsReached, RunsAreFollowed, WorldsAreAtomic, WorldsKeepJournals}
 use Rattle.network.proofs.AnsweredCallLemmas.{answer_followed}
 use Rattle.network.proofs.BegunCallLemmas.{read_followed, write_followed}
 use Rattle.network.proofs.BegunMoveLemmas.{move_followed}
@@ -96,13 +103,48 @@ coded_there fragment world object layouts position member tag piece o e coded = 
   subst (λ (l : List Layout). IsFragment fragment (get_or l position no_layout) member coded.value piece) layouts (coded.fits piece e),
 )
 
-pub fragment_worlds : WorldsKeepFragments
-fragment_worlds fragment world code reached =
+-- What reads returned
+
+is_read : (kind : CallKind) → operation_of kind ≡ operation.Read → kind ≡ Read
+is_read Read e = refl
+is_read (Write value) e = absurd (cc)
+is_read Move e = absurd (cc)
+
+some_step : (o p : Option ℕ) → o ≡ option_map last_step p → is_some p ≡ true → (step : ℕ) × (o ≡ Some step)
+some_step o None e some = absurd (cc)
+some_step o (Some step) e some = (last_step step, e)
+
+read_there : (fragment : Code) (world : World) (object : Object) → IsCode fragment → IsSound fragment object (last_step world.now) →
+    Follows world object → (place : ℕ) (entry : Entry) → slice_get world.history place ≡ Some entry → entry.kind ≡ operation.Read →
+    is_some entry.answered ≡ true → (tag : Tag) × (value : List ℕ) × (entry.value ≡ Some value) × IsJournaled object tag value
+read_there fragment world object code sound follows place entry at reads some =
+    go (slice_get object.calls place) refl
+    (sym (entries_from-get 1 object.calls place) ∙ ap (λ l. slice_get l place) follows.history
+    ∙ slice_get-map entry_in_steps world.history place ∙ ap (option_map entry_in_steps) at)
+  where
+    go : (o : Option Call) → slice_get object.calls place ≡ o → option_map (λ c. entry_of (1 + place) c) o ≡ Some (entry_in_steps entry) →
+        (tag : Tag) × (value : List ℕ) × (entry.value ≡ Some value) × IsJournaled object tag value
+    go None e is = absurd (cc)
+    go (Some call) e is =
+        let same = same_Some (entry_of (1 + place) call) (entry_in_steps entry) is in
+        let kind = is_read call.kind (ap (λ (x : Entry). x.kind) same ∙ reads) in
+        let answered = some_step call.answered entry.answered (ap (λ (x : Entry). x.answered) same) some in
+        let read = reads_journaled fragment object code.determines sound.legal sound.values sound.coded sound.settled place call
+            answered.0 e kind answered.1 in
+        (read.1, read.0,
+        sym (ap (λ (x : Entry). x.value) same) ∙ ap (λ k. entry_value k call.answered call.settled) kind
+        ∙ ap (λ o. entry_value Read o call.settled) answered.1 ∙ read.2,
+        read.4)
+
+pub journal_worlds : WorldsKeepJournals
+journal_worlds fragment world code reached =
     let m = mirrored fragment world code reached in
     let object = m.object in
     let follows = m.follows in record {
       object = object;
       follows = follows;
+      unique = λ tag v w first second. journal_unique object m.sound.legal tag v w first second;
+      reads = read_there fragment world object code m.sound follows;
       banks = λ position member tag piece e.
           let same : bank_of world position member ≡ unstamped_bank (bank_at object position member) =
           ap (λ banks. get_or (get_or banks position []) member no_bank) (sym follows.banks) ∙ bank-bare object.banks position member in

@@ -1,5 +1,5 @@
 -- The statements: one for each event, and the laws of runs.
-use Rattle.std.specs.Prelude.{◌≡◌, ℕ, List, Option, Some}
+use Rattle.std.specs.Prelude.{IsSome, slice_get, ◌≡◌, ℕ, List, Option, Some}
 use Rattle.tag.specs.declared.tag.Tag.{Tag}
 use Rattle.layout.specs.Layout.{Layout, IsLawful}
 use Rattle.encoder.specs.declared.fragment.Piece.{Piece}
@@ -7,6 +7,8 @@ use Rattle.bank.specs.Bank.{Bank, piece_of}
 use Rattle.mail.specs.declared.message.Message.{Message}
 use Rattle.record.specs.Fragments.{Code, IsCode, IsFragment, body_tag, body_piece}
 use Rattle.record.specs.Journals.{IsJournaled}
+use Rattle.record.specs.declared.call.Entry.{Entry}
+use Rattle.record.specs.declared.call.Operation.TheVariants as operation
 use Rattle.record.specs.Records.{Object}
 use Rattle.record.specs.Steps.{opened_object}
 use Rattle.soundness.specs.Sound.{IsSound}
@@ -81,18 +83,22 @@ abbrev pub WorldsAreAtomic : Type 0
 WorldsAreAtomic = (fragment : Code) (world : World) → IsCode fragment → IsReached fragment world →
     IsAtomic world.history
 
--- there is a journal, and each piece in a bank or in a message ever sent is its member's fragment of its tag's value
-pub record AreFragments (fragment : Code) (world : World) : Type 0 where
+-- a journal with one value for each tag: each piece in a bank or in a message ever sent is its member's fragment of its
+-- tag's value, and each answered read of the history returned the value of a tag
+pub record KeepsJournal (fragment : Code) (world : World) : Type 0 where
   pub object : Object
   pub follows : Follows world object
+  pub unique : (tag : Tag) (v w : List ℕ) → IsJournaled object tag v → IsJournaled object tag w → v ≡ w
   pub banks : (position member : ℕ) (tag : Tag) (piece : Piece) → piece_of (bank_of world position member) tag ≡ Some piece →
       (value : List ℕ) × IsJournaled object tag value × IsFragment fragment (layout_of world position) member value piece
   pub messages : (message : Message) (tag : Tag) (piece : Piece) → WasSent world message →
       body_tag message.body ≡ Some tag → body_piece message.body ≡ Some piece →
       (value : List ℕ) × IsJournaled object tag value
       × IsFragment fragment (layout_of world message.position) message.member value piece
+  pub reads : (place : ℕ) (entry : Entry) → slice_get world.history place ≡ Some entry → entry.kind ≡ operation.Read →
+      IsSome entry.answered → (tag : Tag) × (value : List ℕ) × (entry.value ≡ Some value) × IsJournaled object tag value
 
--- the fragment law of each world that is reached
-abbrev pub WorldsKeepFragments : Type 0
-WorldsKeepFragments = (fragment : Code) (world : World) → IsCode fragment → IsReached fragment world →
-    AreFragments fragment world
+-- each world that is reached keeps a journal
+abbrev pub WorldsKeepJournals : Type 0
+WorldsKeepJournals = (fragment : Code) (world : World) → IsCode fragment → IsReached fragment world →
+    KeepsJournal fragment world
