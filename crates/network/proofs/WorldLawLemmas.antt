@@ -1,5 +1,5 @@
 -- What holds of each world that is reached.
-use Rattle.std.proofs.Common.{◌≡◌, ℕ, List, Option, Some, None, is_some, true, get_or, [], ◌+◌, option_map, slice_get}
+use Rattle.std.proofs.Common.{◌≡◌, ℕ, List, Option, Some, None, is_some, true, get_or, [], ◌+◌, option_map, slice_get, suc, inl, inr, arith}
 use Rattle.std.proofs.Common.{refl, sym, subst, ap, ◌∙◌, slice_get}
 use Rattle.std.specs.FinMap as map
 use Rattle.tag.specs.declared.tag.Tag.{Tag}
@@ -22,13 +22,15 @@ use Rattle.record.specs.declared.call.Entry.{Entry}
 use Rattle.record.specs.declared.call.Operation.TheVariants as operation
 use Rattle.atomicity.proofs.AtomicRunLemmas.{sound_atomic}
 use Rattle.atomicity.proofs.Sequences.ItemEntryLemmas.{entries_from-get}
-use Rattle.soundness.proofs.Values.ReadValueLemmas.{journal_unique, reads_journaled}
+use Rattle.soundness.proofs.Values.ReadValueLemmas.{reads_journaled}
+use Rattle.soundness.proofs.Values.WrittenTagLemmas.{written_number}
+use Rattle.record.specs.Legal.{IsLegal}
 use Rattle.soundness.proofs.ListLemmas.{all_get}
 use Rattle.network.specs.Unstamped.{unstamped_body, unstamped_bank}
 use Rattle.network.specs.Worlds.{World, bank_of, layout_of}
 use Rattle.network.specs.Events.{Event}
 use Rattle.network.specs.Following.{Follows, last_step, run_numbered, entry_in_steps}
-use Rattle.network.specs.Laws.{IsFollowed, IsReached, RunsAreFollowed, WorldsAreAtomic, WorldsKeepJournals}
+use Rattle.network.specs.Laws.{IsFollowed, IsReached, RunsAreFollowed, WorldsAreAtomic, WorldsKeepValues, IsValueOf}
 use Rattle.network.proofs.AnsweredCallLemmas.{answer_followed}
 use Rattle.network.proofs.BegunCallLemmas.{read_followed, write_followed}
 use Rattle.network.proofs.BegunMoveLemmas.{move_followed}
@@ -79,6 +81,83 @@ atomic_worlds fragment world code reached =
     let m = mirrored fragment world code reached in
     atomic_back world.history (subst IsAtomic m.follows.history (sound_atomic fragment code m.object (last_step world.now) m.sound))
 
+-- Entries and values
+
+-- the call of an entry of the history
+call_there : (world : World) (object : Object) → Follows world object → (place : ℕ) (entry : Entry) →
+    slice_get world.history place ≡ Some entry →
+    (call : Call) × (slice_get object.calls place ≡ Some call) × (entry_of (1 + place) call ≡ entry_in_steps entry)
+call_there world object follows place entry at =
+    go (slice_get object.calls place) refl
+    (sym (entries_from-get 1 object.calls place) ∙ ap (λ l. slice_get l place) follows.history
+    ∙ slice_get-map entry_in_steps world.history place ∙ ap (option_map entry_in_steps) at)
+  where
+    go : (o : Option Call) → slice_get object.calls place ≡ o → option_map (λ c. entry_of (1 + place) c) o ≡ Some (entry_in_steps entry) →
+        (call : Call) × (slice_get object.calls place ≡ Some call) × (entry_of (1 + place) call ≡ entry_in_steps entry)
+    go None e is = absurd (cc)
+    go (Some call) e is = (call, e, same_Some (entry_of (1 + place) call) (entry_in_steps entry) is)
+
+-- the entry of a call of the record
+entry_there : (world : World) (object : Object) → Follows world object → (index : ℕ) (call : Call) →
+    slice_get object.calls index ≡ Some call →
+    (entry : Entry) × (slice_get world.history index ≡ Some entry) × (entry_in_steps entry ≡ entry_of (1 + index) call)
+entry_there world object follows index call at =
+    go (slice_get world.history index) refl
+    (sym (slice_get-map entry_in_steps world.history index) ∙ ap (λ l. slice_get l index) (sym follows.history)
+    ∙ entries_from-get 1 object.calls index ∙ ap (option_map (λ c. entry_of (1 + index) c)) at)
+  where
+    go : (o : Option Entry) → slice_get world.history index ≡ o → option_map entry_in_steps o ≡ Some (entry_of (1 + index) call) →
+        (entry : Entry) × (slice_get world.history index ≡ Some entry) × (entry_in_steps entry ≡ entry_of (1 + index) call)
+    go None e is = absurd (cc)
+    go (Some entry) e is = (entry, e, same_Some (entry_in_steps entry) (entry_of (1 + index) call) is)
+
+-- what the journal has for a tag is the tag's value
+value_there : (world : World) (object : Object) → IsLegal object → Follows world object → (tag : Tag) (value : List ℕ) →
+    IsJournaled object tag value → IsValueOf world tag value
+value_there world object legal follows tag value (inl opening) = inl opening
+value_there world object legal follows tag value (inr written) =
+    let number = written_number object legal tag value written in
+    let there = entry_there world object follows written.index written.call written.at in
+    let same = there.2 in
+    let first : 1 + written.index ≡ suc written.index = omega arith in
+    inr (record {
+      place = written.index;
+      entry = there.0;
+      at = there.1;
+      same_number = ap (λ (x : Entry). x.call) same ∙ first ∙ sym number;
+      kind = ap (λ (x : Entry). x.kind) same ∙ ap operation_of written.kind;
+      writes = ap (λ (x : Entry). x.value) same
+          ∙ ap (λ k. entry_value k written.call.answered written.call.settled) written.kind;
+    })
+
+-- the number of an entry says where it stands
+number_there : (world : World) (object : Object) → Follows world object → (place : ℕ) (entry : Entry) →
+    slice_get world.history place ≡ Some entry → entry.call ≡ suc place
+number_there world object follows place entry at =
+    let there = call_there world object follows place entry at in
+    let first : 1 + place ≡ suc place = omega arith in
+    sym (ap (λ (x : Entry). x.call) there.2) ∙ first
+
+one_value : (world : World) (object : Object) → Follows world object → (tag : Tag) (v w : List ℕ) →
+    IsValueOf world tag v → IsValueOf world tag w → v ≡ w
+one_value world object follows tag v w (inl a) (inl b) = a.1 ∙ sym b.1
+one_value world object follows tag v w (inl a) (inr b) =
+    let n = number_there world object follows b.place b.entry b.at in
+    let m = b.same_number in
+    let o = ap (λ (t : Tag). t.call) a.0 in absurd (omega arith)
+one_value world object follows tag v w (inr a) (inl b) =
+    let n = number_there world object follows a.place a.entry a.at in
+    let m = a.same_number in
+    let o = ap (λ (t : Tag). t.call) b.0 in absurd (omega arith)
+one_value world object follows tag v w (inr a) (inr b) =
+    let n = number_there world object follows a.place a.entry a.at in
+    let m = number_there world object follows b.place b.entry b.at in
+    let p = a.same_number in
+    let q = b.same_number in
+    let place : a.place ≡ b.place = omega arith in
+    let one : a.entry ≡ b.entry = same_Some a.entry b.entry (sym a.at ∙ ap (slice_get world.history) place ∙ b.at) in
+    same_Some v w (sym a.writes ∙ ap (λ (x : Entry). x.value) one ∙ b.writes)
+
 -- Fragments
 
 known : (o : Option Row) (piece : Piece) → piece_of_row o ≡ Some piece → is_some o ≡ true
@@ -94,13 +173,13 @@ piece-bare (body.Request asked) = refl
 piece-bare (body.Reply kind made) = refl
 
 -- a piece that is coded is its member's fragment of the journal's value
-coded_there : (fragment : Code) (world : World) (object : Object) → object.layouts ≡ world.layouts → (position member : ℕ) (tag : Tag)
+coded_there : (fragment : Code) (world : World) (object : Object) → IsLegal object → Follows world object → (position member : ℕ) (tag : Tag)
     (piece : Piece) (o : Option Piece) → o ≡ Some piece → IsCoded fragment object position member tag o →
-    (value : List ℕ) × IsJournaled object tag value × IsFragment fragment (layout_of world position) member value piece
-coded_there fragment world object layouts position member tag piece o e coded = (
+    (value : List ℕ) × IsValueOf world tag value × IsFragment fragment (layout_of world position) member value piece
+coded_there fragment world object legal follows position member tag piece o e coded = (
   coded.value,
-  coded.journaled,
-  subst (λ (l : List Layout). IsFragment fragment (get_or l position no_layout) member coded.value piece) layouts (coded.fits piece e),
+  value_there world object legal follows tag coded.value coded.journaled,
+  subst (λ (l : List Layout). IsFragment fragment (get_or l position no_layout) member coded.value piece) follows.layouts (coded.fits piece e),
 )
 
 -- What reads returned
@@ -116,41 +195,33 @@ some_step o (Some step) e some = (last_step step, e)
 
 read_there : (fragment : Code) (world : World) (object : Object) → IsCode fragment → IsSound fragment object (last_step world.now) →
     Follows world object → (place : ℕ) (entry : Entry) → slice_get world.history place ≡ Some entry → entry.kind ≡ operation.Read →
-    is_some entry.answered ≡ true → (tag : Tag) × (value : List ℕ) × (entry.value ≡ Some value) × IsJournaled object tag value
+    is_some entry.answered ≡ true → (tag : Tag) × (value : List ℕ) × (entry.value ≡ Some value) × IsValueOf world tag value
 read_there fragment world object code sound follows place entry at reads some =
-    go (slice_get object.calls place) refl
-    (sym (entries_from-get 1 object.calls place) ∙ ap (λ l. slice_get l place) follows.history
-    ∙ slice_get-map entry_in_steps world.history place ∙ ap (option_map entry_in_steps) at)
-  where
-    go : (o : Option Call) → slice_get object.calls place ≡ o → option_map (λ c. entry_of (1 + place) c) o ≡ Some (entry_in_steps entry) →
-        (tag : Tag) × (value : List ℕ) × (entry.value ≡ Some value) × IsJournaled object tag value
-    go None e is = absurd (cc)
-    go (Some call) e is =
-        let same = same_Some (entry_of (1 + place) call) (entry_in_steps entry) is in
-        let kind = is_read call.kind (ap (λ (x : Entry). x.kind) same ∙ reads) in
-        let answered = some_step call.answered entry.answered (ap (λ (x : Entry). x.answered) same) some in
-        let read = reads_journaled fragment object code.determines sound.legal sound.values sound.coded sound.settled place call
-            answered.0 e kind answered.1 in
-        (read.1, read.0,
-        sym (ap (λ (x : Entry). x.value) same) ∙ ap (λ k. entry_value k call.answered call.settled) kind
-        ∙ ap (λ o. entry_value Read o call.settled) answered.1 ∙ read.2,
-        read.4)
+    let there = call_there world object follows place entry at in
+    let call = there.0 in
+    let same = there.2 in
+    let kind = is_read call.kind (ap (λ (x : Entry). x.kind) same ∙ reads) in
+    let answered = some_step call.answered entry.answered (ap (λ (x : Entry). x.answered) same) some in
+    let read = reads_journaled fragment object code.determines sound.legal sound.values sound.coded sound.settled place call
+        answered.0 there.1 kind answered.1 in
+    (read.1, read.0,
+    sym (ap (λ (x : Entry). x.value) same) ∙ ap (λ k. entry_value k call.answered call.settled) kind
+    ∙ ap (λ o. entry_value Read o call.settled) answered.1 ∙ read.2,
+    value_there world object sound.legal follows read.1 read.0 read.4)
 
-pub journal_worlds : WorldsKeepJournals
-journal_worlds fragment world code reached =
+pub values_kept : WorldsKeepValues
+values_kept fragment world code reached =
     let m = mirrored fragment world code reached in
     let object = m.object in
     let follows = m.follows in record {
-      object = object;
-      follows = follows;
-      unique = λ tag v w first second. journal_unique object m.sound.legal tag v w first second;
+      unique = one_value world object follows;
       reads = read_there fragment world object code m.sound follows;
       banks = λ position member tag piece e.
           let same : bank_of world position member ≡ unstamped_bank (bank_at object position member) =
           ap (λ banks. get_or (get_or banks position []) member no_bank) (sym follows.banks) ∙ bank-bare object.banks position member in
           let there : piece_of (bank_at object position member) tag ≡ Some piece =
           sym (piece_of-bare (bank_at object position member) tag) ∙ ap (λ b. piece_of b tag) (sym same) ∙ e in
-          coded_there fragment world object follows.layouts position member tag piece (piece_of (bank_at object position member) tag) there
+          coded_there fragment world object m.sound.legal follows position member tag piece (piece_of (bank_at object position member) tag) there
           (m.sound.coded.banks position member tag (known (map.get (bank_at object position member).rows tag) piece there));
       messages = λ message tag piece sent tagged carries.
           let there = message_there object.mail sent.0 message (ap (λ l. slice_get l sent.0) follows.sent ∙ sent.1) in
@@ -160,9 +231,9 @@ journal_worlds fragment world code reached =
           original m.sound.coded.mail there.1 in
           let tag_is : body_tag original.body ≡ Some tag = sym (tag-bare original.body) ∙ ap body_tag body_is ∙ tagged in
           let piece_is : body_piece original.body ≡ Some piece = sym (piece-bare original.body) ∙ ap body_piece body_is ∙ carries in
-          let at_original = coded_there fragment world object follows.layouts original.position original.member tag piece
+          let at_original = coded_there fragment world object m.sound.legal follows original.position original.member tag piece
           (body_piece original.body) piece_is
           (subst (λ o. IfCoded fragment object original.position original.member o (body_piece original.body)) tag_is coded) in
-          subst (λ (x : Message). (value : List ℕ) × IsJournaled object tag value
+          subst (λ (x : Message). (value : List ℕ) × IsValueOf world tag value
           × IsFragment fragment (layout_of world x.position) x.member value piece) there.2 at_original;
     }

@@ -10,7 +10,7 @@ pub use events::{
     begun_moves_are_followed, given_up_calls_are_followed, restarts_are_followed,
     serves_are_followed, settles_are_followed, takes_are_followed,
 };
-pub use runs::{runs_are_followed, worlds_are_atomic, worlds_keep_journals};
+pub use runs::{runs_are_followed, worlds_are_atomic, worlds_keep_values};
 
 mod events;
 mod runs;

@@ -1,5 +1,5 @@
 //! Every run of worlds follows a run of the record, and so keeps what the record promises.
-ghost use Rattle.network.specs.Laws.{RunsAreFollowed, WorldsAreAtomic, WorldsKeepJournals};
+ghost use Rattle.network.specs.Laws.{RunsAreFollowed, WorldsAreAtomic, WorldsKeepValues};
 
 /// A law: whatever events happen, steps of the record that may be made lead to a sound record, which the world follows.
 pub fn runs_are_followed()
@@ -11,8 +11,9 @@ pub fn worlds_are_atomic()
     ensures { WorldsAreAtomic }
 {}
 
-/// A law: each world that is reached has a journal with one value for each tag. Every piece in a bank or in a message
-/// ever sent is its member's fragment of the value of its tag, and each answered read returned the value of a tag.
-pub fn worlds_keep_journals()
-    ensures { WorldsKeepJournals }
+/// A law: in each world that is reached a tag has one value, that of the write which it names. Every piece in a bank or
+/// in a message ever sent is its member's fragment of its tag's value, and each answered read returned the value of a
+/// tag.
+pub fn worlds_keep_values()
+    ensures { WorldsKeepValues }
 {}
