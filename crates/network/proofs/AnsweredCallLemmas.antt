@@ -21,7 +21,7 @@ use Rattle.soundness.proofs.ListLemmas.{get_set, set_here}
 use Rattle.network.specs.Worlds.{World, OpenCall, without_call}
 use Rattle.network.specs.Events.{Event, on_open, answered_entry, answered_world}
 use Rattle.network.specs.Following.{Follows, LeadsOn, IsOpenIn, IsOpenMove, entry_in_steps, last_step}
-use Rattle.network.specs.Laws.{IsFollowed}
+use Rattle.network.specs.Followed.{IsFollowed}
 use Rattle.network.proofs.ChangedCallLemmas.{other_open, with_new}
 use Rattle.network.proofs.CurrentPhaseLemmas.{ended_is, kind_is, next_is, want_is}
 use Rattle.network.proofs.OpenCallLemmas.{found, found_filter}

@@ -28,7 +28,7 @@ use Rattle.network.specs.Unstamped.{unstamped_message}
 use Rattle.network.specs.Worlds.{World, OpenCall, layout_of, open_call}
 use Rattle.network.specs.Events.{Event, begun_world, called_world}
 use Rattle.network.specs.Following.{Follows, LeadsOn, IsOpenIn, IsOpenMove, entry_in_steps, last_step}
-use Rattle.network.specs.Laws.{IsFollowed}
+use Rattle.network.specs.Followed.{IsFollowed}
 use Rattle.network.proofs.BegunPhaseLemmas.{requests-bare}
 use Rattle.network.proofs.CurrentPhaseLemmas.{base_zero}
 use Rattle.network.proofs.StepLemmas.{get_end, one_step}

@@ -19,7 +19,7 @@ use Rattle.network.specs.Unstamped.{unstamped_bank}
 use Rattle.network.specs.Worlds.{World}
 use Rattle.network.specs.Events.{Event, moving_world}
 use Rattle.network.specs.Following.{Follows, IsOpenIn, last_step}
-use Rattle.network.specs.Laws.{IsFollowed}
+use Rattle.network.specs.Followed.{IsFollowed}
 use Rattle.network.proofs.BegunCallLemmas.{added_follow, with_begun}
 use Rattle.network.proofs.OpenCallLemmas.{found}
 use Rattle.network.proofs.StepLemmas.{one_step}

@@ -24,7 +24,7 @@ use Rattle.network.specs.Unstamped.{unstamped_message}
 use Rattle.network.specs.Worlds.{World, OpenCall, layout_of, next_of, open_call, reached}
 use Rattle.network.specs.Events.{Event, IsLacking, IsReady, advanced_world, call_pieces, on_open, phase_requests}
 use Rattle.network.specs.Following.{Follows, LeadsOn, IsOpenIn, last_step}
-use Rattle.network.specs.Laws.{IsFollowed}
+use Rattle.network.specs.Followed.{IsFollowed}
 use Rattle.network.proofs.AnsweredCallLemmas.{want_ready}
 use Rattle.network.proofs.ChangedCallLemmas.{changed_follow, with_new, with_one}
 use Rattle.network.proofs.CurrentPhaseLemmas.{current_is, ended_is, fetch_is, kind_is, lacks_is, next_is, reached_is, want_is}

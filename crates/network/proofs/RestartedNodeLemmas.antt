@@ -8,7 +8,7 @@ use Rattle.record.specs.declared.call.CallKind.TheVariants.{Move}
 use Rattle.network.specs.Worlds.{World, OpenCall, open_call, after_restart, without_call}
 use Rattle.network.specs.Events.{Event, happens}
 use Rattle.network.specs.Following.{Follows, LeadsOn, IsOpenIn, last_step}
-use Rattle.network.specs.Laws.{IsFollowed}
+use Rattle.network.specs.Followed.{IsFollowed}
 use Rattle.network.proofs.OpenCallLemmas.{all_filter, found, found_filter}
 use Rattle.network.proofs.StepLemmas.{no_step}
 

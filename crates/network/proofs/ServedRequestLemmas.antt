@@ -25,7 +25,7 @@ use Rattle.network.specs.Unstamped.{unstamped_bank, unstamped_body, unstamped_me
 use Rattle.network.specs.Worlds.{World, bank_of}
 use Rattle.network.specs.Events.{Event, handled_world, served_world}
 use Rattle.network.specs.Following.{Follows, LeadsOn, IsOpenIn, last_step}
-use Rattle.network.specs.Laws.{IsFollowed}
+use Rattle.network.specs.Followed.{IsFollowed}
 use Rattle.network.proofs.StepLemmas.{copy_and_step, get_end, message_there}
 use Rattle.network.proofs.UnstampedBankLemmas.{answer-bare, bare, entries-bare, served-bare}
 use Rattle.network.proofs.UnstampedPhaseLemmas.{kind-bare}

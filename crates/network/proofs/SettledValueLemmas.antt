@@ -23,7 +23,7 @@ use Rattle.network.specs.Unstamped.{unstamped_phase, unstamped_taken}
 use Rattle.network.specs.Worlds.{World, OpenCall, open_call, parts_of}
 use Rattle.network.specs.Events.{Event, on_open}
 use Rattle.network.specs.Following.{LeadsOn, IsOpenIn, last_step}
-use Rattle.network.specs.Laws.{IsFollowed}
+use Rattle.network.specs.Followed.{IsFollowed}
 use Rattle.network.proofs.ChangedCallLemmas.{changed_follow, with_new, with_one}
 use Rattle.network.proofs.CurrentPhaseLemmas.{current_is, ended_is, fetch_is, kind_is, lacks_is, want_is}
 use Rattle.network.proofs.OpenCallLemmas.{found}

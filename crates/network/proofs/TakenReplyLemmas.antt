@@ -18,7 +18,7 @@ use Rattle.network.specs.Unstamped.{unstamped_body, unstamped_message}
 use Rattle.network.specs.Worlds.{OpenCall, open_call}
 use Rattle.network.specs.Events.{Event, on_open, taking_open}
 use Rattle.network.specs.Following.{LeadsOn, IsOpenIn, last_step}
-use Rattle.network.specs.Laws.{IsFollowed}
+use Rattle.network.specs.Followed.{IsFollowed}
 use Rattle.network.proofs.ChangedCallLemmas.{changed_follow, with_new, with_one}
 use Rattle.network.proofs.OpenCallLemmas.{found}
 use Rattle.network.proofs.StepLemmas.{copy_and_step, get_end, message_there, no_step, ticked_follow}

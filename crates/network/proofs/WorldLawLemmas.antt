@@ -30,7 +30,8 @@ use Rattle.network.specs.Unstamped.{unstamped_body, unstamped_bank}
 use Rattle.network.specs.Worlds.{World, bank_of, layout_of}
 use Rattle.network.specs.Events.{Event}
 use Rattle.network.specs.Following.{Follows, last_step, run_numbered, entry_in_steps}
-use Rattle.network.specs.Laws.{IsFollowed, IsReached, RunsAreFollowed, WorldsAreAtomic, WorldsKeepValues, IsValueOf}
+use Rattle.network.specs.Followed.{IsFollowed, RunsAreFollowed}
+use Rattle.network.specs.Laws.{IsReached, WorldsAreAtomic, WorldsKeepValues, IsValueOf}
 use Rattle.network.proofs.AnsweredCallLemmas.{answer_followed}
 use Rattle.network.proofs.BegunCallLemmas.{read_followed, write_followed}
 use Rattle.network.proofs.BegunMoveLemmas.{move_followed}

@@ -16,7 +16,7 @@ use Rattle.network.specs.Worlds.{World, opened_world}
 use Rattle.network.specs.Events.{Event, happens, run}
 use Rattle.network.specs.Premises.{MayRun}
 use Rattle.network.specs.Following.{Follows, LeadsOn, MayRunNumbered, run_numbered, last_step}
-use Rattle.network.specs.Laws.{IsFollowed, RunsAreFollowed}
+use Rattle.network.specs.Followed.{IsFollowed, RunsAreFollowed}
 use Rattle.network.proofs.ServedRequestLemmas.{bare_empty}
 use Rattle.network.proofs.UnstampedBankLemmas.{insert-bare}
 

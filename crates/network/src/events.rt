@@ -1,7 +1,7 @@
 //! Each event of a world is followed by steps of the record.
-ghost use Rattle.network.specs.Laws.{AdvancesAreFollowed, AnswersAreFollowed, BegunCallsAreFollowed};
-ghost use Rattle.network.specs.Laws.{BegunMovesAreFollowed, GivenUpCallsAreFollowed, RestartsAreFollowed};
-ghost use Rattle.network.specs.Laws.{ServesAreFollowed, SettlesAreFollowed, TakesAreFollowed};
+ghost use Rattle.network.specs.Followed.{AdvancesAreFollowed, AnswersAreFollowed, BegunCallsAreFollowed};
+ghost use Rattle.network.specs.Followed.{BegunMovesAreFollowed, GivenUpCallsAreFollowed, RestartsAreFollowed};
+ghost use Rattle.network.specs.Followed.{ServesAreFollowed, SettlesAreFollowed, TakesAreFollowed};
 
 /// A law: a world that follows a sound record still follows one after a node begins a read or a write, which the record
 /// begins too.

@@ -1,5 +1,6 @@
 //! Every run of worlds follows a run of the record, and so keeps what the record promises.
-ghost use Rattle.network.specs.Laws.{RunsAreFollowed, WorldsAreAtomic, WorldsKeepValues};
+ghost use Rattle.network.specs.Followed.{RunsAreFollowed};
+ghost use Rattle.network.specs.Laws.{WorldsAreAtomic, WorldsKeepValues};
 
 /// A law: whatever events happen, steps of the record that may be made lead to a sound record, which the world follows.
 pub fn runs_are_followed()

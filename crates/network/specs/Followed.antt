@@ -1,0 +1,63 @@
+-- The statements that each event, and each run, is followed by steps of the record.
+use Rattle.std.specs.Prelude.{ℕ, List, Option}
+use Rattle.layout.specs.Layout.{Layout, IsLawful}
+use Rattle.bank.specs.Bank.{Bank}
+use Rattle.mail.specs.declared.message.Message.{Message}
+use Rattle.record.specs.Fragments.{Code, IsCode}
+use Rattle.record.specs.Records.{Object}
+use Rattle.record.specs.Steps.{opened_object}
+use Rattle.soundness.specs.Sound.{IsSound}
+use Rattle.network.specs.Worlds.{World, OpenCall, opened_world}
+use Rattle.network.specs.Events.{Event, MayHappen, happens, run}
+use Rattle.network.specs.Premises.{IsPremised, MayRun}
+use Rattle.network.specs.Following.{Follows, LeadsOn, last_step}
+
+-- a world that follows a sound record follows one after the event, which some steps of the record lead to
+abbrev pub IsFollowed : Event → Type 0
+IsFollowed event = (fragment : Code) (world : World) (object : Object) → IsCode fragment →
+    IsSound fragment object (last_step world.now) → Follows world object → MayHappen fragment world event →
+    IsPremised world event → LeadsOn fragment object (last_step world.now) (happens fragment world event)
+
+-- a read or a write that a node begins is followed
+abbrev pub BegunCallsAreFollowed : Type 0
+BegunCallsAreFollowed = (node number : ℕ) (value : List ℕ) →
+    IsFollowed (Event.BeginRead node number) × IsFollowed (Event.BeginWrite node number value)
+
+-- a move that the mover begins is followed
+abbrev pub BegunMovesAreFollowed : Type 0
+BegunMovesAreFollowed = (node number : ℕ) (layout : Layout) → IsFollowed (Event.BeginMove node number layout)
+
+-- the phase that is due is followed
+abbrev pub AdvancesAreFollowed : Type 0
+AdvancesAreFollowed = (number : ℕ) → IsFollowed (Event.Advance number)
+
+-- serving a request is followed: the record repeats it, and serves the copy
+abbrev pub ServesAreFollowed : Type 0
+ServesAreFollowed = (message : Message) → IsFollowed (Event.Serve message)
+
+-- taking a reply is followed: the record repeats it, and takes the copy
+abbrev pub TakesAreFollowed : Type 0
+TakesAreFollowed = (message : Message) → IsFollowed (Event.Take message)
+
+-- settling a value is followed
+abbrev pub SettlesAreFollowed : Type 0
+SettlesAreFollowed = (number : ℕ) (value : List ℕ) → IsFollowed (Event.Settle number value)
+
+-- an answer is followed
+abbrev pub AnswersAreFollowed : Type 0
+AnswersAreFollowed = (number : ℕ) → IsFollowed (Event.Answer number)
+
+-- giving a call up is followed by no step
+abbrev pub GivenUpCallsAreFollowed : Type 0
+GivenUpCallsAreFollowed = (number : ℕ) → IsFollowed (Event.GiveUp number)
+
+-- the stop and start of a node is followed by no step
+abbrev pub RestartsAreFollowed : Type 0
+RestartsAreFollowed = (node : ℕ) (banks : List (List Bank)) (calls : List OpenCall) →
+    IsFollowed (Event.Restart node banks calls)
+
+-- steps of the record lead from an opened object to one that the world follows after these events
+abbrev pub RunsAreFollowed : Type 0
+RunsAreFollowed = (fragment : Code) (layout : Layout) (delta : Option ℕ) (mover : ℕ) (events : List Event) →
+    IsCode fragment → IsLawful layout → MayRun fragment events (opened_world layout delta mover) →
+    LeadsOn fragment (opened_object layout delta 0) 0 (run fragment events (opened_world layout delta mover))
