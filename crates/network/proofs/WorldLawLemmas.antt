@@ -204,11 +204,13 @@ read_there fragment world object code sound follows place entry at reads some =
     let kind = is_read call.kind (ap (λ (x : Entry). x.kind) same ∙ reads) in
     let answered = some_step call.answered entry.answered (ap (λ (x : Entry). x.answered) same) some in
     let read = reads_journaled fragment object code.determines sound.legal sound.values sound.coded sound.settled place call
-        answered.0 there.1 kind answered.1 in
-    (read.1, read.0,
-    sym (ap (λ (x : Entry). x.value) same) ∙ ap (λ k. entry_value k call.answered call.settled) kind
-    ∙ ap (λ o. entry_value Read o call.settled) answered.1 ∙ read.2,
-    value_there world object sound.legal follows read.1 read.0 read.4)
+    answered.0 there.1 kind answered.1 in (
+      read.1,
+      read.0,
+      sym (ap (λ (x : Entry). x.value) same) ∙ ap (λ k. entry_value k call.answered call.settled) kind
+          ∙ ap (λ o. entry_value Read o call.settled) answered.1 ∙ read.2,
+      value_there world object sound.legal follows read.1 read.0 read.4,
+    )
 
 pub values_kept : WorldsKeepValues
 values_kept fragment world code reached =
