@@ -46,7 +46,8 @@ IsValueOf world tag value = ((tag ≡ opening_tag) × (value ≡ [])) ⊎ IsWrit
 -- each answered read of the history returned the value of a tag
 pub record KeepsValues (fragment : Code) (world : World) : Type 0 where
   pub unique : (tag : Tag) (v w : List ℕ) → IsValueOf world tag v → IsValueOf world tag w → v ≡ w
-  pub banks : (position member : ℕ) (tag : Tag) (piece : Piece) → piece_of (bank_of world position member) tag ≡ Some piece →
+  pub banks : (position member : ℕ) (tag : Tag) (piece : Piece) →
+      piece_of (bank_of world position member) tag ≡ Some piece →
       (value : List ℕ) × IsValueOf world tag value × IsFragment fragment (layout_of world position) member value piece
   pub messages : (message : Message) (tag : Tag) (piece : Piece) → WasSent world message →
       body_tag message.body ≡ Some tag → body_piece message.body ≡ Some piece →
