@@ -5,10 +5,16 @@ use crate::script_line::add_line;
 use anyhow::{Context, Result, bail, ensure};
 use std::alloc::{AllocError, Global};
 
+/// A name has at most this many characters.
+const LONGEST_NAME: usize = 60;
+
 /// The lines of a row whose end is not read, or of a beginning.
 #[derive(Drop)]
 pub(crate) struct Draft {
+    name: Option<String>,
     deed: Option<Deed>,
+    /// The lines of the deed, as the table writes them.
+    text: String,
     pub(crate) out: Vec<u8>,
     pub(crate) err: Vec<u8>,
 }
@@ -16,7 +22,9 @@ pub(crate) struct Draft {
 impl Draft {
     pub(crate) fn new(alloc: Global) -> Draft {
         Draft {
+            name: None,
             deed: None,
+            text: String::new(alloc),
             out: Vec::new(alloc),
             err: Vec::new(alloc),
         }
@@ -24,11 +32,28 @@ impl Draft {
 
     /// Whether there is no line.
     pub(crate) fn is_empty(&self) -> bool {
-        self.deed.is_none() && self.out.is_empty() && self.err.is_empty()
+        self.name.is_none() && self.deed.is_none() && self.out.is_empty() && self.err.is_empty()
+    }
+
+    /// Takes the name of a row. A beginning has none.
+    pub(crate) fn set_name(&mut self, alloc: Global, text: &str) -> Result<()> {
+        ensure!(self.is_empty(), "a name in a row that has begun");
+        ensure!(!text.is_empty(), "an empty name");
+        ensure!(
+            text.chars().count() <= LONGEST_NAME,
+            "a name of more than {LONGEST_NAME} characters"
+        );
+        self.name = Some(String::from_str(alloc, text)?);
+        Ok(())
+    }
+
+    pub(crate) fn has_name(&self) -> bool {
+        self.name.is_some()
     }
 
     /// Adds a line of the script.
     pub(crate) fn add_script(&mut self, alloc: Global, text: &str) -> Result<()> {
+        writeln!(self.text, "> {text}")?;
         match self.deed.get_or_insert(Deed::Script(Vec::new(alloc))) {
             Deed::Script(script) => add_line(script, text),
             Deed::Words(_) => bail!("a script in a row that is a command line"),
@@ -41,18 +66,27 @@ impl Draft {
             self.deed.is_none(),
             "a command line in a row that has begun"
         );
+        writeln!(self.text, "$ {text}")?;
         self.deed = Some(Deed::Words(words_of(alloc, text)?));
         Ok(())
     }
 
     /// The row behind its beginning. It ends at this line, with this status.
     pub(crate) fn finish(self, beginning: &Draft, line: usize, status: u8) -> Result<Row> {
+        let name = self.name.context("a row without a name")?;
         let deed = self.deed.context("a row that does nothing")?;
         let deed = behind(&beginning.deed, deed)?;
         let out = joined(&beginning.out, &self.out)?;
         let err = joined(&beginning.err, &self.err)?;
-        let wanted = Run { out, err, status };
-        Ok(Row { line, deed, wanted })
+        let mut text = beginning.text.clone()?;
+        text.push_str(&self.text)?;
+        Ok(Row {
+            name,
+            line,
+            deed,
+            text,
+            expected: Run { out, err, status },
+        })
     }
 }
 

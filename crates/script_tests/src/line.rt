@@ -5,6 +5,8 @@
 pub(crate) enum Line<'a> {
     /// A comment, or nothing.
     Skipped,
+    /// `%`: the name of the row, which is its first line.
+    Name(&'a str),
     /// `>`: a line of the script.
     Script(&'a str),
     /// `$`: the words of a command line.
@@ -26,6 +28,7 @@ pub(crate) fn parse_line(line: &str) -> Option<Line<'_>> {
     }
     let (mark, rest) = line.split_once(' ').unwrap_or((line, ""));
     match mark {
+        "%" => Some(Line::Name(rest)),
         ">" => Some(Line::Script(rest)),
         "$" => Some(Line::Words(rest)),
         "<" => Some(Line::Output(rest)),

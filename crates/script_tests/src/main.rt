@@ -30,7 +30,7 @@ fn main(rt: HostRuntime) -> Result<()> {
     Ok(())
 }
 
-/// Plays each row, prints those that differ, and answers how many they are.
+/// Plays each row, reports those that differ, and answers how many they are.
 fn play_all<R: Files + Print + AllocGlobal + Threads + Wait + Clock + Sync>(
     rt: &R,
     rows: &[Row],
@@ -38,11 +38,24 @@ fn play_all<R: Files + Print + AllocGlobal + Threads + Wait + Clock + Sync>(
     let mut differing = 0usize;
     for row in rows {
         let run = Run::of(rt, &row.deed);
-        if run != row.wanted {
-            let line = row.line;
-            println!(rt; "line {line}: the row that ends here printed\n{run}")?;
+        if run != row.expected {
+            report(rt, row, &run)?;
             differing = differing.saturating_add(1);
         }
     }
     Ok(differing)
+}
+
+/// Prints the row's name, what was run, what was expected and what came.
+fn report<R: Print>(rt: &R, row: &Row, run: &Run) -> Result<()> {
+    let Row {
+        name,
+        line,
+        text,
+        expected,
+        ..
+    } = row;
+    println!(rt; "row: {name} (ends at line {line})")?;
+    println!(rt; "run:\n{text}expected:\n{expected}\ncame:\n{run}\n")?;
+    Ok(())
 }

@@ -11,12 +11,17 @@ pub(crate) enum Deed {
     Words(Vec<String>),
 }
 
-/// What a row does, what that has to print, and the line where the row ends.
+/// A row of the table.
 #[derive(Drop)]
 pub(crate) struct Row {
+    /// Says what the row is about. No other row has this name.
+    pub(crate) name: String,
+    /// The number of the row's last line.
     pub(crate) line: usize,
     pub(crate) deed: Deed,
-    pub(crate) wanted: Run,
+    /// The script or the command line, as the table writes it: with its marks and line ends.
+    pub(crate) text: String,
+    pub(crate) expected: Run,
 }
 
 /// The words of a command line, parted by one space each. `''` is an empty word.

@@ -8,7 +8,7 @@ use std::sync::Wait;
 use std::thread::Threads;
 use std::time::Clock;
 
-/// What a run prints, and its exit status. It shows as the lines of a row.
+/// What a run prints, and its exit status. It shows as the lines of a row; `\c` ends a last line without a line end.
 #[derive(Drop, PartialEq, Eq)]
 pub(crate) struct Run {
     pub(crate) out: Vec<u8>,
@@ -51,8 +51,11 @@ fn print_lines<W: fmt::Write>(
     let Ok(text) = str::from_utf8(printed) else {
         return writeln!(f, "{mark} bytes that are no text: {printed:?}");
     };
-    for line in text.lines() {
-        writeln!(f, "{mark} {line}")?;
+    for line in text.split_inclusive('\n') {
+        match line.strip_suffix("\n") {
+            Some(line) => writeln!(f, "{mark} {line}")?,
+            None => writeln!(f, "{mark} {line}\\c")?,
+        }
     }
     Ok(())
 }

@@ -38,17 +38,29 @@ fn read_line(alloc: Global, reading: &mut Reading, number: usize, line: &str) ->
     let draft = &mut reading.draft;
     match parse_line(line).context("no line of a table")? {
         Line::Skipped => {}
+        Line::Name(text) => draft.set_name(alloc, text)?,
         Line::Script(text) => draft.add_script(alloc, text)?,
         Line::Words(text) => draft.set_words(alloc, text)?,
         Line::Output(text) => append(&mut draft.out, text)?,
         Line::Error(text) => append(&mut draft.err, text)?,
-        Line::Beginning => reading.beginning = mem::replace(draft, Draft::new(alloc)),
+        Line::Beginning => {
+            ensure!(!draft.has_name(), "a beginning with a name");
+            reading.beginning = mem::replace(draft, Draft::new(alloc));
+        }
         Line::Status(status) => {
             let draft = mem::replace(draft, Draft::new(alloc));
             let row = draft.finish(&reading.beginning, number, status)?;
-            reading.rows.push(row)?;
+            add_row(&mut reading.rows, row)?;
         }
     }
+    Ok(())
+}
+
+/// Adds a row, whose name is that of no row before.
+fn add_row(rows: &mut Vec<Row>, row: Row) -> Result<()> {
+    let taken = rows.iter().any(|other| other.name == row.name);
+    ensure!(!taken, "another row has this name");
+    rows.push(row)?;
     Ok(())
 }
 
