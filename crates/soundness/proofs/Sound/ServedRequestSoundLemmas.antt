@@ -236,8 +236,7 @@ handled_sound fragment object step now place less sound message asked at is =
             same_kind same_made (started, true_now);
       };
       past = λ k m e. let same_made : reply_to old asked now ≡ m = cc in
-          let same_step : now ≡ m.step = ap (λ (r : Reply). r.step) same_made in
-          omega arith;
+          let same_step : now ≡ m.step = ap (λ (r : Reply). r.step) same_made in omega arith;
       coded = subst (λ k. IfCoded fragment new message.position message.member (answer_tag k (answer_to old asked))
           (answer_piece (answer_to old asked)))
           (sym kind_is) (answer_coded fragment new message.position message.member old asked opened_old.0 opened_old.1 sent old_coded);
