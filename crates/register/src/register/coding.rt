@@ -93,6 +93,16 @@ impl Register {
         ensures cause { IsByCause (supply_cause now self.old.object call coded) result }
         ensures unchanged { OnErr result (self.new ≡ self.old) }
     {
+        self.send_coded(call, &coded, now)
+    }
+
+    // Sends the pieces of the encoded value of the call of this number, in the phase that is due or the current one.
+    fn send_coded(&mut self, call: CallId, coded: &Coded, now: Stamp) -> Result<(), Refusal>
+        requires after { self.old.last < now }
+        ensures step { OnOk result (self.new ≡ made (Step.Supply (pred call)) now self.old) }
+        ensures cause { IsByCause (supply_cause now self.old.object call coded.now) result }
+        ensures unchanged { OnErr result (self.new ≡ self.old) }
+    {
         let index = index_of(&self.calls, call)?;
         let tracked = &self.calls[index];
         let Some(position) = pieces_position(&self.positions, tracked) else {
@@ -102,7 +112,7 @@ impl Register {
             unreachable!();
         };
         let layout = self.positions[position as usize].layout();
-        if !is_coded_for(layout, value, &coded) {
+        if !is_coded_for(layout, value, coded) {
             return Err(Refusal::WrongCode);
         }
         if now > MOST_STEPS {
@@ -117,14 +127,14 @@ impl Register {
                 kind,
                 position,
                 layout,
-                Some(&coded),
+                Some(coded),
                 &mut self.mail,
                 now,
             )?;
             self.last = now;
             Ok(())
         } else {
-            self.calls[index].ask_again(call, Some(&coded), &mut self.mail)?;
+            self.calls[index].ask_again(call, Some(coded), &mut self.mail)?;
             self.last = now;
             Ok(())
         }

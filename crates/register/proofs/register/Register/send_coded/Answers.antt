@@ -10,7 +10,7 @@ use Rattle.register.proofs.RoomLemmas.{by_cause, same_cause}
 use Rattle.register.proofs.SentPieceLemmas.{sending, position_there, sent_value_there, layout_there}
 use Rattle.register.proofs.SuppliedPieceLemmas.{supplied, unsent_is, past_full, wrong_is, none_of}
 use Rattle.register.proofs.SupplyStepLemmas.{beginning, asking}
-use Rattle.register.proofs.register.Register.supply.Goals as goal
+use Rattle.register.proofs.register.Register.send_coded.Goals as goal
 
 pub returns-in_err-index-clause-cause : goal.returns-in_err-index-clause-cause
 returns-in_err-index-clause-cause c =
@@ -29,7 +29,7 @@ pub returns-in_default-clause-cause : goal.returns-in_default-clause-cause
 returns-in_default-clause-cause c =
     let f = is_found c.self.invariant c.in_ok-index.ensures.place c.deref.ensures.value c.index-tracked.ensures in
     let s = sending f c.pieces_position.ensures c.deref-2.ensures.value (none_of c.pieces_position.result c.in_default.not-Some) in
-    inl (rw (← c.self.view_is) (unsent_is s c.args.coded c.args.now))
+    inl (rw (← c.self.view_is) (unsent_is s c.args.coded.now c.args.now))
 
 pub unreachable-requires : goal.unreachable-requires
 unreachable-requires c =
@@ -50,7 +50,7 @@ returns-then-not-is_coded_for-clause-cause c =
     let s = sending f c.pieces_position.ensures c.deref-2.ensures.value c.in-Some.is in
     let placed = layout_there s c.index.ensures c.layout-layout.ensures in
     let wrong = sym c.is_coded_for.ensures ∙ c.if-not-is_coded_for.true in
-    inl (rw (← c.self.view_is) (wrong_is s placed c.in-Some-value.ensures c.args.coded c.args.now wrong))
+    inl (rw (← c.self.view_is) (wrong_is s placed c.in-Some-value.ensures c.args.coded.now c.args.now wrong))
 
 pub returns-then-now-gt-MOST_STEPS-clause-cause : goal.returns-then-now-gt-MOST_STEPS-clause-cause
 returns-then-now-gt-MOST_STEPS-clause-cause c =
@@ -85,8 +85,8 @@ invariant_of-self-then-is_replied c =
     let e = c.in_ok-begin.ensures in
     begin_kept b c.args.now e.mail e.call c.self.view_is c.requires.after e.cause
 
-pub returns-then-is_replied-clause-step : goal.returns-then-is_replied-clause-step
-returns-then-is_replied-clause-step c =
+pub returns-in_ok-begin-clause-step : goal.returns-in_ok-begin-clause-step
+returns-in_ok-begin-clause-step c =
     let f = is_found c.self.invariant c.in_ok-index.ensures.place c.deref.ensures.value c.index-tracked.ensures in
     let s = sending f c.pieces_position.ensures c.deref-2.ensures.value c.in-Some.is in
     let p = supplied s c.index.ensures c.layout-layout.ensures c.in-Some-value.ensures c.is_coded_for.ensures c.if-not-is_coded_for.false in
@@ -94,8 +94,8 @@ returns-then-is_replied-clause-step c =
     c.if-is_replied.true c.stage.ensures c.due.ensures c.in-Some-due.is in
     rw (← c.self.view_is) (begin_step b c.args.now c.in_ok-begin.ensures.mail c.in_ok-begin.ensures.call)
 
-pub returns-then-is_replied-clause-cause : goal.returns-then-is_replied-clause-cause
-returns-then-is_replied-clause-cause c =
+pub returns-in_ok-begin-clause-cause : goal.returns-in_ok-begin-clause-cause
+returns-in_ok-begin-clause-cause c =
     let f = is_found c.self.invariant c.in_ok-index.ensures.place c.deref.ensures.value c.index-tracked.ensures in
     let s = sending f c.pieces_position.ensures c.deref-2.ensures.value c.in-Some.is in
     let p = supplied s c.index.ensures c.layout-layout.ensures c.in-Some-value.ensures c.is_coded_for.ensures c.if-not-is_coded_for.false in
@@ -139,16 +139,16 @@ invariant_of-self-else-is_replied c =
     let a = asking p c.current.ensures c.is_replied.ensures c.index-else-is_replied.ensures c.if-is_replied.false in
     again_kept a c.args.now c.in_ok-ask_again.ensures.mail c.self.view_is c.requires.after
 
-pub returns-clause-step : goal.returns-clause-step
-returns-clause-step c =
+pub returns-in_ok-ask_again-clause-step : goal.returns-in_ok-ask_again-clause-step
+returns-in_ok-ask_again-clause-step c =
     let f = is_found c.self.invariant c.in_ok-index.ensures.place c.deref.ensures.value c.index-tracked.ensures in
     let s = sending f c.pieces_position.ensures c.deref-2.ensures.value c.in-Some.is in
     let p = supplied s c.index.ensures c.layout-layout.ensures c.in-Some-value.ensures c.is_coded_for.ensures c.if-not-is_coded_for.false in
     let a = asking p c.current.ensures c.is_replied.ensures c.index-else-is_replied.ensures c.if-is_replied.false in
     rw (← c.self.view_is) (again_step a c.args.now c.in_ok-ask_again.ensures.mail)
 
-pub returns-clause-cause : goal.returns-clause-cause
-returns-clause-cause c =
+pub returns-in_ok-ask_again-clause-cause : goal.returns-in_ok-ask_again-clause-cause
+returns-in_ok-ask_again-clause-cause c =
     let f = is_found c.self.invariant c.in_ok-index.ensures.place c.deref.ensures.value c.index-tracked.ensures in
     let s = sending f c.pieces_position.ensures c.deref-2.ensures.value c.in-Some.is in
     let p = supplied s c.index.ensures c.layout-layout.ensures c.in-Some-value.ensures c.is_coded_for.ensures c.if-not-is_coded_for.false in
