@@ -25,6 +25,7 @@ pub mod PieceLengthLemmas
 pub mod PostLemmas
 pub mod PreconditionLemmas
 pub mod RecordedPieceLemmas
+pub mod RefusedStepLemmas
 pub mod RetireLemmas
 pub mod RoomLemmas
 pub mod SentPieceLemmas

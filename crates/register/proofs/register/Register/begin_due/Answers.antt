@@ -2,6 +2,7 @@ use Rattle.std.proofs.Common.{length, inl, refl, sym, ap, arith, ◌∙◌}
 use Rattle.register.proofs.AdvanceLemmas.{stage_below, due_read, due_there, due_refused, due_past, some_due, needs_none, beginning}
 use Rattle.register.proofs.BeginPhaseLemmas.{begin_room, begin_cause, begin_step, begin_kept}
 use Rattle.register.proofs.FoundCallLemmas.{is_found, again, wanting, below_those, few_those}
+use Rattle.register.proofs.RefusedStepLemmas.{as_it_was, written_back}
 use Rattle.register.proofs.RoomLemmas.{by_cause}
 use Rattle.register.proofs.register.Register.begin_due.Goals as goal
 
@@ -97,3 +98,9 @@ returns-in-Err-clause-cause c =
     let is = sym c.wants_due.ensures ∙ c.if-not-wants_due.false in
     let b = beginning c.args.anew w is d c.index-3.ensures c.layout.ensures c.index_mut.ensures.value in
     rw (← c.self.view_is) (by_cause (begin_cause b c.args.now c.if-now-gt-MOST_STEPS.false) c.in-Err.ensures.cause)
+
+pub returns-in-Err-clause-unchanged : goal.returns-in-Err-clause-unchanged
+returns-in-Err-clause-unchanged c =
+    let e = c.in-Err.ensures in
+    as_it_was c.self.invariant c.self.view_is refl e.kept
+    (written_back c.self.inside.calls.items c.in_ok-index.index e.unchanged c.index_mut.ensures.value)

@@ -1,5 +1,6 @@
-use Rattle.std.proofs.Common.{◌≡◌, length, arith}
+use Rattle.std.proofs.Common.{◌≡◌, length, arith, refl}
 use Rattle.register.proofs.BeginReadOrWriteLemmas.{begun, begun_may, begun_room, begun_cause, begun_kept, begun_step}
+use Rattle.register.proofs.RefusedStepLemmas.{as_it_was, on_error}
 use Rattle.register.proofs.RoomLemmas.{same_cause, by_cause}
 use Rattle.register.proofs.StepInvariantLemmas.{base_within}
 use Rattle.register.proofs.register.Register.begin_reading.Goals as goal
@@ -39,3 +40,13 @@ returns-in_err-begin-clause-cause c =
     let may = begun_may b c.self.view_is c.in_ok-may_call.ensures.cause in
     same_cause _ c.from_residual-in_err-begin.result _ c.from_residual-in_err-begin.ensures.1
     (rw (← c.self.view_is) (by_cause (begun_cause b may) c.in_err-begin.ensures.cause))
+
+pub returns-in_err-reserve-clause-unchanged : goal.returns-in_err-reserve-clause-unchanged
+returns-in_err-reserve-clause-unchanged c =
+    on_error c.from_residual-in_err-reserve.result
+    (as_it_was c.self.invariant c.self.view_is refl refl c.reserve.ensures.items)
+
+pub returns-in_err-begin-clause-unchanged : goal.returns-in_err-begin-clause-unchanged
+returns-in_err-begin-clause-unchanged c =
+    on_error c.from_residual-in_err-begin.result
+    (as_it_was c.self.invariant c.self.view_is refl c.in_err-begin.ensures.kept c.reserve.ensures.items)

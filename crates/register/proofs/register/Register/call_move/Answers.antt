@@ -1,5 +1,6 @@
-use Rattle.std.proofs.Common.{◌≡◌, length, arith}
+use Rattle.std.proofs.Common.{◌≡◌, length, arith, refl}
 use Rattle.register.proofs.BeginMoveLemmas.{moved, moved_may, moved_room, moved_cause, move_kept, move_step}
+use Rattle.register.proofs.RefusedStepLemmas.{as_it_was, on_error}
 use Rattle.register.proofs.RoomLemmas.{same_cause, by_cause}
 use Rattle.register.proofs.register.Register.call_move.Goals as goal
 
@@ -43,3 +44,18 @@ returns-in_err-begin-clause-cause c =
     let may = moved_may b c.args.layout c.self.view_is (c.in_ok-may_move.ensures.cause c.args.layout) in
     same_cause _ c.from_residual-in_err-begin.result _ c.from_residual-in_err-begin.ensures.1
     (rw (← c.self.view_is) (by_cause (moved_cause b c.args.layout may) c.in_err-begin.ensures.cause))
+
+pub returns-in_err-reserve-clause-unchanged : goal.returns-in_err-reserve-clause-unchanged
+returns-in_err-reserve-clause-unchanged c =
+    on_error c.from_residual-in_err-reserve.result
+    (as_it_was c.self.invariant c.self.view_is c.reserve.ensures.items refl refl)
+
+pub returns-in_err-reserve-2-clause-unchanged : goal.returns-in_err-reserve-2-clause-unchanged
+returns-in_err-reserve-2-clause-unchanged c =
+    on_error c.from_residual-in_err-reserve-2.result
+    (as_it_was c.self.invariant c.self.view_is c.reserve.ensures.items refl c.reserve-2.ensures.items)
+
+pub returns-in_err-begin-clause-unchanged : goal.returns-in_err-begin-clause-unchanged
+returns-in_err-begin-clause-unchanged c =
+    on_error c.from_residual-in_err-begin.result
+    (as_it_was c.self.invariant c.self.view_is c.reserve.ensures.items c.in_err-begin.ensures.kept c.reserve-2.ensures.items)

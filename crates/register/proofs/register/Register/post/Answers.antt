@@ -4,6 +4,7 @@ use Rattle.tag.specs.declared.refusal.Refusal.{Refusal}
 use Rattle.register.proofs.AskAgainLemmas.{again_room, again_by, again_step, again_kept}
 use Rattle.register.proofs.FoundCallLemmas.{is_found, wanting, below_those, few_those, current_again}
 use Rattle.register.proofs.PostLemmas.{post_refused, post_pieces, post_past, posting}
+use Rattle.register.proofs.RefusedStepLemmas.{as_it_was}
 use Rattle.register.proofs.register.Register.post.Goals as goal
 
 pub want_of-requires-clause-below : goal.want_of-requires-clause-below
@@ -81,3 +82,7 @@ returns-in-Err-clause-cause c =
     let r = c.in-Err.refusal in
     rw (← c.self.view_is) (again_by a c.args.now c.if-now-gt-MOST_STEPS.false
     (λ (cause : Option Refusal). IsRefusalBy cause r) c.in-Err.ensures.cause)
+
+pub returns-in-Err-clause-unchanged : goal.returns-in-Err-clause-unchanged
+returns-in-Err-clause-unchanged c =
+    as_it_was c.self.invariant c.self.view_is refl c.in-Err.ensures.kept refl

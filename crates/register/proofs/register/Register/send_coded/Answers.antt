@@ -1,4 +1,4 @@
-use Rattle.std.proofs.Common.{length, None, inl, sym, ap, ◌∙◌, ◌≡◌, arith, Option}
+use Rattle.std.proofs.Common.{length, None, inl, sym, ap, ◌∙◌, ◌≡◌, arith, Option, refl}
 use Rattle.tag.specs.Cause.{IsRefusalBy}
 use Rattle.tag.specs.declared.refusal.Refusal.{Refusal}
 use Rattle.register.proofs.AdvanceLemmas.{stage_near}
@@ -6,6 +6,7 @@ use Rattle.register.proofs.BeginPhaseLemmas.{begin_room, begin_cause, begin_step
 use Rattle.register.proofs.ChangedCallLemmas.{if_no_such}
 use Rattle.register.proofs.FoundCallLemmas.{is_found, below_those, few_those}
 use Rattle.register.proofs.AskAgainLemmas.{again_pieces, again_room, again_by, again_step, again_kept}
+use Rattle.register.proofs.RefusedStepLemmas.{as_it_was, on_error, written_back}
 use Rattle.register.proofs.RoomLemmas.{by_cause, same_cause}
 use Rattle.register.proofs.SentPieceLemmas.{sending, position_there, sent_value_there, layout_there}
 use Rattle.register.proofs.SuppliedPieceLemmas.{supplied, unsent_is, past_full, wrong_is, none_of}
@@ -113,6 +114,13 @@ returns-in_err-begin-clause-cause c =
     same_cause _ c.from_residual-in_err-begin.result _ c.from_residual-in_err-begin.ensures.1
     (rw (← c.self.view_is) (by_cause (begin_cause b c.args.now c.if-now-gt-MOST_STEPS.false) c.in_err-begin.ensures.cause))
 
+pub returns-in_err-begin-clause-unchanged : goal.returns-in_err-begin-clause-unchanged
+returns-in_err-begin-clause-unchanged c =
+    let e = c.in_err-begin.ensures in
+    on_error c.from_residual-in_err-begin.result
+    (as_it_was c.self.invariant c.self.view_is refl e.kept
+    (written_back c.self.inside.calls.items c.in_ok-index.index e.unchanged c.index_mut.ensures.value))
+
 -- The current phase asks again
 
 pub ask_again-requires-clause-pieces : goal.ask_again-requires-clause-pieces
@@ -166,3 +174,8 @@ returns-in_err-ask_again-clause-cause c =
     same_cause _ c.from_residual-in_err-ask_again.result _ c.from_residual-in_err-ask_again.ensures.1
     (rw (← c.self.view_is) (again_by a c.args.now c.if-now-gt-MOST_STEPS.false
     (λ (cause : Option Refusal). IsRefusalBy cause r) c.in_err-ask_again.ensures.cause))
+
+pub returns-in_err-ask_again-clause-unchanged : goal.returns-in_err-ask_again-clause-unchanged
+returns-in_err-ask_again-clause-unchanged c =
+    on_error c.from_residual-in_err-ask_again.result
+    (as_it_was c.self.invariant c.self.view_is refl c.in_err-ask_again.ensures.kept refl)

@@ -1,5 +1,6 @@
-use Rattle.std.proofs.Common.{arith}
+use Rattle.std.proofs.Common.{arith, refl}
 use Rattle.bank.specs.Serve.{served_bank}
+use Rattle.register.proofs.RefusedStepLemmas.{as_it_was, written_back}
 use Rattle.register.proofs.ServeRequestLemmas.{position_there, serving, member_there, part_stored, bytes_few}
 use Rattle.register.proofs.ServedRegisterLemmas.{served, put, new_there, new_fits, new_few, reply_fits, serve_step, serve_kept}
 use Rattle.register.proofs.register.Register.serve.Goals as goal
@@ -68,3 +69,10 @@ returns-clause-step c =
     let s = serving c.args.place c.self.invariant c.at-message.ensures c.in-Request.is c.index_mut-position.ensures.value in
     let d = served s c.in-Ok.ensures.layout c.in-Ok.ensures.bank c.bytes.ensures.value c.if-bytes-self.false in
     rw (← c.self.view_is) (serve_step d c.in-Ok.ensures.reply c.reply_in_place.ensures 0)
+
+pub returns-in-Err-clause-unchanged : goal.returns-in-Err-clause-unchanged
+returns-in-Err-clause-unchanged c =
+    as_it_was c.self.invariant c.self.view_is
+    (written_back c.self.inside.positions.items c.at-message.result.now.position c.in-Err.ensures.unchanged
+    c.index_mut-position.ensures.value)
+    refl refl
