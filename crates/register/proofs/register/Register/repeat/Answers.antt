@@ -1,4 +1,4 @@
-use Rattle.std.proofs.Common.{ℕ, ◌<◌, ◌≤◌, length, slice_get, Option, sym, ap, subst, ◌∙◌, arith}
+use Rattle.std.proofs.Common.{ℕ, ◌<◌, ◌≤◌, length, slice_get, Option, sym, ap, subst, ◌∙◌, arith, refl}
 use Rattle.tag.specs.Cause.{IsRefusalBy}
 use Rattle.tag.specs.declared.limits.TheConstants.{MOST_STEPS}
 use Rattle.tag.specs.declared.refusal.Refusal.{Refusal}
@@ -9,6 +9,7 @@ use Rattle.register.specs.Kept.{IsKept}
 use Rattle.record.specs.Steps.{Step}
 use Rattle.register.specs.Causes.{if_message, repeat_cause}
 use Rattle.register.proofs.LoseAndRepeatLemmas.{repeating_is, repeating_keeps, repeat_cause_is}
+use Rattle.register.proofs.RefusedStepLemmas.{as_it_was}
 use Rattle.register.proofs.RoomLemmas.{step_within}
 use Rattle.register.proofs.register.Register.repeat.Goals as goal
 
@@ -61,3 +62,6 @@ returns-in-Err-clause-cause c =
     ∙ repeat_cause_is mail place (omega (arith, c.len.ensures.value, c.if-len-place.false)) in
     subst (λ (cause : Option Refusal). IsRefusalBy cause c.in-Err.refusal)
     (sym same) c.in-Err.ensures.cause
+
+pub returns-in-Err-clause-unchanged : goal.returns-in-Err-clause-unchanged
+returns-in-Err-clause-unchanged c = as_it_was c.self.invariant c.self.view_is refl c.in-Err.ensures.unchanged refl

@@ -1,6 +1,7 @@
 use Rattle.std.proofs.Common.{sym, subst, ◌∙◌, refl}
 use Rattle.tag.specs.declared.refusal.Refusal.TheVariants.{NotNow, Collected}
 use Rattle.decoder.specs.Decoded.{IsDecoded}
+use Rattle.register.proofs.ChangedCallLemmas.{if_no_such}
 use Rattle.register.proofs.FoundCallLemmas.{is_found, wanting, below_those, few_those, current_again, not_settle}
 use Rattle.register.proofs.SettleLemmas.{settle_refused, settle_wrong, settle_none, settle_past, settle_is, settle_kept, settled_as, told}
 use Rattle.register.proofs.SettleLemmas.{may_settle}
@@ -13,6 +14,14 @@ pub want_of-requires-clause-below : goal.want_of-requires-clause-below
 want_of-requires-clause-below c =
     let f = is_found c.self.invariant c.in-Ok.ensures.place c.deref.ensures.value c.index.ensures in
     below_those f c.deref-2.ensures.value
+
+pub returns-in-Err : goal.returns-in-Err
+returns-in-Err c =
+    record {
+      step = tt;
+      cause = rw (← c.self.view_is) (if_no_such c.self.invariant c.deref.ensures.value c.in-Err.ensures.refused _);
+      unchanged = refl;
+    }
 
 pub returns-in_default : goal.returns-in_default
 returns-in_default c =
