@@ -23,3 +23,7 @@ returns-in_default-get-clause-cause c =
     inl (own_cause_at c.self.view_is at (moving_cause c.args.self.now c.args.id)
     ∙ move_nowhere c.self.view_is c.args.id c.index.result.now.object
     (sym c.is_moving.ensures ∙ c.if-is_moving.false) c.deref.ensures.value c.in_default-get.ensures.lookup.3)
+
+-- the copy of a layout is never refused
+pub returns-in_err-layout-clause-cause : goal.returns-in_err-layout-clause-cause
+returns-in_err-layout-clause-cause c = absurd (c.in_err-layout.ensures.cases tt)

@@ -115,3 +115,7 @@ returns-clause-step c =
       opened = c.in_ok-register.ensures.made;
       fresh = none;
     }) c.args.id c.self.view_is found
+
+-- the copy of a layout is never refused
+pub returns-in_err-clone-clause-cause : goal.returns-in_err-clone-clause-cause
+returns-in_err-clone-clause-cause c = absurd (c.in_err-clone.ensures.cases tt)
