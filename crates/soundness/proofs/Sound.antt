@@ -2,6 +2,7 @@
 pub mod AppendedPhaseLemmas
 pub mod AskAgainSoundLemmas
 pub mod BankLabelLemmas
+pub mod CallIdLemmas
 pub mod CallStepLegalLemmas
 pub mod CallStepSoundLemmas
 pub mod ChangedCallLemmas

@@ -59,9 +59,9 @@ pub mailed-with_phase : (object : Object) (index : ℕ) (call : Call) (kind : Ki
     mailed (with_phase object index call kind position now piece)
     ≡ mailed object + member_sum (λ i. request_bytes (request_to kind (piece i))) 0 (length (layout_at object position).members)
 mailed-with_phase object index call kind position now piece =
-    mail-append object.mail (requests (suc index) (suc (length call.phases)) kind position (layout_at object position).members 0 piece)
+    mail-append object.mail (requests call.id (suc (length call.phases)) kind position (layout_at object position).members 0 piece)
     ∙ ap (λ n. mailed object + n)
-    (requests_bytes (suc index) (suc (length call.phases)) kind position (layout_at object position).members 0 piece)
+    (requests_bytes call.id (suc (length call.phases)) kind position (layout_at object position).members 0 piece)
 
 pub mailed-pre_write : (object : Object) (index : ℕ) (call : Call) (tag : Tag) (position now : ℕ) (piece : ℕ → Piece) →
     mailed (with_phase object index call (PreWrite tag) position now piece)
@@ -81,20 +81,20 @@ mailed-plain object index call kind position now piece plain =
     (none_sum (λ i. request_bytes (request_to kind (piece i))) (λ i. no_piece kind plain (piece i)) 0 count)
 
 -- calls add nothing
-pub mailed-called : (object : Object) (kind : CallKind) (now : ℕ) → mailed (called_object object kind now) ≡ mailed object
-mailed-called object kind now =
-    mailed-plain (record object { calls = object.calls ++ new_call kind now ∷ [] }) (length object.calls)
-    (new_call kind now) Next (base_of object) now empty_piece
+pub mailed-called : (object : Object) (id : ℕ) (kind : CallKind) (now : ℕ) → mailed (called_object object id kind now) ≡ mailed object
+mailed-called object id kind now =
+    mailed-plain (record object { calls = object.calls ++ new_call id kind now ∷ [] }) (length object.calls)
+    (new_call id kind now) Next (base_of object) now empty_piece
     (λ tag e. cc)
 
-pub mailed-moving : (object : Object) (layout : Layout) (now : ℕ) → mailed (moving_object object layout now) ≡ mailed object
-mailed-moving object layout now =
+pub mailed-moving : (object : Object) (id : ℕ) (layout : Layout) (now : ℕ) → mailed (moving_object object id layout now) ≡ mailed object
+mailed-moving object id layout now =
     mailed-plain
     (record object {
       layouts = object.layouts ++ layout ∷ [];
       banks = object.banks ++ opened_banks layout.members 0 object.delta now ∷ [];
-      calls = object.calls ++ new_call Move now ∷ [];
-    }) (length object.calls) (new_call Move now) (Spread Pending) (pred (length object.layouts)) now empty_piece (λ tag e. cc)
+      calls = object.calls ++ new_call id Move now ∷ [];
+    }) (length object.calls) (new_call id Move now) (Spread Pending) (pred (length object.layouts)) now empty_piece (λ tag e. cc)
 
 -- requests that go out again are some of a phase's requests
 pub mailed-asked_again : (fragment : Code) (object : Object) (call : Call) (phase : Phase) →

@@ -102,12 +102,13 @@ mailed-served_by object place message now at (body.Reply kind made) is = refl
 -- What leaves the mail by a step and what comes make up its change
 pub mailed-stepped : (fragment : Code) (object : Object) (now : ℕ) (s : Step) →
     mailed (stepped fragment s now object) + unmailed_by object s ≡ mailed object + mailed_by fragment object s
-mailed-stepped fragment object now Step.CallRead =
-    same_both (mailed (called_object object Read now)) (mailed object) (mailed-called object Read now)
-mailed-stepped fragment object now (Step.CallWrite value) = same_both (mailed (called_object object (Write value) now)) (mailed object)
-    (mailed-called object (Write value) now)
-mailed-stepped fragment object now (Step.CallMove layout) = same_both (mailed (moving_object object layout now)) (mailed object)
-    (mailed-moving object layout now)
+mailed-stepped fragment object now (Step.CallRead id) =
+    same_both (mailed (called_object object id Read now)) (mailed object) (mailed-called object id Read now)
+mailed-stepped fragment object now (Step.CallWrite id value) =
+    same_both (mailed (called_object object id (Write value) now)) (mailed object)
+    (mailed-called object id (Write value) now)
+mailed-stepped fragment object now (Step.CallMove id layout) = same_both (mailed (moving_object object id layout now)) (mailed object)
+    (mailed-moving object id layout now)
 mailed-stepped fragment object now (Step.Advance index) =
     mailed-on_call object (slice_get object.calls index) (λ call. advanced_object fragment object index call now)
     (λ call. due_bytes fragment object call (due_of object index call))

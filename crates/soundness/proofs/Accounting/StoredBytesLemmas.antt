@@ -188,9 +188,9 @@ module _ (object : Object) (server : ℕ) where
   stored-taken place message (body.Reply kind made) now = refl
 
   -- a call of a move appends a position, whose banks store nothing
-  pub stored-moving : (layout : Layout) (now : ℕ) → length object.banks ≡ length object.layouts →
-      stored (moving_object object layout now) server ≡ stored object server
-  stored-moving layout now e =
+  pub stored-moving : (id : ℕ) (layout : Layout) (now : ℕ) → length object.banks ≡ length object.layouts →
+      stored (moving_object object id layout now) server ≡ stored object server
+  stored-moving id layout now e =
       stored-append server object.layouts object.banks layout (opened_banks layout.members 0 object.delta now) e
       ∙ more (stored object server) (position_bytes server layout.members (opened_banks layout.members 0 object.delta now))
       (position-opened server layout.members layout.members 0 object.delta now)

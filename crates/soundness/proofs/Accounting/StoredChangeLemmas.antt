@@ -43,11 +43,12 @@ stored-on_message object server (Some message) change kept =
 -- and nothing else
 pub stored-changed : (fragment : Code) (object : Object) (step now : ℕ) (s : Step) (server : ℕ) → IsSound fragment object step →
     stored (stepped fragment s now object) server + freed_by object s now server ≡ stored object server + stored_by object s server
-stored-changed fragment object step now Step.CallRead server sound = same_more (stored object server) (stored object server) refl
-stored-changed fragment object step now (Step.CallWrite value) server sound = same_more (stored object server) (stored object server) refl
-stored-changed fragment object step now (Step.CallMove layout) server sound =
-    same_more (stored (moving_object object layout now) server) (stored object server)
-    (stored-moving object server layout now sound.shape.banks)
+stored-changed fragment object step now (Step.CallRead id) server sound = same_more (stored object server) (stored object server) refl
+stored-changed fragment object step now (Step.CallWrite id value) server sound =
+    same_more (stored object server) (stored object server) refl
+stored-changed fragment object step now (Step.CallMove id layout) server sound =
+    same_more (stored (moving_object object id layout now) server) (stored object server)
+    (stored-moving object server id layout now sound.shape.banks)
 stored-changed fragment object step now (Step.Advance index) server sound =
     stored-on_call object server (slice_get object.calls index) (λ call. advanced_object fragment object index call now)
     (λ call. stored-begun object server fragment index call (due_of object index call) now)

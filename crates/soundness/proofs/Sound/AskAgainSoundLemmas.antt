@@ -1,5 +1,5 @@
 -- The current phase of a call asks again, and the record stays sound.
-use Rattle.std.proofs.Common.{◌≡◌, ℕ, suc, ◌+◌, ◌<◌, List, [], ◌∷◌, ◌++◌}
+use Rattle.std.proofs.Common.{◌≡◌, ℕ, ◌+◌, ◌<◌, List, [], ◌∷◌, ◌++◌}
 use Rattle.std.proofs.Common.{length, Some, None, refl, sym, subst, ap, ◌∙◌, arith, slice_get}
 use Rattle.std.proofs.lemmas.Option.{same_Some}
 use Rattle.piece.specs.declared.piece.Piece.{Piece}
@@ -62,11 +62,11 @@ asked_sound fragment object step now less determines sound index call at phase c
     there : LastAt call.phases phase
     there = last_at call.phases phase current
 
-    numbers : (phase.call ≡ suc index) × (phase.number ≡ 1 + there.place)
-    numbers = numbered_at (suc index) 1 call.phases there.place phase (sound.legal.calls index call at).numbered there.within
+    numbers : (phase.call ≡ call.id) × (phase.number ≡ 1 + there.place)
+    numbers = numbered_at call.id 1 call.phases there.place phase (sound.legal.calls index call at).numbered there.within
 
     e : due (stage_of object index call) ≡ Some (phase.kind, phase.position)
-    e = current_due call.kind (suc index) call.phases (first_stage call.kind (source_of object index)) phase
+    e = current_due call.kind call.id call.phases (first_stage call.kind (source_of object index)) phase
         (sound.legal.calls index call at).course current none
 
     request : (member : ℕ) → member < length (layout_at object phase.position).members →

@@ -22,14 +22,14 @@ use Rattle.soundness.proofs.Sound.PreconditionLemmas.{MayBegin}
 -- the call that begins the phase stays legal
 begun_legal : (object : Object) (index : ℕ) (call : Call) (kind : Kind) (position now : ℕ) (mail : List Message) → IsLegal object →
     MayBegin object index call kind position now →
-    IsLegalCall (Others object mail (set object.calls index (begun_call index call kind position (layout_at object position) now))) index
-    (begun_call index call kind position (layout_at object position) now)
+    IsLegalCall (Others object mail (set object.calls index (begun_call call kind position (layout_at object position) now))) index
+    (begun_call call kind position (layout_at object position) now)
 begun_legal object index call kind position now mail legal may =
     let c = legal.calls index call may.at in
-    let next = new_phase (suc index) (suc (length call.phases)) kind position (layout_at object position) now in
-    let calls = set object.calls index (begun_call index call kind position (layout_at object position) now) in
+    let next = new_phase call.id (suc (length call.phases)) kind position (layout_at object position) now in
+    let calls = set object.calls index (begun_call call kind position (layout_at object position) now) in
     record {
-      numbered = numbered_push (suc index) 1 call.phases next c.numbered refl (omega arith);
+      numbered = numbered_push call.id 1 call.phases next c.numbered refl (omega arith);
       begins = begins_push call.phases next call.called c.begins;
       phases = all_push (IsTruePhase (Others object mail calls)) call.phases next
           (all_weaker (IsTruePhase object) (IsTruePhase (Others object mail calls))
@@ -43,14 +43,14 @@ begun_legal object index call kind position now mail legal may =
             complete = λ end e.
                 absurd (cc);
           });
-      course = subst (λ from. IsCourse call.kind (suc index) (first_stage call.kind from) (call.phases ++ next ∷ []))
-          (sym (moves_set object.calls index index call (begun_call index call kind position (layout_at object position) now) may.at refl))
-          (course_push call.kind (suc index) call.phases
+      course = subst (λ from. IsCourse call.kind call.id (first_stage call.kind from) (call.phases ++ next ∷ []))
+          (sym (moves_set object.calls index index call (begun_call call kind position (layout_at object position) now) may.at refl))
+          (course_push call.kind call.id call.phases
           (first_stage call.kind (source_of object index)) next c.course may.ended
           (begun_due (stage_of object index call) (base_of object) kind position may.is_due));
-      from_base = subst (λ from. BeginAtBase (base_at object) call.kind (suc index) (first_stage call.kind from) (call.phases ++ next ∷ []))
-          (sym (moves_set object.calls index index call (begun_call index call kind position (layout_at object position) now) may.at refl))
-          (base_push (base_at object) call.kind (suc index) call.phases (first_stage call.kind (source_of object index)) next c.from_base
+      from_base = subst (λ from. BeginAtBase (base_at object) call.kind call.id (first_stage call.kind from) (call.phases ++ next ∷ []))
+          (sym (moves_set object.calls index index call (begun_call call kind position (layout_at object position) now) may.at refl))
+          (base_push (base_at object) call.kind call.id call.phases (first_stage call.kind (source_of object index)) next c.from_base
           (λ first. begun_base (stage_of object index call) (base_of object) kind position first may.is_due ∙ sym may.base));
       answer = λ step e. absurd (let n = may.open_call in cc);
     }
@@ -69,10 +69,10 @@ other_legal object index old new mail legal at kinds i c there =
       phases = all_weaker (IsTruePhase object) (IsTruePhase (Others object mail calls))
           (λ phase truth. phase_same object mail calls phase truth) c.phases
           was.phases;
-      course = subst (λ from. IsCourse c.kind (suc i) (first_stage c.kind from) c.phases) same was.course;
-      from_base = subst (λ from. BeginAtBase (base_at object) c.kind (suc i) (first_stage c.kind from) c.phases) same was.from_base;
+      course = subst (λ from. IsCourse c.kind c.id (first_stage c.kind from) c.phases) same was.course;
+      from_base = subst (λ from. BeginAtBase (base_at object) c.kind c.id (first_stage c.kind from) c.phases) same was.from_base;
       answer = λ step e. subst
-          (λ from. (due (stage_after c.kind (suc i) (first_stage c.kind from) c.phases) ≡ None) × EndsBefore c.phases step) same
+          (λ from. (due (stage_after c.kind c.id (first_stage c.kind from) c.phases) ≡ None) × EndsBefore c.phases step) same
           (was.answer step e);
     }
 
@@ -88,6 +88,10 @@ changed_keeps object index old new mail legal at changed here_legal = record {
       let wb = was object index old new at changed j b q in
       let order = legal.in_turn i j wa.old wb.old wa.at wb.at less in
       let x = wa.changed.same_called in let y = wb.changed.same_called in omega arith;
+  ids = λ i j a b p q same.
+      let wa = was object index old new at changed i a p in
+      let wb = was object index old new at changed j b q in
+      legal.ids i j wa.old wb.old wa.at wb.at (sym wa.changed.same_id ∙ same ∙ wb.changed.same_id);
   moves = λ i j a b p q less k l.
       let wa = was object index old new at changed i a p in
       let wb = was object index old new at changed j b q in
@@ -107,15 +111,16 @@ changed_keeps object index old new mail legal at changed here_legal = record {
 pub begun_keeps : (object : Object) (index : ℕ) (call : Call) (kind : Kind) (position now : ℕ) (piece : ℕ → Piece) →
     IsLegal object → MayBegin object index call kind position now → IsLegal (with_phase object index call kind position now piece)
 begun_keeps object index call kind position now piece legal may =
-    let mail = object.mail ++ requests (suc index) (suc (length call.phases)) kind position (layout_at object position).members 0 piece in
-    changed_keeps object index call (begun_call index call kind position (layout_at object position) now) mail legal may.at
+    let mail = object.mail ++ requests call.id (suc (length call.phases)) kind position (layout_at object position).members 0 piece in
+    changed_keeps object index call (begun_call call kind position (layout_at object position) now) mail legal may.at
     (record {
+      same_id = refl;
       same_kind = refl;
       same_called = refl;
       same_answer = λ step e. e;
       same_phases = λ place phase e. (
         phase,
-        get_push call.phases (new_phase (suc index) (suc (length call.phases)) kind position (layout_at object position) now) phase place e,
+        get_push call.phases (new_phase call.id (suc (length call.phases)) kind position (layout_at object position) now) phase place e,
         refl,
         refl,
         refl,
@@ -134,6 +139,7 @@ answered_keeps object index call now legal at open_call is_due ended =
     let same = sym (moves_set object.calls index index call new at refl) in
     changed_keeps object index call new object.mail legal at
     (record {
+      same_id = refl;
       same_kind = refl;
       same_called = refl;
       same_answer = λ step e. absurd (cc);
@@ -144,11 +150,11 @@ answered_keeps object index call now legal at open_call is_due ended =
       begins = c.begins;
       phases = all_weaker (IsTruePhase object) (IsTruePhase (Others object object.mail calls))
           (λ phase truth. phase_same object object.mail calls phase truth) call.phases c.phases;
-      course = subst (λ from. IsCourse call.kind (suc index) (first_stage call.kind from) call.phases) same c.course;
+      course = subst (λ from. IsCourse call.kind call.id (first_stage call.kind from) call.phases) same c.course;
       from_base =
-          subst (λ from. BeginAtBase (base_at object) call.kind (suc index) (first_stage call.kind from) call.phases) same c.from_base;
+          subst (λ from. BeginAtBase (base_at object) call.kind call.id (first_stage call.kind from) call.phases) same c.from_base;
       answer = λ step e. (
-        subst (λ from. due (stage_after call.kind (suc index) (first_stage call.kind from) call.phases) ≡ None) same is_due,
+        subst (λ from. due (stage_after call.kind call.id (first_stage call.kind from) call.phases) ≡ None) same is_due,
         subst (λ n. EndsBefore call.phases n) (same_Some now step e) ended,
       );
     })

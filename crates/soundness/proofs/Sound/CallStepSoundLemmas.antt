@@ -31,8 +31,8 @@ moves_same (call ∷ calls) (suc index) old new at e = ap (λ m. cond (is_move c
 abbrev pub TagStays : Object → (index : ℕ) → (old new : Call) → Type 0
 TagStays object index old new =
     (value : List ℕ) → old.kind ≡ Write value → (tag : Tag) →
-    stage_tag (stage_after old.kind (suc index) (first_stage old.kind (source_of object index)) old.phases) ≡ Some tag →
-    stage_tag (stage_after new.kind (suc index) (first_stage new.kind (source_of object index)) new.phases) ≡ Some tag
+    stage_tag (stage_after old.kind old.id (first_stage old.kind (source_of object index)) old.phases) ≡ Some tag →
+    stage_tag (stage_after new.kind new.id (first_stage new.kind (source_of object index)) new.phases) ≡ Some tag
 
 abbrev pub WithCall : Object → List Message → (index : ℕ) → Call → Object
 WithCall object mail index new = Others object mail (set object.calls index new)
@@ -57,14 +57,14 @@ call_grown now object index old new mail at changed stays = record {
           changed = changed;
           tagged =
               λ value k tag t. subst (λ from. stage_tag
-              (stage_after new.kind (suc index) (first_stage new.kind from) new.phases) ≡ Some tag)
+              (stage_after new.kind new.id (first_stage new.kind from) new.phases) ≡ Some tag)
               (sym (moves_set object.calls index index old new at changed.same_kind)) (stays value k tag t);
         })
     go i c e (inr other) = record {
       other = c;
       at = set_there object.calls index i new c other e;
       changed = same_call c;
-      tagged = λ value k tag t. subst (λ from. stage_tag (stage_after c.kind (suc i) (first_stage c.kind from) c.phases) ≡ Some tag)
+      tagged = λ value k tag t. subst (λ from. stage_tag (stage_after c.kind c.id (first_stage c.kind from) c.phases) ≡ Some tag)
           (sym (moves_set object.calls index i old new at changed.same_kind)) t;
     }
 
@@ -81,7 +81,7 @@ changed_tags object step now less tags index old new mail at kinds here i c tag 
     go (inr there) =
         le_trans
         (tags i c tag there
-        (subst (λ from. stage_tag (stage_after c.kind (suc i) (first_stage c.kind from) c.phases) ≡ Some tag)
+        (subst (λ from. stage_tag (stage_after c.kind c.id (first_stage c.kind from) c.phases) ≡ Some tag)
         (moves_set object.calls index i old new at kinds) t))
         (le_of_lt less)
 
@@ -157,16 +157,18 @@ settled_same fragment object call answered settled value s = record {
 
 -- the tag of a call that changes neither kind nor phases
 pub same_tag_past : (object : Object) (step now : ℕ) → step < now → TagsPast step object →
-    (index : ℕ) (old new : Call) (mail : List Message) → slice_get object.calls index ≡ Some old → new.kind ≡ old.kind →
+    (index : ℕ) (old new : Call) (mail : List Message) → slice_get object.calls index ≡ Some old → new.id ≡ old.id → new.kind ≡ old.kind →
     new.phases ≡ old.phases → (tag : Tag) → tag_of (WithCall object mail index new) index new ≡ Some tag → tag.number ≤ now
-same_tag_past object step now less tags index old new mail at kinds phases tag t = le_trans (tags index old tag at there) (le_of_lt less)
+same_tag_past object step now less tags index old new mail at ids kinds phases tag t =
+    le_trans (tags index old tag at there) (le_of_lt less)
   where
     from : ℕ
     from = source_of (WithCall object mail index new) index
 
-    early : stage_tag (stage_after old.kind (suc index) (first_stage old.kind from) old.phases) ≡ Some tag
-    early = subst₂ (λ k ps. stage_tag (stage_after k (suc index) (first_stage k from) ps) ≡ Some tag) kinds phases t
+    early : stage_tag (stage_after old.kind old.id (first_stage old.kind from) old.phases) ≡ Some tag
+    early = subst₂ (λ k ps. stage_tag (stage_after k old.id (first_stage k from) ps) ≡ Some tag) kinds phases
+        (subst (λ id. stage_tag (stage_after new.kind id (first_stage new.kind from) new.phases) ≡ Some tag) ids t)
 
     there : tag_of object index old ≡ Some tag
-    there = subst (λ m. stage_tag (stage_after old.kind (suc index) (first_stage old.kind m) old.phases) ≡ Some tag)
+    there = subst (λ m. stage_tag (stage_after old.kind old.id (first_stage old.kind m) old.phases) ≡ Some tag)
         (moves_set object.calls index index old new at kinds) early

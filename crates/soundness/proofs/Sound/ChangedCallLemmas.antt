@@ -58,12 +58,13 @@ phase_same object mail calls phase truth = record {
 }
 
 -- a call that begins a phase at a position of this layout
-abbrev pub begun_call : ℕ → Call → Kind → (position : ℕ) → Layout → (now : ℕ) → Call
-begun_call index call kind position layout now =
-    record call { phases = call.phases ++ new_phase (suc index) (suc (length call.phases)) kind position layout now ∷ [] }
+abbrev pub begun_call : Call → Kind → (position : ℕ) → Layout → (now : ℕ) → Call
+begun_call call kind position layout now =
+    record call { phases = call.phases ++ new_phase call.id (suc (length call.phases)) kind position layout now ∷ [] }
 
--- a call that is changed: it stays what it is, keeps its answer, and each of its phases keeps its kind, position and start
+-- a call that is changed: it keeps its id, stays what it is, keeps its answer, and each of its phases keeps its kind, position and start
 pub record Changed (old new : Call) : Type 0 where
+  pub same_id : new.id ≡ old.id
   pub same_kind : new.kind ≡ old.kind
   pub same_called : new.called ≡ old.called
   pub same_answer : (step : ℕ) → old.answered ≡ Some step → new.answered ≡ Some step
@@ -73,6 +74,7 @@ pub record Changed (old new : Call) : Type 0 where
 
 pub same_call : (call : Call) → Changed call call
 same_call call = record {
+  same_id = refl;
   same_kind = refl;
   same_called = refl;
   same_answer = λ step e. e;

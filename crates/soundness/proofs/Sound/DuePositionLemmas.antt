@@ -94,7 +94,7 @@ pub call_placed : (object : Object) → IsLegal object → HasShape object → (
     slice_get object.calls index ≡ Some call → Placed (length object.layouts) (stage_of object index call)
 call_placed object legal shape index call at =
     let c = legal.calls index call at in
-    placed_end (length object.layouts) call.kind (suc index) call.phases (first_stage call.kind (source_of object index)) c.course
+    placed_end (length object.layouts) call.kind call.id call.phases (first_stage call.kind (source_of object index)) c.course
     (all_weaker (IsTruePhase object) (PhaseFinds (length object.layouts))
     (λ phase truth. phase_finds object shape phase truth) call.phases c.phases)
     (first_placed object shape index call at call.kind refl)
@@ -130,7 +130,7 @@ pub spread_there : (object : Object) → IsLegal object → HasShape object → 
     KindPlaced (length object.layouts) phase.kind phase.position
 spread_there object legal shape index call at place phase within =
     let c = legal.calls index call at in
-    placed_at (length object.layouts) call.kind (suc index) call.phases (first_stage call.kind (source_of object index)) c.course
+    placed_at (length object.layouts) call.kind call.id call.phases (first_stage call.kind (source_of object index)) c.course
     (all_weaker (IsTruePhase object) (PhaseFinds (length object.layouts))
     (λ phase truth. phase_finds object shape phase truth) call.phases c.phases)
     (first_placed object shape index call at call.kind refl) place phase within

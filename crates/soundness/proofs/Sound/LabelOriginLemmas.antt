@@ -147,21 +147,22 @@ module _ (fragment : Code) (object : Object) (last now position member : ℕ) (t
       found (Some message) at e = by_body message at message.body refl e
 
   -- a move opens the banks of one more position
-  moved : (layout : Layout) → label_at (bank_at (moving_object object layout now) position member) tag ≡ Some label →
-      Comes (Step.CallMove layout)
-  moved layout e = at_position (appended object.banks fresh [] position)
+  moved : (id : ℕ) (layout : Layout) → label_at (bank_at (moving_object object id layout now) position member) tag ≡ Some label →
+      Comes (Step.CallMove id layout)
+  moved id layout e = at_position (appended object.banks fresh [] position)
     where
       fresh : List Bank
       fresh = opened_banks layout.members 0 object.delta now
 
       here : position ≡ length object.banks → (get_or fresh member no_bank ≡ no_bank)
           ⊎ (get_or fresh member no_bank ≡ opened_bank (0 + member) object.delta now) →
-          label_at (get_or fresh member no_bank) tag ≡ Some label → Comes (Step.CallMove layout)
+          label_at (get_or fresh member no_bank) tag ≡ Some label → Comes (Step.CallMove id layout)
       here p (inl none) e = absurd (unknown_label tag label (sym (ap (λ bank. label_at bank tag) none) ∙ e))
       here p (inr new) e =
           let opening = opened_label (0 + member) object.delta now tag label (sym (ap (λ bank. label_at bank tag) new) ∙ e) in
           inr (inr (record {
             layout = layout;
+            id = id;
             moves = refl;
             new = p ∙ sound.shape.banks;
             opening = opening.0;
@@ -170,16 +171,16 @@ module _ (fragment : Code) (object : Object) (last now position member : ℕ) (t
 
       at_position : (get_or (object.banks ++ fresh ∷ []) position [] ≡ get_or object.banks position [])
           ⊎ ((position ≡ length object.banks) × (get_or (object.banks ++ fresh ∷ []) position [] ≡ fresh)) →
-          Comes (Step.CallMove layout)
+          Comes (Step.CallMove id layout)
       at_position (inl old) = inl (sym (ap (λ banks. label_at (get_or banks member no_bank) tag) old) ∙ e)
       at_position (inr new) =
           here new.0 (opened_get layout.members 0 object.delta now member)
           (sym (ap (λ banks. label_at (get_or banks member no_bank) tag) new.1) ∙ e)
 
   pub labels_stepped : (step : Step) → ComesWithIts fragment object step now position member tag label
-  labels_stepped Step.CallRead e = inl e
-  labels_stepped (Step.CallWrite value) e = inl e
-  labels_stepped (Step.CallMove layout) e = moved layout e
+  labels_stepped (Step.CallRead id) e = inl e
+  labels_stepped (Step.CallWrite id value) e = inl e
+  labels_stepped (Step.CallMove id layout) e = moved id layout e
   labels_stepped (Step.Advance index) e =
       kept (Step.Advance index) (stepped fragment (Step.Advance index) now object)
       (banks_on_call object (slice_get object.calls index) (λ call. advanced_object fragment object index call now)

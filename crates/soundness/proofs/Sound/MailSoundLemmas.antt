@@ -47,6 +47,7 @@ mailed_legal object mail legal = record {
     answer = c.answer;
   };
   in_turn = legal.in_turn;
+  ids = legal.ids;
   moves = legal.moves;
   banks = λ p i. caused_more object (Mailed object mail) (λ k q step b. has_same object (Mailed object mail) refl k q step b)
       (λ q answered m. moved_same object (Mailed object mail) refl q answered m) p

@@ -54,7 +54,7 @@ posted_grows step now old new less grows legal message past posted =
       index = posted.index;
       call = later.other;
       at = later.at;
-      same_call = posted.same_call;
+      same_call = posted.same_call ∙ sym later.changed.same_id;
       place = posted.place;
       phase = there.0;
       within = there.1;
@@ -200,7 +200,7 @@ pub tags_same : (step now : ℕ) (old new : Object) → step ≤ now → new.cal
 tags_same step now old new less same tags =
     λ index call tag at e. le_trans
     (tags index call tag (subst (λ calls. slice_get calls index ≡ Some call) same at)
-    (subst (λ calls. stage_tag (stage_after call.kind (suc index) (first_stage call.kind (moves_in (take index calls))) call.phases)
+    (subst (λ calls. stage_tag (stage_after call.kind call.id (first_stage call.kind (moves_in (take index calls))) call.phases)
     ≡ Some tag) same e)) less
 
 pub phase_coded_grows : (now : ℕ) (fragment : Code) (old new : Object) → Grows now old new → (phase : Phase) →

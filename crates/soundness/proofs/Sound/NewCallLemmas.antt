@@ -60,9 +60,9 @@ pub record Wider (fragment : Code) (now : ℕ) (old new : Object) : Type 0 where
   pub rest : (p i : ℕ) → length old.layouts ≤ p → BankRest fragment new now p i (bank_at new p i)
 
 -- a call that begins
-abbrev pub begun : CallKind → (index now : ℕ) → Kind → (position : ℕ) → Layout → Call
-begun kind index now asked position layout =
-    record (new_call kind now) { phases = new_phase (suc index) 1 asked position layout now ∷ [] }
+abbrev pub begun : CallKind → (id now : ℕ) → Kind → (position : ℕ) → Layout → Call
+begun kind id now asked position layout =
+    record (new_call id kind now) { phases = new_phase id 1 asked position layout now ∷ [] }
 
 -- an answer of a sound record is past
 pub answered_past : (fragment : Code) (object : Object) (step now : ℕ) → step < now → IsSound fragment object step →
@@ -81,18 +81,18 @@ none_coded fragment object position member asked untagged =
     (sym (request_tag-request_to asked (empty_piece member) ∙ untagged)) tt
 
 -- each request of a call that begins is posted by its first phase
-pub first_request : (fragment : Code) (new : Object) (now index : ℕ) (kind : CallKind) (asked : Kind) (position : ℕ) →
-    slice_get new.calls index ≡ Some (begun kind index now asked position (layout_at new position)) → kind_tag asked ≡ None →
+pub first_request : (fragment : Code) (new : Object) (now index id : ℕ) (kind : CallKind) (asked : Kind) (position : ℕ) →
+    slice_get new.calls index ≡ Some (begun kind id now asked position (layout_at new position)) → kind_tag asked ≡ None →
     (member : ℕ) → member < length (layout_at new position).members →
-    MessageRest fragment new now (request_message (suc index) 1 asked position empty_piece member)
-first_request fragment new now index kind asked position there untagged member below = record {
+    MessageRest fragment new now (request_message id 1 asked position empty_piece member)
+first_request fragment new now index id kind asked position there untagged member below = record {
   posted = record {
     index = index;
-    call = begun kind index now asked position (layout_at new position);
+    call = begun kind id now asked position (layout_at new position);
     at = there;
     same_call = refl;
     place = 0;
-    phase = new_phase (suc index) 1 asked position (layout_at new position) now;
+    phase = new_phase id 1 asked position (layout_at new position) now;
     within = refl;
     same_phase = refl;
     same_kind = kind_of-request_to asked (empty_piece member);

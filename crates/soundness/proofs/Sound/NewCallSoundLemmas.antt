@@ -7,7 +7,7 @@ use Rattle.tag.specs.declared.tag.Tag.{Tag}
 use Rattle.bank.specs.declared.kind.Kind.{Kind}
 use Rattle.phase.specs.Phase.{Phase}
 use Rattle.record.specs.declared.call.CallKind.{CallKind}
-use Rattle.record.specs.Records.{Call, Object, layout_at, bank_at, base_at}
+use Rattle.record.specs.Records.{Call, Object, IsNewId, layout_at, bank_at, base_at}
 use Rattle.record.specs.declared.call.CallKind.TheVariants.{Write, Move}
 use Rattle.record.specs.Knowledge.{IsTruePhase}
 use Rattle.record.specs.PhaseOrder.{begun_at, due, stage_after, EndsBefore, IsCourse, BeginAtBase}
@@ -36,37 +36,37 @@ use Rattle.soundness.proofs.Sound.SoundnessPartLemmas.{ReplyCoded, CallRest, Ban
 use Rattle.soundness.proofs.Sound.SoundnessPartLemmas.{mail_rest}
 
 pub added_sound : (fragment : Code) (object new : Object) (step now : ℕ) → step < now → IsSound fragment object step →
-    (kind : CallKind) (asked : Kind) (position : ℕ) → Wider fragment now object new → Sizes new →
-    new.calls ≡ object.calls ++ begun kind (length object.calls) now asked position (layout_at new position) ∷ [] →
-    new.mail ≡ object.mail ++ requests (suc (length object.calls)) 1 asked position (layout_at new position).members 0 empty_piece →
+    (id : ℕ) → IsNewId object id → (kind : CallKind) (asked : Kind) (position : ℕ) → Wider fragment now object new → Sizes new →
+    new.calls ≡ object.calls ++ begun kind id now asked position (layout_at new position) ∷ [] →
+    new.mail ≡ object.mail ++ requests id 1 asked position (layout_at new position).members 0 empty_piece →
     due (begun_at (first_stage kind (moves_in object.calls)) position) ≡ Some (asked, position) →
     (first_stage kind (moves_in object.calls) ≡ ReadBegin → position ≡ base_at new now) → position < length object.layouts →
     kind_tag asked ≡ None → ((value : List ℕ) → kind ≡ Write value → IsValue value) → (kind ≡ Move →
     (index : ℕ) (call : Call) → slice_get object.calls index ≡ Some call → call.kind ≡ Move → IsSome call.answered) →
     IsSound fragment new now
-added_sound fragment object new step now less sound kind asked position wide sizes calls_are mail_is is_due at_base placed untagged
-    bytes no_open =
+added_sound fragment object new step now less sound id is_new kind asked position wide sizes calls_are mail_is is_due at_base placed
+    untagged bytes no_open =
     sound_of fragment new now legal sizes
     (λ i c e. rests i c (split i c e))
     (λ p i. banks p i (below_or p))
     (subst (AllByRecursion (MessageRest fragment new now)) (sym mail_is)
     (all_append (MessageRest fragment new now) object.mail
-    (requests (suc index) 1 asked position (layout_at new position).members 0 empty_piece)
+    (requests id 1 asked position (layout_at new position).members 0 empty_piece)
     (all_weaker (MessageRest fragment object step) (MessageRest fragment new now)
     (λ m r. message_grows fragment step now object new less grows sound.legal m r) object.mail (mail_rest fragment object step sound))
-    (all_requests (MessageRest fragment new now) (suc index) 1 asked position empty_piece (layout_at new position).members 0
+    (all_requests (MessageRest fragment new now) id 1 asked position empty_piece (layout_at new position).members 0
     (length (layout_at new position).members) (omega arith)
-    (λ member below. first_request fragment new now index kind asked position last_there untagged member below))))
+    (λ member below. first_request fragment new now index id kind asked position last_there untagged member below))))
     (λ i c tag e t. tags i c tag t (split i c e))
   where
     index : ℕ
     index = length object.calls
 
     call : Call
-    call = begun kind index now asked position (layout_at new position)
+    call = begun kind id now asked position (layout_at new position)
 
     phase : Phase
-    phase = new_phase (suc index) 1 asked position (layout_at new position) now
+    phase = new_phase id 1 asked position (layout_at new position) now
 
     below_or : (p : ℕ) → (p < length object.layouts) ⊎ (length object.layouts ≤ p)
     below_or p = grind arith
@@ -105,7 +105,7 @@ added_sound fragment object new step now less sound kind asked position wide siz
         other = c;
         at = there i c e;
         changed = same_call c;
-        tagged = λ value k tag t. subst (λ from. stage_tag (stage_after c.kind (suc i) (first_stage c.kind from) c.phases) ≡ Some tag)
+        tagged = λ value k tag t. subst (λ from. stage_tag (stage_after c.kind c.id (first_stage c.kind from) c.phases) ≡ Some tag)
             (sym (source_old i c e)) t;
       };
     }
@@ -119,12 +119,12 @@ added_sound fragment object new step now less sound kind asked position wide siz
           (λ phase p. phase_kept now object new phase keeps p.0 p.1) c.phases
           (all_pairs (λ phase. AllByRecursion (λ reply. reply.reply.step < now) phase.replies) (IsTruePhase object) c.phases
           (made_before fragment object step now less sound i c e) l.phases);
-      course = subst (λ from. IsCourse c.kind (suc i) (first_stage c.kind from) c.phases) same l.course;
-      from_base = subst (λ from. BeginAtBase (base_at new) c.kind (suc i) (first_stage c.kind from) c.phases) same
-          (base_kept (base_at object) (base_at new) c.kind (suc i) c.phases (first_stage c.kind (source_of object i))
+      course = subst (λ from. IsCourse c.kind c.id (first_stage c.kind from) c.phases) same l.course;
+      from_base = subst (λ from. BeginAtBase (base_at new) c.kind c.id (first_stage c.kind from) c.phases) same
+          (base_kept (base_at object) (base_at new) c.kind c.id c.phases (first_stage c.kind (source_of object i))
           (base_everywhere (base_at object) (base_at new) (bases_same object new wide.same_retired) c.phases) l.from_base);
       answer =
-          λ s a. subst (λ from. (due (stage_after c.kind (suc i) (first_stage c.kind from) c.phases) ≡ None) × EndsBefore c.phases s)
+          λ s a. subst (λ from. (due (stage_after c.kind c.id (first_stage c.kind from) c.phases) ≡ None) × EndsBefore c.phases s)
           same (l.answer s a);
     }
     legal_call i c (inr here) = subst₂ (λ k d. IsLegalCall new k d) (sym here.0) here.1 (record {
@@ -163,6 +163,13 @@ added_sound fragment object new step now less sound kind asked position wide siz
     in_turn i j a b (inr p) (inl q) h = absurd (let w = slice_get_within object.calls j b q in let s = p.0 in omega arith)
     in_turn i j a b (inr p) (inr q) h = absurd (let s = p.0 in let t = q.0 in omega arith)
 
+    ids : (i j : ℕ) (a b : Call) → (slice_get object.calls i ≡ Some a) ⊎ ((i ≡ index) × (call ≡ a)) →
+        (slice_get object.calls j ≡ Some b) ⊎ ((j ≡ index) × (call ≡ b)) → a.id ≡ b.id → i ≡ j
+    ids i j a b (inl p) (inl q) e = sound.legal.ids i j a b p q e
+    ids i j a b (inl p) (inr q) e = absurd (is_new i a p (e ∙ sym (ap (λ (d : Call). d.id) q.1)))
+    ids i j a b (inr p) (inl q) e = absurd (is_new j b q (sym e ∙ sym (ap (λ (d : Call). d.id) p.1)))
+    ids i j a b (inr p) (inr q) e = p.0 ∙ sym q.0
+
     moves : (i j : ℕ) (a b : Call) → (slice_get object.calls i ≡ Some a) ⊎ ((i ≡ index) × (call ≡ a)) →
         (slice_get object.calls j ≡ Some b) ⊎ ((j ≡ index) × (call ≡ b)) → i < j →
         a.kind ≡ Move → b.kind ≡ Move → (s : ℕ) × (a.answered ≡ Some s) × (s < b.called)
@@ -185,6 +192,7 @@ added_sound fragment object new step now less sound kind asked position wide siz
       layouts = wide.layouts;
       calls = λ i c e. legal_call i c (split i c e);
       in_turn = λ i j a b p q h. in_turn i j a b (split i a p) (split j b q) h;
+      ids = λ i j a b p q e. ids i j a b (split i a p) (split j b q) e;
       moves = λ i j a b p q h k l. moves i j a b (split i a p) (split j b q) h k l;
       banks = λ p i. caused p i (below_or p);
     }
@@ -235,7 +243,7 @@ added_sound fragment object new step now less sound kind asked position wide siz
     tags i c tag t (inl e) =
         let before =
         sound.past.tags i c tag e
-        (subst (λ from. stage_tag (stage_after c.kind (suc i) (first_stage c.kind from) c.phases) ≡ Some tag) (source_old i c e) t) in
+        (subst (λ from. stage_tag (stage_after c.kind c.id (first_stage c.kind from) c.phases) ≡ Some tag) (source_old i c e) t) in
         omega arith
     tags i c tag t (inr here) =
         let t' : tag_of new index call ≡ Some tag = subst₂ (λ k d. tag_of new k d ≡ Some tag) here.0 (sym here.1) t in

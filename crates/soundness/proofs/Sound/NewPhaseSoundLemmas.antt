@@ -110,21 +110,21 @@ begun_sound fragment object step now less determines sound index call at kind po
     })
     (all_append (MessageRest fragment object' now) object.mail asked
     (old_mail fragment object step now less sound index call new mail at changed stays object.mail (mail_rest fragment object step sound))
-    (all_requests (MessageRest fragment object' now) (suc index) (suc (length call.phases)) kind position piece
+    (all_requests (MessageRest fragment object' now) call.id (suc (length call.phases)) kind position piece
     (layout_at object position).members 0
     (length (layout_at object position).members) (omega arith)
     (λ member below. request member below)))
-    (coded_tag_past fragment object step now less sound call.kind (suc index) (source_of object' index) new.phases
+    (coded_tag_past fragment object step now less sound call.kind call.id (source_of object' index) new.phases
     (λ place phase within. coded_before place phase (get_pushed call.phases next phase place within)))
   where
     next : Phase
-    next = new_phase (suc index) (suc (length call.phases)) kind position (layout_at object position) now
+    next = new_phase call.id (suc (length call.phases)) kind position (layout_at object position) now
 
     new : Call
-    new = begun_call index call kind position (layout_at object position) now
+    new = begun_call call kind position (layout_at object position) now
 
     asked : List Message
-    asked = requests (suc index) (suc (length call.phases)) kind position (layout_at object position).members 0 piece
+    asked = requests call.id (suc (length call.phases)) kind position (layout_at object position).members 0 piece
 
     mail : List Message
     mail = object.mail ++ asked
@@ -143,6 +143,7 @@ begun_sound fragment object step now less determines sound index call at kind po
 
     changed : Changed call new
     changed = record {
+      same_id = refl;
       same_kind = refl;
       same_called = refl;
       same_answer = λ step e. e;
@@ -151,7 +152,7 @@ begun_sound fragment object step now less determines sound index call at kind po
 
     stays : TagStays object index call new
     stays =
-        λ value k tag t. ap stage_tag (stage_push call.kind (suc index) call.phases
+        λ value k tag t. ap stage_tag (stage_push call.kind call.id call.phases
         (first_stage call.kind (source_of object index)) next refl)
         ∙ begun_tag (stage_of object index call) position ∙ t
 
@@ -185,7 +186,7 @@ begun_sound fragment object step now less determines sound index call at kind po
         let c = sound.legal.calls index call at in
         late_due (begun_at (stage_of object index call) (base_of object))
         ((late_begun (stage_of object index call) (base_of object) has.fetch.0
-        (course_late call.kind (suc index) call.phases (first_stage call.kind (source_of object index))
+        (course_late call.kind call.id call.phases (first_stage call.kind (source_of object index))
         c.course now ends has.place has.phase has.fetch.0 has.within has.fetch.1
         (pieces_not_lacking fragment object has.phase value
         (all_get (IsTruePhase object) call.phases has.place has.phase c.phases has.within) has.pieces))).0)
@@ -211,7 +212,7 @@ begun_sound fragment object step now less determines sound index call at kind po
     before place phase after (inr a) (inr b) fetch = absurd (let c = a.0 in let d = b.0 in omega arith)
 
     request : (member : ℕ) → member < length (layout_at object position).members →
-        MessageRest fragment object' now (request_message (suc index) (suc (length call.phases)) kind position piece member)
+        MessageRest fragment object' now (request_message call.id (suc (length call.phases)) kind position piece member)
     request member below = record {
       posted = record {
         index = index;

@@ -190,6 +190,7 @@ opened_legal layout delta now lawful = record {
   layouts = (lawful, tt);
   calls = λ index call e. absurd (cc);
   in_turn = λ i j a b p q less. absurd (cc);
+  ids = λ i j a b p q same. absurd (cc);
   moves = λ i j a b p q less k l. absurd (cc);
   banks = λ position member. by_position position member;
 }

@@ -5,7 +5,7 @@ use Rattle.std.proofs.lemmas.List.{length_push, get_or_append_left}
 use Rattle.layout.specs.Layout.{Layout, IsLawful}
 use Rattle.bank.specs.Bank.{Bank, opened_bank}
 use Rattle.record.specs.declared.call.CallKind.{CallKind}
-use Rattle.record.specs.Records.{Call, Object, layout_at, bank_at, no_bank, no_layout, retired_at, base_of}
+use Rattle.record.specs.Records.{Call, Object, IsNewId, layout_at, bank_at, no_bank, no_layout, retired_at, base_of}
 use Rattle.bank.specs.declared.status.Status.TheVariants.{Pending}
 use Rattle.bank.specs.declared.kind.Kind.TheVariants.{Next, Spread}
 use Rattle.record.specs.declared.call.CallKind.TheVariants.{Write, Move}
@@ -62,11 +62,11 @@ bank_none : (object : Object) (p i : ℕ) → length object.banks ≤ p → bank
 bank_none object p i h = ap (λ banks. get_or banks i no_bank) (get_or_past object.banks p [] h)
 
 pub called_sound : (fragment : Code) → IsCode fragment → (object : Object) (step now : ℕ) →
-    step < now → IsSound fragment object step → (kind : CallKind) → is_move kind ≡ false →
+    step < now → IsSound fragment object step → (id : ℕ) → IsNewId object id → (kind : CallKind) → is_move kind ≡ false →
     ((moves position : ℕ) → due (begun_at (first_stage kind moves) position) ≡ Some (Next, position)) →
-    ((value : List ℕ) → kind ≡ Write value → IsValue value) → IsSound fragment (called_object object kind now) now
-called_sound fragment code object step now less sound kind no_move first bytes =
-    added_sound fragment object new step now less sound kind Next base wide
+    ((value : List ℕ) → kind ≡ Write value → IsValue value) → IsSound fragment (called_object object id kind now) now
+called_sound fragment code object step now less sound id is_new kind no_move first bytes =
+    added_sound fragment object new step now less sound id is_new kind Next base wide
     (record {
       positions = sizes.positions
           ∙ ap suc (sym (ap moves_in calls_are ∙ moves_added object.calls call
@@ -83,19 +83,19 @@ called_sound fragment code object step now less sound kind no_move first bytes =
     (λ k index c at is. absurd (let clash : false ≡ true = sym no_move ∙ ap is_move k in cc))
   where
     new : Object
-    new = called_object object kind now
+    new = called_object object id kind now
 
     base : ℕ
     base = base_of object
 
     call : Call
-    call = begun kind (length object.calls) now Next base (layout_at object base)
+    call = begun kind id now Next base (layout_at object base)
 
     sizes : Sizes object
     sizes = sizes_of fragment object step sound
 
     calls_are : new.calls ≡ object.calls ++ call ∷ []
-    calls_are = set_last object.calls (new_call kind now) call
+    calls_are = set_last object.calls (new_call id kind now) call
 
     gone : (p i : ℕ) → length object.layouts ≤ p → bank_at object p i ≡ no_bank
     gone p i h = bank_none object p i (let b = sizes.banks in omega arith)
@@ -113,10 +113,10 @@ called_sound fragment code object step now less sound kind no_move first bytes =
 
 -- a move is called
 pub moving_sound : (fragment : Code) → IsCode fragment → (object : Object) (step now : ℕ) →
-    step < now → IsSound fragment object step → (layout : Layout) → IsLawful layout → NoOpenMove object →
-    IsSound fragment (moving_object object layout now) now
-moving_sound fragment code object step now less sound layout lawful no_open =
-    added_sound fragment object new step now less sound Move (Spread Pending) last wide
+    step < now → IsSound fragment object step → (id : ℕ) → IsNewId object id → (layout : Layout) → IsLawful layout → NoOpenMove object →
+    IsSound fragment (moving_object object id layout now) now
+moving_sound fragment code object step now less sound id is_new layout lawful no_open =
+    added_sound fragment object new step now less sound id is_new Move (Spread Pending) last wide
     (record {
       positions = length_push object.layouts layout ∙ more_positions
           ∙ ap suc (sym (ap moves_in calls_are ∙ moves_added object.calls call));
@@ -130,7 +130,7 @@ moving_sound fragment code object step now less sound layout lawful no_open =
     calls_are refl (ap (λ p. Some (Spread Pending, p)) source) (λ first. absurd (cc)) below refl (λ value e. absurd (cc)) (λ k. no_open)
   where
     new : Object
-    new = moving_object object layout now
+    new = moving_object object id layout now
 
     last : ℕ
     last = pred (length object.layouts)
@@ -139,7 +139,7 @@ moving_sound fragment code object step now less sound layout lawful no_open =
     fresh = opened_banks layout.members 0 object.delta now
 
     call : Call
-    call = begun Move (length object.calls) now (Spread Pending) last (layout_at new last)
+    call = begun Move id now (Spread Pending) last (layout_at new last)
 
     sizes : Sizes object
     sizes = sizes_of fragment object step sound
@@ -151,7 +151,7 @@ moving_sound fragment code object step now less sound layout lawful no_open =
     below = let s = source in let p = sizes.positions in omega arith
 
     calls_are : new.calls ≡ object.calls ++ call ∷ []
-    calls_are = set_last object.calls (new_call Move now) call
+    calls_are = set_last object.calls (new_call id Move now) call
 
     more_positions : length object.layouts + 1 ≡ suc (suc (moves_in object.calls))
     more_positions = let p = sizes.positions in omega arith

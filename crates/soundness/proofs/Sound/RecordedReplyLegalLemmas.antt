@@ -36,6 +36,7 @@ recorded_keeps object index place call phase reply end mail legal at within last
     let same = sym (moves_set object.calls index index call new at refl) in
     changed_keeps object index call new mail legal at
     (record {
+      same_id = refl;
       same_kind = refl;
       same_called = refl;
       same_answer = λ step e. e;
@@ -43,19 +44,19 @@ recorded_keeps object index place call phase reply end mail legal at within last
           phases_set call.phases place j phase grown other refl refl refl within e;
     })
     (record {
-      numbered = numbered_set (suc index) 1 call.phases place phase grown c.numbered within refl refl;
+      numbered = numbered_set call.id 1 call.phases place phase grown c.numbered within refl refl;
       begins = begins_set call.phases place call.called phase grown c.begins within refl;
       phases = all_set (IsTruePhase (Others object mail calls)) call.phases place grown
           (all_weaker (IsTruePhase object) (IsTruePhase (Others object mail calls))
           (λ phase truth. phase_same object mail calls phase truth) call.phases
           c.phases)
           (phase_same object mail calls grown (phase_takes object phase reply end truth r fresh earlier completes));
-      course = subst (λ from. IsCourse call.kind (suc index) (first_stage call.kind from) (set call.phases place grown)) same
-          (course_set call.kind (suc index) call.phases
+      course = subst (λ from. IsCourse call.kind call.id (first_stage call.kind from) (set call.phases place grown)) same
+          (course_set call.kind call.id call.phases
           (first_stage call.kind (source_of object index)) place phase grown c.course within last refl refl refl);
-      from_base = subst (λ from. BeginAtBase (base_at object) call.kind (suc index) (first_stage call.kind from)
+      from_base = subst (λ from. BeginAtBase (base_at object) call.kind call.id (first_stage call.kind from)
           (set call.phases place grown)) same
-          (base_set (base_at object) call.kind (suc index) call.phases
+          (base_set (base_at object) call.kind call.id call.phases
           (first_stage call.kind (source_of object index)) place phase grown c.from_base within last refl refl);
       answer = λ step e. absurd (let ended = last_ended call.phases step place phase (c.answer step e).1 within last in
           let both : None ≡ Some ended.0 = sym open_phase ∙ ended.1 in cc);

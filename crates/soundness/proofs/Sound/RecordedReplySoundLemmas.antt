@@ -73,7 +73,7 @@ recorded_sound fragment object step now place less sound message kind made body_
     })
     (old_mail fragment object step now less sound posted.index call new mail posted.at changed stays mail
     (all_without (MessageRest fragment object step) object.mail place (mail_rest fragment object step sound)))
-    (coded_tag_past fragment object step now less sound call.kind (suc posted.index) (source_of object' posted.index) new.phases
+    (coded_tag_past fragment object step now less sound call.kind call.id (source_of object' posted.index) new.phases
     (λ j other e. coded_before j other (get_set call.phases posted.place j phase grown other posted.within e)))
   where
     phase : Phase
@@ -119,6 +119,7 @@ recorded_sound fragment object step now place less sound message kind made body_
 
     changed : Changed call new
     changed = record {
+      same_id = refl;
       same_kind = refl;
       same_called = refl;
       same_answer = λ step e. e;
@@ -127,7 +128,7 @@ recorded_sound fragment object step now place less sound message kind made body_
 
     stays : TagStays object posted.index call new
     stays =
-        λ value k tag t. tag_set value call.kind k (suc posted.index) call.phases (first_stage call.kind (source_of object posted.index))
+        λ value k tag t. tag_set value call.kind k call.id call.phases (first_stage call.kind (source_of object posted.index))
         (of_write_first value call.kind (source_of object posted.index) k) posted.place phase grown tag posted.within last
         took.open_phase t
 

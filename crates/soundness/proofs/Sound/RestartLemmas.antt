@@ -76,6 +76,6 @@ last_lacking kind number (first ∷ next ∷ later) stage phase tag end course c
 pub anew_due : (object : Object) → IsLegal object → (index : ℕ) (call : Call) → slice_get object.calls index ≡ Some call →
     Unsettled call true → Plain (due_of object index call)
 anew_due object legal index call at wanting =
-    last_lacking call.kind (suc index) call.phases (first_stage call.kind (source_of object index)) wanting.phase wanting.fetch.0
+    last_lacking call.kind call.id call.phases (first_stage call.kind (source_of object index)) wanting.phase wanting.fetch.0
     wanting.end (legal.calls index call at).course wanting.current wanting.ended wanting.fetch.1 wanting.lacking
     (base_of object)

@@ -208,11 +208,12 @@ module _ (fragment : Code) (object : Object) (step now : ℕ) (less : step < now
           (all_pairs (λ phase. AllByRecursion (λ (taken : Taken). taken.reply.step < now) phase.replies) (IsTruePhase object)
           call.phases (made_before fragment object step now less sound index call at) c.phases);
       course = c.course;
-      from_base = base_kept (base_at object) (base_at fresh) call.kind (suc index) call.phases
+      from_base = base_kept (base_at object) (base_at fresh) call.kind call.id call.phases
           (first_stage call.kind (source_of object index)) (starts index call at) c.from_base;
       answer = c.answer;
     };
     in_turn = sound.legal.in_turn;
+    ids = sound.legal.ids;
     moves = sound.legal.moves;
     banks = λ p i. caused answered moved early p i;
   }

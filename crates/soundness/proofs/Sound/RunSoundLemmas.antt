@@ -26,13 +26,13 @@ written_bytes written value e bytes = subst IsValue (ap (λ kind. written_is kin
 pub step_sound : (fragment : Code) (object : Object) (step now : ℕ) → IsCode fragment →
     step < now → IsSound fragment object step → (made : Step) → MayStep fragment object made →
     IsSound fragment (stepped fragment made now object) now
-step_sound fragment object step now code less sound Step.CallRead may =
-    called_sound fragment code object step now less sound Read refl (λ moves position. refl) (λ value e. absurd (cc))
-step_sound fragment object step now code less sound (Step.CallWrite value) may =
-    called_sound fragment code object step now less sound (Write value) refl (λ moves position. refl)
-    (λ other e. written_bytes value other e may)
-step_sound fragment object step now code less sound (Step.CallMove layout) may =
-    moving_sound fragment code object step now less sound layout may.0 may.1
+step_sound fragment object step now code less sound (Step.CallRead id) may =
+    called_sound fragment code object step now less sound id may Read refl (λ moves position. refl) (λ value e. absurd (cc))
+step_sound fragment object step now code less sound (Step.CallWrite id value) may =
+    called_sound fragment code object step now less sound id may.0 (Write value) refl (λ moves position. refl)
+    (λ other e. written_bytes value other e may.1)
+step_sound fragment object step now code less sound (Step.CallMove id layout) may =
+    moving_sound fragment code object step now less sound id may.0 layout may.1 may.2
 step_sound fragment object step now code less sound (Step.Advance index) may =
     advance_sound fragment object step now less code.determines sound index may
 step_sound fragment object step now code less sound (Step.Again index) may =

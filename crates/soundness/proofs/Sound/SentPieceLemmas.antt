@@ -65,7 +65,7 @@ settled_of fragment object step sound index call at fetches takes = go takes
     first : Stage
     first = first_stage call.kind (source_of object index)
 
-    course : IsCourse call.kind (suc index) first call.phases
+    course : IsCourse call.kind call.id first call.phases
     course = (sound.legal.calls index call at).course
 
     go : WantsPieces object index call ⊎ AwaitsPieces object index call → IsSome call.settled
@@ -73,14 +73,14 @@ settled_of fragment object step sound index call at fetches takes = go takes
         let both = supply_ready object index call wanted.0 wanted.1 wanted.2.1 in
         let next = both.1 in
         settled_after fragment object step sound index call at both.0.phase both.0.current both.0.settled
-        (fetched_before_due call.kind fetches (suc index) call.phases first course (unfetched_first call.kind (source_of object index))
+        (fetched_before_due call.kind fetches call.id call.phases first course (unfetched_first call.kind (source_of object index))
         (base_of object) (next.tag, next.position, next.is_due))
     go (inr awaits) =
         let phase = awaits.0 in
         let there = last_at call.phases phase awaits.1.current in
         settled_after fragment object step sound index call at phase awaits.1.current
         (λ fetch. absurd (not_both phase.kind awaits.2 fetch))
-        (fetched_before_sent call.kind fetches (suc index) call.phases first course (unfetched_first call.kind (source_of object index))
+        (fetched_before_sent call.kind fetches call.id call.phases first course (unfetched_first call.kind (source_of object index))
         there.place phase there.within awaits.2)
 
 -- a call that wants its pieces, or that sends them, has their value

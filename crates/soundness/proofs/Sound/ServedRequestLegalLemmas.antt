@@ -1,5 +1,5 @@
 -- A request that is served keeps the record legal.
-use Rattle.std.proofs.Common.{◌≡◌, ℕ, suc, ◌<◌, ◌⊎◌, take, Some, refl, sym, subst, subst₂, ap, ◌∙◌, inl, inr, slice_get}
+use Rattle.std.proofs.Common.{◌≡◌, ℕ, ◌<◌, ◌⊎◌, take, Some, refl, sym, subst, subst₂, ap, ◌∙◌, inl, inr, slice_get}
 use Rattle.std.proofs.lemmas.Option.{same_Some}
 use Rattle.std.specs.List.{AllByRecursion}
 use Rattle.tag.specs.declared.tag.Tag.{Tag}
@@ -171,12 +171,13 @@ served_keeps object place message asked now legal made begun = record {
         (all_pairs (λ phase. AllByRecursion (λ taken. taken.reply.step < now) phase.replies) (IsTruePhase object) call.phases
         (made index call at) c.phases);
     course = c.course;
-    from_base = base_kept (base_at object) (base_at new) call.kind (suc index) call.phases
+    from_base = base_kept (base_at object) (base_at new) call.kind call.id call.phases
         (first_stage call.kind (source_of object index))
         (base_everywhere (base_at object) (base_at new) (bases_same object new unretired) call.phases) c.from_base;
     answer = c.answer;
   };
   in_turn = legal.in_turn;
+  ids = legal.ids;
   moves = legal.moves;
   banks = λ p i. go p i (bank_at_set object message.position message.member served p i);
 }

@@ -28,6 +28,7 @@ use Rattle.record.proofs.BegunStageLemmas.{begun_none}
 marked : (call : Call) (answered : Option ℕ) (settled : Option (List ℕ)) → call.answered ≡ None →
     Changed call (record call { answered = answered; settled = settled })
 marked call answered settled none = record {
+  same_id = refl;
   same_kind = refl;
   same_called = refl;
   same_answer = λ step e. absurd (let no : None ≡ Some step = sym none ∙ e in cc);
@@ -43,16 +44,16 @@ read_settled fragment object step sound index call at kind ready none = go (case
     from : ℕ
     from = source_of object index
 
-    course : IsCourse Read (suc index) (first_stage Read from) call.phases
-    course = subst (λ k. IsCourse k (suc index) (first_stage k from) call.phases) kind (sound.legal.calls index call at).course
+    course : IsCourse Read call.id (first_stage Read from) call.phases
+    course = subst (λ k. IsCourse k call.id (first_stage k from) call.phases) kind (sound.legal.calls index call at).course
 
-    through : due (stage_after Read (suc index) (first_stage Read from) call.phases) ≡ None
-    through = subst (λ k. due (stage_after k (suc index) (first_stage k from) call.phases) ≡ None) kind none
+    through : due (stage_after Read call.id (first_stage Read from) call.phases) ≡ None
+    through = subst (λ k. due (stage_after k call.id (first_stage k from) call.phases) ≡ None) kind none
 
     found : (place : ℕ) × (phase : Phase) × (slice_get call.phases place ≡ Some phase) × IsFetch phase.kind
         × (lacks_pieces phase ≡ false)
-    found = has_fetch (suc index) call.phases (first_stage Read from) course tt
-        (λ early. early_due (stage_after Read (suc index) (first_stage Read from) call.phases) early through)
+    found = has_fetch call.id call.phases (first_stage Read from) course tt
+        (λ early. early_due (stage_after Read call.id (first_stage Read from) call.phases) early through)
 
     there : LastAt call.phases ready.phase
     there = last_at call.phases ready.phase ready.current
@@ -106,7 +107,7 @@ answered_sound fragment object step now less sound index call at e =
     })
     (old_mail fragment object step now less sound index call new object.mail at changed stays object.mail
     (mail_rest fragment object step sound))
-    (same_tag_past object step now less sound.past.tags index call new object.mail at refl refl)
+    (same_tag_past object step now less sound.past.tags index call new object.mail at refl refl refl)
 
 pub settled_sound : (fragment : Code) (object : Object) (step now : ℕ) → step < now →
     IsSound fragment object step → (index : ℕ) (value : List ℕ) → (may : MaySettle fragment object index value) →
@@ -137,7 +138,7 @@ settled_sound fragment object step now less sound index value may =
     })
     (old_mail fragment object step now less sound index call new object.mail at changed stays object.mail
     (mail_rest fragment object step sound))
-    (same_tag_past object step now less sound.past.tags index call new object.mail at refl refl)
+    (same_tag_past object step now less sound.past.tags index call new object.mail at refl refl refl)
   where
     call : Call
     call = may.call

@@ -214,7 +214,7 @@ call_known fragment object step sound index call at tag e = go call.kind refl
 
     other : IsNoWrite call.kind → Known object tag
     other plain = known_tag (Known object) (stage_of object index call) tag
-        (known_end (Known object) (opening_known object) call.kind (suc index) call.phases
+        (known_end (Known object) (opening_known object) call.kind call.id call.phases
         (first_stage call.kind (source_of object index)) plain shown
         (known_first (Known object) call.kind (source_of object index))) e
 

@@ -180,6 +180,6 @@ pub call_at_phase : (object : Object) → IsLegal object → (index : ℕ) (call
     (place : ℕ) (phase : Phase) → slice_get call.phases place ≡ Some phase → AtPhase object phase
 call_at_phase object legal index call at place phase within =
     let c = legal.calls index call at in
-    at_phase object legal.layouts call.kind (suc index) call.phases 0 (first_stage call.kind (source_of object index)) c.course c.phases
+    at_phase object legal.layouts call.kind call.id call.phases 0 (first_stage call.kind (source_of object index)) c.course c.phases
     (starts_at_zero call.phases)
     (first_pieces object call.kind (source_of object index) 0) place phase within
