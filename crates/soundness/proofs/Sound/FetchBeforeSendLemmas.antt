@@ -21,6 +21,7 @@ use Rattle.record.specs.Legal.{first_stage}
 use Rattle.record.specs.Fragments.{IsFetch}
 use Rattle.record.specs.Preconditions.{IsPreWrite}
 use Rattle.record.proofs.BegunStageLemmas.{begun_has}
+use Rattle.soundness.proofs.Sound.DueKindLemmas.{sends}
 
 -- Before the fetch
 
@@ -103,11 +104,6 @@ unfetched_passed kind fetches number stage (Some end) replies lacks none = unfet
 -- and it has not where its phase begins
 unfetched_begun : (stage : Stage) (position : ℕ) → IsUnfetched stage → IsUnfetched (begun_at stage position)
 unfetched_begun stage position none = begun_has (λ s. IsUnfetched s) stage position (λ first. tt) none
-
--- whether what is due sends pieces
-abbrev sends : Option (Kind × ℕ) → Bool
-sends (Some (PreWrite tag, position)) = true
-sends _ = false
 
 unfetched_sends : (stage : Stage) → IsUnfetched stage → sends (due stage) ≡ false
 unfetched_sends ReadBegin none = refl

@@ -98,15 +98,6 @@ has_fetch number (phase ∷ phases) stage course early none =
     go (inl fetch) rest = (0, phase, refl, subst FetchDue course.0 fetch.0, fetch.1)
     go (inr e) rest = let found = rest e in (suc found.0, found.1, found.2, found.3, found.4)
 
-not_fetch : (kind : Kind) → (kind ≡ Next) ⊎ ((kind ≡ Query)
-    ⊎ (((s : Status) × (kind ≡ Spread s)) ⊎ (((t : Tag) × (kind ≡ PreWrite t)) ⊎ ((t : Tag) × (kind ≡ Finalize t))))) →
-    IsFetch kind → ⊥
-not_fetch kind (inl k) fetch = let no : Next ≡ Fetch fetch.0 = sym k ∙ fetch.1 in cc
-not_fetch kind (inr (inl k)) fetch = let no : Query ≡ Fetch fetch.0 = sym k ∙ fetch.1 in cc
-not_fetch kind (inr (inr (inl (s, k)))) fetch = let no : Spread s ≡ Fetch fetch.0 = sym k ∙ fetch.1 in cc
-not_fetch kind (inr (inr (inr (inl (t, k))))) fetch = let no : PreWrite t ≡ Fetch fetch.0 = sym k ∙ fetch.1 in cc
-not_fetch kind (inr (inr (inr (inr (t, k))))) fetch = let no : Finalize t ≡ Fetch fetch.0 = sym k ∙ fetch.1 in cc
-
 -- once a fetch has its pieces
 pub first_late : (kind : CallKind) (number : ℕ) (stage : Stage) (first phase : Phase) (tag : Tag) →
     due stage ≡ Some (first.kind, first.position) → first ≡ phase → phase.kind ≡ Fetch tag → lacks_pieces phase ≡ false →
@@ -119,13 +110,13 @@ first_late kind number stage first phase tag is_due same fetch enough =
     (is_due ∙ ap (λ (k : Kind). Some (k, first.position)) asked))
 
 pub late_due : (stage : Stage) → IsLate stage → FetchDue (due stage) → ⊥
-late_due (PreWriteAt l t) late fetch = not_fetch (PreWrite t) (inr (inr (inr (inl (t, refl))))) fetch
-late_due (FinalizeAt l t) late fetch = not_fetch (Finalize t) (inr (inr (inr (inr (t, refl))))) fetch
-late_due (AgainNext l p t) late fetch = not_fetch Next (inl refl) fetch
-late_due (AgainSpread l p t s) late fetch = not_fetch (Spread s) (inr (inr (inl (s, refl)))) fetch
-late_due (MovePreWrite p t) late fetch = not_fetch (PreWrite t) (inr (inr (inr (inl (t, refl))))) fetch
-late_due (MoveFinalize p t) late fetch = not_fetch (Finalize t) (inr (inr (inr (inr (t, refl))))) fetch
-late_due (MoveFinal p t) late fetch = not_fetch (Spread Final) (inr (inr (inl (Final, refl)))) fetch
+late_due (PreWriteAt l t) late fetch = cc
+late_due (FinalizeAt l t) late fetch = cc
+late_due (AgainNext l p t) late fetch = cc
+late_due (AgainSpread l p t s) late fetch = cc
+late_due (MovePreWrite p t) late fetch = cc
+late_due (MoveFinalize p t) late fetch = cc
+late_due (MoveFinal p t) late fetch = cc
 late_due (Ended l t) late fetch = fetch
 late_due (Moved p t) late fetch = fetch
 late_due stage late fetch = absurd late

@@ -18,11 +18,11 @@ use Rattle.record.specs.Steps.{new_call, opened_banks, called_object, moving_obj
 use Rattle.soundness.proofs.BaseLemmas.{leading_same}
 use Rattle.soundness.proofs.ListLemmas.{all_push}
 use Rattle.soundness.proofs.Sound.DuePositionLemmas.{base_there}
-use Rattle.soundness.proofs.Sound.NewCallLemmas.{Wider, begun}
-use Rattle.soundness.proofs.Sound.NewCallSoundLemmas.{added_sound}
-use Rattle.soundness.proofs.Sound.OpenedObjectLemmas.{opened_get, opened_at, opened_there, opened_length, either_rest, either_caused}
-use Rattle.soundness.proofs.Sound.OpenedObjectLemmas.{either_unretired}
-use Rattle.soundness.proofs.Sound.SoundnessPartLemmas.{Sizes, sizes_of, base_past}
+use Rattle.soundness.proofs.Sound.GrowthLemmas.{sizes_same}
+use Rattle.soundness.proofs.Sound.ItemLemmas.{Sizes, sizes_of, base_later}
+use Rattle.soundness.proofs.Sound.NewCallLemmas.{begun}
+use Rattle.soundness.proofs.Sound.NewCallSoundLemmas.{added, Wider, added_sound}
+use Rattle.soundness.proofs.Sound.OpenedObjectLemmas.{opened_get, opened_at, opened_there, opened_length, either_sound, either_unretired}
 
 set_last : {A : Type 0} (xs : List A) (y z : A) → set (xs ++ y ∷ []) (length xs) z ≡ xs ++ z ∷ []
 set_last [] y z = refl
@@ -61,65 +61,50 @@ moves_added (c ∷ calls) call = go (is_move c.kind) (is_move call.kind) (moves_
 bank_none : (object : Object) (p i : ℕ) → length object.banks ≤ p → bank_at object p i ≡ no_bank
 bank_none object p i h = ap (λ banks. get_or banks i no_bank) (get_or_past object.banks p [] h)
 
-pub called_sound : (fragment : Code) → IsCode fragment → (object : Object) (step now : ℕ) →
-    step < now → IsSound fragment object step → (id : ℕ) → IsNewId object id → (kind : CallKind) → is_move kind ≡ false →
+pub called_sound : {fragment : Code} {object : Object} {step now : ℕ} → IsCode fragment → IsSound fragment object step → step < now →
+    (id : ℕ) → IsNewId object id → (kind : CallKind) → is_move kind ≡ false →
     ((moves position : ℕ) → due (begun_at (first_stage kind moves) position) ≡ Some (Next, position)) →
     ((value : List ℕ) → kind ≡ Write value → IsValue value) → IsSound fragment (called_object object id kind now) now
-called_sound fragment code object step now less sound id is_new kind no_move first bytes =
-    added_sound fragment object new step now less sound id is_new kind Next base wide
-    (record {
-      positions = sizes.positions
-          ∙ ap suc (sym (ap moves_in calls_are ∙ moves_added object.calls call
-          ∙ ap (λ b. cond b (suc (moves_in object.calls)) (moves_in object.calls)) no_move));
-      banks = sizes.banks;
-      members = sizes.members;
-      opened = sizes.opened;
-      delta = sizes.delta;
-      retired = sizes.retired;
-      leading = sizes.leading;
-    })
-    calls_are refl (first (moves_in object.calls) base) (λ _. sym (base_past fragment object step now less sound))
-    (base_there object sound.legal sound.shape) refl bytes
-    (λ k index c at is. absurd (let clash : false ≡ true = sym no_move ∙ ap is_move k in cc))
+called_sound {fragment = fragment} {object = object} {now = now} code sound less id is_new kind no_move first bytes =
+    rw (set_last object.calls (new_call id kind now) call)
+    (added_sound sound less object.layouts object.banks id is_new kind Next base wide
+    (sizes_same new.mail new.calls (moves_added object.calls call
+    ∙ ap (λ b. cond b (suc (moves_in object.calls)) (moves_in object.calls)) no_move) sizes)
+    (first (moves_in object.calls) base) (λ _. sym (base_later sound now less)) (base_there object sound.legal sound.shape) refl bytes
+    (λ k. absurd (let clash : false ≡ true = sym no_move ∙ ap is_move k in cc)))
   where
-    new : Object
-    new = called_object object id kind now
-
     base : ℕ
     base = base_of object
 
     call : Call
     call = begun kind id now Next base (layout_at object base)
 
+    new : Object
+    new = added object object.layouts object.banks id kind now Next base
+
     sizes : Sizes object
-    sizes = sizes_of fragment object step sound
-
-    calls_are : new.calls ≡ object.calls ++ call ∷ []
-    calls_are = set_last object.calls (new_call id kind now) call
-
-    gone : (p i : ℕ) → length object.layouts ≤ p → bank_at object p i ≡ no_bank
-    gone p i h = bank_none object p i (let b = sizes.banks in omega arith)
+    sizes = sizes_of sound
 
     wide : Wider fragment now object new
     wide = record {
-      layouts = sound.legal.layouts;
       more = le_refl (length object.layouts);
       same_layouts = λ p h. refl;
       same_banks = λ p i h. refl;
       same_retired = λ p. refl;
-      caused = λ p i h. either_caused new object.delta now p i (bank_at object p i) (inl (gone p i h));
-      rest = λ p i h. either_rest fragment code new object.delta now p i (bank_at object p i) (inl (gone p i h));
+      further = λ p i h. either_sound code new object.delta now p i (bank_at object p i)
+          (inl (bank_none object p i (let b = sizes.banks in omega arith)));
     }
 
 -- a move is called
-pub moving_sound : (fragment : Code) → IsCode fragment → (object : Object) (step now : ℕ) →
-    step < now → IsSound fragment object step → (id : ℕ) → IsNewId object id → (layout : Layout) → IsLawful layout → NoOpenMove object →
+pub moving_sound : {fragment : Code} {object : Object} {step now : ℕ} → IsCode fragment → IsSound fragment object step → step < now →
+    (id : ℕ) → IsNewId object id → (layout : Layout) → IsLawful layout → NoOpenMove object →
     IsSound fragment (moving_object object id layout now) now
-moving_sound fragment code object step now less sound id is_new layout lawful no_open =
-    added_sound fragment object new step now less sound id is_new Move (Spread Pending) last wide
+moving_sound {fragment = fragment} {object = object} {now = now} code sound less id is_new layout lawful no_open =
+    rw (set_last object.calls (new_call id Move now) call)
+    (added_sound sound less layouts banks id is_new Move (Spread Pending) last wide
     (record {
-      positions = length_push object.layouts layout ∙ more_positions
-          ∙ ap suc (sym (ap moves_in calls_are ∙ moves_added object.calls call));
+      lawful = all_push IsLawful object.layouts layout sizes.lawful lawful;
+      positions = length_push object.layouts layout ∙ more_positions ∙ ap suc (sym (moves_added object.calls call));
       banks = length_push object.banks fresh ∙ same_count ∙ sym (length_push object.layouts layout);
       members = λ p h. members p h (either p (grown_below p h));
       opened = λ p i h k. opened p i (either p (grown_below p h)) k;
@@ -127,31 +112,34 @@ moving_sound fragment code object step now less sound id is_new layout lawful no
       retired = λ p i h k. retireds p i (either p (grown_below p h)) k;
       leading = leading_same object new same_retired sizes.leading;
     })
-    calls_are refl (ap (λ p. Some (Spread Pending, p)) source) (λ first. absurd (cc)) below refl (λ value e. absurd (cc)) (λ k. no_open)
+    (ap (λ p. Some (Spread Pending, p)) source) (λ first. absurd (cc)) below refl (λ value e. absurd (cc)) (λ k. no_open))
   where
-    new : Object
-    new = moving_object object id layout now
-
     last : ℕ
     last = pred (length object.layouts)
 
     fresh : List Bank
     fresh = opened_banks layout.members 0 object.delta now
 
+    layouts : List Layout
+    layouts = object.layouts ++ layout ∷ []
+
+    banks : List (List Bank)
+    banks = object.banks ++ fresh ∷ []
+
+    new : Object
+    new = added object layouts banks id Move now (Spread Pending) last
+
     call : Call
     call = begun Move id now (Spread Pending) last (layout_at new last)
 
     sizes : Sizes object
-    sizes = sizes_of fragment object step sound
+    sizes = sizes_of sound
 
     source : moves_in object.calls ≡ last
     source = sym (ap pred sizes.positions)
 
     below : last < length object.layouts
     below = let s = source in let p = sizes.positions in omega arith
-
-    calls_are : new.calls ≡ object.calls ++ call ∷ []
-    calls_are = set_last object.calls (new_call id Move now) call
 
     more_positions : length object.layouts + 1 ≡ suc (suc (moves_in object.calls))
     more_positions = let p = sizes.positions in omega arith
@@ -240,11 +228,9 @@ moving_sound fragment code object step now less sound id is_new layout lawful no
 
     wide : Wider fragment now object new
     wide = record {
-      layouts = all_push IsLawful object.layouts layout sound.legal.layouts lawful;
       more = (let l : length new.layouts ≡ length object.layouts + 1 = length_push object.layouts layout in omega arith);
       same_layouts = old_layout;
       same_banks = λ p i h. ap (λ banks. get_or banks i no_bank) (old_banks p h);
       same_retired = same_retired;
-      caused = λ p i h. either_caused new object.delta now p i (bank_at new p i) (beyond p i h);
-      rest = λ p i h. either_rest fragment code new object.delta now p i (bank_at new p i) (beyond p i h);
+      further = λ p i h. either_sound code new object.delta now p i (bank_at new p i) (beyond p i h);
     }

@@ -1,5 +1,5 @@
 -- A call whose complete fetch lacks pieces begins anew: a read reads the sequence from the first position, a move asks again.
-use Rattle.std.proofs.Common.{◌≡◌, ℕ, suc, true, List, [], ◌∷◌, Some, refl, sym, subst, ap, ◌∙◌, slice_get}
+use Rattle.std.proofs.Common.{◌≡◌, ℕ, suc, true, false, List, [], ◌∷◌, Some, refl, sym, subst, ap, ◌∙◌, slice_get}
 use Rattle.std.proofs.lemmas.Option.{same_Some, some_pair_parts}
 use Rattle.tag.specs.declared.tag.Tag.{Tag}
 use Rattle.bank.specs.declared.kind.Kind.{Kind}
@@ -16,6 +16,7 @@ use Rattle.record.specs.declared.stage.Stage.TheVariants.{FinalizeAt, AgainNext,
 use Rattle.record.specs.declared.stage.Stage.TheVariants.{MoveFetch, MovePreWrite, MoveFinalize, MoveFinal, Ended, Moved}
 use Rattle.record.specs.Legal.{first_stage, source_of, IsLegal, due_of}
 use Rattle.record.specs.Wants.{current_phase}
+use Rattle.soundness.proofs.Sound.DueKindLemmas.{fetches}
 use Rattle.soundness.proofs.Sound.WantCaseLemmas.{Unsettled}
 use Rattle.soundness.proofs.Sound.WantPreconditionLemmas.{Plain}
 
@@ -26,34 +27,7 @@ after_lacking kind number (FetchAt q l t) replies tag position e base =
     record { kind = Next; position = base; is_due = refl; not_pre = λ tag k. absurd (cc) }
 after_lacking kind number (MoveFetch p t) replies tag position e base =
     record { kind = Query; position = p; is_due = refl; not_pre = λ tag k. absurd (cc) }
-after_lacking kind number ReadBegin replies tag position e base =
-    absurd (let other = (some_pair_parts Next (Fetch tag) 0 position e).0 in cc)
-after_lacking kind number (ReadNext a b) replies tag position e base =
-    absurd (let other = (some_pair_parts Next (Fetch tag) a position e).0 in cc)
-after_lacking kind number (ReadSpread a b c) replies tag position e base =
-    absurd (let other = (some_pair_parts (Spread c) (Fetch tag) a position e).0 in cc)
-after_lacking kind number (QueryFrom a b c d) replies tag position e base =
-    absurd (let other = (some_pair_parts Query (Fetch tag) a position e).0 in cc)
-after_lacking kind number (PreWriteAt a b) replies tag position e base =
-    absurd (let other = (some_pair_parts (PreWrite b) (Fetch tag) a position e).0 in cc)
-after_lacking kind number (FinalizeAt a b) replies tag position e base =
-    absurd (let other = (some_pair_parts (Finalize b) (Fetch tag) a position e).0 in cc)
-after_lacking kind number (AgainNext a b c) replies tag position e base =
-    absurd (let other = (some_pair_parts Next (Fetch tag) b position e).0 in cc)
-after_lacking kind number (AgainSpread a b c d) replies tag position e base =
-    absurd (let other = (some_pair_parts (Spread d) (Fetch tag) b position e).0 in cc)
-after_lacking kind number (MoveSpread a) replies tag position e base =
-    absurd (let other = (some_pair_parts (Spread Pending) (Fetch tag) a position e).0 in cc)
-after_lacking kind number (MoveQuery a) replies tag position e base =
-    absurd (let other = (some_pair_parts Query (Fetch tag) a position e).0 in cc)
-after_lacking kind number (MovePreWrite a b) replies tag position e base =
-    absurd (let other = (some_pair_parts (PreWrite b) (Fetch tag) (suc a) position e).0 in cc)
-after_lacking kind number (MoveFinalize a b) replies tag position e base =
-    absurd (let other = (some_pair_parts (Finalize b) (Fetch tag) (suc a) position e).0 in cc)
-after_lacking kind number (MoveFinal a b) replies tag position e base =
-    absurd (let other = (some_pair_parts (Spread Final) (Fetch tag) a position e).0 in cc)
-after_lacking kind number (Ended a b) replies tag position e base = absurd (cc)
-after_lacking kind number (Moved a b) replies tag position e base = absurd (cc)
+after_lacking kind number stage replies tag position e base = absurd (let no : false ≡ true = ap fetches e in cc)
 
 last_lacking : (kind : CallKind) (number : ℕ) (phases : List Phase) (stage : Stage) (phase : Phase) (tag : Tag) (end : ℕ) →
     IsCourse kind number stage phases → current_phase phases ≡ Some phase → phase.end ≡ Some end → phase.kind ≡ Fetch tag →

@@ -1,6 +1,6 @@
 -- The call and the phase that take a reply.
 use Rattle.std.proofs.Common.{◌≡◌, ℕ, zero, suc, ◌+◌, ◌<◌, ◌≤◌, ◌⊎◌, Bool, true, false}
-use Rattle.std.proofs.Common.{cond, eqb, nat_lt, not, is_some, List, [], ◌∷◌, length, set, Option, Some, None}
+use Rattle.std.proofs.Common.{cond, eqb, nat_lt, not, is_some, List, [], ◌∷◌, ◌++◌, length, set, Option, Some, None}
 use Rattle.std.proofs.Common.{refl, sym, subst, ap, ◌∙◌, inl, inr, arith, eqb-true, slice_get, ◌&&◌}
 use Rattle.std.proofs.lemmas.Bool.{cases_eq}
 use Rattle.std.proofs.lemmas.Bool.Decides.{nat_tests}
@@ -22,7 +22,6 @@ use Rattle.record.specs.Fragments.{Code, IsFetch, IsSettled, HasPiece}
 use Rattle.record.specs.Steps.{taking_phases}
 use Rattle.soundness.proofs.ListLemmas.{all_weaker, get_push, get_set, set_here, set_there}
 use Rattle.record.proofs.Phases.PastFetchLemmas.{IsOfWrite, late_of_write, late_past, of_write_past}
-use Rattle.soundness.proofs.Sound.PreconditionLemmas.{grown_phase}
 use Rattle.record.proofs.BegunStageLemmas.{begun_tag}
 
 pub numbered_at : (call number : ℕ) (phases : List Phase) (place : ℕ) (phase : Phase) → AreNumbered call number phases →
@@ -57,6 +56,10 @@ tag_set value kind k number (first ∷ next ∷ later) stage of (suc place) old 
 has-members_of : (replies : List Taken) (member : ℕ) → has (members_of replies) member ≡ has_taken replies member
 has-members_of [] member = refl
 has-members_of (t ∷ ts) member = grind (arith, nat_tests, has-members_of ts member)
+
+-- the phase with one more reply
+abbrev pub grown_phase : Phase → Taken → (end : Option ℕ) → Phase
+grown_phase phase taken end = record phase { replies = phase.replies ++ taken ∷ []; end = end }
 
 -- what is recorded of a message
 abbrev pub taken_reply : Message → Reply → (now : ℕ) → Taken

@@ -27,9 +27,9 @@ use Rattle.record.specs.Journals.{stage_tag, tag_of, IsJournaled}
 use Rattle.record.specs.Fragments.{Code, IfCoded, answer_tag, answer_piece}
 use Rattle.soundness.specs.Sound.{IsSound}
 use Rattle.bank.specs.declared.reply.Answer.TheVariants as answer
-use Rattle.soundness.proofs.ListLemmas.{all_weaker}
+use Rattle.soundness.proofs.ListLemmas.{all_weaker, all_at}
 use Rattle.soundness.proofs.Sound.Enough.QuorumPieceLemmas.{greatest_is}
-use Rattle.soundness.proofs.Sound.SoundnessPartLemmas.{ReplyCoded, all_from}
+use Rattle.soundness.proofs.Sound.ItemLemmas.{ReplyCoded}
 use Rattle.record.proofs.BegunStageLemmas.{begun_has}
 
 -- some value of the tag is in the journal
@@ -209,7 +209,7 @@ pub call_known : (fragment : Code) (object : Object) (step : ℕ) → IsSound fr
 call_known fragment object step sound index call at tag e = go call.kind refl
   where
     shown : AllByRecursion (λ phase. Known object (greatest_tag phase.replies)) call.phases
-    shown = all_from (λ phase. Known object (greatest_tag phase.replies)) call.phases
+    shown = all_at call.phases
         (λ place phase within. phase_known fragment object step sound index call at place phase within)
 
     other : IsNoWrite call.kind → Known object tag

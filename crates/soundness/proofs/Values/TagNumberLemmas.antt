@@ -25,9 +25,9 @@ use Rattle.record.specs.Fragments.{Code}
 use Rattle.soundness.specs.Sound.{IsSound}
 use Rattle.soundness.proofs.Values.KnownTagLemmas.{Known, opening_known, shown_known}
 use Rattle.soundness.proofs.Values.SentValueLemmas.{known_past}
-use Rattle.soundness.proofs.ListLemmas.{all_weaker}
+use Rattle.soundness.proofs.ListLemmas.{all_weaker, all_at}
 use Rattle.soundness.proofs.Sound.Enough.QuorumPieceLemmas.{greatest_is}
-use Rattle.soundness.proofs.Sound.SoundnessPartLemmas.{ReplyCoded, all_from}
+use Rattle.soundness.proofs.Sound.ItemLemmas.{ReplyCoded}
 use Rattle.record.proofs.BegunStageLemmas.{begun_has}
 
 -- the number of a tag at a stage: one that was found is past, a call's own is past or the next
@@ -170,5 +170,5 @@ pub coded_tag_past : (fragment : Code) (object : Object) (step now : ℕ) → st
     stage_tag (stage_after kind number (first_stage kind from) phases) ≡ Some tag → tag.number ≤ now
 coded_tag_past fragment object step now less sound kind number from phases coded tag e =
     tag_past step now less kind number from phases
-    (all_from (λ phase. (greatest_tag phase.replies).number ≤ step) phases
+    (all_at phases
     (λ place phase within. shown_past fragment object step sound phase (coded place phase within))) tag e

@@ -99,7 +99,6 @@ pieces_after :
     (lacks : Bool) →
     due stage ≡ Some (asked, position) → Says object asked position end replies → now ≤ end → PieceFacts object now stage →
     PieceFacts object end (after kind number stage replies lacks)
-pieces_after object kind number now ReadBegin asked position end replies lacks e says over facts = tt
 pieces_after object kind number now (ReadNext p m) asked position end replies lacks e says over facts =
     after_next_pieces object end (greatest_status replies) p m
 pieces_after object kind number now (ReadSpread p m status) asked position end replies lacks e says over facts =
@@ -113,21 +112,15 @@ pieces_after object kind number now (FetchAt q last tag) asked position end repl
     cond_both (eqb q last) (AgainNext last last tag) (PreWriteAt last tag) (λ stage. PieceFacts object end stage) (λ e. tt) (λ e. tt)
 pieces_after object kind number now (PreWriteAt last tag) asked position end replies lacks e says over facts =
     let here = says_at object (PreWrite tag) asked last position end replies says e in here.brought tag refl
-pieces_after object kind number now (FinalizeAt last tag) asked position end replies lacks e says over facts = tt
 pieces_after object kind number now (AgainNext last p tag) asked position end replies lacks e says over facts =
     after_again_pieces object end (greatest_status replies) last p tag
-pieces_after object kind number now (AgainSpread last p tag status) asked position end replies lacks e says over facts = tt
-pieces_after object kind number now (MoveSpread p) asked position end replies lacks e says over facts = tt
 pieces_after object kind number now (MoveQuery p) asked position end replies lacks e says over facts =
     let here = says_at object Query asked p position end replies says e in here.shown refl
 pieces_after object kind number now (MoveFetch p tag) asked position end replies true e says over facts = tt
 pieces_after object kind number now (MoveFetch p tag) asked position end replies false e says over facts = tt
 pieces_after object kind number now (MovePreWrite p tag) asked position end replies lacks e says over facts =
     let here = says_at object (PreWrite tag) asked (suc p) position end replies says e in here.brought tag refl
-pieces_after object kind number now (MoveFinalize p tag) asked position end replies lacks e says over facts = tt
-pieces_after object kind number now (MoveFinal p tag) asked position end replies lacks e says over facts = tt
-pieces_after object kind number now (Moved p tag) asked position end replies lacks e says over facts = tt
-pieces_after object kind number now (Ended last tag) asked position end replies lacks e says over facts = tt
+pieces_after object kind number now stage asked position end replies lacks e says over facts = tt
 
 pub record AtPhase (object : Object) (phase : Phase) : Type 0 where
   pub stage : Stage
