@@ -1,0 +1,11 @@
+pub mod CrashLemmas
+pub mod EventRunLemmas
+pub mod ForgettingLemmas
+pub mod KeptRowLemmas
+pub mod MissedWriteLemmas
+pub mod MoveLemmas
+pub mod MovedBankLemmas
+pub mod TakenTwiceLemmas
+pub mod WriteAndReadLemmas
+pub mod WriteDuringMoveLemmas
+pub mod WriteLemmas

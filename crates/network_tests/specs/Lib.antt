@@ -1,0 +1,4 @@
+pub mod Scripts
+pub mod Examples
+pub mod Moving
+pub mod Forgetting
