@@ -20,7 +20,7 @@ use Rattle.record.specs.Steps.{Step, stepped, on_call, asked_again, advanced_obj
 use Rattle.record.specs.Steps.{supplied_by, supplied_object}
 use Rattle.record.specs.Wants.{current_phase, is_fetch, want_after, want_for, want_of, want_to_begin}
 use Rattle.soundness.proofs.ListLemmas.{set_here}
-use Rattle.soundness.proofs.Sound.ChangedCallLemmas.{begun_call, moves_set}
+use Rattle.soundness.proofs.Sound.ChangedCallLemmas.{moves_set}
 use Rattle.network.specs.Unstamped.{unstamped_message}
 use Rattle.network.specs.Worlds.{World, OpenCall, layout_of, next_of, open_call, reached}
 use Rattle.network.specs.Events.{Event, IsLacking, IsReady, advanced_world, call_pieces, on_open, phase_requests}
@@ -32,6 +32,11 @@ use Rattle.network.proofs.CurrentPhaseLemmas.{current_is, ended_is, fetch_is, ki
 use Rattle.network.proofs.OneFileLemmas.{layouts_known}
 use Rattle.network.proofs.OpenCallLemmas.{found}
 use Rattle.network.proofs.StepLemmas.{no_step, one_step, ticked_follow}
+
+-- the call with one more phase, of this kind, at a position with this layout
+abbrev begun_call : Call → Kind → (position : ℕ) → Layout → (now : ℕ) → Call
+begun_call call kind position layout now =
+    record call { phases = call.phases ++ new_phase call.id (suc (length call.phases)) kind position layout now ∷ [] }
 
 -- requests have no stamps
 pub requests-bare : (call number : ℕ) (kind : Kind) (position : ℕ) (servers : List ℕ) (member : ℕ) (piece : ℕ → Piece) →

@@ -10,7 +10,7 @@ use Rattle.record.specs.Steps.{Step, stepped, on_message, repeated_object}
 use Rattle.soundness.specs.Sound.{IsSound}
 use Rattle.soundness.proofs.Sound.MailSoundLemmas.{mailed_sound}
 use Rattle.soundness.proofs.Sound.RunSoundLemmas.{step_sound}
-use Rattle.soundness.proofs.Sound.SoundnessPartLemmas.{mail_rest}
+use Rattle.soundness.proofs.Sound.ItemLemmas.{mail_of}
 use Rattle.network.specs.Unstamped.{unstamped_message}
 use Rattle.network.specs.Worlds.{World}
 use Rattle.network.specs.Following.{Follows, LeadsOn, last_step}
@@ -19,7 +19,7 @@ use Rattle.network.specs.Following.{Follows, LeadsOn, last_step}
 pub sound_later : (fragment : Code) (object : Object) (step now : ℕ) → step < now → IsSound fragment object step →
     IsSound fragment object now
 sound_later fragment object step now less sound =
-    mailed_sound fragment object step now object.mail less sound (mail_rest fragment object step sound)
+    mailed_sound object.mail sound less (mail_of sound)
 
 -- no step
 pub no_step : (fragment : Code) (object : Object) (events : ℕ) (new : World) → new.now ≡ suc events →
