@@ -10,7 +10,7 @@ use Rattle.phase.specs.declared.phase.Taken.{Taken}
 use Rattle.phase.specs.Phase.{Phase, lacks_pieces}
 use Rattle.record.specs.declared.call.CallKind.{CallKind}
 use Rattle.bank.specs.declared.status.Status.TheVariants.{Unset, Pending, Final}
-use Rattle.bank.specs.declared.kind.Kind.TheVariants.{Next, Spread, Query, PreWrite, Finalize, Fetch}
+use Rattle.bank.specs.declared.kind.Kind.TheVariants.{Fetch}
 use Rattle.record.specs.declared.call.CallKind.TheVariants.{Read}
 use Rattle.record.specs.PhaseOrder.{begun_at, greatest_status, greatest_tag, due, after, passed, stage_past, stage_after, IsCourse}
 use Rattle.record.specs.PhaseOrder.{EndsBefore, after_next, after_spread, after_query, tagged}

@@ -1,19 +1,17 @@
 -- A call whose complete fetch lacks pieces begins anew: a read reads the sequence from the first position, a move asks again.
-use Rattle.std.proofs.Common.{◌≡◌, ℕ, suc, true, false, List, [], ◌∷◌, Some, refl, sym, subst, ap, ◌∙◌, slice_get}
-use Rattle.std.proofs.lemmas.Option.{same_Some, some_pair_parts}
+use Rattle.std.proofs.Common.{◌≡◌, ℕ, true, false, List, [], ◌∷◌, Some, refl, sym, subst, ap, ◌∙◌, slice_get}
+use Rattle.std.proofs.lemmas.Option.{same_Some}
 use Rattle.tag.specs.declared.tag.Tag.{Tag}
 use Rattle.bank.specs.declared.kind.Kind.{Kind}
-use Rattle.bank.specs.declared.kind.Kind.TheVariants.{Next, Spread, Query, PreWrite, Finalize, Fetch}
-use Rattle.bank.specs.declared.status.Status.TheVariants.{Pending, Final}
+use Rattle.bank.specs.declared.kind.Kind.TheVariants.{Next, Query, Fetch}
 use Rattle.phase.specs.declared.phase.Taken.{Taken}
 use Rattle.phase.specs.Phase.{Phase, lacks_pieces}
 use Rattle.record.specs.declared.call.CallKind.{CallKind}
 use Rattle.record.specs.Records.{Call, Object, base_of}
 use Rattle.record.specs.PhaseOrder.{due, after, passed, stage_after, IsCourse, begun_at, stage_past}
 use Rattle.record.specs.declared.stage.Stage.{Stage}
-use Rattle.record.specs.declared.stage.Stage.TheVariants.{ReadBegin, ReadNext, ReadSpread, QueryFrom, FetchAt, PreWriteAt}
-use Rattle.record.specs.declared.stage.Stage.TheVariants.{FinalizeAt, AgainNext, AgainSpread, MoveSpread, MoveQuery}
-use Rattle.record.specs.declared.stage.Stage.TheVariants.{MoveFetch, MovePreWrite, MoveFinalize, MoveFinal, Ended, Moved}
+use Rattle.record.specs.declared.stage.Stage.TheVariants.{FetchAt}
+use Rattle.record.specs.declared.stage.Stage.TheVariants.{MoveFetch}
 use Rattle.record.specs.Legal.{first_stage, source_of, IsLegal, due_of}
 use Rattle.record.specs.Wants.{current_phase}
 use Rattle.soundness.proofs.Sound.DueKindLemmas.{fetches}

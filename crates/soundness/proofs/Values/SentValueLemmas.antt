@@ -13,9 +13,9 @@ use Rattle.bank.specs.declared.kind.Kind.TheVariants.{Next, Spread, Query, PreWr
 use Rattle.record.specs.declared.call.CallKind.TheVariants.{Read, Write, Move}
 use Rattle.record.specs.PhaseOrder.{due}
 use Rattle.record.specs.declared.stage.Stage.{Stage}
-use Rattle.record.specs.declared.stage.Stage.TheVariants.{ReadBegin, ReadNext, ReadSpread, QueryFrom, FetchAt, PreWriteAt}
-use Rattle.record.specs.declared.stage.Stage.TheVariants.{FinalizeAt, AgainNext, AgainSpread, MoveSpread, MoveQuery}
-use Rattle.record.specs.declared.stage.Stage.TheVariants.{MoveFetch, MovePreWrite, MoveFinalize, MoveFinal, Ended, Moved}
+use Rattle.record.specs.declared.stage.Stage.TheVariants.{FetchAt, PreWriteAt}
+use Rattle.record.specs.declared.stage.Stage.TheVariants.{FinalizeAt}
+use Rattle.record.specs.declared.stage.Stage.TheVariants.{MoveFetch, MovePreWrite, MoveFinalize, Ended, Moved}
 use Rattle.record.specs.Journals.{stage_tag, tag_of, IsJournaled}
 use Rattle.record.specs.Fragments.{Code, Determines, IsFragment, IsCoded, IfCoded, kind_tag, request_tag, request_piece}
 use Rattle.soundness.specs.Sound.{IsSound}

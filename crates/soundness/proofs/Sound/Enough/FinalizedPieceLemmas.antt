@@ -6,14 +6,13 @@ use Rattle.tag.specs.declared.tag.Tag.{Tag}
 use Rattle.tag.specs.Tag.{opening_tag}
 use Rattle.bank.specs.declared.kind.Kind.{Kind}
 use Rattle.record.specs.Records.{Object, bank_at}
-use Rattle.bank.specs.declared.status.Status.TheVariants.{Pending, Final}
-use Rattle.bank.specs.declared.kind.Kind.TheVariants.{Next, Spread, Query, PreWrite, Finalize, Fetch}
+use Rattle.bank.specs.declared.kind.Kind.TheVariants.{Finalize, Fetch}
 use Rattle.bank.specs.Knowledge.{came_by, finalized_at, HasFinalized}
 use Rattle.record.specs.PhaseOrder.{due}
 use Rattle.record.specs.declared.stage.Stage.{Stage}
-use Rattle.record.specs.declared.stage.Stage.TheVariants.{ReadBegin, ReadNext, ReadSpread, QueryFrom, FetchAt, PreWriteAt}
-use Rattle.record.specs.declared.stage.Stage.TheVariants.{FinalizeAt, AgainNext, AgainSpread, MoveSpread, MoveQuery}
-use Rattle.record.specs.declared.stage.Stage.TheVariants.{MoveFetch, MovePreWrite, MoveFinalize, MoveFinal, Ended, Moved}
+use Rattle.record.specs.declared.stage.Stage.TheVariants.{FetchAt}
+use Rattle.record.specs.declared.stage.Stage.TheVariants.{FinalizeAt}
+use Rattle.record.specs.declared.stage.Stage.TheVariants.{MoveFetch, MoveFinalize}
 use Rattle.record.specs.Legal.{IsLegal, HasBegun}
 use Rattle.soundness.proofs.Sound.DueKindLemmas.{fetches, finalizes}
 use Rattle.soundness.proofs.Sound.Enough.QuorumPieceLemmas.{Had, had_later, Somewhere}

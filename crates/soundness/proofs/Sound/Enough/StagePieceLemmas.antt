@@ -21,9 +21,9 @@ use Rattle.record.specs.Knowledge.{IsTruePhase}
 use Rattle.record.specs.PhaseOrder.{greatest_status, greatest_tag, due, after, passed, IsCourse, stage_past, begun_at}
 use Rattle.record.specs.PhaseOrder.{after_next, after_spread, after_query, after_again, tagged}
 use Rattle.record.specs.declared.stage.Stage.{Stage}
-use Rattle.record.specs.declared.stage.Stage.TheVariants.{ReadBegin, ReadNext, ReadSpread, QueryFrom, FetchAt, PreWriteAt}
-use Rattle.record.specs.declared.stage.Stage.TheVariants.{FinalizeAt, AgainNext, AgainSpread, MoveSpread, MoveQuery}
-use Rattle.record.specs.declared.stage.Stage.TheVariants.{MoveFetch, MovePreWrite, MoveFinalize, MoveFinal, Ended, Moved}
+use Rattle.record.specs.declared.stage.Stage.TheVariants.{ReadNext, ReadSpread, QueryFrom, FetchAt, PreWriteAt}
+use Rattle.record.specs.declared.stage.Stage.TheVariants.{FinalizeAt, AgainNext, MoveQuery}
+use Rattle.record.specs.declared.stage.Stage.TheVariants.{MoveFetch, MovePreWrite, MoveFinalize, Ended}
 use Rattle.record.specs.Legal.{IsLegal, first_stage, source_of}
 use Rattle.soundness.proofs.PhaseStartLemmas.{StartsFrom}
 use Rattle.soundness.proofs.Quorums.QuorumMeetingLemmas.{start_before_end}
