@@ -7,7 +7,7 @@ use Rattle.std.specs.List.{remove}
 use Rattle.tag.specs.declared.tag.Tag.{Tag}
 use Rattle.piece.specs.declared.piece.Piece.{Piece}
 use Rattle.bank.specs.declared.kind.Kind.{Kind}
-use Rattle.bank.specs.declared.kind.Kind.TheVariants.{Next, Spread, Query, PreWrite, Finalize, Fetch}
+use Rattle.bank.specs.declared.kind.Kind.TheVariants.{PreWrite}
 use Rattle.mail.specs.declared.message.Message.{Message}
 use Rattle.mail.specs.Message.{request_bytes, message_bytes}
 use Rattle.mail.specs.Mail.{mail_bytes}
@@ -66,9 +66,5 @@ none_sum f none member (suc count) = let first = none member in let rest = none_
 -- only a pre-write sends pieces
 pub no_piece : (kind : Kind) → ((tag : Tag) → kind ≡ PreWrite tag → ⊥) → (piece : Piece) →
     request_bytes (request_to kind piece) ≡ 0
-no_piece Next plain piece = refl
-no_piece (Spread status) plain piece = refl
-no_piece Query plain piece = refl
 no_piece (PreWrite tag) plain piece = absurd (plain tag refl)
-no_piece (Finalize tag) plain piece = refl
-no_piece (Fetch tag) plain piece = refl
+no_piece kind plain piece = refl

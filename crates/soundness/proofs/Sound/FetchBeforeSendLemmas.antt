@@ -5,7 +5,7 @@ use Rattle.std.proofs.lemmas.Option.{same_Some}
 use Rattle.tag.specs.declared.tag.Tag.{Tag}
 use Rattle.tag.specs.Tag.{tag_lt, later_tag}
 use Rattle.bank.specs.declared.status.Status.{Status}
-use Rattle.bank.specs.declared.status.Status.TheVariants.{Unset, Pending, Final}
+use Rattle.bank.specs.declared.status.Status.TheVariants.{Unset}
 use Rattle.bank.specs.declared.kind.Kind.{Kind}
 use Rattle.bank.specs.declared.kind.Kind.TheVariants.{PreWrite, Fetch}
 use Rattle.phase.specs.declared.phase.Taken.{Taken}
@@ -53,13 +53,11 @@ IsSendingDue stage = (tag : Tag) × (position : ℕ) × (due stage ≡ Some (Pre
 
 unfetched_next : (p m : ℕ) (status : Status) → IsUnfetched (after_next status p m)
 unfetched_next p m Unset = tt
-unfetched_next p m Pending = tt
-unfetched_next p m Final = tt
+unfetched_next p m status = tt
 
 unfetched_spread : (p m : ℕ) (status : Status) → IsUnfetched (after_spread status p m)
 unfetched_spread p m Unset = tt
-unfetched_spread p m Pending = tt
-unfetched_spread p m Final = tt
+unfetched_spread p m status = tt
 
 unfetched_tagged : (kind : CallKind) → Fetches kind → (number q l : ℕ) (tag : Tag) → IsUnfetched (tagged kind number q l tag)
 unfetched_tagged Read fetches number q l tag = tt
@@ -181,5 +179,4 @@ fetched_before_sent kind fetches number (phase ∷ phases) stage course none (su
 
 pub unfetched_first : (kind : CallKind) (moves : ℕ) → IsUnfetched (first_stage kind moves)
 unfetched_first Read moves = tt
-unfetched_first (Write value) moves = tt
-unfetched_first Move moves = tt
+unfetched_first kind moves = tt

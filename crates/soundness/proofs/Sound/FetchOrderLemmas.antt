@@ -9,7 +9,7 @@ use Rattle.bank.specs.declared.kind.Kind.{Kind}
 use Rattle.phase.specs.declared.phase.Taken.{Taken}
 use Rattle.phase.specs.Phase.{Phase, lacks_pieces}
 use Rattle.record.specs.declared.call.CallKind.{CallKind}
-use Rattle.bank.specs.declared.status.Status.TheVariants.{Unset, Pending, Final}
+use Rattle.bank.specs.declared.status.Status.TheVariants.{Unset}
 use Rattle.bank.specs.declared.kind.Kind.TheVariants.{Fetch}
 use Rattle.record.specs.declared.call.CallKind.TheVariants.{Read}
 use Rattle.record.specs.PhaseOrder.{begun_at, greatest_status, greatest_tag, due, after, passed, stage_past, stage_after, IsCourse}
@@ -37,13 +37,11 @@ FetchDue (Some next) = IsFetch next.0
 
 early_next : (p m : ℕ) (status : Status) → IsEarly (after_next status p m)
 early_next p m Unset = tt
-early_next p m Pending = tt
-early_next p m Final = tt
+early_next p m status = tt
 
 early_spread : (p m : ℕ) (status : Status) → IsEarly (after_spread status p m)
 early_spread p m Unset = tt
-early_spread p m Pending = tt
-early_spread p m Final = tt
+early_spread p m status = tt
 
 early_query : (number : ℕ) (found : Tag) (p l : ℕ) (greatest : Tag) (q : ℕ) → IsEarly (after_query Read number found p l greatest q)
 early_query number found p l greatest q = go (tag_lt found greatest) (eqb p l)

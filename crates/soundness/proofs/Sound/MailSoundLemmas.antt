@@ -4,7 +4,7 @@ use Rattle.std.proofs.Common.{◌∷◌, ◌++◌, length, Some, refl, inl, arit
 use Rattle.std.specs.List.{AllByRecursion, remove}
 use Rattle.piece.specs.declared.piece.Piece.{Piece}
 use Rattle.bank.specs.declared.kind.Kind.{Kind}
-use Rattle.bank.specs.declared.kind.Kind.TheVariants.{Next, Spread, Query, PreWrite, Finalize, Fetch}
+use Rattle.bank.specs.declared.kind.Kind.TheVariants.{Next}
 use Rattle.bank.specs.Serve.{kind_of}
 use Rattle.mail.specs.declared.message.Message.{Message}
 use Rattle.phase.specs.Phase.{Phase}
@@ -59,19 +59,11 @@ request_message call phase kind position piece member =
 -- what such a request asks, and of which tag it speaks
 pub kind_of-request_to : (kind : Kind) (piece : Piece) → kind_of (request_to kind piece) ≡ kind
 kind_of-request_to Next piece = refl
-kind_of-request_to (Spread status) piece = refl
-kind_of-request_to Query piece = refl
-kind_of-request_to (PreWrite tag) piece = refl
-kind_of-request_to (Finalize tag) piece = refl
-kind_of-request_to (Fetch tag) piece = refl
+kind_of-request_to kind piece = refl
 
 pub request_tag-request_to : (kind : Kind) (piece : Piece) → request_tag (request_to kind piece) ≡ kind_tag kind
 request_tag-request_to Next piece = refl
-request_tag-request_to (Spread status) piece = refl
-request_tag-request_to Query piece = refl
-request_tag-request_to (PreWrite tag) piece = refl
-request_tag-request_to (Finalize tag) piece = refl
-request_tag-request_to (Fetch tag) piece = refl
+request_tag-request_to kind piece = refl
 
 -- a request of a phase is sound where its tag and piece are coded
 pub request_sound : {fragment : Code} {object : Object} {now place : ℕ} {call : Call} (index : ℕ) (phase : Phase) (piece : ℕ → Piece)

@@ -5,7 +5,7 @@ use Rattle.layout.specs.Layout.{Layout}
 use Rattle.bank.specs.declared.kind.Kind.{Kind}
 use Rattle.record.specs.declared.call.CallKind.{CallKind}
 use Rattle.record.specs.Records.{Call, Object}
-use Rattle.record.specs.declared.call.CallKind.TheVariants.{Read, Write, Move}
+use Rattle.record.specs.declared.call.CallKind.TheVariants.{Read}
 use Rattle.record.specs.Legal.{is_move, moves_in, first_stage}
 use Rattle.record.specs.Journals.{stage_tag}
 use Rattle.record.specs.Fragments.{Code, IfCoded, kind_tag, request_tag, request_piece}
@@ -30,8 +30,7 @@ take_all (c ∷ calls) = ap (λ m. cond (is_move c.kind) (suc m) m) (take_all ca
 -- no call begins with a tag
 pub first_untagged : (kind : CallKind) (from : ℕ) → stage_tag (first_stage kind from) ≡ None
 first_untagged Read from = refl
-first_untagged (Write value) from = refl
-first_untagged Move from = refl
+first_untagged kind from = refl
 
 -- a call that begins
 abbrev pub begun : CallKind → (id now : ℕ) → Kind → (position : ℕ) → Layout → Call

@@ -23,7 +23,7 @@ use Rattle.soundness.proofs.Sound.ItemLemmas.{BankSound, sound_of}
 
 -- what a bank has that was just opened
 
-get-opened : (member : ℕ) (delta : Option ℕ) (now : ℕ) (tag : Tag) →
+pub get-opened : (member : ℕ) (delta : Option ℕ) (now : ℕ) (tag : Tag) →
     map.get (opened_bank member delta now).rows tag ≡ cond (tag_eq tag opening_tag) (Some (opening_row member now)) None
 get-opened member delta now tag =
     get-with_row map.empty opening_tag (λ o. opening_row member now) tag

@@ -17,7 +17,7 @@ use Rattle.phase.specs.Phase.{Phase, members_of}
 use Rattle.record.specs.Records.{Object, layout_at}
 use Rattle.record.specs.Knowledge.{IsTrueReply, IsTruePhase}
 use Rattle.bank.specs.declared.reply.Answer.TheVariants as answer
-use Rattle.soundness.proofs.ListLemmas.{all_weaker, all_push}
+use Rattle.soundness.proofs.ListLemmas.{all_push, all_map}
 
 -- what was answered stays true
 pub answer_kept : (now : ℕ) (old new : Bank) (made : ℕ) (kind : Kind) (answer : Answer) → SameBefore old new now → made < now →
@@ -56,8 +56,7 @@ phase_takes object phase reply end truth r fresh earlier completes = record {
   placed = truth.placed;
   sized = record { members = truth.sized.members; quorum = truth.sized.quorum; needed = truth.sized.needed };
   replies = all_push (IsTrueReply object (record phase { replies = phase.replies ++ reply ∷ []; end = end })) phase.replies reply
-      (all_weaker (IsTrueReply object phase) (IsTrueReply object (record phase { replies = phase.replies ++ reply ∷ []; end = end }))
-      (λ other o. grown_reply object phase (phase.replies ++ reply ∷ []) end other o) phase.replies truth.replies)
+      (all_map (λ other o. grown_reply object phase (phase.replies ++ reply ∷ []) end other o) _ truth.replies)
       (grown_reply object phase (phase.replies ++ reply ∷ []) end reply r);
   one_each = subst (IsDistinct nat_eq) (sym (map_push (λ (other : Taken). other.member) phase.replies reply))
       (distinct_push (members_of phase.replies) reply.member fresh truth.one_each);

@@ -1,7 +1,7 @@
 -- Calling a read, a write or a move makes a sound record.
 use Rattle.std.proofs.Common.{◌≡◌, ℕ, zero, suc, pred, ◌+◌, ◌<◌, ◌≤◌, ◌⊎◌, Bool, true, false, cond, List, []}
-use Rattle.std.proofs.Common.{◌∷◌, ◌++◌, length, set, get_or, Some, refl, sym, subst, ap, ◌∙◌, inl, inr, arith, le_refl}
-use Rattle.std.proofs.lemmas.List.{length_push, get_or_append_left}
+use Rattle.std.proofs.Common.{◌∷◌, ◌++◌, length, get_or, Some, refl, sym, subst, ap, ◌∙◌, inl, inr, arith, le_refl}
+use Rattle.std.proofs.lemmas.List.{length_push, get_or_append_left, get_or_at, get_or_past, set_at}
 use Rattle.layout.specs.Layout.{Layout, IsLawful}
 use Rattle.bank.specs.Bank.{Bank, opened_bank}
 use Rattle.record.specs.declared.call.CallKind.{CallKind}
@@ -23,19 +23,6 @@ use Rattle.soundness.proofs.Sound.ItemLemmas.{Sizes, sizes_of, base_later}
 use Rattle.soundness.proofs.Sound.NewCallLemmas.{begun}
 use Rattle.soundness.proofs.Sound.NewCallSoundLemmas.{added, Wider, added_sound}
 use Rattle.soundness.proofs.Sound.OpenedObjectLemmas.{opened_get, opened_at, opened_there, opened_length, either_sound, either_unretired}
-
-set_last : {A : Type 0} (xs : List A) (y z : A) → set (xs ++ y ∷ []) (length xs) z ≡ xs ++ z ∷ []
-set_last [] y z = refl
-set_last (x ∷ xs) y z = ap (λ ys. x ∷ ys) (set_last xs y z)
-
-get_or_past : {A : Type 0} (xs : List A) (i : ℕ) (d : A) → length xs ≤ i → get_or xs i d ≡ d
-get_or_past [] i d h = refl
-get_or_past (x ∷ xs) zero d h = absurd (omega arith)
-get_or_past (x ∷ xs) (suc i) d h = let past : length xs ≤ i = omega arith in get_or_past xs i d past
-
-get_or_end : {A : Type 0} (xs : List A) (y d : A) → get_or (xs ++ y ∷ []) (length xs) d ≡ y
-get_or_end [] y d = refl
-get_or_end (x ∷ xs) y d = get_or_end xs y d
 
 get_or_after : {A : Type 0} (xs : List A) (y d : A) (i : ℕ) → length xs ≤ i →
     (get_or (xs ++ y ∷ []) i d ≡ d) ⊎ (get_or (xs ++ y ∷ []) i d ≡ y)
@@ -66,7 +53,7 @@ pub called_sound : {fragment : Code} {object : Object} {step now : ℕ} → IsCo
     ((moves position : ℕ) → due (begun_at (first_stage kind moves) position) ≡ Some (Next, position)) →
     ((value : List ℕ) → kind ≡ Write value → IsValue value) → IsSound fragment (called_object object id kind now) now
 called_sound {fragment = fragment} {object = object} {now = now} code sound less id is_new kind no_move first bytes =
-    rw (set_last object.calls (new_call id kind now) call)
+    rw (set_at object.calls (new_call id kind now) [] call (length object.calls) refl)
     (added_sound sound less object.layouts object.banks id is_new kind Next base wide
     (sizes_same new.mail new.calls (moves_added object.calls call
     ∙ ap (λ b. cond b (suc (moves_in object.calls)) (moves_in object.calls)) no_move) sizes)
@@ -100,7 +87,7 @@ pub moving_sound : {fragment : Code} {object : Object} {step now : ℕ} → IsCo
     (id : ℕ) → IsNewId object id → (layout : Layout) → IsLawful layout → NoOpenMove object →
     IsSound fragment (moving_object object id layout now) now
 moving_sound {fragment = fragment} {object = object} {now = now} code sound less id is_new layout lawful no_open =
-    rw (set_last object.calls (new_call id Move now) call)
+    rw (set_at object.calls (new_call id Move now) [] call (length object.calls) refl)
     (added_sound sound less layouts banks id is_new Move (Spread Pending) last wide
     (record {
       lawful = all_push IsLawful object.layouts layout sizes.lawful lawful;
@@ -160,11 +147,11 @@ moving_sound {fragment = fragment} {object = object} {now = now} code sound less
     old_banks p h = get_or_append_left object.banks (fresh ∷ []) [] p (let b = sizes.banks in omega arith)
 
     new_layout : (p : ℕ) → p ≡ length object.layouts → layout_at new p ≡ layout
-    new_layout p e = ap (λ q. layout_at new q) e ∙ get_or_end object.layouts layout no_layout
+    new_layout p e = ap (λ q. layout_at new q) e ∙ get_or_at object.layouts layout [] no_layout (length object.layouts) refl
 
     new_banks : (p : ℕ) → p ≡ length object.layouts → get_or new.banks p [] ≡ fresh
     new_banks p e = let b : p ≡ length object.banks = (let s = sizes.banks in omega arith) in ap (λ q. get_or new.banks q []) b
-        ∙ get_or_end object.banks fresh []
+        ∙ get_or_at object.banks fresh [] [] (length object.banks) refl
 
     members : (p : ℕ) → p < length new.layouts → (p < length object.layouts) ⊎ (p ≡ length object.layouts) →
         length (get_or new.banks p []) ≡ length (layout_at new p).members

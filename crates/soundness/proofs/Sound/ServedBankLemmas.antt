@@ -39,9 +39,7 @@ pub served_next : (count position : ℕ) (bank : Bank) (asked : Request) (now : 
 served_next count position bank request.Next now placed next = next
 served_next count position bank (request.Spread status) now placed next = record { pending = λ step e. placed; final = λ step e. placed }
 served_next count position bank request.Query now placed next = next
-served_next count position bank (request.PreWrite tag piece) now placed next = record { pending = next.pending; final = next.final }
-served_next count position bank (request.Finalize tag) now placed next = record { pending = next.pending; final = next.final }
-served_next count position bank (request.Fetch tag) now placed next = record { pending = next.pending; final = next.final }
+served_next count position bank asked now placed next = record { pending = next.pending; final = next.final }
 
 -- what it answers is true of the bank that it leaves
 pub served_true : (bank : Bank) (asked : Request) (now step : ℕ) → IsBefore bank now → IsOpenedAt bank step → IsCollected bank →
@@ -107,9 +105,6 @@ module _ (fragment : Code) (object : Object) (position member : ℕ) where
   pub served_coded : (bank : Bank) (asked : Request) (now : ℕ) →
       IfCoded fragment object position member (request_tag asked) (request_piece asked) → BankCoded bank →
       BankCoded (served_bank bank asked now)
-  served_coded bank request.Next now new coded = coded
-  served_coded bank (request.Spread status) now new coded = coded
-  served_coded bank request.Query now new coded = coded
   served_coded bank (request.PreWrite tag piece) now new coded =
       collected_rows RowCoded emptied_coded (pre_written bank tag piece now)
       (all_rows bank.rows tag (λ row. row_after_pre_write row piece now) RowCoded
@@ -118,6 +113,7 @@ module _ (fragment : Code) (object : Object) (position member : ℕ) where
       collected_rows RowCoded emptied_coded (finalized bank tag now) (finalized_coded bank tag now new coded)
   served_coded bank (request.Fetch tag) now new coded =
       collected_rows RowCoded emptied_coded (finalized bank tag now) (finalized_coded bank tag now new coded)
+  served_coded bank asked now new coded = coded
 
   -- and once it is retired
   pub retired_coded : (bank : Bank) (now : ℕ) → BankCoded bank → BankCoded (retired_bank bank now)
@@ -159,11 +155,7 @@ module _ (fragment : Code) (object : Object) (position member : ℕ) where
 -- what a request leaves as it is
 pub served-retired : (bank : Bank) (asked : Request) (now : ℕ) → (served_bank bank asked now).retired ≡ bank.retired
 served-retired bank request.Next now = refl
-served-retired bank (request.Spread status) now = refl
-served-retired bank request.Query now = refl
-served-retired bank (request.PreWrite tag piece) now = refl
-served-retired bank (request.Finalize tag) now = refl
-served-retired bank (request.Fetch tag) now = refl
+served-retired bank asked now = refl
 
 -- A bank that is retired keeps labels and arrivals
 pub retired_finalized : (bank : Bank) (now : ℕ) (tag : Tag) → finalized_at (retired_bank bank now) tag ≡ finalized_at bank tag

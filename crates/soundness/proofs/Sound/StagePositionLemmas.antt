@@ -85,8 +85,7 @@ after_next_placed count p m Final finds low below = (low, finds (omega arith))
 
 after_spread_placed : (count p m : ℕ) (status : Status) → m ≤ p → suc p < count → Placed count (after_spread status p m)
 after_spread_placed count p m Unset low below = (omega arith, below)
-after_spread_placed count p m Pending low below = (omega arith, below)
-after_spread_placed count p m Final low below = (omega arith, below)
+after_spread_placed count p m status low below = (omega arith, below)
 
 after_again_placed : (count l p : ℕ) (tag : Tag) (status : Status) → (1 ≤ rank status → suc p < count) → l < count →
     p < count → Placed count (after_again status l p tag)

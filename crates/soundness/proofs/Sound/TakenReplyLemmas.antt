@@ -20,7 +20,7 @@ use Rattle.record.specs.Legal.{AreNumbered}
 use Rattle.record.specs.Journals.{stage_tag}
 use Rattle.record.specs.Fragments.{Code, IsFetch, IsSettled, HasPiece}
 use Rattle.record.specs.Steps.{taking_phases}
-use Rattle.soundness.proofs.ListLemmas.{all_weaker, get_push, get_set, set_here, set_there}
+use Rattle.soundness.proofs.ListLemmas.{get_push, get_set, set_here, set_there, all_map}
 use Rattle.record.proofs.Phases.PastFetchLemmas.{IsOfWrite, late_of_write, late_past, of_write_past}
 use Rattle.record.proofs.BegunStageLemmas.{begun_tag}
 
@@ -93,10 +93,6 @@ take_result phase call number member made now =
         (s : Bool) → nat_lt (length phase.replies + 1) phase.quorum ≡ s →
         (cond (c && (n && not (is_some o))) (cond h phase (grown_to s)) phase ≡ phase)
         ⊎ Recorded phase call number taken now (cond (c && (n && not (is_some o))) (cond h phase (grown_to s)) phase)
-    go false c n m o d h e s f = inl refl
-    go true c false m o d h e s f = inl refl
-    go true c true m (Some end) d h e s f = inl refl
-    go true c true m None d true e s f = inl refl
     go true c true m None d false e false f = inr (record {
       same_call = eqb-true call phase.call c;
       same_number = eqb-true number phase.number m;
@@ -115,6 +111,7 @@ take_result phase call number member made now =
       completes = λ step t. absurd (cc);
       grown = refl;
     })
+    go c e n m o d h g s f = inl refl
 
 -- the last phase, which takes the message
 pub record TakesAt (phases : List Phase) (message : Message) (now : ℕ) : Type 0 where
@@ -183,9 +180,8 @@ settled_more fragment object call place phase reply end value within s = go (cas
             members = s.pieces.members;
             distinct = s.pieces.distinct;
             enough = subst (λ (p : Phase). (layout_at object p.position).k ≤ length s.pieces.members) same s.pieces.enough;
-            pieces = all_weaker (HasPiece fragment object s.phase value) (HasPiece fragment object grown value)
-                (λ member piece. has_piece_more fragment object phase reply end value member
-                (subst (λ (p : Phase). HasPiece fragment object p value member) same piece)) s.pieces.members s.pieces.pieces;
+            pieces = all_map (λ member piece. has_piece_more fragment object phase reply end value member
+                (subst (λ (p : Phase). HasPiece fragment object p value member) same piece)) _ s.pieces.pieces;
           };
         }
     go (inr apart) = record {

@@ -87,11 +87,7 @@ Says object call next wants.Answer = Ready call × (next ≡ None)
 
 pub fetch_is : (kind : Kind) → is_fetch kind ≡ true → IsFetch kind
 fetch_is (Fetch tag) e = (tag, refl)
-fetch_is Next e = absurd (cc)
-fetch_is (Spread s) e = absurd (cc)
-fetch_is Query e = absurd (cc)
-fetch_is (PreWrite tag) e = absurd (cc)
-fetch_is (Finalize tag) e = absurd (cc)
+fetch_is kind e = absurd (cc)
 
 is_fetch_of : (kind : Kind) → IsFetch kind → is_fetch kind ≡ true
 is_fetch_of kind fetch = rw fetch.1 refl

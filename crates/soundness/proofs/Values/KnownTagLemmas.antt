@@ -27,9 +27,8 @@ use Rattle.record.specs.Journals.{stage_tag, tag_of, IsJournaled}
 use Rattle.record.specs.Fragments.{Code, IfCoded, answer_tag, answer_piece}
 use Rattle.soundness.specs.Sound.{IsSound}
 use Rattle.bank.specs.declared.reply.Answer.TheVariants as answer
-use Rattle.soundness.proofs.ListLemmas.{all_weaker, all_at}
+use Rattle.soundness.proofs.ListLemmas.{all_at, all_map}
 use Rattle.soundness.proofs.Sound.Enough.QuorumPieceLemmas.{greatest_is}
-use Rattle.soundness.proofs.Sound.ItemLemmas.{ReplyCoded}
 use Rattle.record.proofs.BegunStageLemmas.{begun_has}
 
 -- some value of the tag is in the journal
@@ -62,9 +61,7 @@ pub shown_known : (fragment : Code) (object : Object) (position member : ℕ) (k
     IfCoded fragment object position member (answer_tag kind answer) (answer_piece answer) →
     Known object (shown_tag answer)
 shown_known fragment object position member kind (answer.Greatest tag) coded = (coded.value, coded.journaled)
-shown_known fragment object position member kind answer.Done coded = opening_known object
-shown_known fragment object position member kind (answer.Pointer s) coded = opening_known object
-shown_known fragment object position member kind (answer.Piece piece) coded = opening_known object
+shown_known fragment object position member kind answer coded = opening_known object
 
 -- tags that were found, and the opening tag, are P; the tag that a call takes of them is Q
 module _ (P Q : Tag → Type 0) (opening : P opening_tag) (more : (t : Tag) → P t → Q t) (kind : CallKind) (number : ℕ)
@@ -76,8 +73,7 @@ module _ (P Q : Tag → Type 0) (opening : P opening_tag) (more : (t : Tag) → 
 
   tags_spread : (p m : ℕ) (status : Status) → TagsAre P Q (after_spread status p m)
   tags_spread p m Unset = tt
-  tags_spread p m Pending = tt
-  tags_spread p m Final = tt
+  tags_spread p m status = tt
 
   tags_again : (l p : ℕ) (t : Tag) (status : Status) → Q t → TagsAre P Q (after_again status l p t)
   tags_again l p t Unset own = cond_both (eqb p l) (Ended l t) (PreWriteAt p t) (λ stage. TagsAre P Q stage) (λ e. own) (λ e. own)
@@ -150,8 +146,7 @@ module _ (P Q : Tag → Type 0) (opening : P opening_tag) (more : (t : Tag) → 
 
 pub tags_first : (P Q : Tag → Type 0) (kind : CallKind) (from : ℕ) → TagsAre P Q (first_stage kind from)
 tags_first P Q Read from = tt
-tags_first P Q (Write value) from = tt
-tags_first P Q Move from = tt
+tags_first P Q kind from = tt
 
 pub tags_tag : (P Q : Tag → Type 0) (stage : Stage) (tag : Tag) → TagsAre P Q stage → stage_tag stage ≡ Some tag → Q tag
 tags_tag P Q (FetchAt q l t) tag own e = subst Q (same_Some t tag e) own
@@ -182,7 +177,8 @@ pub known_at : (P : Tag → Type 0) → P opening_tag → (kind : CallKind) (num
     IsNoWrite kind → IsCourse kind number stage phases → (place : ℕ) (phase : Phase) → slice_get phases place ≡ Some phase →
     ((before : ℕ) (other : Phase) → before < place → slice_get phases before ≡ Some other → P (greatest_tag other.replies)) →
     TagIs P stage → (there : Stage) × (due there ≡ Some (phase.kind, phase.position)) × TagIs P there
-known_at P opening kind number phases stage plain = tags_at P P opening (λ t p. p) kind number (known_tagged P kind number plain) phases stage
+known_at P opening kind number phases stage plain =
+    tags_at P P opening (λ t p. p) kind number (known_tagged P kind number plain) phases stage
 
 pub known_tag : (P : Tag → Type 0) (stage : Stage) (tag : Tag) → TagIs P stage → stage_tag stage ≡ Some tag → P tag
 known_tag P stage tag known e = tags_tag P P stage tag known e
@@ -196,8 +192,7 @@ pub phase_known : (fragment : Code) (object : Object) (step : ℕ) → IsSound f
     Known object (greatest_tag phase.replies)
 phase_known fragment object step sound index call at place phase within =
     greatest_is (Known object) phase.replies (opening_known object)
-    (all_weaker (ReplyCoded fragment object phase) (λ reply. Known object (shown_tag reply.reply.answer))
-    (λ reply c. shown_known fragment object phase.position reply.member phase.kind reply.reply.answer c) phase.replies
+    (all_map (λ reply c. shown_known fragment object phase.position reply.member phase.kind reply.reply.answer c) _
     (sound.coded.phases index place call phase at within))
 
 -- a call's tag is in the journal

@@ -21,7 +21,7 @@ use Rattle.record.specs.Fragments.{Code, IsValue, AreValues, Determines, IsCoded
 use Rattle.record.specs.Fragments.{answer_piece, AreCoded, HasPiece, IsSettled, AreSettled}
 use Rattle.soundness.proofs.Quorums.QuorumMeetingLemmas.{lawful_at}
 use Rattle.soundness.proofs.Values.WrittenTagLemmas.{written_above, written_id}
-use Rattle.soundness.proofs.ListLemmas.{all_weaker, all_get}
+use Rattle.soundness.proofs.ListLemmas.{all_weaker, all_get, all_map}
 use Rattle.soundness.proofs.Sound.Enough.PieceCountLemmas.{pieces_not_lacking}
 use Rattle.soundness.proofs.Sound.FetchOrderLemmas.{first_late}
 use Rattle.record.proofs.Phases.PastFetchLemmas.{IsLateWith, fetch_due, late_stays}
@@ -119,10 +119,8 @@ pub settled_journaled : (fragment : Code) (object : Object) → Determines fragm
     IsValue value → (settled : IsSettled fragment object call value) → IsJournaled object settled.fetch.0 value
 settled_journaled fragment object determines legal values coded index call at value bytes settled =
     go settled.pieces.members settled.pieces.distinct settled.pieces.enough
-    (all_weaker (HasPiece fragment object settled.phase value) (Agrees fragment object k tag value)
-    (λ member has. piece_agrees fragment object legal coded index settled.place call settled.phase at settled.within tag
-    settled.fetch.1 value member has)
-    settled.pieces.members settled.pieces.pieces)
+    (all_map (λ member has. piece_agrees fragment object legal coded index settled.place call settled.phase at settled.within tag
+    settled.fetch.1 value member has) _ settled.pieces.pieces)
   where
     k : ℕ
     k = (layout_at object settled.phase.position).k

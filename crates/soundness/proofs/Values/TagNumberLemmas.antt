@@ -6,8 +6,8 @@ use Rattle.tag.specs.declared.tag.Tag.{Tag}
 use Rattle.phase.specs.Phase.{Phase}
 use Rattle.record.specs.declared.call.CallKind.{CallKind}
 use Rattle.record.specs.Records.{Object}
-use Rattle.record.specs.declared.call.CallKind.TheVariants.{Read, Write, Move}
-use Rattle.record.specs.PhaseOrder.{shown_tag, greatest_tag, stage_after}
+use Rattle.record.specs.declared.call.CallKind.TheVariants.{Read}
+use Rattle.record.specs.PhaseOrder.{greatest_tag, stage_after}
 use Rattle.record.specs.PhaseOrder.{tagged}
 use Rattle.record.specs.Legal.{first_stage}
 use Rattle.record.specs.Journals.{stage_tag}
@@ -15,7 +15,7 @@ use Rattle.record.specs.Fragments.{Code}
 use Rattle.soundness.specs.Sound.{IsSound}
 use Rattle.soundness.proofs.Values.KnownTagLemmas.{Known, TagsAre, opening_known, shown_known, tags_end, tags_first, tags_tag}
 use Rattle.soundness.proofs.Values.SentValueLemmas.{known_past}
-use Rattle.soundness.proofs.ListLemmas.{all_weaker, all_at}
+use Rattle.soundness.proofs.ListLemmas.{all_at, all_map}
 use Rattle.soundness.proofs.Sound.Enough.QuorumPieceLemmas.{greatest_is}
 use Rattle.soundness.proofs.Sound.ItemLemmas.{ReplyCoded}
 
@@ -37,8 +37,7 @@ tag_past step now less kind number from phases shown tag e =
 
     takes : (k : CallKind) (q l : ℕ) (t : Tag) → Found t → TagsAre Found Own (tagged k number q l t)
     takes Read q l t h = omega arith
-    takes (Write value) q l t h = omega arith
-    takes Move q l t h = omega arith
+    takes k q l t h = omega arith
 
 -- a reply that is coded shows a tag of the past
 pub shown_past : (fragment : Code) (object : Object) (step : ℕ) → IsSound fragment object step → (phase : Phase) →
@@ -47,8 +46,7 @@ pub shown_past : (fragment : Code) (object : Object) (step : ℕ) → IsSound fr
 shown_past fragment object step sound phase coded =
     known_past fragment object step sound (greatest_tag phase.replies)
     (greatest_is (Known object) phase.replies (opening_known object)
-    (all_weaker (ReplyCoded fragment object phase) (λ reply. Known object (shown_tag reply.reply.answer))
-    (λ reply c. shown_known fragment object phase.position reply.member phase.kind reply.reply.answer c) phase.replies coded))
+    (all_map (λ reply c. shown_known fragment object phase.position reply.member phase.kind reply.reply.answer c) _ coded))
 
 -- phases whose replies are coded lead a call to a tag whose number is at most now
 pub coded_tag_past : (fragment : Code) (object : Object) (step now : ℕ) → step < now → IsSound fragment object step →

@@ -53,8 +53,7 @@ after_next_pieces object end Final p m = tt
 
 after_spread_pieces : (object : Object) (end : ℕ) (status : Status) (p m : ℕ) → PieceFacts object end (after_spread status p m)
 after_spread_pieces object end Unset p m = tt
-after_spread_pieces object end Pending p m = tt
-after_spread_pieces object end Final p m = tt
+after_spread_pieces object end status p m = tt
 
 after_again_pieces : (object : Object) (end : ℕ) (status : Status) (last p : ℕ) (tag : Tag) →
     PieceFacts object end (after_again status last p tag)
@@ -162,8 +161,7 @@ at_phase object lawful kind number (first ∷ next ∷ later) now stage course t
 
 first_pieces : (object : Object) (kind : CallKind) (from now : ℕ) → PieceFacts object now (first_stage kind from)
 first_pieces object Read from now = tt
-first_pieces object (Write value) from now = tt
-first_pieces object Move from now = tt
+first_pieces object kind from now = tt
 
 starts_at_zero : (phases : List Phase) → StartsFrom 0 phases
 starts_at_zero [] = tt
