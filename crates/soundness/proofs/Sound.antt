@@ -1,5 +1,4 @@
 -- What every step keeps of the record.
-pub mod AppendedPhaseLemmas
 pub mod AskAgainSoundLemmas
 pub mod BankLabelLemmas
 pub mod CallIdLemmas

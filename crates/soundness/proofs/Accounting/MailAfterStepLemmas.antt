@@ -23,10 +23,10 @@ use Rattle.record.specs.Accounts.{position_bytes, stored, mailed, member_sum}
 use Rattle.record.specs.Sending.{sent_pieces, request_to, requests}
 use Rattle.record.specs.Steps.{new_call, with_phase, opened_banks, opened_object}
 use Rattle.record.specs.Steps.{called_object, moving_object, handled_object}
-use Rattle.record.specs.Steps.{taken_object, lost_object, repeated_object, asked_again}
+use Rattle.record.specs.Steps.{repeated_object, asked_again}
 use Rattle.record.specs.Sending.{missing_requests}
 use Rattle.mail.specs.declared.message.Body.TheVariants as body
-use Rattle.soundness.proofs.Accounting.MessageBytesLemmas.{mail-append, mail-one, mail-set, mail-remove, requests_bytes, none_sum, no_piece}
+use Rattle.soundness.proofs.Accounting.MessageBytesLemmas.{mail-append, mail-one, mail-set, requests_bytes, none_sum, no_piece}
 use Rattle.soundness.proofs.Accounting.StoredBytesLemmas.{position-opened}
 
 -- an object that was just opened stores nothing, and nothing waits
@@ -94,15 +94,7 @@ pub mailed-asked_again : (fragment : Code) (object : Object) (call : Call) (phas
 mailed-asked_again fragment object call phase =
     mail-append object.mail (missing_requests object phase (sent_pieces fragment object call phase.position))
 
--- a message that is taken or lost leaves the mail, and one that is repeated comes again
-pub mailed-taken : (object : Object) (place : ℕ) (message : Message) (now : ℕ) → slice_get object.mail place ≡ Some message →
-    mailed (taken_object object place message now) + message_bytes message ≡ mailed object
-mailed-taken object place message now at = mail-remove object.mail place message at
-
-pub mailed-lost : (object : Object) (place : ℕ) (message : Message) → slice_get object.mail place ≡ Some message →
-    mailed (lost_object object place) + message_bytes message ≡ mailed object
-mailed-lost object place message at = mail-remove object.mail place message at
-
+-- a message that is repeated comes again
 pub mailed-repeated : (object : Object) (message : Message) →
     mailed (repeated_object object message) ≡ mailed object + message_bytes message
 mailed-repeated object message = mail-append object.mail (message ∷ []) ∙ ap (λ n. mailed object + n) (mail-one message)

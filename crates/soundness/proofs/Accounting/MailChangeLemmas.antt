@@ -22,8 +22,8 @@ use Rattle.record.specs.Steps.{asked_again, supplied_by, supplied_object, Step, 
 use Rattle.record.specs.Wants.{current_phase}
 use Rattle.mail.specs.declared.message.Body.TheVariants as body
 use Rattle.soundness.proofs.Accounting.MailAfterStepLemmas.{mailed-handled, mailed-with_phase, mailed-called, mailed-moving}
-use Rattle.soundness.proofs.Accounting.MailAfterStepLemmas.{mailed-asked_again, mailed-taken, mailed-lost, mailed-repeated}
-use Rattle.soundness.proofs.Accounting.MessageBytesLemmas.{mail-cons}
+use Rattle.soundness.proofs.Accounting.MailAfterStepLemmas.{mailed-asked_again, mailed-repeated}
+use Rattle.soundness.proofs.Accounting.MessageBytesLemmas.{mail-cons, mail-remove}
 
 -- Mail
 
@@ -88,7 +88,7 @@ mailed-taken_by object place message now at (body.Request asked) is = refl
 mailed-taken_by object place message now at (body.Reply kind made) is =
     weighed (mailed (taken_object object place message now)) (message_bytes message) (answer_bytes made.answer)
     (mailed object) (ap body_bytes is)
-    (mailed-taken object place message now at)
+    (mail-remove object.mail place message at)
   where
     weighed : (a b c d : ℕ) → b ≡ c → a + b ≡ d → a + c ≡ d + 0
     weighed a b c d e f = omega arith
@@ -149,7 +149,7 @@ mailed-stepped fragment object now (Step.Lose place) = found (slice_get object.m
         mailed (lost_object object place) + some_bytes o message_bytes ≡ mailed object + 0
     found None at = same_both (mailed (lost_object object place)) (mailed object) (mail-remove_none object.mail place at)
     found (Some message) at =
-        more_right (mailed (lost_object object place)) (mailed object) (message_bytes message) (mailed-lost object place message at)
+        more_right (mailed (lost_object object place)) (mailed object) (message_bytes message) (mail-remove object.mail place message at)
 mailed-stepped fragment object now (Step.Repeat place) = found (slice_get object.mail place)
   where
     found : (o : Option Message) →

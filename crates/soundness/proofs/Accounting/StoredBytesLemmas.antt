@@ -7,12 +7,9 @@ use Rattle.bank.specs.Bytes.{bank_bytes, added_bytes}
 use Rattle.bank.specs.Serve.{served_bank, freed_bytes}
 use Rattle.bank.specs.declared.request.Request.{Request}
 use Rattle.bank.proofs.BankBytesLemmas.{served_bytes, opened_bytes}
-use Rattle.mail.specs.declared.message.Message.{Message}
 use Rattle.record.specs.Records.{Object, layout_at, bank_at, no_bank, no_layout}
-use Rattle.record.specs.Accounts.{position_bytes, stored_bytes, stored, server_at, for_server, stored_by_body, freed_by_body}
+use Rattle.record.specs.Accounts.{position_bytes, stored_bytes, stored, server_at, for_server}
 use Rattle.record.specs.Steps.{with_bank, opened_banks, moving_object}
-use Rattle.record.specs.Steps.{handled_object}
-use Rattle.mail.specs.declared.message.Body.TheVariants as body
 use Rattle.soundness.proofs.Sound.LeftBankLemmas.{SameBanks}
 
 -- Banks
@@ -143,14 +140,6 @@ stored-append server (l ∷ layouts) (b ∷ banks) layout row e =
 -- Each step, by the records that it leaves
 
 module _ (object : Object) (server : ℕ) where
-  -- a server handles a request: it stores what the request adds, without what it frees, and the reply waits in its place
-  pub stored-handled : (place : ℕ) (message : Message) (asked : Request) (now : ℕ) → message.position < length object.layouts →
-      message.position < length object.banks → message.member < length (layout_at object message.position).members →
-      message.member < length (get_or object.banks message.position []) →
-      stored (handled_object object place message asked now) server + freed_by_body object message (body.Request asked) now server
-      ≡ stored object server + stored_by_body object message (body.Request asked) server
-  stored-handled place message asked now p b m n = stored-served object message.position message.member asked now server p b m n
-
   -- where layouts and banks are left as they are
   pub stored-left : (new : Object) → SameBanks object new → stored new server ≡ stored object server
   stored-left new same =

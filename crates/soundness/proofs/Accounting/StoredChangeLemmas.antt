@@ -8,7 +8,7 @@ use Rattle.record.specs.Accounts.{stored, some_bytes, stored_by_body, stored_by,
 use Rattle.record.specs.Steps.{moving_object, served_by, Step, on_message, stepped}
 use Rattle.soundness.specs.Sound.{IsPosted, IsSound}
 use Rattle.mail.specs.declared.message.Body.TheVariants as body
-use Rattle.soundness.proofs.Accounting.StoredBytesLemmas.{stored-handled, stored-left, stored-moving, stored-set}
+use Rattle.soundness.proofs.Accounting.StoredBytesLemmas.{stored-served, stored-left, stored-moving, stored-set}
 use Rattle.soundness.proofs.ListLemmas.{all_get}
 use Rattle.soundness.proofs.Sound.DuePositionLemmas.{base_there}
 use Rattle.soundness.proofs.Sound.ItemLemmas.{posted_placed}
@@ -38,7 +38,7 @@ stored-changed fragment object step now (Step.Serve place) server sound = found 
         let placed = posted_placed sound posted in
         let sizes = sound.shape.members message.position placed in
         let members = posted.member in
-        stored-handled object server place message asked now placed
+        stored-served object message.position message.member asked now server placed
         (let b = sound.shape.banks in let p = placed in omega arith) posted.member
         (let s = sizes in let m = members in omega arith)
 

@@ -11,11 +11,32 @@ use Rattle.record.specs.Records.{Call, Object, layout_at, bank_at, base_at}
 use Rattle.record.specs.Fragments.{Code, answer_tag, answer_piece, body_tag, body_piece}
 use Rattle.soundness.specs.Sound.{IsSound}
 use Rattle.soundness.proofs.BaseLemmas.{base_kept}
-use Rattle.soundness.proofs.ListLemmas.{all_map, all_both, all_at}
+use Rattle.soundness.proofs.ListLemmas.{all_map, all_both, all_at, none_twice}
 use Rattle.soundness.proofs.Sound.ItemLemmas.{PhaseSound, CallSound, BankSound, MessageSound, CallsInTurn, Sizes}
 use Rattle.soundness.proofs.Sound.ItemLemmas.{sound_of, call_of, bank_of, mail_of, posted_placed}
 use Rattle.soundness.proofs.Sound.PreservedKnowledgeLemmas.{answer_kept}
 use Rattle.soundness.proofs.Sound.GrowthLemmas.{Grows, opened_stays, if_coded_grows, reply_grows, settled_grows, caused_grows, coded_grows}
+use Rattle.record.specs.Steps.{new_phase}
+use Rattle.record.specs.Legal.{AreOpened}
+use Rattle.bank.specs.declared.kind.Kind.{Kind}
+use Rattle.std.proofs.Common.{refl, le_refl, length}
+
+-- a phase that begins where banks are open is sound
+pub new_phase_sound : {fragment : Code} {object : Object} {now call number position : ℕ} {kind : Kind} →
+    position < length object.layouts → AreOpened object (new_phase call number kind position (layout_at object position) now) →
+    PhaseSound fragment object now (new_phase call number kind position (layout_at object position) now)
+new_phase_sound {now = now} placed opened = record {
+  truth = record {
+    placed = placed;
+    sized = record { members = refl; quorum = refl; needed = refl };
+    replies = tt;
+    one_each = none_twice;
+    complete = λ end e. absurd (cc);
+  };
+  opened = opened;
+  coded = tt;
+  past = record { start = le_refl now; replies = tt; end = λ at e. absurd (cc) };
+}
 
 -- what came before a step came before a later one
 pub before_later : {s u : ℕ} {bank : Bank} → s ≤ u → IsBefore bank s → IsBefore bank u

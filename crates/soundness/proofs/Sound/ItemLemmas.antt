@@ -1,6 +1,5 @@
 -- What is sound of each phase, call, bank and message, and of the calls and the positions together: a sound record.
-use Rattle.std.proofs.Common.{◌≡◌, ℕ, suc, ◌<◌, ◌≤◌, true, List, [], length, get_or, ◌⊎◌, Some, None, IsSome, slice_get}
-use Rattle.std.proofs.Common.{arith, refl, le_refl}
+use Rattle.std.proofs.Common.{◌≡◌, ℕ, suc, ◌<◌, ◌≤◌, true, List, [], length, get_or, ◌⊎◌, Some, None, IsSome, slice_get, arith}
 use Rattle.std.specs.List.{AllByRecursion}
 use Rattle.tag.specs.declared.tag.Tag.{Tag}
 use Rattle.tag.specs.Tag.{opening_tag}
@@ -20,12 +19,11 @@ use Rattle.record.specs.Knowledge.{IsTruePhase}
 use Rattle.record.specs.PhaseOrder.{IsCourse, BeginAtBase, EndsBefore, due}
 use Rattle.record.specs.Legal.{moves_in, first_stage, source_of, stage_of, AreNumbered, BeginsAt, IsLegalCall, IsCaused}
 use Rattle.record.specs.Legal.{IsOpenedAt, IsOpenedBy, AreOpened}
-use Rattle.record.specs.Steps.{new_phase}
 use Rattle.record.specs.Journals.{tag_of}
 use Rattle.record.specs.Fragments.{Code, IsValue, IsCoded, IfCoded, answer_tag, answer_piece, body_tag, body_piece, IsFetch, IsSettled}
 use Rattle.soundness.specs.Sound.{IsPosted, UpTo, IsPhasePast, IsCallPast, HasNext, IsSound}
 use Rattle.soundness.proofs.BaseLemmas.{base_now}
-use Rattle.soundness.proofs.ListLemmas.{all_get, all_map, all_at, none_twice}
+use Rattle.soundness.proofs.ListLemmas.{all_get, all_map, all_at}
 
 -- what a reply names is coded
 abbrev pub ReplyCoded : Code → Object → Phase → Taken → Type 0
@@ -92,23 +90,6 @@ pub record Sizes (object : Object) : Type 0 where
   pub retired : (position member : ℕ) → position < length object.layouts → member < length (layout_at object position).members →
       (bank_at object position member).retired ≡ retired_at object position
   pub leading : (position : ℕ) → base_of object ≤ position → retired_at object position ≡ None
-
--- a phase that begins where banks are open is sound
-pub new_phase_sound : {fragment : Code} {object : Object} {now call number position : ℕ} {kind : Kind} →
-    position < length object.layouts → AreOpened object (new_phase call number kind position (layout_at object position) now) →
-    PhaseSound fragment object now (new_phase call number kind position (layout_at object position) now)
-new_phase_sound {now = now} placed opened = record {
-  truth = record {
-    placed = placed;
-    sized = record { members = refl; quorum = refl; needed = refl };
-    replies = tt;
-    one_each = none_twice;
-    complete = λ end e. absurd (cc);
-  };
-  opened = opened;
-  coded = tt;
-  past = record { start = le_refl now; replies = tt; end = λ at e. absurd (cc) };
-}
 
 legal_call : {fragment : Code} {object : Object} {now index : ℕ} {call : Call} → CallSound fragment object now index call →
     IsLegalCall object index call

@@ -21,8 +21,8 @@ use Rattle.soundness.proofs.BaseLemmas.{RetiredSame, bases_same}
 use Rattle.record.proofs.BegunStageLemmas.{begun_tag}
 use Rattle.soundness.proofs.ListLemmas.{get_push}
 use Rattle.soundness.proofs.Sound.GrowthLemmas.{Grows, bank_stays, unchanged}
-use Rattle.soundness.proofs.Sound.GrownItemLemmas.{mail_grows, grown_sound}
-use Rattle.soundness.proofs.Sound.ItemLemmas.{PhaseSound, CallSound, BankSound, CallsInTurn, Sizes, new_phase_sound, call_of, open_by}
+use Rattle.soundness.proofs.Sound.GrownItemLemmas.{new_phase_sound, mail_grows, grown_sound}
+use Rattle.soundness.proofs.Sound.ItemLemmas.{PhaseSound, CallSound, BankSound, CallsInTurn, Sizes, call_of, open_by}
 use Rattle.soundness.proofs.Sound.MailSoundLemmas.{request_sound, all_requests, all_append}
 use Rattle.soundness.proofs.Sound.NewCallLemmas.{moves_push, take_all, first_untagged, begun, answered_past, none_coded}
 use Rattle.soundness.proofs.Sound.NewPhaseSoundLemmas.{get_pushed, get_last}

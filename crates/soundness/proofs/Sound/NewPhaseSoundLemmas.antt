@@ -19,14 +19,14 @@ use Rattle.soundness.specs.Sound.{IsSound}
 use Rattle.soundness.proofs.BaseLemmas.{base_push}
 use Rattle.soundness.proofs.Values.SentValueLemmas.{Sends, request_coded}
 use Rattle.soundness.proofs.ListLemmas.{get_push, set_here}
-use Rattle.soundness.proofs.Sound.AppendedPhaseLemmas.{course_push, numbered_push, begins_push}
+use Rattle.soundness.proofs.Sound.LastPhaseLemmas.{course_push, numbered_push, begins_push}
 use Rattle.soundness.proofs.Sound.CallStepSoundLemmas.{TagStays, WithCall, source_stays, call_grown, old_call, changed_sound}
 use Rattle.soundness.proofs.Sound.ChangedCallLemmas.{Changed}
 use Rattle.soundness.proofs.Sound.DuePositionLemmas.{due_there}
 use Rattle.soundness.proofs.Sound.FetchOrderLemmas.{FetchDue, late_due, course_late}
 use Rattle.soundness.proofs.Sound.GrowthLemmas.{Grows, if_coded_grows}
-use Rattle.soundness.proofs.Sound.GrownItemLemmas.{mail_grows}
-use Rattle.soundness.proofs.Sound.ItemLemmas.{PhaseSound, CallSound, new_phase_sound, past_of, call_of, base_later, open_by}
+use Rattle.soundness.proofs.Sound.GrownItemLemmas.{new_phase_sound, mail_grows}
+use Rattle.soundness.proofs.Sound.ItemLemmas.{PhaseSound, CallSound, past_of, call_of, base_later, open_by}
 use Rattle.soundness.proofs.Sound.MailSoundLemmas.{request_sound, all_requests, all_append}
 use Rattle.soundness.proofs.Sound.Enough.PieceCountLemmas.{pieces_not_lacking}
 use Rattle.soundness.proofs.Sound.WantCaseLemmas.{LastAt, last_at}
