@@ -1,5 +1,5 @@
 -- A write during which a node stops between serving and replying, and a read from that node.
-use Rattle.std.proofs.Common.{◌≡◌, List, [], ◌∷◌, ◌++◌, Some, inl, refl, ap, le_refl}
+use Rattle.std.proofs.Common.{List, [], ◌∷◌, ◌++◌, inl, refl, ap, le_refl}
 use Rattle.bank.specs.declared.request.Request.TheVariants as request
 use Rattle.bank.specs.declared.reply.Answer.TheVariants.{Done}
 use Rattle.network.specs.Worlds.{World}

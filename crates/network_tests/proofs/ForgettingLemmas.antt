@@ -7,12 +7,12 @@ use Rattle.network.specs.Events.{Event, happens, run}
 use Rattle.network.specs.Premises.{MayRun}
 use Rattle.network_tests.specs.Scripts.{start, whole}
 use Rattle.network_tests.specs.Examples.{read_ended, write_asked, write_kept, write_finalized, write_ended}
-use Rattle.network_tests.specs.Forgetting.{IsForgotten, IsPremisedForgetting, MayRunForgetting, empty_asked, empty_read}
+use Rattle.network_tests.specs.Forgetting.{IsForgotten, MayRunForgetting, empty_asked, empty_read}
 use Rattle.network_tests.specs.Forgetting.{empty_settled, forgetful, restarted_empty, write_to_two}
 use Rattle.network_tests.proofs.KeptRowLemmas.{opened_greatest, opened_piece}
 use Rattle.network_tests.proofs.EventRunLemmas.{last_asked, last_told, may_append, one_distinct, other_id}
 use Rattle.network_tests.proofs.EventRunLemmas.{piece_told, ready, ready_settled, tag_told}
-use Rattle.network_tests.proofs.WriteLemmas.{after_asked, after_finalized, after_kept, asks, ends, finalizes, keeps}
+use Rattle.network_tests.proofs.WriteLemmas.{after_asked, after_kept, asks, ends, finalizes, keeps}
 
 -- Events other than a restart need the same premises
 

@@ -1,5 +1,5 @@
 -- A history in which a read misses an answered write is not atomic.
-use Rattle.std.proofs.Common.{◌≡◌, ℕ, zero, false, nat_eq, inl, suc, true, List, [], ◌∷◌, ◌<◌, ◌⊎◌, None}
+use Rattle.std.proofs.Common.{◌≡◌, ℕ, zero, false, nat_eq, inl, suc, true, List, [], ◌∷◌, ◌<◌, ◌⊎◌}
 use Rattle.std.proofs.Common.{◌==◌, ◌||◌, Bool, inr, map, eqb-true, Some, refl, sym, subst, ap, ◌∙◌, arith}
 use Rattle.std.specs.List.{AllByRecursion, IsDistinct}
 use Rattle.std.proofs.lemmas.Option.{same_Some}

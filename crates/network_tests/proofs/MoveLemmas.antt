@@ -1,5 +1,5 @@
 -- A move while a write is under way: the write begins, and the move begins and ends.
-use Rattle.std.proofs.Common.{◌≡◌, ℕ, nat_eq, ◌≢◌, ◌≤◌, List, [], ◌∷◌, ◌++◌, None, Some, inl, refl, ap, arith, le_refl}
+use Rattle.std.proofs.Common.{◌≡◌, ◌≤◌, [], ◌∷◌, inl, refl, ap, arith, le_refl}
 use Rattle.tag.specs.Tag.{opening_tag}
 use Rattle.layout.specs.Layout.{IsLawful}
 use Rattle.record.specs.Fragments.{IsValue}

@@ -1,5 +1,5 @@
 -- A write that takes a reply twice.
-use Rattle.std.proofs.Common.{◌≡◌, List, [], ◌∷◌, ◌++◌, inl, refl}
+use Rattle.std.proofs.Common.{List, [], ◌∷◌, ◌++◌, inl, refl}
 use Rattle.bank.specs.declared.reply.Answer.TheVariants.{Done}
 use Rattle.network.specs.Worlds.{World}
 use Rattle.network.specs.Events.{Event, run}

@@ -1,5 +1,5 @@
 -- A write, and a read from the nodes 1 and 2.
-use Rattle.std.proofs.Common.{◌≡◌, List, [], ◌∷◌, ◌++◌, inl, refl, ap, le_refl}
+use Rattle.std.proofs.Common.{[], ◌∷◌, ◌++◌, inl, refl, ap, le_refl}
 use Rattle.network.specs.Worlds.{World}
 use Rattle.network.specs.Events.{run}
 use Rattle.network.specs.Premises.{MayRun}

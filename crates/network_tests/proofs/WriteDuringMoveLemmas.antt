@@ -1,5 +1,5 @@
 -- A move while a write is under way: the write goes on after the move.
-use Rattle.std.proofs.Common.{◌≡◌, List, [], ◌∷◌, ◌++◌, inl, refl}
+use Rattle.std.proofs.Common.{◌++◌, inl, refl}
 use Rattle.network.specs.Worlds.{World}
 use Rattle.network.specs.Events.{run}
 use Rattle.network.specs.Premises.{MayRun}

@@ -1,5 +1,5 @@
 -- A write over three nodes, part by part.
-use Rattle.std.proofs.Common.{◌≡◌, ℕ, inl, refl, ap}
+use Rattle.std.proofs.Common.{ℕ, inl, refl, ap}
 use Rattle.network.specs.Worlds.{World}
 use Rattle.network.specs.Events.{run}
 use Rattle.network.specs.Premises.{MayRun}

@@ -1,6 +1,6 @@
 -- The contracts that docs/trusted.md lists do not depend on this file; other contracts and proofs do.
 -- A worked example of a move while a write is under way: the object moves from node 0 to node 1.
-use Rattle.std.specs.Prelude.{ℕ, List, [], ◌∷◌, ◌++◌, None, Some}
+use Rattle.std.specs.Prelude.{List, [], ◌∷◌, ◌++◌, None, Some}
 use Rattle.tag.specs.Tag.{opening_tag}
 use Rattle.layout.specs.Layout.{Layout}
 use Rattle.bank.specs.Bank.{empty_piece}
