@@ -16,7 +16,7 @@ use Rattle.network_tests.proofs.WriteLemmas.{after_asked, after_kept, asks, keep
 -- Before the crash
 
 abbrev last_part : List Event
-last_part = Event.Advance 1 ∷ served 1 4 0 (λ member. request.Finalize write_tag) 0 ∷ []
+last_part = Event.Advance 7 ∷ served 7 4 0 (λ member. request.Finalize write_tag) 0 ∷ []
 
 serves_one : MayRun whole last_part (after_kept 2)
 serves_one = (
@@ -36,7 +36,7 @@ abbrev back : World
 back = happens whole (run whole until_crash start) (restarted 0 (run whole until_crash start))
 
 abbrev served_again : List Event
-served_again = both 1 4 (λ member. request.Finalize write_tag) 0 1 Done Done
+served_again = both 7 4 (λ member. request.Finalize write_tag) 0 1 Done Done
 
 abbrev finalized_again : World
 finalized_again = run whole served_again back
@@ -115,8 +115,8 @@ reads = (
                 record { network = (33, refl); log = tt; ids = tt },
                 (
                   (_, _, refl),
-                  record { network = (34, ap (tag_told 2 2 0 0) (twice_greatest 0)); log = tt; ids = tt },
-                  ((_, _, refl), record { network = (35, ap (tag_told 2 2 0 2) (opened_greatest 2)); log = tt; ids = tt }, tt),
+                  record { network = (34, ap (tag_told 3 2 0 0) (twice_greatest 0)); log = tt; ids = tt },
+                  ((_, _, refl), record { network = (35, ap (tag_told 3 2 0 2) (opened_greatest 2)); log = tt; ids = tt }, tt),
                 ),
               ),
             ),
@@ -139,10 +139,10 @@ settles = (
       record { network = (38, refl); log = tt; ids = tt },
       (
         (_, _, refl),
-        record { network = (39, ap (piece_told 2 3 0 0 write_tag) (twice_piece 0)); log = tt; ids = tt },
+        record { network = (39, ap (piece_told 3 3 0 0 write_tag) (twice_piece 0)); log = tt; ids = tt },
         (
           (_, _, refl),
-          record { network = (40, ap (piece_told 2 3 0 2 write_tag) (opened_lacks 2)); log = tt; ids = tt },
+          record { network = (40, ap (piece_told 3 3 0 2 write_tag) (opened_lacks 2)); log = tt; ids = tt },
           (
             (
               _,

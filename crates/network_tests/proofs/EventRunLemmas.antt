@@ -27,8 +27,8 @@ pub one_distinct : (member : ℕ) → IsDistinct nat_eq (member ∷ [])
 unfolding IsDistinct
 one_distinct member = (tt, tt)
 
--- call 2 has another id than call 1, the only one before it
-pub other_id : (◌≡◌ {A = ℕ} 1 2 → ⊥) × Unit {0}
+-- the second call has the id 3, and the first, the only one before it, has 7
+pub other_id : (◌≡◌ {A = ℕ} 7 3 → ⊥) × Unit {0}
 other_id = (λ same. absurd (omega arith), tt)
 
 -- a call whose current phase is complete, and no fetch, is ready for what comes next
@@ -71,9 +71,9 @@ may_append (event ∷ first) second world a b = (a.0, a.1, may_append first seco
 
 abbrev pub last_asked : (other : ℕ) → List Event
 last_asked other =
-    Event.Advance 2 ∷ served 2 4 0 (λ member. request.Next) other ∷ served 2 4 0 (λ member. request.Next) 2 ∷ []
+    Event.Advance 3 ∷ served 3 4 0 (λ member. request.Next) other ∷ served 3 4 0 (λ member. request.Next) 2 ∷ []
 
 abbrev pub last_told : (other : ℕ) → List Event
 last_told other =
-    taken 2 4 0 (λ member. request.Next) other (answer.Pointer Unset) ∷ taken 2 4 0 (λ member. request.Next) 2 (answer.Pointer Unset)
-    ∷ Event.Answer 2 ∷ []
+    taken 3 4 0 (λ member. request.Next) other (answer.Pointer Unset) ∷ taken 3 4 0 (λ member. request.Next) 2 (answer.Pointer Unset)
+    ∷ Event.Answer 3 ∷ []

@@ -46,7 +46,7 @@ begins = (
         (
           (_, refl),
           record { network = (2, refl); log = tt; ids = tt },
-          ((_, _, refl), record { network = (3, ap (tag_told 1 2 0 0) (opened_greatest 0)); log = tt; ids = tt }, tt),
+          ((_, _, refl), record { network = (3, ap (tag_told 7 2 0 0) (opened_greatest 0)); log = tt; ids = tt }, tt),
         ),
       ),
     ),
@@ -71,7 +71,7 @@ moves = (
           record { network = (6, refl); log = tt; ids = tt },
           (
             (_, _, refl),
-            record { network = (7, ap (tag_told 2 2 0 0) (opened_greatest 0)); log = tt; ids = tt },
+            record { network = (7, ap (tag_told 3 2 0 0) (opened_greatest 0)); log = tt; ids = tt },
             (
               (_, refl, inl (ready _ refl refl, refl)),
               record { network = tt; log = tt; ids = tt },
@@ -80,7 +80,7 @@ moves = (
                 record { network = (8, refl); log = tt; ids = tt },
                 (
                   (_, _, refl),
-                  record { network = (9, ap (piece_told 2 3 0 0 opening_tag) (opened_piece 0)); log = tt; ids = tt },
+                  record { network = (9, ap (piece_told 3 3 0 0 opening_tag) (opened_piece 0)); log = tt; ids = tt },
                   tt,
                 ),
               ),

@@ -10,10 +10,10 @@ use Rattle.network_tests.proofs.EventRunLemmas.{may_append, ready}
 use Rattle.network_tests.proofs.WriteLemmas.{after_asked, asks}
 
 abbrev first_taken : List Event
-first_taken = Event.Advance 1 ∷ served 1 3 0 to_keep 0 ∷ taken 1 3 0 to_keep 0 Done ∷ []
+first_taken = Event.Advance 7 ∷ served 7 3 0 to_keep 0 ∷ taken 7 3 0 to_keep 0 Done ∷ []
 
 abbrev second_taken : List Event
-second_taken = taken 1 3 0 to_keep 0 Done ∷ served 1 3 0 to_keep 1 ∷ taken 1 3 0 to_keep 1 Done ∷ []
+second_taken = taken 7 3 0 to_keep 0 Done ∷ served 7 3 0 to_keep 1 ∷ taken 7 3 0 to_keep 1 Done ∷ []
 
 abbrev after_first : World
 after_first = run whole first_taken (after_asked 0)

@@ -44,8 +44,8 @@ reads = (
                 record { network = (32, refl); log = tt; ids = tt },
                 (
                   (_, _, refl),
-                  record { network = (33, ap (tag_told 2 2 0 1) (final_greatest 1)); log = tt; ids = tt },
-                  ((_, _, refl), record { network = (34, ap (tag_told 2 2 0 2) (opened_greatest 2)); log = tt; ids = tt }, tt),
+                  record { network = (33, ap (tag_told 3 2 0 1) (final_greatest 1)); log = tt; ids = tt },
+                  ((_, _, refl), record { network = (34, ap (tag_told 3 2 0 2) (opened_greatest 2)); log = tt; ids = tt }, tt),
                 ),
               ),
             ),
@@ -68,10 +68,10 @@ settles = (
       record { network = (37, refl); log = tt; ids = tt },
       (
         (_, _, refl),
-        record { network = (38, ap (piece_told 2 3 0 1 write_tag) (final_piece 1)); log = tt; ids = tt },
+        record { network = (38, ap (piece_told 3 3 0 1 write_tag) (final_piece 1)); log = tt; ids = tt },
         (
           (_, _, refl),
-          record { network = (39, ap (piece_told 2 3 0 2 write_tag) (opened_lacks 2)); log = tt; ids = tt },
+          record { network = (39, ap (piece_told 3 3 0 2 write_tag) (opened_lacks 2)); log = tt; ids = tt },
           (
             (
               _,

@@ -47,8 +47,8 @@ asks node = (
                 record { network = (6, refl); log = tt; ids = tt },
                 (
                   (_, _, refl),
-                  record { network = (8, ap (tag_told 1 2 0 0) (opened_greatest 0)); log = tt; ids = tt },
-                  ((_, _, refl), record { network = (9, ap (tag_told 1 2 0 1) (opened_greatest 1)); log = tt; ids = tt }, tt),
+                  record { network = (8, ap (tag_told 7 2 0 0) (opened_greatest 0)); log = tt; ids = tt },
+                  ((_, _, refl), record { network = (9, ap (tag_told 7 2 0 1) (opened_greatest 1)); log = tt; ids = tt }, tt),
                 ),
               ),
             ),

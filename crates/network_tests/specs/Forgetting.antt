@@ -69,14 +69,14 @@ restarted_empty node world =
 -- node 2 begins to read, and the nodes 1 and 2 know of no tag but the opening tag
 abbrev pub empty_asked : List Event
 empty_asked =
-    Event.BeginRead 2 2 ∷ (both 2 1 (λ member. request.Next) 1 2 (Pointer Unset) (Pointer Unset)
-    ++ (Event.Advance 2 ∷ both 2 2 (λ member. request.Query) 1 2 (Greatest opening_tag) (Greatest opening_tag)))
+    Event.BeginRead 2 3 ∷ (both 3 1 (λ member. request.Next) 1 2 (Pointer Unset) (Pointer Unset)
+    ++ (Event.Advance 3 ∷ both 3 2 (λ member. request.Query) 1 2 (Greatest opening_tag) (Greatest opening_tag)))
 
 -- both nodes have a piece of the empty value, which the read settles
 abbrev pub empty_settled : List Event
 empty_settled =
-    Event.Advance 2 ∷ (both 2 3 (λ member. request.Fetch opening_tag) 1 2
-    (answer.Piece (Some (empty_piece 1))) (answer.Piece (Some (empty_piece 2))) ++ (Event.Settle 2 [] ∷ []))
+    Event.Advance 3 ∷ (both 3 3 (λ member. request.Fetch opening_tag) 1 2
+    (answer.Piece (Some (empty_piece 1))) (answer.Piece (Some (empty_piece 2))) ++ (Event.Settle 3 [] ∷ []))
 
 -- node 2 reads from the nodes 1 and 2, and returns the empty value
 abbrev pub empty_read : List Event
@@ -89,5 +89,5 @@ forgetful = write_to_two ++ (restarted_empty 1 (run whole write_to_two start) �
 -- the entries of both calls: the read was called after the write was answered, and returned the empty value
 abbrev pub forgetful_entries : List Entry
 forgetful_entries =
-    record { call = 1; kind = operation.Write; called = 1; answered = Some 26; value = Some letter }
-    ∷ record { call = 2; kind = operation.Read; called = 28; answered = Some 49; value = Some [] } ∷ []
+    record { call = 7; kind = operation.Write; called = 1; answered = Some 26; value = Some letter }
+    ∷ record { call = 3; kind = operation.Read; called = 28; answered = Some 49; value = Some [] } ∷ []

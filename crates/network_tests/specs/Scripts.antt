@@ -33,9 +33,9 @@ start = opened_world (λ node. three_file)
 abbrev pub letter : List ℕ
 letter = 65 ∷ []
 
--- the tag of the write, which is call 1
+-- the tag of the write, whose id is 7
 abbrev pub write_tag : Tag
-write_tag = record { number = 1; call = 1 }
+write_tag = record { number = 1; call = 7 }
 
 -- a member's piece of the value
 abbrev pub letter_piece : (member : ℕ) → Piece
