@@ -6,6 +6,7 @@ pub mod MissedWriteLemmas
 pub mod MoveLemmas
 pub mod MovedBankLemmas
 pub mod TakenTwiceLemmas
+pub mod TwoFileLemmas
 pub mod WriteAndReadLemmas
 pub mod WriteDuringMoveLemmas
 pub mod WriteLemmas

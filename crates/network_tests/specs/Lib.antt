@@ -2,3 +2,4 @@ pub mod Scripts
 pub mod Examples
 pub mod Moving
 pub mod Forgetting
+pub mod TwoFiles

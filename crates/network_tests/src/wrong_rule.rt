@@ -1,9 +1,11 @@
-//! A wrong rule, and a run that shows what it breaks, proved as a theorem.
+//! A wrong rule and a premise left out, each with a run that shows what it breaks, proved as theorems.
 ghost use Rattle.std.specs.Prelude.{◌≡◌};
 ghost use Rattle.atomicity.specs.Atomic.{IsAtomic};
 ghost use Rattle.network.specs.Events.{run};
 ghost use Rattle.network_tests.specs.Forgetting.{MayRunForgetting, forgetful, forgetful_entries};
+ghost use Rattle.network.specs.Premises.{MayRun};
 ghost use Rattle.network_tests.specs.Scripts.{start, whole};
+ghost use Rattle.network_tests.specs.TwoFiles.{apart, missed, missed_entries};
 
 /// Example: if a node may forget what its banks kept when it stops and starts again, there is a run whose history is
 /// not atomic. The nodes 0 and 1 keep a write that is answered, node 1 forgets it, and a read from the nodes 1 and 2
@@ -12,4 +14,13 @@ pub fn forgetting_loses_a_write()
     ensures may { MayRunForgetting whole forgetful start }
     ensures gives { (run whole forgetful start).history ≡ forgetful_entries }
     ensures not_atomic { ¬ (IsAtomic (run whole forgetful start).history) }
+{}
+
+/// Example: if nodes may run with two cluster files, there is a run whose history is not atomic, although each event
+/// meets all other premises. By the file of node 3 the object begins at node 0 alone. Its write is answered by node 0,
+/// and a read from the nodes 1 and 2 returns the empty value.
+pub fn two_files_lose_a_write()
+    ensures may { MayRun whole missed apart }
+    ensures gives { (run whole missed apart).history ≡ missed_entries }
+    ensures not_atomic { ¬ (IsAtomic (run whole missed apart).history) }
 {}
