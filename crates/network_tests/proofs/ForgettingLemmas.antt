@@ -58,7 +58,7 @@ forgetting_append (event ∷ first) second world a b =
 
 -- The run
 
-writes : MayRun whole write_to_two start
+pub writes : MayRun whole write_to_two start
 writes =
     may_append (write_asked 0) (write_kept ++ (write_finalized ++ write_ended)) start (asks 0)
     (may_append write_kept (write_finalized ++ write_ended) (after_asked 0) (keeps 0)

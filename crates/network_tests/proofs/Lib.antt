@@ -1,6 +1,7 @@
 pub mod CrashLemmas
 pub mod EventRunLemmas
 pub mod ForgettingLemmas
+pub mod InventingLemmas
 pub mod KeptRowLemmas
 pub mod MissedWriteLemmas
 pub mod MoveLemmas

@@ -65,7 +65,8 @@ module _ (wrote began ended : ℕ) (before : wrote < began) where
       (atomic.1.complete 2 (λ e. cc) refl) atomic.1.one_register
       atomic.1.in_order
     where
-      go : (order : List ℕ) → IsDistinct nat_eq order → AllByRecursion (λ number. MayStand (entry_at (missed_by wrote began ended) number)) order →
+      go : (order : List ℕ) → IsDistinct nat_eq order →
+          AllByRecursion (λ number. MayStand (entry_at (missed_by wrote began ended) number)) order →
           has order 1 ≡ true → has order 2 ≡ true → IsRegister [] (entries_at order) → KeepsOrder (entries_at order) → ⊥
       go [] distinct fitting first second register in_order = cc
       go (a ∷ rest) distinct fitting first second register in_order = at_first (one_or_two a fitting.0)

@@ -3,3 +3,4 @@ pub mod Examples
 pub mod Moving
 pub mod Forgetting
 pub mod TwoFiles
+pub mod Inventing
