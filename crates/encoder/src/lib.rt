@@ -3,9 +3,7 @@
 
 pub use block::{encode_into, fill_blocks, fragment_into, piece};
 pub use coded::{Coded, assemble, encode};
-pub use fragment::Piece;
 
 mod block;
 mod coded;
-mod fragment;
 mod points;
