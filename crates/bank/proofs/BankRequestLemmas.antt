@@ -5,7 +5,7 @@ use Rattle.std.specs.FinMap as map
 use Rattle.std.specs.BTreeMap.{is_at}
 use Rattle.tag.specs.declared.tag.Tag.{Tag}
 use Rattle.tag.specs.Tag.{tag_cmp, later_tag, opening_tag}
-use Rattle.encoder.specs.declared.fragment.Piece.{Piece}
+use Rattle.piece.specs.declared.piece.Piece.{Piece}
 use Rattle.bank.specs.declared.row.Row.{Row}
 use Rattle.bank.specs.declared.window.Window.{Window}
 use Rattle.bank.specs.declared.request.Request.TheVariants as request

@@ -8,7 +8,7 @@ use Rattle.tag.specs.Tag.{tag_cmp, tag_lt, tag_eq, opening_tag, later_tag}
 use Rattle.tag.proofs.TagOrderLemmas.{same_tag, opening_least, later-above, later-second, tag_eq-true, tag_eq-same, eq_by_cmp-tag}
 use Rattle.bank.specs.declared.row.Label.TheVariants.{PreWritten}
 use Rattle.bank.specs.declared.row.Row.{Row}
-use Rattle.encoder.specs.declared.fragment.Piece.{Piece}
+use Rattle.piece.specs.declared.piece.Piece.{Piece}
 use Rattle.bank.specs.Bank.{Bank, opening_row, opened_bank, pre_written, finalized}
 use Rattle.bank.specs.Serve.{greatest_among, greatest_final}
 use Rattle.bank.specs.Knowledge.{since, is_finalized, finalized_at}

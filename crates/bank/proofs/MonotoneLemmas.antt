@@ -2,7 +2,7 @@
 use Rattle.std.proofs.Common.{◌≡◌, ℕ, ◌<◌, inl, inr, Bool, true, false, cond, Option, sym, ◌∙◌, subst, refl}
 use Rattle.tag.specs.declared.tag.Tag.{Tag}
 use Rattle.tag.specs.Tag.{tag_eq}
-use Rattle.encoder.specs.declared.fragment.Piece.{Piece}
+use Rattle.piece.specs.declared.piece.Piece.{Piece}
 use Rattle.bank.specs.declared.status.Status.{Status}
 use Rattle.bank.specs.declared.status.Status.TheVariants as status
 use Rattle.bank.specs.declared.status.Pointer.{Pointer}

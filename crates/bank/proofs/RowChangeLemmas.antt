@@ -6,7 +6,7 @@ use Rattle.std.proofs.lemmas.Bool.{lt-leb, le-leb}
 use Rattle.tag.specs.declared.tag.Tag.{Tag}
 use Rattle.tag.specs.Tag.{tag_cmp, tag_eq, tag_lt}
 use Rattle.tag.proofs.TagOrderLemmas.{tag_cmp_total, eq_by_cmp-tag, tag_eq-true}
-use Rattle.encoder.specs.declared.fragment.Piece.{Piece}
+use Rattle.piece.specs.declared.piece.Piece.{Piece}
 use Rattle.bank.specs.declared.row.Label.{Label}
 use Rattle.bank.specs.declared.row.Label.TheVariants.{PreWritten, Finalized}
 use Rattle.bank.specs.declared.row.Arrival.{Arrival}

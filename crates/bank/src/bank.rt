@@ -5,7 +5,7 @@ ghost use Rattle.tag.specs.declared.refusal.Refusal.TheVariants.{NoMemory};
 use crate::window::{self, Window};
 use crate::{Answer, Arrival, HeldPiece, Label, Pointer, Reply, Row, Status, rows};
 use bytes::Bytes;
-use encoder::Piece;
+use piece::Piece;
 use std::alloc::Global;
 use std::collections::BTreeMap;
 use std::marker::Model;

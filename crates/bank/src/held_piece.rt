@@ -1,7 +1,7 @@
 ghost use Rattle.std.specs.Prelude.{◌≡◌, ◌↔◌, IfOk, IfErr, IsTrue};
 ghost use Rattle.tag.specs.declared.refusal.Refusal.TheVariants.{NoMemory};
 
-use encoder::Piece;
+use piece::Piece;
 use std::alloc::{AllocError, Global};
 use std::marker::Model;
 use tag::Refusal;
@@ -13,7 +13,7 @@ pub struct HeldPiece {
 }
 
 impl Model for HeldPiece {
-    ghost use Rattle.encoder.specs.declared.fragment.Piece.{Piece as Fragment};
+    ghost use Rattle.piece.specs.declared.piece.Piece.{Piece as Fragment};
 
     ghost Value = { Fragment };
 
@@ -52,7 +52,7 @@ impl Clone for HeldPiece {
 }
 
 impl PartialEq for HeldPiece {
-    ghost use Rattle.encoder.specs.contracts.fragment.PiecePartialEq.TheImpl.Laws as pieces;
+    ghost use Rattle.piece.specs.contracts.piece.PiecePartialEq.TheImpl.Laws as pieces;
 
     ghost eq = { ⟦<Piece as PartialEq>⟧.eq };
 
@@ -64,7 +64,7 @@ impl PartialEq for HeldPiece {
 }
 
 impl Eq for HeldPiece {
-    ghost use Rattle.encoder.specs.contracts.fragment.PieceEq.TheImpl.Laws as pieces;
+    ghost use Rattle.piece.specs.contracts.piece.PieceEq.TheImpl.Laws as pieces;
 
     ghost laws = { pieces.laws-law };
 }

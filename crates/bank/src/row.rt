@@ -4,7 +4,7 @@ ghost use Rattle.std.specs.Prelude.{option_copied};
 ghost use Rattle.tag.specs.declared.refusal.Refusal.TheVariants.{NoMemory};
 
 use crate::HeldPiece;
-use encoder::Piece;
+use piece::Piece;
 use std::alloc::Global;
 use tag::{Refusal, Stamp};
 

@@ -11,7 +11,7 @@ ghost use Rattle.bank.specs.Knowledge.{row_finalized, row_arrived};
 ghost use Rattle.bank.specs.Window.{final_after, without_piece, piece_bytes_at};
 
 use crate::{Arrival, Label, Row};
-use encoder::Piece;
+use piece::Piece;
 use std::collections::BTreeMap;
 use tag::{Refusal, Stamp, Tag};
 

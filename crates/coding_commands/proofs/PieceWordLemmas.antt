@@ -6,7 +6,7 @@ use Rattle.std.specs.Prelude.{Result, Ok, Err, IsErrAnd, MatchResult}
 use Rattle.tag.specs.declared.refusal.Refusal.TheVariants.{NoMemory}
 use Rattle.words.specs.Hexadecimal.{IsHexadecimal}
 use Rattle.words.specs.Number.{IsNumber}
-use Rattle.encoder.specs.declared.fragment.Piece.{Piece}
+use Rattle.piece.specs.declared.piece.Piece.{Piece}
 use Rattle.coding_commands.specs.declared.request.CodingRequest.{CodingRequest}
 use Rattle.coding_commands.specs.declared.request.CodingRequest.TheVariants as of
 use Rattle.coding_commands.specs.declared.fault.Fault.{Fault}

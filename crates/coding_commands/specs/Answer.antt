@@ -4,7 +4,7 @@ use Rattle.std.specs.Prelude.{◌≡◌, ◌⊎◌, ℕ, List, None, Some, lengt
 use Rattle.tag.specs.declared.refusal.Refusal.{Refusal}
 use Rattle.tag.specs.declared.refusal.Refusal.TheVariants.{BadPieces}
 use Rattle.encoder.specs.Coded.{encode_cause}
-use Rattle.encoder.specs.declared.fragment.Piece.{Piece}
+use Rattle.piece.specs.declared.piece.Piece.{Piece}
 use Rattle.decoder.specs.Pieces.{AreLawful, HaveNoValue, IsInterpolated}
 use Rattle.coding_commands.specs.declared.request.CodingRequest.{CodingRequest}
 use Rattle.coding_commands.specs.declared.request.CodingRequest.TheVariants as request

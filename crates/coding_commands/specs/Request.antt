@@ -3,7 +3,7 @@
 use Rattle.std.specs.Prelude.{◌≡◌, ◌<◌, ◌⊎◌, ◌==◌, ◌^◌, ◌-◌, min, ℕ, Bool, List, [], ◌∷◌, length, ⊤, codes, Result}
 use Rattle.std.specs.Prelude.{MatchResult}
 use Rattle.std.specs.List.{position_or_len, before_first, after_first}
-use Rattle.encoder.specs.declared.fragment.Piece.{Piece}
+use Rattle.piece.specs.declared.piece.Piece.{Piece}
 use Rattle.tag.specs.declared.refusal.Refusal.TheVariants.{NoMemory}
 use Rattle.words.specs.Number.{IsNumber}
 use Rattle.words.specs.Hexadecimal.{IsHexadecimal}

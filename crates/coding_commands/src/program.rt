@@ -16,7 +16,7 @@ use crate::output::Output;
 use crate::request::CodingRequest;
 use crate::value::value_of;
 use bytes::Bytes;
-use encoder::Piece;
+use piece::Piece;
 use std::alloc::Global;
 use std::io::Write;
 use tag::Refusal;

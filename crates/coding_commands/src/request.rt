@@ -1,6 +1,6 @@
 //! The requests that encode and decode, read from the words of a command line.
 ghost use Rattle.std.specs.Prelude.{◌≡◌, ◌⊎◌, [], ◌∷◌, ℕ, List, MatchResult, codes, map};
-ghost use Rattle.encoder.specs.declared.fragment.Piece.{Piece};
+ghost use Rattle.piece.specs.declared.piece.Piece.{Piece};
 ghost use Rattle.tag.specs.declared.refusal.Refusal.TheVariants.{NoMemory};
 ghost use Rattle.words.specs.Hexadecimal.{IsHexadecimal};
 ghost use Rattle.words.specs.Number.{IsNumber};
@@ -9,7 +9,7 @@ ghost use Rattle.coding_commands.specs.declared.fault.Fault.TheVariants.{BadArgu
 
 use crate::fault::Fault;
 use bytes::Bytes;
-use encoder::Piece;
+use piece::Piece;
 use std::alloc::Global;
 use words::{parse_bytes, parse_number};
 

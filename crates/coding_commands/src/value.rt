@@ -4,7 +4,7 @@ ghost use Rattle.decoder.specs.Pieces.{AreLawful, HaveNoValue};
 ghost use Rattle.coding_commands.specs.Answer.{IsValueOf};
 
 use decoder::{Decoded, decode};
-use encoder::Piece;
+use piece::Piece;
 use std::alloc::Global;
 use tag::Refusal;
 

@@ -2,7 +2,7 @@
 -- The pieces that fragments make which stand one after another.
 use Rattle.std.specs.Prelude.{ℕ, List, [], ◌∷◌, take, drop}
 use Rattle.encoder.specs.Fragment.{fragment_len}
-use Rattle.encoder.specs.declared.fragment.Piece.{Piece}
+use Rattle.piece.specs.declared.piece.Piece.{Piece}
 
 -- the pieces at these points of a value of len bytes, where each fragment has fragment_len bytes
 unfoldable pub pieces_from : ℕ → ℕ → List ℕ → List ℕ → List Piece

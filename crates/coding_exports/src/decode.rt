@@ -7,7 +7,7 @@ ghost use Rattle.coding_exports.specs.Pieces.{pieces_from, pieces_of};
 use crate::room::write;
 use bytes::Bytes;
 use decoder::decode;
-use encoder::Piece;
+use piece::Piece;
 use std::alloc::{AllocError, Global};
 use tag::Refusal;
 

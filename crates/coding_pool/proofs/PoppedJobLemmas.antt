@@ -2,7 +2,7 @@
 use Rattle.std.proofs.Common.{◌≡◌, ℕ, List, [], ◌∷◌, ◌++◌, length, refl, sym, ap, ◌∙◌, arith, map}
 use Rattle.std.proofs.lemmas.List.{map-append}
 use Rattle.crossbeam_queue.specs.Fifo.{Held}
-use Rattle.encoder.specs.declared.fragment.Piece.{Piece}
+use Rattle.piece.specs.declared.piece.Piece.{Piece}
 use Rattle.coding_pool.specs.declared.jobs.Known.{Known}
 use Rattle.coding_pool.specs.Jobs.{known, PARTS, times, once_below, IsWhole}
 use Rattle.coding_pool.specs.Worker.{point_of}

@@ -8,7 +8,7 @@ use Rattle.std.specs.List.Sorted.{IsNonDecreasingBy}
 use Rattle.std.specs.Prelude.{if◌then◌else◌, ◌==◌}
 use Rattle.encoder.specs.Coded.{ArePieces}
 use Rattle.encoder.specs.Fragment.{piece_of}
-use Rattle.encoder.specs.declared.fragment.Piece.{Piece}
+use Rattle.piece.specs.declared.piece.Piece.{Piece}
 use Rattle.coding_pool.specs.Jobs.{times, once_below}
 use Rattle.coding_pool.specs.Worker.{point_of, IsEach}
 use Rattle.coding_pool.proofs.QueueRuleLemmas.{times-append, once_more}

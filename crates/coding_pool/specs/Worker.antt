@@ -7,7 +7,7 @@ use Rattle.tag.specs.declared.limits.TheConstants.{LONGEST_VALUE}
 use Rattle.tag.specs.declared.refusal.Refusal.{Refusal}
 use Rattle.tag.specs.declared.refusal.Refusal.TheVariants.{NoMemory}
 use Rattle.encoder.specs.Fragment.{piece_of}
-use Rattle.encoder.specs.declared.fragment.Piece.{Piece}
+use Rattle.piece.specs.declared.piece.Piece.{Piece}
 use Rattle.coding_pool.specs.declared.worker.CodingJob.{CodingJob}
 use Rattle.coding_pool.specs.declared.worker.Worker.{Worker}
 use Rattle.coding_pool.specs.Jobs.{times, once_below}

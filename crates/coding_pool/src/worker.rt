@@ -7,7 +7,8 @@ ghost use Rattle.coding_pool.specs.Worker.{IsWorker, IsHand, IsErrand, IsEach};
 
 use crate::gate::Gate;
 use crate::jobs::{Cut, JobPass, Jobs, Pop};
-use encoder::{Piece, piece};
+use encoder::piece;
+use piece::Piece;
 use std::alloc::Global;
 use std::sync::Wait;
 use std::thread::Promise;

@@ -2,7 +2,7 @@
 use crate::same::assert_same;
 use bytes::Bytes;
 use decoder::decode;
-use encoder::Piece;
+use piece::Piece;
 use std::alloc::Global;
 use std::process::Abort;
 use tag::Refusal;

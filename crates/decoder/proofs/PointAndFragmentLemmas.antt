@@ -11,7 +11,7 @@ use Rattle.gf256.specs.Polynomial.{AreBytes, AreDistinct}
 use Rattle.dot_kernel.specs.Dot.{bytes_of}
 use Rattle.dot_kernel.proofs.LaneSumLemmas.{no_slice, bytes_at, length-bytes_of}
 use Rattle.encoder.specs.Fragment.{fragment_len}
-use Rattle.encoder.specs.declared.fragment.Piece.{Piece}
+use Rattle.piece.specs.declared.piece.Piece.{Piece}
 use Rattle.decoder.specs.Parts.{piece_at, pieces_at, AreLawfulParts}
 use Rattle.decoder.specs.Pieces.{points_of, AreLawful, AreOfBytes}
 use Rattle.decoder.proofs.WholeBlockLemmas.{no_piece, length-points_of}

@@ -9,7 +9,7 @@ use Rattle.gf256.proofs.FieldSumLemmas.{field_sum_same}
 use Rattle.gf256.proofs.BasisRowLemmas.{basis_row, IsBasisRow-unique, IsBasisRow-basis_row}
 use Rattle.dot_kernel.specs.Dot.{dot_byte, row, term}
 use Rattle.encoder.specs.Fragment.{fragment_len}
-use Rattle.encoder.specs.declared.fragment.Piece.{Piece}
+use Rattle.piece.specs.declared.piece.Piece.{Piece}
 use Rattle.decoder.specs.Parts.{piece_at, pieces_at, AreLawfulParts}
 use Rattle.decoder.specs.Pieces.{points_of, AreOfBytes, HaveNoValue, HaveValue, IsInterpolated}
 use Rattle.poly.specs.Basis.{HasRows}

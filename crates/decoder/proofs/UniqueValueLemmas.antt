@@ -5,7 +5,7 @@ use Rattle.std.proofs.lemmas.List.Elements.{All-map}
 use Rattle.tag.specs.declared.limits.TheConstants.{LONGEST_VALUE, MOST_MEMBERS}
 use Rattle.gf256.specs.Polynomial.{AreBytes, AreDistinct}
 use Rattle.encoder.specs.Fragment.{fragment, piece_of}
-use Rattle.encoder.specs.declared.fragment.Piece.{Piece}
+use Rattle.piece.specs.declared.piece.Piece.{Piece}
 use Rattle.encoder.proofs.ColumnLemmas.{AreBytes-fragment}
 use Rattle.decoder.specs.Pieces.{points_of, AreLawful, AreOfBytes, ArePiecesOf, IsInterpolated}
 use Rattle.decoder.proofs.ValuePrefixLemmas.{value-blocks_of, AreLawful-pieces_of, IsInterpolated-pieces_of}

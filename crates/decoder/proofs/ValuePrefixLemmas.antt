@@ -8,7 +8,7 @@ use Rattle.std.proofs.lemmas.List.Elements.{All-take}
 use Rattle.std.proofs.lemmas.Grind.{same_number_lists, get_or_default_zero}
 use Rattle.tag.specs.declared.limits.TheConstants.{LONGEST_VALUE}
 use Rattle.encoder.specs.Fragment.{fragment_len}
-use Rattle.encoder.specs.declared.fragment.Piece.{Piece}
+use Rattle.piece.specs.declared.piece.Piece.{Piece}
 use Rattle.encoder.proofs.ColumnLemmas.{fragment_same, length-fragment}
 use Rattle.decoder.specs.Pieces.{AreLawful, AreOfBytes, ArePiecesOf, IsInterpolated}
 use Rattle.decoder.proofs.WholeBlockLemmas.{blocks_of, byte_in_blocks, length-blocks_of, fragment_len-whole}

@@ -12,7 +12,7 @@ use Rattle.dot_kernel.specs.Dot.{dot_byte, row, term}
 use Rattle.dot_kernel.specs.Level.{HaveLevels}
 use Rattle.dot_kernel.proofs.LevelSumLemmas.{level_zero}
 use Rattle.encoder.specs.Fragment.{fragment, fragment_len}
-use Rattle.encoder.specs.declared.fragment.Piece.{Piece}
+use Rattle.piece.specs.declared.piece.Piece.{Piece}
 use Rattle.encoder.proofs.ColumnLemmas.{length-fragment, get_or-fragment}
 use Rattle.encoder.proofs.RowPlaceLemmas.{rows_apart}
 use Rattle.decoder.specs.Parts.{pieces_at, AreLawfulParts}

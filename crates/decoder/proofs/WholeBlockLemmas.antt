@@ -13,7 +13,7 @@ use Rattle.gf256.specs.Polynomial.{AreBytes, evaluate}
 use Rattle.gf256.specs.Field.{field_product, field_sum}
 use Rattle.gf256.proofs.BasisRowLemmas.{basis_row}
 use Rattle.encoder.specs.Fragment.{fragment_len, fragment, fragment_byte}
-use Rattle.encoder.specs.declared.fragment.Piece.{Piece}
+use Rattle.piece.specs.declared.piece.Piece.{Piece}
 use Rattle.decoder.specs.Pieces.{points_of, AreLawful, AreOfBytes, IsInterpolated}
 use Rattle.decoder.proofs.InterpolationLemmas.{partly_interpolated, interpolated_lt, value_interpolated, fragments_from_interpolated}
 use Rattle.decoder.proofs.InterpolationLemmas.{fragment_interpolated}

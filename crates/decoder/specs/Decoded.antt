@@ -1,6 +1,6 @@
 -- A decoded value.
 use Rattle.std.specs.Prelude.{ℕ, List, length}
-use Rattle.encoder.specs.declared.fragment.Piece.{Piece}
+use Rattle.piece.specs.declared.piece.Piece.{Piece}
 use Rattle.decoder.specs.Pieces.{AreLawful, IsInterpolated}
 
 -- k pieces, and the value that they stand for

@@ -2,7 +2,7 @@
 -- Pieces whose whole blocks have a byte past the value's end that is not 0.
 use Rattle.std.specs.Prelude.{◌≡◌, ◌≢◌, ℕ, ◌*◌, ◌≤◌, ◌<◌, List, length, slice_index}
 use Rattle.encoder.specs.Fragment.{fragment_len}
-use Rattle.encoder.specs.declared.fragment.Piece.{Piece}
+use Rattle.piece.specs.declared.piece.Piece.{Piece}
 use Rattle.decoder.specs.Pieces.{IsInterpolated}
 
 -- these are the k whole blocks whose fragments are the pieces, and no others are

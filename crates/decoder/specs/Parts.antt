@@ -2,7 +2,7 @@
 -- Pieces that are given as their points and their fragments, side by side.
 use Rattle.std.specs.Prelude.{◌≡◌, ℕ, List, [], length, map, slice_index, slice_index_or}
 use Rattle.std.specs.List.{range_with_len}
-use Rattle.encoder.specs.declared.fragment.Piece.{Piece}
+use Rattle.piece.specs.declared.piece.Piece.{Piece}
 use Rattle.decoder.specs.Pieces.{AreLawful}
 
 -- piece i of a value of len bytes has point i and fragment i

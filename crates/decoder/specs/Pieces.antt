@@ -3,7 +3,7 @@ use Rattle.std.specs.Prelude.{◌≡◌, ℕ, ◌≤◌, List, length, map, All}
 use Rattle.tag.specs.declared.limits.TheConstants.{MOST_MEMBERS, LONGEST_VALUE}
 use Rattle.gf256.specs.Polynomial.{AreBytes, AreDistinct}
 use Rattle.encoder.specs.Fragment.{fragment, fragment_len, piece_of}
-use Rattle.encoder.specs.declared.fragment.Piece.{Piece}
+use Rattle.piece.specs.declared.piece.Piece.{Piece}
 
 -- the point of each piece
 abbrev pub points_of : List Piece → List ℕ

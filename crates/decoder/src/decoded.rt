@@ -5,7 +5,7 @@ ghost use Rattle.decoder.specs.Pieces.{AreLawful, AreOfBytes, ArePiecesOf, HaveN
 use crate::lawful::{are_lawful, fragments, points};
 use crate::rooms::make_value;
 use bytes::Bytes;
-use encoder::Piece;
+use piece::Piece;
 use std::alloc::Global;
 use std::marker::Model;
 use tag::Refusal;

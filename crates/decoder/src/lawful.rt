@@ -2,12 +2,12 @@ ghost use Rattle.std.specs.Prelude.{◌≡◌, ℕ, ◌<◌, ◌≤◌, ◌↔�
 ghost use Rattle.std.specs.Bool.{OnTrue};
 ghost use Rattle.gf256.specs.Polynomial.{AreBytes, AreDistinct};
 ghost use Rattle.dot_kernel.specs.Dot.{bytes_of};
-ghost use Rattle.encoder.specs.declared.fragment.Piece.{Piece as PieceOf};
+ghost use Rattle.piece.specs.declared.piece.Piece.{Piece as PieceOf};
 ghost use Rattle.decoder.specs.Parts.{AreLawfulParts, pieces_at};
 ghost use Rattle.decoder.specs.Pieces.{AreLawful, AreOfBytes, points_of};
 
 use arrayvec::ArrayVec;
-use encoder::Piece;
+use piece::Piece;
 use tag::{LONGEST_VALUE, MOST_MEMBERS};
 
 /// Whether these are `k` pieces at distinct points, each of a value of `len` bytes, within the limits.

@@ -1,6 +1,6 @@
 //! Bad pieces, by the bytes that they would give past the value's end.
 ghost use Rattle.std.specs.Prelude.{◌↔◌, ℕ, List};
-ghost use Rattle.encoder.specs.declared.fragment.Piece.{Piece};
+ghost use Rattle.piece.specs.declared.piece.Piece.{Piece};
 ghost use Rattle.decoder.specs.Padding.{AreBlocks, HasBytePast};
 ghost use Rattle.decoder.specs.Pieces.{AreLawful, AreOfBytes, HaveNoValue};
 

@@ -4,7 +4,7 @@ use Rattle.tag.specs.declared.refusal.Refusal.{Refusal}
 use Rattle.tag.specs.Refusal.{IsByCause}
 use Rattle.tag.specs.declared.limits.TheConstants.{MOST_STEPS}
 use Rattle.encoder.specs.Fragment.{fragment}
-use Rattle.encoder.specs.declared.fragment.Piece.{Piece}
+use Rattle.piece.specs.declared.piece.Piece.{Piece}
 use Rattle.decoder.specs.Decoded.{Decoding}
 use Rattle.decoder.specs.Pieces.{ArePiecesOf, IsInterpolated}
 use Rattle.decoder.proofs.ValuePrefixLemmas.{IsInterpolated-pieces_of}

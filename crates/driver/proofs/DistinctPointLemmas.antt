@@ -4,7 +4,7 @@ use Rattle.std.proofs.Common.{take, Option, Some, None, ap, refl}
 use Rattle.std.proofs.Common.{arith}
 use Rattle.std.specs.List.{AllByRecursion, IsDistinct}
 use Rattle.std.proofs.lemmas.Bool.{eqb-true}
-use Rattle.encoder.specs.declared.fragment.Piece.{Piece}
+use Rattle.piece.specs.declared.piece.Piece.{Piece}
 use Rattle.decoder.specs.Pieces.{points_of}
 use Rattle.phase.specs.declared.phase.Taken.{Taken}
 use Rattle.register.specs.Coding.{piece_by, listed, pieces_below}

@@ -6,7 +6,7 @@ use Rattle.std.proofs.lemmas.Bool.{eq-eqb}
 use Rattle.tag.specs.declared.limits.TheConstants.{MOST_STEPS}
 use Rattle.tag.specs.declared.refusal.Refusal.TheVariants.{WrongCode}
 use Rattle.layout.specs.Layout.{Layout}
-use Rattle.encoder.specs.declared.fragment.Piece.{Piece}
+use Rattle.piece.specs.declared.piece.Piece.{Piece}
 use Rattle.decoder.specs.Decoded.{Decoding}
 use Rattle.phase.specs.declared.phase.Taken.{Taken}
 use Rattle.record.specs.Records.{Object, layout_at}

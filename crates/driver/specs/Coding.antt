@@ -2,7 +2,7 @@
 -- Values that are decoded for a call: why a settle is refused, and which value it settles.
 use Rattle.std.specs.Prelude.{◌≡◌, ℕ, pred, List, length, Option, None}
 use Rattle.tag.specs.declared.refusal.Refusal.{Refusal}
-use Rattle.encoder.specs.declared.fragment.Piece.{Piece}
+use Rattle.piece.specs.declared.piece.Piece.{Piece}
 use Rattle.decoder.specs.Pieces.{ArePiecesOf, IsInterpolated}
 use Rattle.record.specs.Records.{Object}
 use Rattle.record.specs.Steps.{Step}

@@ -2,7 +2,7 @@
 -- What a round of the driver does.
 use Rattle.std.specs.Prelude.{◌≡◌, ◌≢◌, ℕ, pred, Bool, List, Some, None}
 use Rattle.encoder.specs.Coded.{IsCodable}
-use Rattle.encoder.specs.declared.fragment.Piece.{Piece}
+use Rattle.piece.specs.declared.piece.Piece.{Piece}
 use Rattle.decoder.specs.Pieces.{IsInterpolated}
 use Rattle.record.specs.Steps.{Step}
 use Rattle.record.specs.declared.stage.Want.TheVariants as want

@@ -9,7 +9,7 @@ use crate::coding::{pieces_to_decode, value_to_encode};
 use crate::messages::handle_chosen;
 use bytes::Bytes;
 use cluster::Cluster;
-use encoder::Piece;
+use piece::Piece;
 use record::Want;
 use register::Receipt;
 use tag::{CallId, Refusal};

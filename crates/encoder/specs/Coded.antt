@@ -5,7 +5,7 @@ use Rattle.tag.specs.declared.limits.TheConstants.{MOST_MEMBERS, LONGEST_VALUE}
 use Rattle.tag.specs.declared.refusal.Refusal.{Refusal}
 use Rattle.tag.specs.declared.refusal.Refusal.TheVariants.{BadLayout, TooLong}
 use Rattle.encoder.specs.Fragment.{piece_of}
-use Rattle.encoder.specs.declared.fragment.Piece.{Piece}
+use Rattle.piece.specs.declared.piece.Piece.{Piece}
 
 -- a value that is coded into n pieces, any k of which determine it: its pieces follow from these
 pub record Coding : Type 0 where

@@ -4,7 +4,7 @@ use Rattle.std.specs.Prelude.{ℕ, ◌+◌, ◌*◌, List, length, map, slice_in
 use Rattle.std.specs.Int.{div_ceil}
 use Rattle.std.specs.List.{range_with_len}
 use Rattle.gf256.specs.Field.{field_product, field_power, field_sum}
-use Rattle.encoder.specs.declared.fragment.Piece.{Piece}
+use Rattle.piece.specs.declared.piece.Piece.{Piece}
 
 -- how many bytes a block has, and a fragment: the length of the value over k, rounded up
 abbrev pub fragment_len : ℕ → ℕ → ℕ

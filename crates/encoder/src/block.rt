@@ -4,9 +4,9 @@ ghost use Rattle.dot_kernel.specs.Dot.{bytes_of};
 ghost use Rattle.encoder.specs.Fragment.{fragment, fragment_len, piece_of};
 ghost use Rattle.encoder.specs.Points.{AreBlocksOfValue, AreFragmentRows};
 
-use crate::Piece;
 use crate::points::write_points;
 use bytes::Bytes;
+use piece::Piece;
 use std::alloc::{AllocError, Global};
 use tag::{LONGEST_VALUE, Refusal};
 

@@ -4,9 +4,9 @@ ghost use Rattle.encoder.specs.Fragment.{fragment_len, piece_of};
 ghost use Rattle.encoder.specs.Points.{AreFragmentRows};
 ghost use Rattle.encoder.specs.Coded.{IsCodable, ArePieces, encode_cause};
 
-use crate::Piece;
 use crate::block::fragments_from;
 use bytes::Bytes;
+use piece::Piece;
 use std::alloc::{AllocError, Global};
 use std::marker::Model;
 use tag::{LONGEST_VALUE, MOST_MEMBERS, Refusal};

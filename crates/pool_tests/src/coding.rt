@@ -2,7 +2,8 @@
 
 use bytes::Bytes;
 use coding_pool::{Gate, encode_all};
-use encoder::{Coded, Piece};
+use encoder::Coded;
+use piece::Piece;
 use std::alloc::Global;
 use std::process::Abort;
 use std::sync::Wait;

@@ -3,7 +3,7 @@ use Rattle.std.specs.Prelude.{ℕ, suc, pred, is_some, Option, Some, None}
 use Rattle.std.specs.Prelude.{if◌then◌else◌, List, [], ◌∷◌, ◌++◌, length, map, get_or, slice_get, slice_set}
 use Rattle.std.specs.List.{remove}
 use Rattle.layout.specs.Layout.{Layout, quorum_of}
-use Rattle.encoder.specs.declared.fragment.Piece.{Piece}
+use Rattle.piece.specs.declared.piece.Piece.{Piece}
 use Rattle.bank.specs.Bank.{Bank, opened_bank, empty_piece}
 use Rattle.bank.specs.Collect.{retired_bank}
 use Rattle.bank.specs.Serve.{served_bank, reply_to}

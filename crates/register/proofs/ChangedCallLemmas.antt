@@ -10,7 +10,7 @@ use Rattle.tag.specs.declared.limits.TheConstants.{MOST_PHASES, MOST_POSITIONS}
 use Rattle.tag.specs.declared.tag.Tag.{Tag}
 use Rattle.layout.specs.Layout.{Layout}
 use Rattle.encoder.specs.Fragment.{fragment}
-use Rattle.encoder.specs.declared.fragment.Piece.{Piece}
+use Rattle.piece.specs.declared.piece.Piece.{Piece}
 use Rattle.bank.specs.declared.kind.Kind.{Kind}
 use Rattle.bank.specs.declared.kind.Kind.TheVariants.{Next, Spread, Query, PreWrite, Finalize, Fetch}
 use Rattle.mail.specs.declared.message.Message.{Message}

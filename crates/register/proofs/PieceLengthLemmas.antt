@@ -5,7 +5,7 @@ use Rattle.std.specs.List.{AllByRecursion}
 use Rattle.std.proofs.lemmas.Grind.{div_ceil_times}
 use Rattle.tag.specs.declared.limits.TheConstants.{LONGEST_VALUE, MOST_BYTES, MOST_MESSAGES}
 use Rattle.tag.specs.declared.tag.Tag.{Tag}
-use Rattle.encoder.specs.declared.fragment.Piece.{Piece}
+use Rattle.piece.specs.declared.piece.Piece.{Piece}
 use Rattle.encoder.specs.Fragment.{fragment, fragment_len}
 use Rattle.encoder.specs.Coded.{Coding}
 use Rattle.encoder.proofs.ColumnLemmas.{length-fragment}

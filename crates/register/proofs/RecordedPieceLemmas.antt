@@ -10,7 +10,7 @@ use Rattle.bank.specs.declared.kind.Kind.TheVariants.{Fetch}
 use Rattle.bank.specs.declared.reply.Answer.{Answer}
 use Rattle.bank.specs.declared.reply.Answer.TheVariants as answer
 use Rattle.encoder.specs.Fragment.{fragment}
-use Rattle.encoder.specs.declared.fragment.Piece.{Piece}
+use Rattle.piece.specs.declared.piece.Piece.{Piece}
 use Rattle.phase.specs.declared.phase.Taken.{Taken}
 use Rattle.phase.specs.Phase.{Phase, lacks_pieces}
 use Rattle.record.specs.Records.{Call, Object, layout_at}

@@ -7,7 +7,7 @@ use Rattle.tag.specs.declared.limits.TheConstants.{MOST_BYTES, MOST_MESSAGES, MO
 use Rattle.tag.specs.declared.refusal.Refusal.{Refusal}
 use Rattle.tag.specs.declared.refusal.Refusal.TheVariants.{Full, NoMemory}
 use Rattle.tag.specs.Refusal.{IsByCause}
-use Rattle.encoder.specs.declared.fragment.Piece.{Piece}
+use Rattle.piece.specs.declared.piece.Piece.{Piece}
 use Rattle.bank.specs.declared.kind.Kind.{Kind}
 use Rattle.mail.specs.declared.message.Message.{Message}
 use Rattle.mail.specs.Mail.{mail_bytes, mail_cause}

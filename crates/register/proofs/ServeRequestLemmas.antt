@@ -5,7 +5,7 @@ use Rattle.tag.specs.declared.limits.TheConstants.{LONGEST_VALUE, MOST_BYTES, MO
 use Rattle.tag.specs.declared.tag.Tag.{Tag}
 use Rattle.layout.specs.Layout.{Layout}
 use Rattle.encoder.specs.Fragment.{fragment}
-use Rattle.encoder.specs.declared.fragment.Piece.{Piece}
+use Rattle.piece.specs.declared.piece.Piece.{Piece}
 use Rattle.bank.specs.Bank.{Bank, knows, piece_of, piece_of_row}
 use Rattle.bank.specs.Bytes.{bank_bytes, added_bytes}
 use Rattle.bank.specs.Answer.{answer_bytes}

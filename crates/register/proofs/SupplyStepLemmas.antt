@@ -7,7 +7,7 @@ use Rattle.bank.specs.declared.kind.Kind.TheVariants.{Next, PreWrite}
 use Rattle.mail.specs.Mail.{mail_cause}
 use Rattle.encoder.specs.Coded.{Coding}
 use Rattle.encoder.specs.Fragment.{fragment}
-use Rattle.encoder.specs.declared.fragment.Piece.{Piece}
+use Rattle.piece.specs.declared.piece.Piece.{Piece}
 use Rattle.layout.specs.Layout.{Layout}
 use Rattle.phase.specs.Phase.{Phase, members_of}
 use Rattle.record.specs.PhaseOrder.{due}

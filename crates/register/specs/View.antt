@@ -2,7 +2,7 @@
 -- What can be read of an object without a step.
 use Rattle.std.specs.Prelude.{ℕ, pred, List, [], length, Option, Some, None, option_map, get_or, slice_get}
 use Rattle.tag.specs.declared.tag.Tag.{Tag}
-use Rattle.encoder.specs.declared.fragment.Piece.{Piece}
+use Rattle.piece.specs.declared.piece.Piece.{Piece}
 use Rattle.bank.specs.Bank.{Bank}
 use Rattle.mail.specs.declared.message.Message.{Message}
 use Rattle.phase.specs.declared.phase.Took.{Took}

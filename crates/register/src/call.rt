@@ -5,7 +5,7 @@ ghost use Rattle.std.specs.Prelude.{Some, OnOk, OnErr};
 ghost use Rattle.tag.specs.declared.limits.TheConstants.{MOST_PHASES, MOST_MESSAGES};
 ghost use Rattle.tag.specs.declared.refusal.Refusal.TheVariants.{Full};
 ghost use Rattle.tag.specs.Refusal.{IsByCause};
-ghost use Rattle.encoder.specs.declared.fragment.Piece.{Piece};
+ghost use Rattle.piece.specs.declared.piece.Piece.{Piece};
 ghost use Rattle.mail.specs.Mail.{mail_cause};
 ghost use Rattle.phase.specs.Phase.{Phase as Asking, after_take};
 ghost use Rattle.record.specs.PhaseOrder.{begun_at};

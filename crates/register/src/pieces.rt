@@ -7,10 +7,11 @@ ghost use Rattle.register.specs.Coding.{bytes_eq, is_coded_for, same_piece, is_r
 use bank::Answer;
 use bytes::Bytes;
 use decoder::Decoded;
-use encoder::{Coded, Piece};
+use encoder::Coded;
 use lane_kernel::same;
 use layout::Layout;
 use phase::Taken;
+use piece::Piece;
 
 // Whether two slices hold the same bytes.
 fn are_same(a: &[u8], b: &[u8]) -> bool

@@ -3,7 +3,7 @@
 ghost use Rattle.std.specs.Prelude.{◌≡◌, ◌+◌, ◌==◌, ◌&&◌, ◌||◌, nat_le, ℕ, List, length, IfOk, IfErr, option_copied};
 ghost use Rattle.tag.specs.declared.limits.TheConstants.{MOST_MESSAGES};
 ghost use Rattle.tag.specs.declared.refusal.Refusal.TheVariants.{NoMemory};
-ghost use Rattle.encoder.specs.declared.fragment.Piece.{Piece};
+ghost use Rattle.piece.specs.declared.piece.Piece.{Piece};
 ghost use Rattle.mail.specs.declared.message.Body.TheVariants as body;
 ghost use Rattle.phase.specs.Phase.{has_taken, members_of};
 ghost use Rattle.record.specs.Sending.{request_to, requests, missing, waits};

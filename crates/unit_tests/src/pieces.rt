@@ -1,7 +1,7 @@
 //! The piece that the tests of banks and mails write.
 use bank::HeldPiece;
 use bytes::Bytes;
-use encoder::Piece;
+use piece::Piece;
 use std::alloc::Global;
 use std::process::Abort;
 

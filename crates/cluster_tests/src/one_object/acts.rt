@@ -2,8 +2,9 @@
 
 use bytes::Bytes;
 use decoder::decode;
-use encoder::{Coded, Piece, encode};
+use encoder::{Coded, encode};
 use layout::Layout;
+use piece::Piece;
 use record::Want;
 use register::{Act, Register};
 use std::alloc::Global;

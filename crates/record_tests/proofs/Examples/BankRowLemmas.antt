@@ -4,7 +4,7 @@ use Rattle.std.specs.FinMap as finmap
 use Rattle.tag.specs.declared.tag.Tag.{Tag}
 use Rattle.tag.specs.Tag.{tag_cmp, opening_tag}
 use Rattle.tag.proofs.TagOrderLemmas.{tag_cmp_total}
-use Rattle.encoder.specs.declared.fragment.Piece.{Piece}
+use Rattle.piece.specs.declared.piece.Piece.{Piece}
 use Rattle.bank.specs.declared.row.Row.{Row}
 use Rattle.bank.specs.Bank.{Bank, opened_bank, opening_row, pre_written, finalized, row_after_pre_write, row_after_finalize, piece_of_row}
 use Rattle.bank.specs.Collect.{emptied_row, kept_entry, collected, fetched_piece}

@@ -4,7 +4,7 @@ use Rattle.std.proofs.Common.{Some, None, refl, sym, ap, ◌∙◌, arith, le_re
 use Rattle.tag.specs.declared.tag.Tag.{Tag}
 use Rattle.tag.specs.Tag.{tag_cmp, opening_tag}
 use Rattle.tag.proofs.TagOrderLemmas.{tag_cmp_total}
-use Rattle.encoder.specs.declared.fragment.Piece.{Piece}
+use Rattle.piece.specs.declared.piece.Piece.{Piece}
 use Rattle.bank.specs.declared.row.Row.{Row}
 use Rattle.bank.specs.declared.row.Label.TheVariants.{PreWritten, Finalized}
 use Rattle.bank.specs.Bank.{Bank, opened_bank, pre_written, finalized, piece_of, piece_of_row, row_after_pre_write, row_after_finalize}

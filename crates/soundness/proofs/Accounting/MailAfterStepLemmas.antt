@@ -3,7 +3,7 @@ use Rattle.std.proofs.Common.{◌≡◌, ℕ, suc, pred, ◌+◌, ◌≤◌, Lis
 use Rattle.std.proofs.Common.{◌++◌, length, Some, refl, ap, ◌∙◌, arith, slice_get}
 use Rattle.tag.specs.declared.tag.Tag.{Tag}
 use Rattle.layout.specs.Layout.{Layout}
-use Rattle.encoder.specs.declared.fragment.Piece.{Piece}
+use Rattle.piece.specs.declared.piece.Piece.{Piece}
 use Rattle.bank.specs.Bank.{empty_piece}
 use Rattle.bank.specs.Answer.{answer_bytes}
 use Rattle.bank.specs.Serve.{answer_to, reply_to}

@@ -6,7 +6,7 @@ use Rattle.std.specs.FinMap as map
 use Rattle.tag.specs.declared.tag.Tag.{Tag}
 use Rattle.tag.specs.Tag.{tag_cmp, opening_tag, tag_eq}
 use Rattle.tag.proofs.TagOrderLemmas.{tag_eq-true}
-use Rattle.encoder.specs.declared.fragment.Piece.{Piece}
+use Rattle.piece.specs.declared.piece.Piece.{Piece}
 use Rattle.bank.specs.declared.kind.Kind.TheVariants.{PreWrite, Finalize, Fetch}
 use Rattle.bank.specs.declared.request.Request.{Request}
 use Rattle.bank.specs.declared.request.Request.TheVariants as request

@@ -3,7 +3,7 @@ use Rattle.std.proofs.Common.{◌≡◌, ℕ, suc, ◌⊎◌, List, [], ◌∷�
 use Rattle.std.proofs.Common.{Some, None, refl, sym, subst, subst₂, ◌∙◌, inl, inr, arith, slice_get}
 use Rattle.std.proofs.lemmas.Option.{same_Some}
 use Rattle.bank.specs.declared.kind.Kind.{Kind}
-use Rattle.encoder.specs.declared.fragment.Piece.{Piece}
+use Rattle.piece.specs.declared.piece.Piece.{Piece}
 use Rattle.mail.specs.declared.message.Message.{Message}
 use Rattle.record.specs.Records.{Call, Object, layout_at, bank_at, base_at, base_of}
 use Rattle.record.specs.Knowledge.{IsTruePhase}

@@ -6,7 +6,7 @@ use Rattle.std.proofs.lemmas.Option.{same_Some}
 use Rattle.tag.specs.declared.tag.Tag.{Tag}
 use Rattle.tag.specs.Tag.{tag_eq}
 use Rattle.tag.proofs.TagOrderLemmas.{tag_eq-true}
-use Rattle.encoder.specs.declared.fragment.Piece.{Piece}
+use Rattle.piece.specs.declared.piece.Piece.{Piece}
 use Rattle.bank.specs.Bank.{Bank, pre_written, finalized}
 use Rattle.bank.specs.Collect.{collected}
 use Rattle.bank.specs.Knowledge.{since, finalized_at, arrived_at}

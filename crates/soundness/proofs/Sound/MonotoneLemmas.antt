@@ -3,7 +3,7 @@ use Rattle.std.proofs.Common.{◌≡◌, ℕ, suc, ◌<◌, ◌≤◌, List, len
 use Rattle.std.proofs.Common.{refl, sym, subst, subst₂, ◌∙◌, inl, inr, arith, le_trans, slice_get}
 use Rattle.std.specs.List.{AllByRecursion}
 use Rattle.tag.specs.declared.tag.Tag.{Tag}
-use Rattle.encoder.specs.declared.fragment.Piece.{Piece}
+use Rattle.piece.specs.declared.piece.Piece.{Piece}
 use Rattle.bank.specs.Bank.{Bank, piece_of}
 use Rattle.bank.specs.Facts.{IsBefore}
 use Rattle.bank.specs.declared.kind.Kind.{Kind}

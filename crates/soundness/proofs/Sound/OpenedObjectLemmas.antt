@@ -6,7 +6,7 @@ use Rattle.tag.specs.declared.tag.Tag.{Tag}
 use Rattle.tag.specs.Tag.{tag_cmp, opening_tag, tag_eq}
 use Rattle.tag.proofs.TagOrderLemmas.{tag_eq-same, tag_eq-true}
 use Rattle.layout.specs.Layout.{Layout, IsLawful}
-use Rattle.encoder.specs.declared.fragment.Piece.{Piece}
+use Rattle.piece.specs.declared.piece.Piece.{Piece}
 use Rattle.bank.specs.declared.row.Row.{Row}
 use Rattle.bank.specs.Bank.{Bank, opening_row, empty_piece, opened_bank, piece_of, piece_of_row, knows}
 use Rattle.bank.specs.Knowledge.{row_finalized, row_arrived, is_dropped}

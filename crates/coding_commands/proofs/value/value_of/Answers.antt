@@ -1,7 +1,7 @@
 use Rattle.std.proofs.Common.{◌≡◌, ℕ, List, IfOk, OnOk, Ok, Err, rules, subst}
 use Rattle.std.specs.Prelude.{Result}
 use Rattle.tag.specs.declared.refusal.Refusal.{Refusal}
-use Rattle.encoder.specs.declared.fragment.Piece.{Piece}
+use Rattle.piece.specs.declared.piece.Piece.{Piece}
 use Rattle.decoder.specs.Decoded.{Decoding}
 use Rattle.decoder.specs.Pieces.{AreLawful, IsInterpolated}
 use Rattle.coding_commands.specs.Answer.{IsValueOf}

@@ -2,7 +2,7 @@ use Rattle.std.proofs.Common.{◌≡◌, ℕ, ◌+◌, ◌<◌, List, [], ◌∷
 use Rattle.std.proofs.Common.{take, drop, append_assoc, append-nil, sym, ap, ◌∙◌, arith}
 use Rattle.std.proofs.lemmas.List.{drop_more, take_min, drop_min}
 use Rattle.std.proofs.Math.ListN.{drop_of_length-le}
-use Rattle.encoder.specs.declared.fragment.Piece.{Piece}
+use Rattle.piece.specs.declared.piece.Piece.{Piece}
 use Rattle.coding_exports.specs.Pieces.{pieces_from}
 use Rattle.coding_exports.proofs.decode.pieces.Goals as goal
 

@@ -1,7 +1,7 @@
 use Rattle.std.proofs.Common.{◌≡◌, ◌⊎◌, ◌≤◌, List, length, take, IfOk, IfErr, sym, subst, ◌∙◌, arith}
 use Rattle.tag.specs.declared.refusal.Refusal.TheVariants.{BadPieces, NoMemory}
 use Rattle.dot_kernel.specs.Dot.{bytes_of}
-use Rattle.encoder.specs.declared.fragment.Piece.{Piece}
+use Rattle.piece.specs.declared.piece.Piece.{Piece}
 use Rattle.decoder.specs.Parts.{pieces_at}
 use Rattle.decoder.specs.Pieces.{AreOfBytes, HaveNoValue, IsInterpolated}
 use Rattle.decoder.proofs.PointAndFragmentLemmas.{pieces_at-slices, AreLawfulParts-slices}

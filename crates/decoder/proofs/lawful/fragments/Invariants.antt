@@ -1,5 +1,5 @@
 use Rattle.std.proofs.Common.{◌≡◌, ℕ, ◌<◌, length, get_or}
-use Rattle.encoder.specs.declared.fragment.Piece.{Piece}
+use Rattle.piece.specs.declared.piece.Piece.{Piece}
 use Rattle.dot_kernel.proofs.LaneSumLemmas.{no_slice}
 use Rattle.decoder.proofs.lawful.fragments.Given as goal
 

@@ -1,5 +1,5 @@
 use Rattle.std.proofs.Common.{ℕ, List, length, ap, ◌∙◌}
-use Rattle.encoder.specs.declared.fragment.Piece.{Piece}
+use Rattle.piece.specs.declared.piece.Piece.{Piece}
 use Rattle.encoder.proofs.PointSumLemmas.{fragment-cut}
 use Rattle.encoder.proofs.coded.piece_in.Goals as goal
 

@@ -1,6 +1,6 @@
 use Rattle.std.proofs.Common.{◌≡◌, ℕ, ◌||◌, true, false, Vec, Global, ◌∷◌, [], ◌++◌, length, sym, ap, ◌∙◌, arith}
 use Rattle.std.specs.Option.{option_copied}
-use Rattle.encoder.specs.declared.fragment.Piece.{Piece}
+use Rattle.piece.specs.declared.piece.Piece.{Piece}
 use Rattle.mail.specs.declared.message.Message.{Message}
 use Rattle.record.specs.Sending.{waits}
 use Rattle.register.specs.Coding.{piece_from}

@@ -1,5 +1,5 @@
 use Rattle.std.proofs.Common.{◌≡◌, ℕ, ◌≤◌, length}
-use Rattle.encoder.specs.declared.fragment.Piece.{Piece}
+use Rattle.piece.specs.declared.piece.Piece.{Piece}
 use Rattle.register.proofs.MemberLoopLemmas.{first_of, missing_for}
 use Rattle.register.proofs.requests.missing_count.Given as goal
 

@@ -1,6 +1,6 @@
 use Rattle.std.proofs.Common.{◌≡◌, ℕ, length, sym, ap, ◌∙◌, arith}
 use Rattle.std.specs.Option.{option_copied}
-use Rattle.encoder.specs.declared.fragment.Piece.{Piece}
+use Rattle.piece.specs.declared.piece.Piece.{Piece}
 use Rattle.register.specs.Coding.{piece_from}
 use Rattle.register.proofs.MemberLoopLemmas.{first_of, requests_for, requests_first}
 use Rattle.register.proofs.requests.requests.Goals as goal

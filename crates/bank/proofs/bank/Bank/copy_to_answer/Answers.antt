@@ -1,5 +1,5 @@
 use Rattle.std.proofs.Common.{◌≡◌, inl, inr, Option, IfOk, IsNone, option_copied, sym, ap, ◌∙◌, subst}
-use Rattle.encoder.specs.declared.fragment.Piece.{Piece}
+use Rattle.piece.specs.declared.piece.Piece.{Piece}
 use Rattle.bank.specs.Bank.{piece_of_row}
 use Rattle.bank.specs.Collect.{IsCollected}
 use Rattle.bank.proofs.FetchAnswerLemmas.{fetched_outside, fetched_row}

@@ -2,7 +2,7 @@ use Rattle.std.proofs.Common.{◌≡◌, ◌⊎◌, ℕ, ◌-◌, ◌++◌, List
 use Rattle.std.specs.Option.{option_copied}
 use Rattle.tag.specs.declared.refusal.Refusal.TheVariants.{Full, NoMemory}
 use Rattle.tag.specs.Refusal.{IsByCause}
-use Rattle.encoder.specs.declared.fragment.Piece.{Piece}
+use Rattle.piece.specs.declared.piece.Piece.{Piece}
 use Rattle.mail.specs.declared.message.Message.{Message}
 use Rattle.mail.specs.Mail.{mail_cause}
 use Rattle.phase.specs.Phase.{Phase}

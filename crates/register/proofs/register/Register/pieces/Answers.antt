@@ -1,6 +1,6 @@
 use Rattle.std.proofs.Common.{[], ◌≡◌, ℕ, suc, ◌+◌, length, take, None, Some, sym, ap, subst, ◌∙◌, inl, refl, arith, rules, Vec, Global}
 use Rattle.std.proofs.Common.{vec_len}
-use Rattle.encoder.specs.declared.fragment.Piece.{Piece}
+use Rattle.piece.specs.declared.piece.Piece.{Piece}
 use Rattle.register.specs.Coding.{pieces_below, piece_by}
 use Rattle.register.proofs.FoundCallLemmas.{is_found, wanting, below_those, few_those, current_again, not_settle}
 use Rattle.register.proofs.LeastPointLemmas.{take_none, least_pushed, least_full, pieces_cause_is, pieces_are}
