@@ -10,7 +10,7 @@ use Rattle.tag.proofs.TagOrderLemmas.{tag_cmp_total, tag_cmp-IsAntisymmetric, eq
 use Rattle.bank.specs.declared.row.Arrival.{Arrival}
 use Rattle.bank.specs.declared.row.Label.{Label}
 use Rattle.bank.specs.declared.row.Row.{Row}
-use Rattle.bank.specs.Bank.{Bank, with_rows, piece_of, piece_of_row, piece_that_came, knows}
+use Rattle.bank.specs.Bank.{Bank, with_rows, piece_of, piece_of_row, piece_that_came}
 use Rattle.bank.specs.Knowledge.{came_by, final_step, row_finalized, row_arrived, finalized_at, arrived_at, count_above, finals_above}
 use Rattle.bank.specs.Knowledge.{finals_above_at, exceeds, is_dropped, is_dropped_at, HadPiece, HoldsPiece}
 use Rattle.bank.specs.Collect.{emptied_arrival, emptied_row, kept_row, kept_entry, collected, KeepsAll, fetched_piece}
@@ -65,10 +65,6 @@ arrived-rest true (Some r) = arrival r.arrival
     arrival None = refl
     arrival (Some a) = refl
 
-known-rest : (drops : Bool) (o : Option Row) → is_some (option_map (rest drops) o) ≡ is_some o
-known-rest drops None = refl
-known-rest drops (Some r) = refl
-
 piece-rest : (drops : Bool) (o : Option Row) → piece_of_row (option_map (rest drops) o) ≡ cond drops None (piece_of_row o)
 piece-rest true None = refl
 piece-rest false None = refl
@@ -109,9 +105,6 @@ module _ (b : Bank) where
 
   pub arrived_at-collected : (t : Tag) → arrived_at (collected b) t ≡ arrived_at b t
   arrived_at-collected t = ap row_arrived (get-collected t) ∙ arrived-rest (is_dropped b t) (map.get b.rows t)
-
-  pub knows-collected : (t : Tag) → knows (collected b) t ≡ knows b t
-  knows-collected t = ap is_some (get-collected t) ∙ known-rest (is_dropped b t) (map.get b.rows t)
 
   -- a piece that is not kept is gone, each other one stays
   pub piece_of-collected : (t : Tag) → piece_of (collected b) t ≡ cond (is_dropped b t) None (piece_of b t)

@@ -33,9 +33,6 @@ less_is m n e = grind (arith, nat_tests)
 not_less : (m n : ℕ) → nat_lt m n ≡ false → m ≤ n → m ≡ n
 not_less m n e fits = grind (arith, nat_tests)
 
-equal_is : (m n : ℕ) → (m == n) ≡ true → m ≡ n
-equal_is m n e = grind (arith, nat_tests)
-
 is_equal : (m n : ℕ) → m ≡ n → (m == n) ≡ true
 is_equal m n e = grind (arith, nat_tests)
 

@@ -84,13 +84,6 @@ AreBlocksLeft-less old new done rows blocks size from table fragments long after
     let split : (done + rows) * size ≡ done * size + rows * size = omega arith in
     after (j * size + b) (omega (arith, mul-le-mul_right size hd)) ∙ known j b (omega arith) hj hb (omega arith)
 
--- where no block is left, all are made
-pub AreBlocksUntil-all : (out : List ℕ) (done blocks size until : ℕ) (table : List ℕ) (fragments : List (List ℕ))
-    → length out ≤ done * size → AreBlocksUntil out done size table fragments until
-    → AreBlocksUntil out blocks size table fragments until
-AreBlocksUntil-all out done blocks size until table fragments enough known j b hj hb there =
-    known j b (row_lt j done size (j * size + b) (omega arith) (omega arith)) hb there
-
 -- blocks that are made to their ends are the bytes of the blocks
 pub AreBlockBytes-until : (out : List ℕ) (blocks size until : ℕ) (table : List ℕ) (fragments : List (List ℕ))
     → length out ≤ blocks * size → size ≤ until → AreBlocksUntil out blocks size table fragments until

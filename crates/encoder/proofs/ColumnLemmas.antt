@@ -57,15 +57,6 @@ unfolding fragment
 get_or-fragment value k x b hb = get_or-map-range_with_len (fragment_byte value k x) 0 (fragment_len k (length value)) b b 0 hb
     (omega arith)
 
--- what has each byte of the fragment is the fragment
-pub same_as_fragment : (value : List ℕ) (k x : ℕ) (sum : List ℕ) → AreBytes value → x < 256 → length sum ≡ fragment_len k (length value)
-    → ((b : ℕ) → b < length sum → get_or sum b 0 ≡ evaluate (column value k (length sum) b) x) → sum ≡ fragment value k x
-same_as_fragment value k x sum bytes hx len h =
-    same_number_lists sum (fragment value k x) (len ∙ sym (length-fragment value k x))
-    (λ b hb.
-    h b hb ∙ ap (λ f. evaluate (column value k f b) x) len
-    ∙ sym (get_or-fragment value k x b (omega arith) ∙ fragment_byte-column value k x b bytes hx))
-
 -- each byte of a fragment is a byte
 pub AreBytes-fragment : (value : List ℕ) (k x : ℕ) → AreBytes value → x < 256 → AreBytes (fragment value k x)
 AreBytes-fragment value k x bytes hx =

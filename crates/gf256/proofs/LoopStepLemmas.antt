@@ -1,12 +1,12 @@
 -- One step of the loops of `mul` and `pow`.
 use Rattle.std.proofs.Common.{◌≡◌, ℕ, suc, ◌+◌, ◌*◌, ◌/◌, ◌%◌, ◌^◌, ◌<◌, bit_xor, refl, sym, ap, ◌∙◌}
-use Rattle.std.proofs.Common.{true, eqb, eqb-true, arith, lit<, mod-lt, pow_pos, one-mul, zero-mul}
+use Rattle.std.proofs.Common.{true, eqb, eqb-true, arith, mod-lt, pow_pos, one-mul, zero-mul}
 use Rattle.std.specs.Int.Bits.{xor_comm, xor_shifted, xor_zero_r}
 use Rattle.std.specs.Int.{bit_at}
 use Rattle.std.proofs.lemmas.Nat.{mod-pow-add}
 use Rattle.gf256.specs.Field.{field_product, field_power, remainder, polynomial_product}
 use Rattle.gf256.proofs.AdditiveFunctionLemmas.{all_below, all_below-at}
-use Rattle.gf256.proofs.FieldLemmas.{product_assoc, product-sum_left, power_lt, power-suc, power-square}
+use Rattle.gf256.proofs.FieldLemmas.{product_assoc, power_lt, power-suc, power-square}
 
 -- x^i is the power i of x, by computing
 powers_of_two : all_below 8 (λ i. eqb (field_power 2 i) (2 ^ i)) ≡ true
@@ -32,19 +32,6 @@ pub low_bits_clear : (a i : ℕ) → bit_at a i ≡ 0 → a % 2 ^ (i + 1) ≡ a 
 low_bits_clear a i clear =
     low_bits_more a i ∙ ap (λ d. bit_xor (a % 2 ^ i) (d * 2 ^ i)) clear ∙ ap (bit_xor (a % 2 ^ i)) (zero-mul (2 ^ i))
     ∙ xor_zero_r (a % 2 ^ i)
-
-pub product_more_set : (a b i : ℕ) → i < 8 → bit_at a i ≡ 1
-    → field_product (a % 2 ^ (i + 1)) b ≡ bit_xor (field_product (a % 2 ^ i) b) (field_product (field_power 2 i) b)
-product_more_set a b i hi set = ap (λ x. field_product x b) (low_bits_set a i hi set) ∙ product-sum_left (a % 2 ^ i) (field_power 2 i) b
-
-pub product_more_clear : (a b i : ℕ) → bit_at a i ≡ 0 → field_product (a % 2 ^ (i + 1)) b ≡ field_product (a % 2 ^ i) b
-product_more_clear a b i clear = ap (λ x. field_product x b) (low_bits_clear a i clear)
-
-pub power_of_two_more : (b i : ℕ) → b < 256 → field_product 2 (field_product (field_power 2 i) b) ≡ field_product (field_power 2 (i + 1)) b
-power_of_two_more b i hb =
-    let e : suc i ≡ i + 1 = omega arith in
-    sym (product_assoc 2 (field_power 2 i) b (lit< tt) (power_lt 2 i (lit< tt)) hb)
-    ∙ ap (λ x. field_product x b) (sym (power-suc 2 i) ∙ ap (field_power 2) e)
 
 -- the base is squared and the exponent halved
 pub power_half_even : (base left : ℕ) → base < 256 → left % 2 ≡ 0 → field_power (field_product base base) (left / 2) ≡ field_power base left

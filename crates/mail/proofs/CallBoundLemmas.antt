@@ -1,6 +1,6 @@
 -- The bounds beside messages: what a call makes of them, and what they tell.
-use Rattle.std.proofs.Common.{◌≡◌, ◌≢◌, ℕ, zero, suc, ◌+◌, ◌-◌, ◌<◌, ◌≤◌, max, List, [], ◌∷◌, ◌++◌, length, Option, Some, None, slice_get}
-use Rattle.std.proofs.Common.{get_or, slice_set, drop, refl, sym, ap, ◌∙◌, arith, append_assoc}
+use Rattle.std.proofs.Common.{◌≡◌, ◌≢◌, ℕ, zero, suc, ◌+◌, ◌-◌, ◌<◌, ◌≤◌, max, List, [], ◌∷◌, ◌++◌, length, Some, slice_get}
+use Rattle.std.proofs.Common.{get_or, slice_set, refl, sym, ap, ◌∙◌, arith}
 use Rattle.std.specs.List.{remove}
 use Rattle.mail.specs.declared.message.Message.{Message}
 use Rattle.mail.specs.Bounds.{AreOthers, AreBounds, AreRising, bounds_from, last_bound}
@@ -97,32 +97,3 @@ last_at least (b ∷ []) bound at = same_first b bound at
 last_at least (b ∷ c ∷ bs) bound at =
     let e : length (b ∷ c ∷ bs) - 1 ≡ suc (length (c ∷ bs) - 1) = omega arith in
     last_at b (c ∷ bs) bound (ap (slice_get (b ∷ c ∷ bs)) (sym e) ∙ at)
-
-pub last_none : (least : ℕ) (bounds : List ℕ) → slice_get bounds (length bounds - 1) ≡ None → last_bound least bounds ≡ least
-last_none least [] at = refl
-last_none least (b ∷ []) at = absurd (cc)
-last_none least (b ∷ c ∷ bs) at =
-    let e : length (b ∷ c ∷ bs) - 1 ≡ suc (length (c ∷ bs) - 1) = omega arith in
-    absurd (never (c ∷ bs) (omega arith) (ap (slice_get (b ∷ c ∷ bs)) (sym e) ∙ at))
-  where
-    never : (bs : List ℕ) → 0 < length bs → slice_get bs (length bs - 1) ≡ None → ⊥
-    never [] some at = omega arith
-    never (b ∷ []) some at = cc
-    never (b ∷ c ∷ bs) some at =
-        let e : length (b ∷ c ∷ bs) - 1 ≡ suc (length (c ∷ bs) - 1) = omega arith in
-        never (c ∷ bs) (omega arith) (ap (slice_get (b ∷ c ∷ bs)) (sym e) ∙ at)
-
--- one more message has its bound
-pub bounds_next : (least place : ℕ) (messages : List Message) (message : Message) (before : List ℕ)
-    → slice_get messages place ≡ Some message
-    → before ++ bounds_from least (drop place messages)
-    ≡ (before ++ max least message.call ∷ []) ++ bounds_from (max least message.call) (drop (place + 1) messages)
-bounds_next least place messages message before at =
-    ap (λ ms. before ++ bounds_from least ms) (dropped place messages at)
-    ∙ sym (append_assoc before (max least message.call ∷ []) (bounds_from (max least message.call) (drop (place + 1) messages)))
-  where
-    dropped : (n : ℕ) (ms : List Message) → slice_get ms n ≡ Some message → drop n ms ≡ message ∷ drop (n + 1) ms
-    dropped n [] e = absurd (cc)
-    dropped zero (m ∷ ms) e = ap (λ x. x ∷ ms) (same_first m message e)
-    dropped (suc n) (m ∷ ms) e =
-        dropped n ms e ∙ ap (λ i. message ∷ drop i (m ∷ ms)) (let s : suc (n + 1) ≡ suc n + 1 = omega arith in s)

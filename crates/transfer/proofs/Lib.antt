@@ -1,2 +1,1 @@
-pub mod NextPositionLemmas
 mod MoveStageLemmas
