@@ -6,6 +6,7 @@ pub mod DigitLemmas
 pub mod NumberRoundTripLemmas
 pub mod StringRoundTripLemmas
 pub mod FrameRoundTripLemmas
+pub mod CutFrameLemmas
 pub mod ReadSequenceLemmas
 pub mod ReadByteLemmas
 pub mod ReadNumberLemmas

@@ -1,6 +1,7 @@
 -- The contracts that docs/trusted.md lists do not depend on this file; other contracts and proofs do.
 -- What is written is read back, and nothing else is read.
-use Rattle.std.specs.Prelude.{◌≡◌, ◌++◌, ℕ, List, Some, Ok}
+use Rattle.std.specs.Prelude.{◌≡◌, ◌++◌, ℕ, List, [], Some, Ok, Err}
+use Rattle.frames.specs.declared.error.Fault.TheVariants.{UnexpectedEnd}
 use Rattle.frames.specs.Frame.{IsFrame, frame_bytes}
 use Rattle.frames.specs.Reading.{frame_at}
 
@@ -18,3 +19,8 @@ ReadWasWritten = (bytes : List ℕ) (strings : List (List ℕ)) (rest : List ℕ
 abbrev pub BeginsOneFrame : Type 0
 BeginsOneFrame = (f g : List (List ℕ)) (x y : List ℕ) → IsFrame f → IsFrame g
     → frame_bytes f ++ x ≡ frame_bytes g ++ y → (f ≡ g) × (x ≡ y)
+
+-- where the bytes of a frame are cut, and some are left, they are read as bytes that end within a frame
+abbrev pub CutEndsEarly : Type 0
+CutEndsEarly = (strings : List (List ℕ)) (front back : List ℕ) → IsFrame strings → frame_bytes strings ≡ front ++ back
+    → (front ≡ [] → ⊥) → (back ≡ [] → ⊥) → frame_at front ≡ Err (UnexpectedEnd, [])

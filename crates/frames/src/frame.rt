@@ -3,7 +3,7 @@ ghost use Rattle.std.specs.List.{list_all};
 ghost use Rattle.frames.specs.declared.error.Fault.TheVariants.{TooManyStrings, StringTooLong};
 ghost use Rattle.frames.specs.declared.limits.TheConstants.{MOST_STRINGS, LONGEST_STRING};
 ghost use Rattle.frames.specs.Frame.{IsFrame, IsRefused};
-ghost use Rattle.frames.specs.Laws.{WrittenIsRead, ReadWasWritten, BeginsOneFrame};
+ghost use Rattle.frames.specs.Laws.{WrittenIsRead, ReadWasWritten, BeginsOneFrame, CutEndsEarly};
 
 use crate::error::Fault;
 use crate::limits::{LONGEST_STRING, MOST_STRINGS};
@@ -69,11 +69,13 @@ impl Frame {
 }
 
 /// A law: a frame that is written is read back, and exactly the bytes behind it are left; what is read as a frame
-/// stands there as it is written; and where two frames begin the same bytes, they are the same frame.
+/// stands there as it is written; where two frames begin the same bytes, they are the same frame; and the bytes of a
+/// frame that are cut short are the fault `UnexpectedEnd`.
 pub fn frames_are_read_back()
     ensures written { WrittenIsRead }
     ensures read { ReadWasWritten }
     ensures one { BeginsOneFrame }
+    ensures cut { CutEndsEarly }
 {}
 
 /// A law: the value of each limit, written out, so that a changed limit breaks this contract.
