@@ -12,6 +12,7 @@ pub use history_lines::HistoryLines;
 pub use mail_lines::MailLines;
 pub use outcome::Outcome;
 pub use sequence_line::SequenceLine;
+pub use vocabulary::{kind_word, operation_word};
 
 mod account_line;
 mod answer_line;
