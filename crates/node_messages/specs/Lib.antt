@@ -1,0 +1,7 @@
+pub mod Words
+pub mod Message
+pub mod Strings
+pub mod Numbers
+pub mod Reading
+pub mod Writing
+pub mod Laws
