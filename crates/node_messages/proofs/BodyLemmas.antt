@@ -16,146 +16,17 @@ use Rattle.mail.specs.declared.message.Body.{Body}
 use Rattle.mail.specs.declared.message.Body.TheVariants as body
 use Rattle.node_messages.specs.declared.error.Fault.{Fault}
 use Rattle.node_messages.specs.Message.{is_answer_to, IsKind, IsRequest, IsAnswer, IsPiece, IsBody}
-use Rattle.node_messages.specs.Numbers.{◌>>=◌}
+use Rattle.node_messages.specs.Numbers.{and_then}
 use Rattle.node_messages.specs.Strings.{Strings, piece_strings, kind_strings, request_rest, held_strings, answer_strings, body_strings}
-use Rattle.node_messages.specs.Reading.{string_at, number_at, tag_at, piece_at, status_at, kind_tagged, kind_from, kind_at, request_at, held_at, answer_at}
+use Rattle.node_messages.specs.Reading.{string_at, number_at, tag_at, piece_at, status_at, kind_tagged, kind_from, kind_at}
+use Rattle.node_messages.specs.Reading.{request_at, held_at, answer_at}
 use Rattle.node_messages.specs.Reading.{reply_at, body_from, body_at}
 use Rattle.node_messages.specs.Words.{is_request_from, is_piece_from}
 use Rattle.node_messages.proofs.PartLemmas.{bind_ok, is_word, ok_is}
 use Rattle.node_messages.proofs.WordLemmas.{role_word, role_ok, role_again, piece_word, is_piece_ok, is_piece_again}
 use Rattle.node_messages.proofs.FieldLemmas.{string_ok, string_again, number_at_ok, number_at_again, tag_ok, tag_again}
 use Rattle.node_messages.proofs.FieldLemmas.{piece_ok, piece_again, status_at_ok, status_at_again}
-
--- ---- kinds
-
--- the word and what stands behind it are those of the kind
-abbrev KindIs : List ℕ → Strings → Kind × Strings → Type 0
-KindIs word rest x = (word ∷ rest ≡ kind_strings x.0 ++ x.1) × IsKind x.0
-
-abbrev read_kind : Kind × Strings → Result (Kind × Strings) Fault
-read_kind x = Ok x
-
-kind_alone : (word : List ℕ) (rest : Strings) (k : Kind) (x : Kind × Strings) → word ∷ rest ≡ kind_strings k ++ rest → IsKind k
-    → read_kind (k, rest) ≡ read_kind x → KindIs word rest x
-kind_alone word rest k x whole fits e = subst (KindIs word rest) (ok_is (k, rest) x e) (whole, fits)
-
-spread_is : (word : List ℕ) (rest : Strings) (x : Kind × Strings) → word ≡ codes "spread"
-    → (status_at rest >>= λ found. Ok (kind.Spread found.0, found.1)) ≡ Ok x → KindIs word rest x
-spread_is word rest x is e =
-    let a = bind_ok (status_at rest) (λ found. Ok (kind.Spread found.0, found.1)) x e in
-    let whole : word ∷ rest ≡ kind_strings (kind.Spread a.0.0) ++ a.0.1 =
-    ap (λ (w : List ℕ). w ∷ rest) is ∙ ap (λ (r : Strings). codes "spread" ∷ r) (status_at_ok rest a.0 a.1) in
-    subst (KindIs word rest) (ok_is (kind.Spread a.0.0, a.0.1) x a.2) (whole, tt)
-
-pre_write_is : (word : List ℕ) (rest : Strings) (x : Kind × Strings) → word ≡ codes "pre-write"
-    → (tag_at rest >>= λ tag. Ok (kind.PreWrite tag.0, tag.1)) ≡ Ok x → KindIs word rest x
-pre_write_is word rest x is e =
-    let a = bind_ok (tag_at rest) (λ tag. Ok (kind.PreWrite tag.0, tag.1)) x e in
-    let t = tag_ok rest a.0 a.1 in
-    let whole : word ∷ rest ≡ kind_strings (kind.PreWrite a.0.0) ++ a.0.1 =
-    ap (λ (w : List ℕ). w ∷ rest) is ∙ ap (λ (r : Strings). codes "pre-write" ∷ r) t.0 in
-    subst (KindIs word rest) (ok_is (kind.PreWrite a.0.0, a.0.1) x a.2) (whole, t.1)
-
-finalize_is : (word : List ℕ) (rest : Strings) (x : Kind × Strings) → word ≡ codes "finalize"
-    → (tag_at rest >>= λ tag. Ok (kind.Finalize tag.0, tag.1)) ≡ Ok x → KindIs word rest x
-finalize_is word rest x is e =
-    let a = bind_ok (tag_at rest) (λ tag. Ok (kind.Finalize tag.0, tag.1)) x e in
-    let t = tag_ok rest a.0 a.1 in
-    let whole : word ∷ rest ≡ kind_strings (kind.Finalize a.0.0) ++ a.0.1 =
-    ap (λ (w : List ℕ). w ∷ rest) is ∙ ap (λ (r : Strings). codes "finalize" ∷ r) t.0 in
-    subst (KindIs word rest) (ok_is (kind.Finalize a.0.0, a.0.1) x a.2) (whole, t.1)
-
-fetch_is : (word : List ℕ) (rest : Strings) (x : Kind × Strings) → word ≡ codes "fetch"
-    → (tag_at rest >>= λ tag. Ok (kind.Fetch tag.0, tag.1)) ≡ Ok x → KindIs word rest x
-fetch_is word rest x is e =
-    let a = bind_ok (tag_at rest) (λ tag. Ok (kind.Fetch tag.0, tag.1)) x e in
-    let t = tag_ok rest a.0 a.1 in
-    let whole : word ∷ rest ≡ kind_strings (kind.Fetch a.0.0) ++ a.0.1 =
-    ap (λ (w : List ℕ). w ∷ rest) is ∙ ap (λ (r : Strings). codes "fetch" ∷ r) t.0 in
-    subst (KindIs word rest) (ok_is (kind.Fetch a.0.0, a.0.1) x a.2) (whole, t.1)
-
--- the word is none of the first three
-tag_kind_ok : (word : List ℕ) (rest : Strings) (x : Kind × Strings)
-    → kind_tagged word rest ≡ Ok x → KindIs word rest x
-unfolding kind_tagged
-tag_kind_ok word rest x e =
-    elim (is_word word (codes "pre-write") (tag_at rest >>= λ tag. Ok (kind.PreWrite tag.0, tag.1)) _ x e) [
-      | inl h ↦ pre_write_is word rest x h.0 h.1
-      | inr e2 ↦ elim (is_word word (codes "finalize") (tag_at rest >>= λ tag. Ok (kind.Finalize tag.0, tag.1)) _ x e2) [
-        | inl h ↦ finalize_is word rest x h.0 h.1
-        | inr e3 ↦ elim (is_word word (codes "fetch") (tag_at rest >>= λ tag. Ok (kind.Fetch tag.0, tag.1)) _ x e3) [
-          | inl h ↦ fetch_is word rest x h.0 h.1
-          | inr e4 ↦ absurd cc
-        ]
-      ]
-    ]
-
-kind_from_ok : (word : List ℕ) (rest : Strings) (x : Kind × Strings) → kind_from word rest ≡ Ok x → KindIs word rest x
-unfolding kind_from
-kind_from_ok word rest x e =
-    elim (is_word word (codes "next") (Ok (kind.Next, rest)) _ x e) [
-      | inl h ↦ kind_alone word rest kind.Next x (ap (λ (w : List ℕ). w ∷ rest) h.0) tt h.1
-      | inr e2 ↦ elim (is_word word (codes "spread") (status_at rest >>= λ found. Ok (kind.Spread found.0, found.1)) _ x e2) [
-        | inl h ↦ spread_is word rest x h.0 h.1
-        | inr e3 ↦ elim (is_word word (codes "query") (Ok (kind.Query, rest)) _ x e3) [
-          | inl h ↦ kind_alone word rest kind.Query x (ap (λ (w : List ℕ). w ∷ rest) h.0) tt h.1
-          | inr e4 ↦ tag_kind_ok word rest x e4
-        ]
-      ]
-    ]
-
-pub kind_ok : (strings : Strings) (x : Kind × Strings) → kind_at strings ≡ Ok x → (strings ≡ kind_strings x.0 ++ x.1) × IsKind x.0
-unfolding kind_at
-kind_ok strings x e =
-    let a = bind_ok (string_at strings) (λ word. kind_from word.0 word.1) x e in
-    let k = kind_from_ok a.0.0 a.0.1 x a.2 in
-    (string_ok strings a.0 a.1 ∙ k.0, k.1)
-
-pub kind_again : (k : Kind) (rest : Strings) → IsKind k → kind_at (kind_strings k ++ rest) ≡ Ok (k, rest)
-unfolding kind_at kind_from kind_tagged string_at
-kind_again kind.Next rest fits = refl
-kind_again (kind.Spread found) rest fits = rw (status_at_again found rest) refl
-kind_again kind.Query rest fits = refl
-kind_again (kind.PreWrite tag) rest fits = rw (tag_again tag rest fits) refl
-kind_again (kind.Finalize tag) rest fits = rw (tag_again tag rest fits) refl
-kind_again (kind.Fetch tag) rest fits = rw (tag_again tag rest fits) refl
-
--- ---- requests
-
-abbrev RequestIs : Kind → Strings → Request × Strings → Type 0
-RequestIs k rest x = (kind_of x.0 ≡ k) × (rest ≡ request_rest x.0 ++ x.1) × IsRequest x.0
-
-pub request_ok : (k : Kind) (rest : Strings) (x : Request × Strings) → IsKind k → request_at k rest ≡ Ok x → RequestIs k rest x
-unfolding request_at
-request_ok kind.Next rest x fits e = subst (RequestIs kind.Next rest) (ok_is (request.Next, rest) x e) (refl, refl, tt)
-request_ok (kind.Spread found) rest x fits e =
-    subst (RequestIs (kind.Spread found) rest) (ok_is (request.Spread found, rest) x e) (refl, refl, tt)
-request_ok kind.Query rest x fits e = subst (RequestIs kind.Query rest) (ok_is (request.Query, rest) x e) (refl, refl, tt)
-request_ok (kind.PreWrite tag) rest x fits e =
-    let a = bind_ok (piece_at rest) (λ piece. Ok (request.PreWrite tag piece.0, piece.1)) x e in
-    let p = piece_ok rest a.0 a.1 in
-    subst (RequestIs (kind.PreWrite tag) rest) (ok_is (request.PreWrite tag a.0.0, a.0.1) x a.2) (refl, p.0, (fits, p.1))
-request_ok (kind.Finalize tag) rest x fits e =
-    subst (RequestIs (kind.Finalize tag) rest) (ok_is (request.Finalize tag, rest) x e) (refl, refl, fits)
-request_ok (kind.Fetch tag) rest x fits e =
-    subst (RequestIs (kind.Fetch tag) rest) (ok_is (request.Fetch tag, rest) x e) (refl, refl, fits)
-
-pub request_again : (q : Request) (rest : Strings) → IsRequest q → request_at (kind_of q) (request_rest q ++ rest) ≡ Ok (q, rest)
-unfolding request_at
-request_again request.Next rest fits = refl
-request_again (request.Spread found) rest fits = refl
-request_again request.Query rest fits = refl
-request_again (request.PreWrite tag piece) rest fits = rw (piece_again piece rest fits.1) refl
-request_again (request.Finalize tag) rest fits = refl
-request_again (request.Fetch tag) rest fits = refl
-
-pub request_kind : (q : Request) → IsRequest q → IsKind (kind_of q)
-request_kind request.Next fits = tt
-request_kind (request.Spread found) fits = tt
-request_kind request.Query fits = tt
-request_kind (request.PreWrite tag piece) fits = fits.0
-request_kind (request.Finalize tag) fits = fits
-request_kind (request.Fetch tag) fits = fits
+use Rattle.node_messages.proofs.KindLemmas.{kind_ok, kind_again, request_ok, request_again, request_kind}
 
 -- ---- answers
 
@@ -164,7 +35,7 @@ HeldIs strings x = (strings ≡ held_strings x.0 ++ x.1) × IfSome x.0 IsPiece
 
 -- what stands behind the word for a piece, or for none
 abbrev after_piece_word : Bool → Strings → Result (Option Piece × Strings) Fault
-after_piece_word b rest = cond b (piece_at rest >>= λ piece. Ok (Some piece.0, piece.1)) (Ok (None, rest))
+after_piece_word b rest = cond b (and_then (piece_at rest) (λ piece. Ok (Some piece.0, piece.1))) (Ok (None, rest))
 
 held_behind : (b : Bool) (rest : Strings) (x : Option Piece × Strings) → after_piece_word b rest ≡ Ok x → HeldIs (piece_word b ∷ rest) x
 held_behind true rest x e =
@@ -176,7 +47,7 @@ held_behind false rest x e = subst (HeldIs (codes "none" ∷ rest)) (ok_is (None
 held_ok : (strings : Strings) (x : Option Piece × Strings) → held_at strings ≡ Ok x → HeldIs strings x
 unfolding held_at
 held_ok strings x e =
-    let a = bind_ok (string_at strings) (λ word. is_piece_from word.0 >>= λ b. after_piece_word b word.1) x e in
+    let a = bind_ok (string_at strings) (λ word. and_then (is_piece_from word.0) (λ b. after_piece_word b word.1)) x e in
     let b = bind_ok (is_piece_from a.0.0) (λ b. after_piece_word b a.0.1) x a.2 in
     let h = held_behind b.0 a.0.1 x b.2 in
     (string_ok strings a.0 a.1 ∙ ap (λ (w : List ℕ). w ∷ a.0.1) (is_piece_ok a.0.0 b.0 b.1) ∙ h.0, h.1)
@@ -184,7 +55,8 @@ held_ok strings x e =
 held_again : (held : Option Piece) (rest : Strings) → IfSome held IsPiece → held_at (held_strings held ++ rest) ≡ Ok (held, rest)
 unfolding held_at
 held_again None rest fits = rw (string_again (codes "none") rest, is_piece_again false) refl
-held_again (Some piece) rest fits = rw (string_again (codes "piece") (piece_strings piece ++ rest), is_piece_again true, piece_again piece rest fits) refl
+held_again (Some piece) rest fits =
+    rw (string_again (codes "piece") (piece_strings piece ++ rest), is_piece_again true, piece_again piece rest fits) refl
 
 abbrev AnswerIs : Kind → Strings → Answer × Strings → Type 0
 AnswerIs k rest x = (rest ≡ answer_strings x.0 ++ x.1) × IsAnswer x.0 × (is_answer_to k x.0 ≡ true)
@@ -209,7 +81,8 @@ answer_ok (kind.Fetch tag) rest x e =
     let h = held_ok rest a.0 a.1 in
     subst (AnswerIs (kind.Fetch tag) rest) (ok_is (answer.Piece a.0.0, a.0.1) x a.2) (h.0, h.1, refl)
 
-answer_again : (k : Kind) (a : Answer) (rest : Strings) → IsAnswer a → is_answer_to k a ≡ true → answer_at k (answer_strings a ++ rest) ≡ Ok (a, rest)
+answer_again : (k : Kind) (a : Answer) (rest : Strings) → IsAnswer a → is_answer_to k a ≡ true
+    → answer_at k (answer_strings a ++ rest) ≡ Ok (a, rest)
 unfolding answer_at
 answer_again kind.Next answer.Done rest fits to = absurd cc
 answer_again kind.Next (answer.Pointer found) rest fits to = rw (status_at_again found rest) refl
@@ -245,8 +118,8 @@ ReplyIs k rest x = (rest ≡ (decimal x.0.step ∷ answer_strings x.0.answer) ++
 reply_ok : (k : Kind) (rest : Strings) (x : Reply × Strings) → reply_at k rest ≡ Ok x → ReplyIs k rest x
 unfolding reply_at
 reply_ok k rest x e =
-    let a = bind_ok (number_at (2 ^ 64 - 1) rest) (λ step. answer_at k step.1 >>= λ answer.
-    Ok (record { step = step.0; answer = answer.0 }, answer.1)) x e in
+    let a = bind_ok (number_at (2 ^ 64 - 1) rest) (λ step. and_then (answer_at k step.1) (λ answer.
+    Ok (record { step = step.0; answer = answer.0 }, answer.1))) x e in
     let b = bind_ok (answer_at k a.0.1) (λ answer. Ok (record { step = a.0.0; answer = answer.0 }, answer.1)) x a.2 in
     let step = number_at_ok (2 ^ 64 - 1) rest a.0 (omega arith) (omega arith) a.1 in
     let found = answer_ok k a.0.1 b.0 b.1 in
@@ -290,8 +163,9 @@ body_from_ok false k rest x fits e =
 pub body_ok : (strings : Strings) (x : Body × Strings) → body_at strings ≡ Ok x → (strings ≡ body_strings x.0 ++ x.1) × IsBody x.0
 unfolding body_at
 body_ok strings x e =
-    let a = bind_ok (string_at strings) (λ word. is_request_from word.0 >>= λ b. kind_at word.1 >>= λ k. body_from b k.0 k.1) x e in
-    let b = bind_ok (is_request_from a.0.0) (λ b. kind_at a.0.1 >>= λ k. body_from b k.0 k.1) x a.2 in
+    let a = bind_ok (string_at strings) (λ word. and_then (is_request_from word.0) (λ b. and_then (kind_at word.1) (λ k.
+    body_from b k.0 k.1))) x e in
+    let b = bind_ok (is_request_from a.0.0) (λ b. and_then (kind_at a.0.1) (λ k. body_from b k.0 k.1)) x a.2 in
     let k = bind_ok (kind_at a.0.1) (λ k. body_from b.0 k.0 k.1) x b.2 in
     let found = kind_ok a.0.1 k.0 k.1 in
     let whole = body_from_ok b.0 k.0.0 k.0.1 x found.1 k.2 in

@@ -12,9 +12,10 @@ use Rattle.bank.specs.declared.status.Status.{Status}
 use Rattle.node_messages.specs.declared.error.Fault.TheVariants.{BadDigest, NameTooLong, BadLayout, NoMember}
 use Rattle.node_messages.specs.declared.message.TheConstants.{DIGEST_LENGTH}
 use Rattle.node_messages.specs.Message.{IsTag, IsPiece}
-use Rattle.node_messages.specs.Numbers.{◌>>=◌, number_from}
+use Rattle.node_messages.specs.Numbers.{and_then, number_from}
 use Rattle.node_messages.specs.Strings.{Strings, layout_string, tag_strings, piece_strings, next_strings}
-use Rattle.node_messages.specs.Reading.{string_at, number_at, tag_at, piece_at, status_at, is_lawful, checked_layout, layout_from, layout_at}
+use Rattle.node_messages.specs.Reading.{string_at, number_at, tag_at, piece_at, status_at, is_lawful, checked_layout}
+use Rattle.node_messages.specs.Reading.{layout_from, layout_at}
 use Rattle.node_messages.specs.Reading.{digest_from, digest_at, name_at, member_at, next_at}
 use Rattle.node_messages.specs.Words.{status_word, status_from}
 use Rattle.node_messages.proofs.PartLemmas.{bind_ok, guarded, guarded_above, ok_is}
@@ -37,7 +38,7 @@ pub number_at_ok : (most : ℕ) (strings : Strings) (x : ℕ × Strings) → 9 �
     → (strings ≡ decimal x.0 ∷ x.1) × (x.0 ≤ most)
 unfolding number_at
 number_at_ok most strings x nine lt e =
-    let a = bind_ok (string_at strings) (λ string. number_from most string.0 >>= λ n. Ok (n, string.1)) x e in
+    let a = bind_ok (string_at strings) (λ string. and_then (number_from most string.0) (λ n. Ok (n, string.1))) x e in
     let b = bind_ok (number_from most a.0.0) (λ n. Ok (n, a.0.1)) x a.2 in
     let number = number_ok most a.0.0 b.0 nine lt b.1 in
     subst (λ (y : ℕ × Strings). (strings ≡ decimal y.0 ∷ y.1) × (y.0 ≤ most)) (ok_is (b.0, a.0.1) x b.2)
@@ -52,8 +53,8 @@ number_at_again most n rest le lt = rw (number_again most n le lt) refl
 pub tag_ok : (strings : Strings) (x : Tag × Strings) → tag_at strings ≡ Ok x → (strings ≡ tag_strings x.0 ++ x.1) × IsTag x.0
 unfolding tag_at
 tag_ok strings x e =
-    let a = bind_ok (number_at (2 ^ 64 - 1) strings) (λ number. number_at (2 ^ 64 - 1) number.1 >>= λ call.
-    Ok (record { number = number.0; call = call.0 }, call.1)) x e in
+    let a = bind_ok (number_at (2 ^ 64 - 1) strings) (λ number. and_then (number_at (2 ^ 64 - 1) number.1) (λ call.
+    Ok (record { number = number.0; call = call.0 }, call.1))) x e in
     let b = bind_ok (number_at (2 ^ 64 - 1) a.0.1) (λ call. Ok (record { number = a.0.0; call = call.0 }, call.1)) x a.2 in
     let number = number_at_ok (2 ^ 64 - 1) strings a.0 (omega arith) (omega arith) a.1 in
     let call = number_at_ok (2 ^ 64 - 1) a.0.1 b.0 (omega arith) (omega arith) b.1 in
@@ -72,10 +73,10 @@ tag_again t rest fits =
 pub piece_ok : (strings : Strings) (x : Piece × Strings) → piece_at strings ≡ Ok x → (strings ≡ piece_strings x.0 ++ x.1) × IsPiece x.0
 unfolding piece_at
 piece_ok strings x e =
-    let a = bind_ok (number_at (2 ^ 8 - 1) strings) (λ point. number_at (2 ^ 32 - 1) point.1 >>= λ len. string_at len.1 >>= λ bytes.
-    Ok (record { point = point.0; len = len.0; bytes = bytes.0 }, bytes.1)) x e in
-    let b = bind_ok (number_at (2 ^ 32 - 1) a.0.1) (λ len. string_at len.1 >>= λ bytes.
-    Ok (record { point = a.0.0; len = len.0; bytes = bytes.0 }, bytes.1)) x a.2 in
+    let a = bind_ok (number_at (2 ^ 8 - 1) strings) (λ point. and_then (number_at (2 ^ 32 - 1) point.1) (λ len.
+    and_then (string_at len.1) (λ bytes. Ok (record { point = point.0; len = len.0; bytes = bytes.0 }, bytes.1)))) x e in
+    let b = bind_ok (number_at (2 ^ 32 - 1) a.0.1) (λ len. and_then (string_at len.1) (λ bytes.
+    Ok (record { point = a.0.0; len = len.0; bytes = bytes.0 }, bytes.1))) x a.2 in
     let c = bind_ok (string_at b.0.1) (λ bytes. Ok (record { point = a.0.0; len = b.0.0; bytes = bytes.0 }, bytes.1)) x b.2 in
     let point = number_at_ok (2 ^ 8 - 1) strings a.0 (omega arith) (omega arith) a.1 in
     let len = number_at_ok (2 ^ 32 - 1) a.0.1 b.0 (omega arith) (omega arith) b.1 in
@@ -98,7 +99,7 @@ piece_again p rest fits =
 pub status_at_ok : (strings : Strings) (x : Status × Strings) → status_at strings ≡ Ok x → strings ≡ status_word x.0 ∷ x.1
 unfolding status_at
 status_at_ok strings x e =
-    let a = bind_ok (string_at strings) (λ word. status_from word.0 >>= λ s. Ok (s, word.1)) x e in
+    let a = bind_ok (string_at strings) (λ word. and_then (status_from word.0) (λ s. Ok (s, word.1))) x e in
     let b = bind_ok (status_from a.0.0) (λ s. Ok (s, a.0.1)) x a.2 in
     subst (λ (y : Status × Strings). strings ≡ status_word y.0 ∷ y.1) (ok_is (b.0, a.0.1) x b.2)
     (string_ok strings a.0 a.1 ∙ ap (λ (s : List ℕ). s ∷ a.0.1) (status_ok a.0.0 b.0 b.1))
@@ -134,7 +135,7 @@ layout_refused layout unlawful = refuses layout (is_lawful layout) (λ e. unlawf
 pub layout_ok : (strings : Strings) (x : Layout × Strings) → layout_at strings ≡ Ok x → (strings ≡ layout_string x.0 ∷ x.1) × IsLawful x.0
 unfolding layout_at
 layout_ok strings x e =
-    let a = bind_ok (string_at strings) (λ string. layout_from string.0 >>= λ layout. Ok (layout, string.1)) x e in
+    let a = bind_ok (string_at strings) (λ string. and_then (layout_from string.0) (λ layout. Ok (layout, string.1))) x e in
     let b = bind_ok (layout_from a.0.0) (λ layout. Ok (layout, a.0.1)) x a.2 in
     let l = layout_from_ok a.0.0 b.0 b.1 in
     subst (λ (y : Layout × Strings). (strings ≡ layout_string y.0 ∷ y.1) × IsLawful y.0) (ok_is (b.0, a.0.1) x b.2)
@@ -156,7 +157,8 @@ next_ok false strings x e =
     subst (λ (y : Option Layout × Strings). (strings ≡ next_strings y.0 ++ y.1) × (is_some y.0 ≡ false) × IfSome y.0 IsLawful)
     (ok_is (None, strings) x e) (refl, refl, tt)
 
-pub next_again : (next : Option Layout) (rest : Strings) → IfSome next IsLawful → next_at (is_some next) (next_strings next ++ rest) ≡ Ok (next, rest)
+pub next_again : (next : Option Layout) (rest : Strings) → IfSome next IsLawful
+    → next_at (is_some next) (next_strings next ++ rest) ≡ Ok (next, rest)
 unfolding next_at
 next_again None rest lawful = refl
 next_again (Some layout) rest lawful = rw (layout_again layout rest lawful) refl
@@ -166,7 +168,7 @@ next_again (Some layout) rest lawful = rw (layout_again layout rest lawful) refl
 pub digest_ok : (strings : Strings) (x : List ℕ × Strings) → digest_at strings ≡ Ok x → (strings ≡ x.0 ∷ x.1) × (length x.0 ≡ DIGEST_LENGTH)
 unfolding digest_at
 digest_ok strings x e =
-    let a = bind_ok (string_at strings) (λ string. digest_from string.0 >>= λ digest. Ok (digest, string.1)) x e in
+    let a = bind_ok (string_at strings) (λ string. and_then (digest_from string.0) (λ digest. Ok (digest, string.1))) x e in
     let b = bind_ok (digest_from a.0.0) (λ digest. Ok (digest, a.0.1)) x a.2 in
     let g = guarded (eqb (length a.0.0) DIGEST_LENGTH) (Ok a.0.0) BadDigest b.0 b.1 in
     let is : a.0.0 ≡ b.0 = ok_is a.0.0 b.0 g.1 in

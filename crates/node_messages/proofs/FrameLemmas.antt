@@ -34,7 +34,7 @@ use Rattle.node_messages.specs.Strings.{Strings, layout_string, tag_strings, pie
 use Rattle.node_messages.specs.Strings.{answer_strings, body_strings, next_strings, subject_strings, number_strings, strings_of}
 use Rattle.node_messages.specs.Words.{status_word}
 use Rattle.node_messages.specs.Writing.{same, is_frame, framed}
-use Rattle.node_messages.proofs.BodyLemmas.{request_kind}
+use Rattle.node_messages.proofs.KindLemmas.{request_kind}
 
 -- ---- the test of strings says whether they are those of a frame
 
@@ -111,8 +111,10 @@ kind_are (kind.Spread s) fits =
     let two = both 1 1 (codes "spread" ∷ []) (status_word s ∷ []) (word_are (codes "spread") (omega arith)) (status_are s) in
     record { few = omega (arith, two.few); short = two.short }
 kind_are kind.Query fits = record { few = omega arith; short = (small (codes "query") (omega arith), tt) }
-kind_are (kind.PreWrite t) fits = both 1 2 (codes "pre-write" ∷ []) (tag_strings t) (word_are (codes "pre-write") (omega arith)) (tag_are t fits)
-kind_are (kind.Finalize t) fits = both 1 2 (codes "finalize" ∷ []) (tag_strings t) (word_are (codes "finalize") (omega arith)) (tag_are t fits)
+kind_are (kind.PreWrite t) fits =
+    both 1 2 (codes "pre-write" ∷ []) (tag_strings t) (word_are (codes "pre-write") (omega arith)) (tag_are t fits)
+kind_are (kind.Finalize t) fits =
+    both 1 2 (codes "finalize" ∷ []) (tag_strings t) (word_are (codes "finalize") (omega arith)) (tag_are t fits)
 kind_are (kind.Fetch t) fits = both 1 2 (codes "fetch" ∷ []) (tag_strings t) (word_are (codes "fetch") (omega arith)) (tag_are t fits)
 
 none_are : (n : ℕ) → Are n []
@@ -143,7 +145,8 @@ body_are (body.Request q) fits le =
 body_are (body.Reply k r) fits le =
     let step : Are 1 (decimal r.step ∷ []) = record { few = omega arith; short = (number_short r.step fits.1, tt) } in
     let behind = both 1 4 (decimal r.step ∷ []) (answer_strings r.answer) step (answer_are r.answer fits.2 le) in
-    let all = both 1 8 (codes "reply" ∷ []) (kind_strings k ++ (decimal r.step ∷ answer_strings r.answer)) (word_are (codes "reply") (omega arith))
+    let all = both 1 8 (codes "reply" ∷ []) (kind_strings k ++ (decimal r.step ∷ answer_strings r.answer))
+    (word_are (codes "reply") (omega arith))
     (both 3 5 (kind_strings k) (decimal r.step ∷ answer_strings r.answer) (kind_are k fits.0) behind) in
     record { few = omega (arith, all.few); short = all.short }
 
@@ -160,7 +163,8 @@ is_framed m is le =
     let digest : IsShort m.digest = small m.digest (let e : DIGEST_LENGTH ≡ 16 = refl in omega (arith, is.digest)) in
     let name : IsShort m.name = small m.name (let e : LONGEST_NAME ≡ 255 = refl in omega (arith, is.name)) in
     let few_members : x.member < 2 ^ 64 = let e : MOST_MEMBERS ≡ 255 = refl in omega (arith, is.member, is.layout.few) in
-    let subject : Are 3 (subject_strings m) = record { few = omega arith; short = (digest, (name, (layout_short m.layout is.layout, tt))) } in
+    let subject : Are 3 (subject_strings m) =
+    record { few = omega arith; short = (digest, (name, (layout_short m.layout is.layout, tt))) } in
     let numbers : Are 4 (number_strings x) = record {
       few = omega arith;
       short = (

@@ -3,6 +3,7 @@ pub mod NumberLemmas
 pub mod LayoutLemmas
 pub mod WordLemmas
 pub mod FieldLemmas
+pub mod KindLemmas
 pub mod BodyLemmas
 pub mod MessageLemmas
 pub mod FrameLemmas

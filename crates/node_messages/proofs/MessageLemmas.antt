@@ -13,10 +13,11 @@ use Rattle.node_messages.specs.declared.message.NodeMessage.{NodeMessage}
 use Rattle.node_messages.specs.declared.message.TheConstants.{DIGEST_LENGTH}
 use Rattle.node_messages.specs.Laws.{WrittenIsRead, ReadWasWritten, StringsNameOneMessage}
 use Rattle.node_messages.specs.Message.{names_next, IsMessage}
-use Rattle.node_messages.specs.Numbers.{◌>>=◌}
+use Rattle.node_messages.specs.Numbers.{and_then}
 use Rattle.node_messages.specs.Strings.{Strings, layout_string, body_strings, next_strings, strings_of}
+use Rattle.node_messages.specs.Gives.{Gives}
 use Rattle.node_messages.specs.Reading.{number_at, layout_at, digest_at, name_at, subject_at, member_at, numbers_at, body_at, next_at}
-use Rattle.node_messages.specs.Reading.{made_of, ending, message_at, Gives}
+use Rattle.node_messages.specs.Reading.{made_of, ending, message_at}
 use Rattle.node_messages.proofs.PartLemmas.{bind_ok, ok_is}
 use Rattle.node_messages.proofs.FieldLemmas.{number_at_ok, number_at_again, layout_ok, layout_again, next_ok, next_again}
 use Rattle.node_messages.proofs.FieldLemmas.{digest_ok, digest_again, name_ok, name_again, member_ok, member_again}
@@ -35,10 +36,10 @@ record IsSubject (s : Subject) : Type 0 where
 subject_ok : (strings : Strings) (x : Subject × Strings) → subject_at strings ≡ Ok x → (strings ≡ with_subject x.0 x.1) × IsSubject x.0
 unfolding subject_at
 subject_ok strings x e =
-    let a = bind_ok (digest_at strings) (λ digest. name_at digest.1 >>= λ name. layout_at name.1 >>= λ layout.
-    Ok (record { digest = digest.0; name = name.0; layout = layout.0 }, layout.1)) x e in
-    let b = bind_ok (name_at a.0.1) (λ name. layout_at name.1 >>= λ layout.
-    Ok (record { digest = a.0.0; name = name.0; layout = layout.0 }, layout.1)) x a.2 in
+    let a = bind_ok (digest_at strings) (λ digest. and_then (name_at digest.1) (λ name. and_then (layout_at name.1) (λ layout.
+    Ok (record { digest = digest.0; name = name.0; layout = layout.0 }, layout.1)))) x e in
+    let b = bind_ok (name_at a.0.1) (λ name. and_then (layout_at name.1) (λ layout.
+    Ok (record { digest = a.0.0; name = name.0; layout = layout.0 }, layout.1))) x a.2 in
     let c = bind_ok (layout_at b.0.1) (λ layout. Ok (record { digest = a.0.0; name = b.0.0; layout = layout.0 }, layout.1)) x b.2 in
     let digest = digest_ok strings a.0 a.1 in
     let name = name_ok a.0.1 b.0 b.1 in
@@ -73,14 +74,14 @@ numbers_ok : (n : ℕ) (strings : Strings) (x : Numbers × Strings) → numbers_
     → (strings ≡ with_numbers x.0 x.1) × AreNumbers n x.0
 unfolding numbers_at
 numbers_ok n strings x e =
-    let a = bind_ok (number_at (2 ^ 64 - 1) strings) (λ call. number_at (2 ^ 32 - 1) call.1 >>= λ phase.
-    number_at (2 ^ 32 - 1) phase.1 >>= λ position. member_at n position.1 >>= λ member.
-    Ok (record { call = call.0; phase = phase.0; position = position.0; member = member.0 }, member.1)) x e in
+    let a = bind_ok (number_at (2 ^ 64 - 1) strings) (λ call. and_then (number_at (2 ^ 32 - 1) call.1) (λ phase.
+    and_then (number_at (2 ^ 32 - 1) phase.1) (λ position. and_then (member_at n position.1) (λ member.
+    Ok (record { call = call.0; phase = phase.0; position = position.0; member = member.0 }, member.1))))) x e in
     let b = bind_ok (number_at (2 ^ 32 - 1) a.0.1) (λ phase.
-    number_at (2 ^ 32 - 1) phase.1 >>= λ position. member_at n position.1 >>= λ member.
-    Ok (record { call = a.0.0; phase = phase.0; position = position.0; member = member.0 }, member.1)) x a.2 in
-    let c = bind_ok (number_at (2 ^ 32 - 1) b.0.1) (λ position. member_at n position.1 >>= λ member.
-    Ok (record { call = a.0.0; phase = b.0.0; position = position.0; member = member.0 }, member.1)) x b.2 in
+    and_then (number_at (2 ^ 32 - 1) phase.1) (λ position. and_then (member_at n position.1) (λ member.
+    Ok (record { call = a.0.0; phase = phase.0; position = position.0; member = member.0 }, member.1)))) x a.2 in
+    let c = bind_ok (number_at (2 ^ 32 - 1) b.0.1) (λ position. and_then (member_at n position.1) (λ member.
+    Ok (record { call = a.0.0; phase = b.0.0; position = position.0; member = member.0 }, member.1))) x b.2 in
     let d = bind_ok (member_at n c.0.1) (λ member.
     Ok (record { call = a.0.0; phase = b.0.0; position = c.0.0; member = member.0 }, member.1)) x c.2 in
     let call = number_at_ok (2 ^ 64 - 1) strings a.0 (omega arith) (omega arith) a.1 in
@@ -123,21 +124,22 @@ ended x (s ∷ rest) y e = absurd cc
 pub message_ok : ReadWasWritten
 unfolding message_at
 message_ok strings m e =
-    let a = bind_ok (subject_at strings) (λ subject. numbers_at (length subject.0.layout.members) subject.1 >>= λ numbers.
-    body_at numbers.1 >>= λ found. next_at (names_next found.0) found.1 >>= λ next.
-    ending (made_of subject.0 numbers.0 found.0 next.0) next.1) m e in
+    let a = bind_ok (subject_at strings) (λ subject. and_then (numbers_at (length subject.0.layout.members) subject.1) (λ numbers.
+    and_then (body_at numbers.1) (λ found. and_then (next_at (names_next found.0) found.1) (λ next.
+    ending (made_of subject.0 numbers.0 found.0 next.0) next.1)))) m e in
     let n = length a.0.0.layout.members in
-    let b = bind_ok (numbers_at n a.0.1) (λ numbers. body_at numbers.1 >>= λ found. next_at (names_next found.0) found.1 >>= λ next.
-    ending (made_of a.0.0 numbers.0 found.0 next.0) next.1) m a.2 in
-    let c = bind_ok (body_at b.0.1) (λ found. next_at (names_next found.0) found.1 >>= λ next.
-    ending (made_of a.0.0 b.0.0 found.0 next.0) next.1) m b.2 in
+    let b = bind_ok (numbers_at n a.0.1) (λ numbers. and_then (body_at numbers.1) (λ found.
+    and_then (next_at (names_next found.0) found.1) (λ next. ending (made_of a.0.0 numbers.0 found.0 next.0) next.1))) m a.2 in
+    let c = bind_ok (body_at b.0.1) (λ found. and_then (next_at (names_next found.0) found.1) (λ next.
+    ending (made_of a.0.0 b.0.0 found.0 next.0) next.1)) m b.2 in
     let d = bind_ok (next_at (names_next c.0.0) c.0.1) (λ next. ending (made_of a.0.0 b.0.0 c.0.0 next.0) next.1) m c.2 in
     let end = ended (made_of a.0.0 b.0.0 c.0.0 d.0.0) d.0.1 m d.2 in
     let subject = subject_ok strings a.0 a.1 in
     let numbers = numbers_ok n a.0.1 b.0 b.1 in
     let found = body_ok b.0.1 c.0 c.1 in
     let next = next_ok (names_next c.0.0) c.0.1 d.0 d.1 in
-    let last : c.0.1 ≡ next_strings d.0.0 = next.0 ∙ ap (λ (r : Strings). next_strings d.0.0 ++ r) end.0 ∙ append-nil (next_strings d.0.0) in
+    let last : c.0.1 ≡ next_strings d.0.0 = next.0 ∙ ap (λ (r : Strings). next_strings d.0.0 ++ r) end.0
+    ∙ append-nil (next_strings d.0.0) in
     let whole : strings ≡ strings_of (made_of a.0.0 b.0.0 c.0.0 d.0.0) = subject.0
     ∙ ap (with_subject a.0.0) (numbers.0 ∙ ap (with_numbers b.0.0) (found.0
     ∙ ap (λ (r : Strings). body_strings c.0.0 ++ r) last)) in

@@ -3,5 +3,6 @@ pub mod Message
 pub mod Strings
 pub mod Numbers
 pub mod Reading
+pub mod Gives
 pub mod Writing
 pub mod Laws

@@ -6,10 +6,9 @@ use Rattle.node_messages.specs.declared.error.Fault.{Fault}
 use Rattle.node_messages.specs.declared.error.Fault.TheVariants.{BadNumber, OutOfRange}
 
 -- one part after another, up to the first fault
-infixl 10 ◌>>=◌
-abbrev pub ◌>>=◌ : {A B : Type 0} → Result A Fault → (A → Result B Fault) → Result B Fault
-(Ok x) >>= f = f x
-(Err e) >>= f = Err e
+abbrev pub and_then : {A B : Type 0} → Result A Fault → (A → Result B Fault) → Result B Fault
+and_then (Ok x) next = next x
+and_then (Err e) next = Err e
 
 -- the first digit of a number
 unfoldable pub first_digit : ℕ → Result ℕ Fault
@@ -26,9 +25,9 @@ with_digit most n byte =
 -- the digits behind those of n: the number of all of them
 unfoldable pub digits_from : ℕ → ℕ → List ℕ → Result ℕ Fault
 digits_from most n [] = Ok n
-digits_from most n (byte ∷ bytes) = with_digit most n byte >>= λ more. digits_from most more bytes
+digits_from most n (byte ∷ bytes) = and_then (with_digit most n byte) (λ more. digits_from most more bytes)
 
 -- the number up to `most` that a whole string writes
 unfoldable pub number_from : ℕ → List ℕ → Result ℕ Fault
 number_from most [] = Err BadNumber
-number_from most (byte ∷ bytes) = first_digit byte >>= λ n. digits_from most n bytes
+number_from most (byte ∷ bytes) = and_then (first_digit byte) (λ n. digits_from most n bytes)

@@ -5,10 +5,11 @@ use Rattle.std.specs.List.{list_all}
 use Rattle.tag.specs.declared.limits.TheConstants.{LONGEST_NAME}
 use Rattle.frames.specs.declared.limits.TheConstants.{LONGEST_STRING, MOST_STRINGS}
 use Rattle.node_messages.specs.declared.error.Fault.{Fault}
-use Rattle.node_messages.specs.declared.error.Fault.TheVariants.{NameTooLong, NoMember, BadAnswer, BadNext, PieceTooLong}
+use Rattle.node_messages.specs.declared.error.Fault.TheVariants.{NameTooLong, NoMember, BadAnswer, BadNext}
+use Rattle.node_messages.specs.declared.error.Fault.TheVariants.{PieceTooLong}
 use Rattle.node_messages.specs.declared.message.NodeMessage.{NodeMessage}
 use Rattle.node_messages.specs.Message.{names_next, is_fitting}
-use Rattle.node_messages.specs.Numbers.{◌>>=◌}
+use Rattle.node_messages.specs.Numbers.{and_then}
 use Rattle.node_messages.specs.Strings.{Strings, strings_of}
 
 -- whether two answers to a question are the same
@@ -36,4 +37,4 @@ framed strings = if is_frame strings then Ok strings else Err PieceTooLong
 
 -- the strings of a message, or its first fault
 abbrev pub written : NodeMessage → Result Strings Fault
-written m = checked m >>= λ _. framed (strings_of m)
+written m = and_then (checked m) (λ _. framed (strings_of m))

@@ -1,6 +1,7 @@
 //! Replies.
 ghost use Rattle.std.specs.Prelude.{Ok};
-ghost use Rattle.node_messages.specs.Reading.{GivesAs, GivesAt, held_at, answer_at, reply_at};
+ghost use Rattle.node_messages.specs.Gives.{GivesAs, GivesAt};
+ghost use Rattle.node_messages.specs.Reading.{held_at, answer_at, reply_at};
 
 use crate::error::MessageError;
 use crate::fields::{long_of, piece_of, status_of, string_of, tag_of};

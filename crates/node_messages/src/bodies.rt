@@ -1,5 +1,6 @@
 //! The kind of a request, and requests.
-ghost use Rattle.node_messages.specs.Reading.{GivesAt, kind_tagged, kind_from, kind_at, request_at, body_from, body_at};
+ghost use Rattle.node_messages.specs.Gives.{GivesAt};
+ghost use Rattle.node_messages.specs.Reading.{kind_tagged, kind_from, kind_at, request_at, body_from, body_at};
 
 use crate::answers::reply_of;
 use crate::error::{Fault, MessageError};

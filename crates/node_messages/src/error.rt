@@ -32,7 +32,8 @@ pub enum Fault {
     /// The answer is not one to a request of its kind. Only a message has this fault, no frame.
     #[error("answer to another kind")]
     BadAnswer,
-    /// There is a next layout in a message that names none, or none in one that names it. Only a message has this fault.
+    /// There is a next layout in a message that names none, or none in one that names it. Only a message has this
+    /// fault.
     #[error("bad next layout")]
     BadNext,
     /// The piece is longer than a string of a frame may be. Only a message has this fault. No other string of a message

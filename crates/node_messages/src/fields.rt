@@ -1,8 +1,7 @@
 //! The parts of a message that stand in its frame's first strings, and the parts of which the others are made.
 ghost use Rattle.std.specs.Prelude.{◌≡◌, ◌≤◌, ◌^◌, ◌-◌, ◌<◌, IfOk, length};
+ghost use Rattle.node_messages.specs.Gives.{GivesAs, GivesAt};
 ghost use Rattle.node_messages.specs.Reading.{
-  GivesAs,
-  GivesAt,
   string_at,
   number_at,
   tag_at,

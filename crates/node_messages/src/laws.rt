@@ -5,8 +5,8 @@ ghost use Rattle.node_messages.specs.Laws.{
   ShortPiecesHaveFrames,
 };
 
-/// A law: the strings of a message are read as that message; what is read as a message is one, and the strings are those
-/// of that message; and two messages with the same strings are the same message.
+/// A law: the strings of a message are read as that message; what is read as a message is one, and the strings are
+/// those of that message; and two messages with the same strings are the same message.
 pub fn messages_are_read_back()
     ensures written { WrittenIsRead }
     ensures read { ReadWasWritten }

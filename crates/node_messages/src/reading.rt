@@ -3,7 +3,8 @@ ghost use Rattle.std.specs.Prelude.{◌≡◌, Ok, IfOk};
 ghost use Rattle.node_messages.specs.declared.message.NodeMessage.{NodeMessage as Sent};
 ghost use Rattle.node_messages.specs.Message.{IsMessage};
 ghost use Rattle.node_messages.specs.Strings.{strings_of};
-ghost use Rattle.node_messages.specs.Reading.{Gives, GivesAt, ending, made_of, next_at, message_at};
+ghost use Rattle.node_messages.specs.Gives.{Gives, GivesAt};
+ghost use Rattle.node_messages.specs.Reading.{ending, made_of, next_at, message_at};
 
 use crate::bodies::body_of;
 use crate::checks::names_next;

@@ -1,7 +1,6 @@
 //! Messages to frames.
 ghost use Rattle.std.specs.Prelude.{◌≡◌, ◌++◌, IfOk, OnOk, Ok, Err, if◌then◌else◌};
-ghost use Rattle.node_messages.specs.Message.{IsMessage};
-ghost use Rattle.node_messages.specs.Reading.{Gives, GivesAs};
+ghost use Rattle.node_messages.specs.Gives.{Gives, GivesAs};
 ghost use Rattle.node_messages.specs.Strings.{strings_of, subject_strings, number_strings, next_strings};
 ghost use Rattle.node_messages.specs.Writing.{written, checked, framed};
 

@@ -1,5 +1,5 @@
-//! Messages between nodes, to frames that are written by hand and back: tests alone. They stand in a crate of their own,
-//! so that `node_messages` is proved once and not twice.
+//! Messages between nodes, to frames that are written by hand and back: tests alone. They stand in a crate of their
+//! own, so that `node_messages` is proved once and not twice.
 #![tactic(auto)]
 
 #[cfg(test)]

@@ -1,5 +1,6 @@
 use Rattle.std.proofs.Common.{subst}
-use Rattle.node_messages.specs.Reading.{Gives, message_at}
+use Rattle.node_messages.specs.Gives.{Gives}
+use Rattle.node_messages.specs.Reading.{message_at}
 use Rattle.node_messages.proofs.MessageLemmas.{is_found, is_only}
 use Rattle.node_messages.proofs.reading.read_message.Goals as goal
 
