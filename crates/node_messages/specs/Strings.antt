@@ -3,7 +3,7 @@
 use Rattle.std.specs.Prelude.{ℕ, List, [], ◌∷◌, ◌++◌, Option, Some, None, codes}
 use Rattle.std.specs.Fmt.{decimal}
 use Rattle.tag.specs.declared.tag.Tag.{Tag}
-use Rattle.encoder.specs.declared.fragment.Piece.{Piece}
+use Rattle.piece.specs.declared.piece.Piece.{Piece}
 use Rattle.layout.specs.Layout.{Layout}
 use Rattle.bank.specs.declared.kind.Kind.{Kind}
 use Rattle.bank.specs.declared.kind.Kind.TheVariants as kind

@@ -8,7 +8,7 @@ use crate::fields::{long_of, piece_of, status_of, string_of, tag_of};
 use crate::words::read_is_piece;
 use bank::{Answer, HeldPiece, Kind, Reply};
 use bytes::Bytes;
-use encoder::Piece;
+use piece::Piece;
 use std::alloc::Global;
 
 // A piece on the heap.

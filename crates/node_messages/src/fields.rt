@@ -24,8 +24,8 @@ use crate::number::read_number;
 use crate::words::read_status;
 use bank::Status;
 use bytes::Bytes;
-use encoder::Piece;
 use layout::Layout;
+use piece::Piece;
 use tag::{CallId, LONGEST_NAME, Tag};
 
 /// What a message is about.

@@ -17,10 +17,10 @@ ghost use Rattle.node_messages.specs.Words.{status_word};
 use crate::words::{kind_word, status_word};
 use bank::{Answer, HeldPiece, Kind, Request, Status};
 use bytes::Bytes;
-use encoder::Piece;
 use itoa::Buffer;
 use layout::Layout;
 use mail::Body;
+use piece::Piece;
 use std::alloc::{AllocError, Global};
 use tag::Tag;
 

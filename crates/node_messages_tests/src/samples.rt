@@ -1,9 +1,9 @@
 //! Frames that are made of strings, and what they say.
 use bytes::Bytes;
-use encoder::Piece;
 use frames::Frame;
 use mail::Body;
 use node_messages::{NodeMessage, frame_of, read_message};
+use piece::Piece;
 use std::alloc::Global;
 use std::process::Abort;
 use tag::Tag;

@@ -1,11 +1,11 @@
 //! Messages that have no frame, and why.
 use crate::samples::{message, text};
 use bank::{Answer, Request, Status};
-use encoder::Piece;
 use frames::LONGEST_STRING;
 use layout::Layout;
 use mail::Body;
 use node_messages::{Fault, MessageError, NodeMessage, frame_of};
+use piece::Piece;
 use std::alloc::Global;
 use tag::Tag;
 
