@@ -232,7 +232,7 @@ bool clients_serve(struct clients *clients, struct child *child, const struct po
 
 bool clients_answer(struct clients *clients, uint64_t number, const char *frame, size_t at, size_t strings) {
     struct client *client = clients->slots[number % MOST_CLIENTS];
-    if (client == NULL || client->number != number || client->state >= LINGERING)
+    if (client == NULL || client->number != number || client->state >= CLOSING)
         return true;
     if (strings == 0) {
         client->state = CLOSING;

@@ -63,10 +63,10 @@ class Call:
 
 
 class Connection:
-    """A client's connection: the commands that wait, and whether one is being carried out."""
+    """A client's connection: the commands that wait, whether one is being carried out, and whether it has quit."""
 
     def __init__(self):
-        self.waiting, self.is_open = deque(), False
+        self.waiting, self.is_open, self.has_quit = deque(), False, False
 
 
 class Node:
@@ -170,7 +170,7 @@ class Node:
     def serve(self, client):
         """Carries out the next commands of a connection, until one of them stays open."""
         connection = self.clients[client]
-        while connection.waiting and not connection.is_open:
+        while connection.waiting and not connection.is_open and not connection.has_quit:
             connection.is_open = True
             self.carry_out(client, connection.waiting.popleft())
 
@@ -196,7 +196,7 @@ class Node:
             self.answer(client, plain_answer(client, command, words, self.info))
         if command == b"QUIT":
             self.out.append(encode([b"client %d" % client]))
-            self.clients[client].waiting.clear()
+            self.clients[client].has_quit = True
 
     def info(self):
         stored = sum(len(value) for _, value in self.kept.values())
