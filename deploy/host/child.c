@@ -7,6 +7,7 @@
 #include <signal.h>
 #include <string.h>
 #include <sys/file.h>
+#include <sys/ioctl.h>
 #include <sys/prctl.h>
 #include <sys/wait.h>
 #include <time.h>
@@ -83,7 +84,9 @@ bool child_send(struct child *child, const char *address, size_t count, const ch
 }
 
 bool child_tick(struct child *child) {
-    if (child->tick_end > child->queued - buffer_length(&child->out))
+    int unread = 0;
+    ioctl(child->to, FIONREAD, &unread);
+    if (child->tick_end > child->queued - buffer_length(&child->out) - (size_t)unread)
         return true;
     if (!child_send(child, "tick", 0, "", 0))
         return false;

@@ -18,7 +18,7 @@ bool child_start(struct child *child, const char *program, const char *file, con
 /* Queues a frame of this address: `count` strings, whose bytes are `body`. False where memory is refused. */
 bool child_send(struct child *child, const char *address, size_t count, const char *body, size_t length);
 
-/* Queues a tick, unless the last one has not been written yet. */
+/* Queues a tick, unless the child has not read the last one yet: a busy child does not find many at once. */
 bool child_tick(struct child *child);
 
 /* Closes the pipes, asks the child to end, ends it if it has not after some seconds, and gives its status. */

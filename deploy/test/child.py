@@ -3,6 +3,7 @@
 
 echo     answers each frame of a client with its last string as a bulk string
 keep     the same, and writes each frame that it gets, a tick too, as a line into FOLDER/frames
+late     the same, but begins to read after two seconds
 big      answers each frame of a client with a bulk string of 1 MiB
 deaf     reads nothing
 status   ends at once with status 3
@@ -34,11 +35,13 @@ def at_once(kind):
 
 
 def serve(kind, folder):
+    if kind == "late":
+        time.sleep(2)
     frames = Frames()
     log = open(os.path.join(folder, "frames"), "ab", buffering=0)
     while data := os.read(0, 1 << 20):
         for frame in frames.take(data):
-            if kind == "keep":
+            if kind in ("keep", "late"):
                 log.write(b" ".join(frame) + b"\n")
             if not frame[0].startswith(b"client ") or len(frame) == 1:
                 continue

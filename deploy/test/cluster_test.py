@@ -1,7 +1,9 @@
 #!/usr/bin/env python3
-"""Tests a cluster that runs over NATS, by clients that send bytes: cluster_test.py PORT PORT PORT, of its nodes."""
+"""Tests a cluster that runs over NATS, by clients that send bytes: cluster_test.py NATS PORT PORT PORT, where NATS is the
+port of its server, and the others are those of the nodes."""
 import os
 import random
+import socket
 import sys
 import threading
 import time
@@ -10,7 +12,7 @@ import unittest
 from connection import Connection
 from frames import encode
 
-PORTS = [int(word) for word in sys.argv[1:]]
+NATS, *PORTS = [int(word) for word in sys.argv[1:]]
 del sys.argv[1:]
 REFUSED = b"-ERR protocol\r\n"
 
@@ -90,6 +92,32 @@ class BadInput(unittest.TestCase):
             said = self.said_to(good[:place] + byte + good[place + 1:], then_end=True)
             first = said.split(b"\r\n")[0]
             self.assertTrue(said == b"" or first in (b"+PONG", REFUSED[:-2]) or first[:1] in b"$-", said)
+
+
+class BadMessages(unittest.TestCase):
+    """Messages that no node sent, on the subjects of nodes."""
+
+    def publish(self, messages):
+        """Speaks the protocol of NATS: the server answers a PING once it has taken what came before."""
+        with socket.create_connection(("127.0.0.1", NATS), timeout=30) as nats:
+            lines = nats.makefile("rb")
+            self.assertTrue(lines.readline().startswith(b"INFO "))
+            nats.sendall(b'CONNECT {"verbose":false}\r\n')
+            for subject, data in messages:
+                nats.sendall(b"PUB %b %d\r\n%b\r\n" % (subject, len(data), data))
+            nats.sendall(b"PING\r\n")
+            self.assertEqual(lines.readline(), b"PONG\r\n")
+
+    def test_messages_that_are_no_frames(self):
+        source, good = random.Random(9), encode([b"stored", b"1.1.1"])
+        datas = [b"", b"hello", good[:-1], good + b"x", good + good, source.randbytes(100000), *MALFORMED]
+        self.publish([(b"cas.2.1", data) for data in datas])
+        nobody = (b"x", b"02", b"-2", b"99999999999999999999")
+        self.publish([(b"cas.%b.1" % name, good) for name in nobody])
+        with Connection(PORTS[0]) as client:
+            for n in range(20):
+                self.assertEqual(client.ask(b"SET", b"behind", b"%d" % n), b"+OK")
+                self.assertEqual(client.ask(b"GET", b"behind"), b"%d" % n)
 
 
 class Sessions(unittest.TestCase):

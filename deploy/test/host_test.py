@@ -167,6 +167,16 @@ class Frames(unittest.TestCase):
         ticks = (host.folder / "frames").read_text().splitlines().count("tick")
         self.assertTrue(5 <= ticks <= 60, ticks)
 
+    def test_no_ticks_pile_up(self):
+        """A child that does not read for two seconds finds one tick, and not a hundred."""
+        host = Host("late", "--tick", "20")
+        with host.connect() as client:
+            time.sleep(1)
+            self.assertEqual(client.ask(b"PING", b"x"), b"x")
+        ticks = (host.folder / "frames").read_text().split("client")[0].splitlines().count("tick")
+        self.assertTrue(1 <= ticks <= 2, ticks)
+        self.assertEqual(host.end(), 0)
+
     def test_most_strings(self):
         host = Host("echo")
         with host.connect() as client:
