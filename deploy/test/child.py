@@ -1,4 +1,4 @@
-#!/usr/bin/env python3
+#!/usr/bin/python3
 """A child for tests of the host by itself: child.py FILE NODE FOLDER. The first word of FILE says how it behaves:
 
 echo     answers each frame of a client with its last string as a bulk string

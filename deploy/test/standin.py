@@ -1,4 +1,4 @@
-#!/usr/bin/env python3
+#!/usr/bin/python3
 """A test double of the node program `casd`: standin.py [--forgets] [--reads-in-one-phase] FILE NODE FOLDER.
 
 It exists so that the host, the driver of the test cluster and the checker of histories can be tried before there is
