@@ -4,6 +4,7 @@
 echo     answers each frame of a client with its last string as a bulk string
 keep     the same, and writes each frame that it gets, a tick too, as a line into FOLDER/frames
 late     the same, but begins to read after two seconds
+quits    answers a command as echo does, closes the connection, and answers once more
 big      answers each frame of a client with a bulk string of 1 MiB
 deaf     reads nothing
 status   ends at once with status 3
@@ -46,7 +47,8 @@ def serve(kind, folder):
             if not frame[0].startswith(b"client ") or len(frame) == 1:
                 continue
             value = bytes(1 << 20) if kind == "big" else frame[-1]
-            view = memoryview(encode([frame[0], b"$%d\r\n" % len(value), value, b"\r\n"]))
+            answer = encode([frame[0], b"$%d\r\n" % len(value), value, b"\r\n"])
+            view = memoryview(answer + encode([frame[0]]) + answer if kind == "quits" else answer)
             while view:
                 view = view[os.write(1, view):]
 

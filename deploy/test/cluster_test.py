@@ -1,6 +1,6 @@
 #!/usr/bin/env python3
-"""Tests a cluster that runs over NATS, by clients that send bytes: cluster_test.py NATS PORT PORT PORT, where NATS is the
-port of its server, and the others are those of the nodes."""
+"""Tests a cluster that runs over NATS, by clients that send bytes: cluster_test.py NATS PORT PORT PORT, where NATS is
+the port of its server, and the others are those of the nodes."""
 import os
 import random
 import socket

@@ -1,5 +1,6 @@
 """A client's connection, for tests: it sends bytes, and reads answers of the Redis protocol one by one."""
 import socket
+import struct
 
 from frames import encode
 
@@ -20,6 +21,11 @@ class Connection:
     def close(self):
         self.file.close()
         self.socket.close()
+
+    def reset(self):
+        """Ends the connection at once, so that the other side hears of it."""
+        self.socket.setsockopt(socket.SOL_SOCKET, socket.SO_LINGER, struct.pack("ii", 1, 0))
+        self.close()
 
     def send(self, data):
         self.socket.sendall(data)

@@ -159,6 +159,27 @@ class Frames(unittest.TestCase):
         self.assertEqual(sorted(lines[2:]), sorted([first, second]))
         self.assertEqual(host.end(), 0)
 
+    def test_child_closes_a_connection(self):
+        """What the child answers behind the close is not written."""
+        host = Host("quits")
+        with host.connect() as one, host.connect() as other:
+            one.send(encode([b"PING", b"one"]))
+            self.assertEqual(one.rest(), b"$3\r\none\r\n")
+            other.send(encode([b"PING", b"other"]))
+            self.assertEqual(other.rest(), b"$5\r\nother\r\n")
+        self.assertEqual(host.end(), 0)
+
+    def test_answer_to_a_client_that_has_gone(self):
+        """The next client has the place of the one before, and gets no answer to what that one asked."""
+        host = Host("late")
+        with host.connect() as gone:
+            gone.send(encode([b"PING", b"gone"]))
+            time.sleep(0.5)
+            gone.reset()
+        with host.connect() as next_one:
+            self.assertEqual(next_one.ask(b"PING", b"next"), b"next")
+        self.assertEqual(host.end(), 0)
+
     def test_ticks(self):
         host = Host("keep", "--tick", "50")
         host.connect().close()

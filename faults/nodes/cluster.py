@@ -28,7 +28,10 @@ class Node:
 
     def start(self):
         arguments = [*self.words, str(self.file), str(self.number), str(self.folder)]
-        self.process = subprocess.Popen(arguments, stdin=subprocess.PIPE, stdout=subprocess.PIPE, bufsize=0)
+        try:
+            self.process = subprocess.Popen(arguments, stdin=subprocess.PIPE, stdout=subprocess.PIPE, bufsize=0)
+        except OSError as fault:
+            raise NodeEnded(f"node {self.number} does not start: {fault}") from None
         self.frames = Frames()
         return self.give(None)
 
@@ -67,9 +70,12 @@ class Node:
 
 
 class Cluster:
-    def __init__(self, words, count, folder, history, due):
+    """`due` gives the step from which on a frame that is sent may arrive; calls are given up after some ticks."""
+
+    def __init__(self, words, count, ticks, folder, history, due):
         file = Path(folder) / "cluster"
-        file.write_bytes(subprocess.run([CLUSTER_FILE, str(count)], check=True, stdout=subprocess.PIPE).stdout)
+        with open(file, "wb") as output:
+            subprocess.run([CLUSTER_FILE, str(count), str(ticks)], check=True, stdout=output)
         self.nodes, self.history, self.due = {}, history, due
         self.flying = []   # frames between nodes, in the order in which they were sent
         self.open = {}     # the calls that are open: of a connection, its client, node and key in the history
@@ -78,7 +84,6 @@ class Cluster:
         for number in range(1, count + 1):
             (Path(folder) / str(number)).mkdir()
             self.nodes[number] = Node(words, number, Path(folder) / str(number), file)
-            self.start(number)
 
     def up(self):
         return [number for number, node in self.nodes.items() if node.process is not None]
@@ -88,6 +93,10 @@ class Cluster:
 
     def start(self, number):
         self.route(number, self.nodes[number].start())
+
+    def start_all(self):
+        for number in self.down():
+            self.start(number)
 
     def stop(self):
         for number in self.up():
