@@ -1,4 +1,5 @@
 #include "buffer.h"
+#include "say.h"
 
 #include <errno.h>
 #include <stdlib.h>
@@ -18,7 +19,7 @@ static bool make_room(struct buffer *buffer, size_t count) {
         size_t room = 2 * length > length + count ? 2 * length : length + count;
         char *bytes = malloc(room);
         if (bytes == NULL) {
-            errno = ENOMEM;
+            say("out of memory");
             return false;
         }
         if (length > 0)
@@ -52,8 +53,10 @@ void buffer_drop(struct buffer *buffer, size_t count) {
 }
 
 ssize_t buffer_read(struct buffer *buffer, int descriptor, size_t most) {
-    if (!make_room(buffer, most))
+    if (!make_room(buffer, most)) {
+        errno = ENOMEM;
         return -1;
+    }
     ssize_t count = read(descriptor, buffer->bytes + buffer->end, most);
     if (count > 0)
         buffer->end += (size_t)count;

@@ -148,7 +148,7 @@ bool bus_open(struct bus *bus, const struct bus_options *options, const char *no
     if (status == NATS_OK)
         connected(bus->connection, bus);
     else if (status == NATS_NOT_YET_CONNECTED)
-        say("NATS at %s does not answer yet; trying again", options->url);
+        say("NATS at %s does not answer yet, or refuses this node; trying again", options->url);
     if (status == NATS_OK || status == NATS_NOT_YET_CONNECTED) {
         snprintf(subject, sizeof subject, "%s.*.%s", bus->prefix, node);
         status = natsConnection_SubscribeSync(&bus->subscription, bus->connection, subject);

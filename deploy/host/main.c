@@ -21,8 +21,8 @@
 enum { SIGNALS, TIMER, FROM_CHILD, TO_CHILD, BUS, CLIENTS = BUS + 2 };
 enum { ONE_READ = 1 << 20, TICKS_OF_A_REPORT = 100 };
 
-/* What the loop goes on with: it runs, it was told to stop, or something failed that was reported. */
-enum course { RUNS, STOPS, FAILS };
+/* What the loop goes on with: it runs, it was told to stop, the child ended, or something failed that was reported. */
+enum course { RUNS, STOPS, ENDED, FAILS };
 
 struct host {
     struct child child;
@@ -64,7 +64,7 @@ static enum course read_child(struct host *host) {
     struct child *child = &host->child;
     ssize_t count = buffer_read(&child->in, child->from, ONE_READ);
     if (count == 0)
-        return FAILS;
+        return ENDED;
     if (count < 0 && errno != EAGAIN && errno != EINTR) {
         say("cannot read from the node program: %s", strerror(errno));
         return FAILS;
@@ -109,10 +109,8 @@ static enum course turn(struct host *host) {
     enum course course = polled[FROM_CHILD].revents != 0 ? read_child(host) : RUNS;
     bool served = (polled[TIMER].revents == 0 || tick(host)) && bus_serve(&host->bus, child, polled + BUS)
         && clients_serve(&host->clients, child, polled + CLIENTS, clients);
-    if (course == RUNS && !served) {
-        say("no memory, or no NATS");
+    if (course == RUNS && !served)
         course = FAILS;
-    }
     if (!buffer_write(&child->out, child->to) && errno != EPIPE)
         say("cannot write to the node program: %s", strerror(errno));
     return course;
@@ -120,15 +118,15 @@ static enum course turn(struct host *host) {
 
 static int stop(struct host *host, enum course course) {
     int status = child_stop(&host->child);
-    if (course == FAILS && WIFEXITED(status))
+    if (course == ENDED && WIFEXITED(status))
         say("the node program ended with status %d", WEXITSTATUS(status));
-    if (course == FAILS && WIFSIGNALED(status))
+    if (course == ENDED && WIFSIGNALED(status))
         say("the node program was ended by signal %d", WTERMSIG(status));
     clients_close(&host->clients);
     bus_close(&host->bus);
     close(host->signals);
     close(host->timer);
-    return course == FAILS;
+    return course != STOPS;
 }
 
 int main(int count, char **words) {

@@ -233,6 +233,16 @@ class Frames(unittest.TestCase):
 
 
 class Load(unittest.TestCase):
+    def test_many_commands_and_then_the_end(self):
+        """All commands that came before the end of a client's input are answered."""
+        host = Host("late")
+        with host.connect() as client:
+            client.send(b"".join(encode([b"PING", b"%d" % n]) for n in range(5000)))
+            client.send_end()
+            self.assertEqual([client.answer() for _ in range(5000)], [b"%d" % n for n in range(5000)])
+            self.assertEqual(client.rest(), b"")
+        self.assertEqual(host.end(), 0)
+
     def test_slow_client_does_not_stop_others(self):
         host = Host("big")
         with host.connect() as slow, host.connect() as other:
