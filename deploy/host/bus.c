@@ -61,11 +61,17 @@ static natsStatus detach(void *user) {
     return NATS_OK;
 }
 
+/* The part of an URL that may be printed: without a user and a password. */
+static const char *place_of(const char *url) {
+    const char *user = strrchr(url, '@'), *scheme = strstr(url, "://");
+    return user != NULL ? user + 1 : scheme != NULL ? scheme + 3 : url;
+}
+
 static void connected(natsConnection *connection, void *user) {
     char url[256] = "";
     (void)user;
     natsConnection_GetConnectedUrl(connection, url, sizeof url);
-    say("connected to NATS at %s", url);
+    say("connected to NATS at %s", place_of(url));
 }
 
 static void disconnected(natsConnection *connection, void *user) {
@@ -74,14 +80,21 @@ static void disconnected(natsConnection *connection, void *user) {
     say("the connection to NATS is lost; trying again");
 }
 
+/* Whether it was set before. */
+static bool set_closed(struct bus *bus) {
+    pthread_mutex_lock(&bus->lock);
+    bool before = bus->closed;
+    bus->closed = true;
+    pthread_mutex_unlock(&bus->lock);
+    return before;
+}
+
 static void closed(natsConnection *connection, void *user) {
     struct bus *bus = user;
     const char *reason = "";
     natsConnection_GetLastError(connection, &reason);
-    pthread_mutex_lock(&bus->lock);
-    bus->closed = true;
-    pthread_mutex_unlock(&bus->lock);
-    say("the connection to NATS is closed: %s", reason);
+    if (!set_closed(bus))
+        say("the connection to NATS is closed: %s", reason);
     wake(bus);
 }
 
@@ -148,13 +161,13 @@ bool bus_open(struct bus *bus, const struct bus_options *options, const char *no
     if (status == NATS_OK)
         connected(bus->connection, bus);
     else if (status == NATS_NOT_YET_CONNECTED)
-        say("NATS at %s does not answer yet, or refuses this node; trying again", options->url);
+        say("NATS at %s does not answer yet, or refuses this node; trying again", place_of(options->url));
     if (status == NATS_OK || status == NATS_NOT_YET_CONNECTED) {
         snprintf(subject, sizeof subject, "%s.*.%s", bus->prefix, node);
         status = natsConnection_SubscribeSync(&bus->subscription, bus->connection, subject);
     }
     if (status != NATS_OK)
-        say("cannot use NATS at %s: %s", options->url, nats_GetLastError(NULL));
+        say("cannot use NATS at %s: %s", place_of(options->url), nats_GetLastError(NULL));
     return status == NATS_OK;
 }
 
@@ -225,6 +238,7 @@ void bus_report(struct bus *bus) {
 
 void bus_close(struct bus *bus) {
     bus_report(bus);
+    set_closed(bus);
     natsSubscription_Destroy(bus->subscription);
     natsConnection_Destroy(bus->connection);
     natsOptions_Destroy(bus->options);

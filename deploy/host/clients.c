@@ -23,9 +23,11 @@ enum {
     LINGER = 20               /* ticks for a client to end its side, once all is written */
 };
 
-/* The states of a connection, in order. Refused: its input was malformed, and it is told so after its answers. Done: its
+/*
+ * The states of a connection, in order. Refused: its input was malformed, and it is told so after its answers. Done: its
  * input has ended. Closing: nothing but what waits is written. Lingering: all is written, and its input is thrown away,
- * since closing with unread input would destroy the last answer. Broken: closed at its next turn. */
+ * since closing with unread input would destroy the last answer. Broken: closed at its next turn.
+ */
 enum state { OPEN, REFUSED, DONE, CLOSING, LINGERING, BROKEN };
 
 struct client {
@@ -49,7 +51,8 @@ bool clients_listen(struct clients *clients, const char *address, const char *po
     }
     clients->listener = socket(found->ai_family, SOCK_STREAM | SOCK_NONBLOCK | SOCK_CLOEXEC, 0);
     setsockopt(clients->listener, SOL_SOCKET, SO_REUSEADDR, &on, sizeof on);
-    bool listens = bind(clients->listener, found->ai_addr, found->ai_addrlen) == 0 && listen(clients->listener, 128) == 0;
+    bool listens = bind(clients->listener, found->ai_addr, found->ai_addrlen) == 0
+        && listen(clients->listener, 128) == 0;
     freeaddrinfo(found);
     if (!listens) {
         say("cannot listen on %s port %s: %s", address, port, strerror(errno));

@@ -1,5 +1,5 @@
 #!/usr/bin/python3
-"""A test double of the node program `casd`: standin.py [--forgets] [--reads-in-one-phase] FILE NODE FOLDER.
+"""A test double of the node program `casd`: standin.py [OPTION] FILE NODE FOLDER.
 
 It exists so that the host, the driver of the test cluster and the checker of histories can be tried before there is
 the real node. It is not proved, it codes nothing, and no user should keep data in it. It speaks the same frames on
@@ -7,8 +7,10 @@ standard input and output, and keeps a register for each name by the plain proto
 whole value with its tag, and a call asks a majority for its greatest tag and then stores at a majority. A tag is a
 number and the id of the write, which holds the node, its start count and a counter, so that no two writes share one.
 
-Each option breaks it in one way, so that one can see the checker find it: with --forgets a node starts with nothing
-each time, and with --reads-in-one-phase a read does not store what it found before it answers.
+Each option breaks it in one way, so that one can see the checker find it:
+--forgets             a node starts with nothing each time
+--forgets-starts      a node keeps its values but not its start count, so that ids of calls come again
+--reads-in-one-phase  a read does not store what it found before it answers
 """
 import os
 import sys
@@ -84,6 +86,8 @@ class Node:
                 self.kept[entry[1]] = (tag_of(entry[2]), entry[3])
         self.log.add(b"start")
         self.start, self.counter, self.answered = starts + 1, 0, 0
+        if "--forgets-starts" in options:
+            self.start = 1
         if "--forgets" in options:
             self.start = time_of_start()
         self.calls, self.clients, self.out = {}, {}, []
