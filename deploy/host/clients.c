@@ -24,9 +24,9 @@ enum {
 };
 
 /*
- * The states of a connection, in order. Refused: its input was malformed, and it is told so after its answers. Done: its
- * input has ended. Closing: nothing but what waits is written. Lingering: all is written, and its input is thrown away,
- * since closing with unread input would destroy the last answer. Broken: closed at its next turn.
+ * The states of a connection, in order. Refused: its input was malformed, and it is told so after its answers. Done:
+ * its input has ended. Closing: nothing but what waits is written. Lingering: all is written, and its input is thrown
+ * away, since closing with unread input would destroy the last answer. Broken: closed at its next turn.
  */
 enum state { OPEN, REFUSED, DONE, CLOSING, LINGERING, BROKEN };
 
