@@ -1,5 +1,6 @@
 #!/usr/bin/env python3
 """Tests the host by itself, with a child that behaves as each test needs it: host_test.py HOST."""
+import atexit
 import os
 import re
 import signal
@@ -29,6 +30,7 @@ class Host:
                  "--program", CHILD, "--nats", NO_NATS, *options]
         with open(self.folder / "log", "a") as log:
             self.process = subprocess.Popen([HOST, *words], stderr=log)
+        atexit.register(self.process.kill)  # where a test fails before the host has ended
 
     def said(self):
         return (self.folder / "log").read_text()
