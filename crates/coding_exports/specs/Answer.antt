@@ -10,9 +10,9 @@ use Rattle.decoder.specs.Pieces.{AreLawful, IsInterpolated}
 use Rattle.coding_exports.specs.declared.answer.TheConstants.{BAD_BUFFER}
 
 -- the answer where this is the cause of refusal: its number, and 0 where there is none
-abbrev pub answer_of : Option Refusal → ℕ
-answer_of None = 0
-answer_of (Some refusal) = number_of refusal
+abbrev pub answer_by_cause : Option Refusal → ℕ
+answer_by_cause None = 0
+answer_by_cause (Some refusal) = number_of refusal
 
 -- the answer of a call that writes so many bytes to a buffer of this length: first the cause of refusal,
 -- then the number of a buffer of another length, and 0 where nothing is wrong

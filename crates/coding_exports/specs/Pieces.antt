@@ -12,5 +12,5 @@ pieces_from len fragment_len (point ∷ points) fragments =
     ∷ pieces_from len fragment_len points (drop fragment_len fragments)
 
 -- the pieces at these points of a value of len bytes that is cut into k blocks
-abbrev pub pieces_of : ℕ → ℕ → List ℕ → List ℕ → List Piece
-pieces_of k len points fragments = pieces_from len (fragment_len k len) points fragments
+abbrev pub pieces_given : ℕ → ℕ → List ℕ → List ℕ → List Piece
+pieces_given k len points fragments = pieces_from len (fragment_len k len) points fragments

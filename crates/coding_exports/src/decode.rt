@@ -2,7 +2,7 @@ ghost use Rattle.std.specs.Prelude.{◌≡◌, ◌≢◌, ◌⊎◌, IfErr, IfOk
 ghost use Rattle.tag.specs.Refusal.{number_of};
 ghost use Rattle.decoder.specs.Pieces.{AreLawful, HaveNoValue};
 ghost use Rattle.coding_exports.specs.Answer.{WritesDecoded};
-ghost use Rattle.coding_exports.specs.Pieces.{pieces_from, pieces_of};
+ghost use Rattle.coding_exports.specs.Pieces.{pieces_from, pieces_given};
 
 use crate::room::write;
 use bytes::Bytes;
@@ -27,10 +27,10 @@ pub extern "C" fn coding_exports_decode(
     ensures answers { (result ≡ 0) ⊎ (result ≡ number_of Refusal.NoMemory)
         ⊎ (result ≡ number_of Refusal.BadPieces) }
     ensures decoded { result ≡ 0 →
-        WritesDecoded k len (pieces_of k len points.now fragments.now) room.old room.new }
+        WritesDecoded k len (pieces_given k len points.now fragments.now) room.old room.new }
     ensures bad_pieces { result ≡ number_of Refusal.BadPieces →
-        (¬ AreLawful k len (pieces_of k len points.now fragments.now))
-        ⊎ HaveNoValue k len (pieces_of k len points.now fragments.now) }
+        (¬ AreLawful k len (pieces_given k len points.now fragments.now))
+        ⊎ HaveNoValue k len (pieces_given k len points.now fragments.now) }
     ensures unchanged { result ≢ 0 → room.new ≡ room.old }
 {
     if k == 0 {

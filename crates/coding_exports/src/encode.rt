@@ -2,7 +2,7 @@ ghost use Rattle.std.specs.Prelude.{◌≡◌, ◌⊎◌, ◌&&◌, ◌==◌, na
 ghost use Rattle.tag.specs.Refusal.{number_of};
 ghost use Rattle.encoder.specs.Fragment.{fragment};
 ghost use Rattle.encoder.specs.Coded.{encode_cause};
-ghost use Rattle.coding_exports.specs.Answer.{answer_of, written};
+ghost use Rattle.coding_exports.specs.Answer.{answer_by_cause, written};
 
 use crate::room::write;
 use bytes::Bytes;
@@ -23,7 +23,7 @@ pub extern "C" fn coding_exports_encode(
     i: u8,
     room: &mut [u8],
 ) -> u8
-    ensures answer { (result ≡ answer_of (encode_cause k n (length value.now)))
+    ensures answer { (result ≡ answer_by_cause (encode_cause k n (length value.now)))
         ⊎ (result ≡ number_of Refusal.NoMemory) }
     ensures room { room.new ≡
         (if result == 0 && nat_lt i n then written (fragment value.now k i) room.old else room.old) }

@@ -2,7 +2,7 @@ ghost use Rattle.std.specs.Prelude.{◌≡◌, ◌≢◌, ◌*◌, length};
 ghost use Rattle.encoder.specs.Fragment.{fragment, fragment_len};
 ghost use Rattle.encoder.specs.Points.{AreFragmentRows};
 ghost use Rattle.encoder.specs.Coded.{encode_cause};
-ghost use Rattle.coding_exports.specs.Answer.{answer_into, answer_of, fragment_cause};
+ghost use Rattle.coding_exports.specs.Answer.{answer_into, answer_by_cause, fragment_cause};
 
 use crate::answer::BAD_BUFFER;
 use encoder::{encode_into, fragment_into};
@@ -12,7 +12,7 @@ use tag::{LONGEST_VALUE, MOST_MEMBERS, Refusal};
 /// `TooLong` where no value may be that long; then `len` is as it was.
 #[unsafe(no_mangle)]
 pub extern "C" fn coding_fragment_length(k: u8, value_len: usize, len: &mut usize) -> u8
-    ensures answer { result ≡ answer_of (fragment_cause k value_len) }
+    ensures answer { result ≡ answer_by_cause (fragment_cause k value_len) }
     ensures length { result ≡ 0 → len.new ≡ fragment_len k value_len }
     ensures unchanged { result ≢ 0 → len.new ≡ len.old }
 {

@@ -78,23 +78,8 @@ sum_alone f z (u ∷ us) (suc pass) v h at n =
 popped_of_parts : (job : ℕ) → IsOfParts (λ v. times job v.popped)
 popped_of_parts job v n h = ap (times job) (h n).1
 
-count_of_parts : IsOfParts (λ v. length v.popped)
-count_of_parts v n h = ap (λ (l : List ℕ). length l) (h n).1
-
 pushed_of_parts : IsOfParts (λ v. v.pushed)
 pushed_of_parts v n h = (h n).0
-
-pub begins : AreOnce [] (known PARTS 0 [] ∷ [])
-begins = record {
-  parts = refl;
-  each = λ job. none job;
-  count = refl;
-  idle = (has_part (known PARTS 0 []) (omega arith), tt);
-}
-  where
-    none : (job : ℕ) → times job [] + sum_by (λ v. times job v.popped) (known PARTS 0 [] ∷ [])
-        ≡ once_below (sum_by (λ v. v.pushed) (known PARTS 0 [] ∷ [])) job
-    none job = grind (arith, nat_tests)
 
 pub once_more : (job n : ℕ) → once_below (n + 1) job ≡ once_below n job + times job (n ∷ [])
 once_more job n = grind (arith, nat_tests)

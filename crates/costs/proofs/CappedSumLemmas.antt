@@ -1,22 +1,19 @@
 -- Sums that grow by one more number, up to a cap.
-use Rattle.std.proofs.Common.{◌≡◌, ℕ, zero, suc, ◌+◌, ◌<◌, ◌^◌, List, length, take, get_or, Some, sym, ap, ap₂, ◌∙◌, arith}
+use Rattle.std.proofs.Common.{◌≡◌, ℕ, zero, suc, ◌+◌, ◌<◌, List, length, take, get_or, Some, sym, ap, ap₂, ◌∙◌, arith}
 use Rattle.std.specs.Prelude.{sum_by, slice_get}
 use Rattle.std.proofs.lemmas.Option.{get_or_from_slice_get, slice_get_within}
 use Rattle.std.proofs.lemmas.List.Sums.{sum_by_more}
 use Rattle.record.specs.Accounts.{member_sum}
-use Rattle.costs.specs.Cost.{capped}
+use Rattle.std.specs.Io.Iter.{u64_saturate}
 
-capped_sum : (a b : ℕ) → capped (capped a + capped b) ≡ capped (a + b)
+capped_sum : (a b : ℕ) → u64_saturate (u64_saturate a + u64_saturate b) ≡ u64_saturate (a + b)
 capped_sum a b = grind arith
 
 -- a capped total grows by a capped number
-pub capped_more : (total s x y sum more : ℕ) → total ≡ capped s → x ≡ capped y → sum ≡ capped (total + x) → more ≡ s + y → sum ≡ capped more
+pub capped_more : (total s x y sum more : ℕ) → total ≡ u64_saturate s → x ≡ u64_saturate y → sum ≡ u64_saturate (total + x)
+    → more ≡ s + y → sum ≡ u64_saturate more
 capped_more total s x y sum more is part added grown =
-    added ∙ (ap₂ (λ a b. capped (a + b)) is part ∙ (capped_sum s y ∙ ap capped (sym grown)))
-
--- a number below the cap is itself
-pub capped_small : (x y : ℕ) → x ≡ y → y < 2 ^ 64 → x ≡ capped y
-capped_small x y same small = grind (arith, same, small)
+    added ∙ (ap₂ (λ a b. u64_saturate (a + b)) is part ∙ (capped_sum s y ∙ ap u64_saturate (sym grown)))
 
 -- one element more of a sum
 pub sum_at : {X : Type 0} (f : X → ℕ) (xs : List X) (i : ℕ) (x : X) → slice_get xs i ≡ Some x

@@ -1,2 +1,2 @@
 pub mod CappedSumLemmas
-pub mod TextLemmas
+pub mod CostSumLemmas

@@ -1,8 +1,9 @@
 -- The contracts that docs/trusted.md lists do not depend on this file; other contracts and proofs do.
 -- What calls cost, as sums over the record of an object.
-use Rattle.std.specs.Prelude.{ℕ, ◌+◌, ◌-◌, ◌^◌, ◌&&◌, min, List, length, sum_by, is_some, if◌then◌else◌, Option, Some}
+use Rattle.std.specs.Prelude.{ℕ, ◌+◌, ◌&&◌, List, length, sum_by, is_some, if◌then◌else◌, Option, Some}
 use Rattle.std.specs.Prelude.{None, slice_get}
 use Rattle.std.specs.FinMap as map
+use Rattle.std.specs.Io.Iter.{u64_saturate}
 use Rattle.tag.specs.declared.tag.Tag.{Tag}
 use Rattle.tag.specs.Tag.{tag_eq}
 use Rattle.layout.specs.Layout.{Layout}
@@ -18,10 +19,6 @@ use Rattle.record.specs.Accounts.{member_sum}
 use Rattle.record.specs.Records.{Object}
 use Rattle.register.specs.View.{bank_there, phases_at, value_at}
 use Rattle.costs.specs.declared.cost.Cost.{Cost}
-
--- a number, or the greatest number of 64 bits where it is above that
-abbrev pub capped : ℕ → ℕ
-capped n = min n (2 ^ 64 - 1)
 
 -- how many bytes a fragment of the value has under this layout; 0 where the value or the layout is absent
 abbrev pub fragment_of : Option (List ℕ) → Option Layout → ℕ
@@ -72,10 +69,10 @@ returned_in phase = sum_by taken_bytes phase.replies
 abbrev pub cost_of : Object → (call : ℕ) → Cost
 cost_of object call = record {
   phases = length (phases_at object call);
-  requests = capped (sum_by (λ phase. phase.members) (phases_at object call));
-  replies = capped (sum_by (λ phase. length phase.replies) (phases_at object call));
-  sent = capped (sum_by (sent_in object call) (phases_at object call));
-  returned = capped (sum_by returned_in (phases_at object call));
+  requests = u64_saturate (sum_by (λ phase. phase.members) (phases_at object call));
+  replies = u64_saturate (sum_by (λ phase. length phase.replies) (phases_at object call));
+  sent = u64_saturate (sum_by (sent_in object call) (phases_at object call));
+  returned = u64_saturate (sum_by returned_in (phases_at object call));
 }
 
 -- the cost of no call
@@ -85,9 +82,9 @@ no_cost = record { phases = 0; requests = 0; replies = 0; sent = 0; returned = 0
 -- the sum of two costs
 abbrev pub plus : Cost → Cost → Cost
 plus one other = record {
-  phases = capped (one.phases + other.phases);
-  requests = capped (one.requests + other.requests);
-  replies = capped (one.replies + other.replies);
-  sent = capped (one.sent + other.sent);
-  returned = capped (one.returned + other.returned);
+  phases = u64_saturate (one.phases + other.phases);
+  requests = u64_saturate (one.requests + other.requests);
+  replies = u64_saturate (one.replies + other.replies);
+  sent = u64_saturate (one.sent + other.sent);
+  returned = u64_saturate (one.returned + other.returned);
 }

@@ -2,23 +2,13 @@
 -- The lines of what calls cost.
 use Rattle.std.specs.Prelude.{ℕ, ◌-◌, List, [], ◌∷◌, ◌++◌, length, fold, Option, Some, None, codes}
 use Rattle.std.specs.Fmt.{decimal}
-use Rattle.std.specs.List.{flat_map, join_with_byte}
+use Rattle.std.specs.List.{flat_map}
+use Rattle.printing.specs.Words.{in_words}
+use Rattle.printing.specs.Vocabulary.{word_of_operation}
 use Rattle.record.specs.declared.call.Entry.{Entry}
-use Rattle.record.specs.declared.call.Operation.{Operation}
-use Rattle.record.specs.declared.call.Operation.TheVariants as operation
 use Rattle.record.specs.Records.{Object}
 use Rattle.costs.specs.declared.cost.Cost.{Cost}
 use Rattle.costs.specs.Cost.{cost_of, no_cost, plus}
-
--- the word for what a call does
-abbrev pub word_of_operation : Operation → List ℕ
-word_of_operation operation.Read = codes "read"
-word_of_operation operation.Write = codes "write"
-word_of_operation operation.Move = codes "move"
-
--- the words, separated by spaces
-abbrev pub in_words : List (List ℕ) → List ℕ
-in_words words = join_with_byte 32 words
 
 -- the text of a cost: each number after its name
 abbrev pub cost_text : Cost → List ℕ

@@ -1,6 +1,6 @@
 //! The cost of a call, as sums over its phases.
 ghost use Rattle.std.specs.Prelude.{◌≡◌};
-ghost use Rattle.costs.specs.Cost.{capped, cost_of, plus};
+ghost use Rattle.costs.specs.Cost.{cost_of, plus};
 
 use crate::sums;
 use register::Register;

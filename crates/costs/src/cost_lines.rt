@@ -1,9 +1,10 @@
 //! The lines of what calls cost.
-ghost use Rattle.std.specs.Prelude.{◌≡◌, Some};
-ghost use Rattle.costs.specs.CostLines.{cost_text, costs_text, line_text, steps_text, total_text, word_of_operation};
+ghost use Rattle.std.specs.Prelude.{Some};
+ghost use Rattle.costs.specs.CostLines.{cost_text, costs_text, line_text, steps_text, total_text};
 
 use crate::cost::{Cost, cost_of};
-use record::{Entry, Operation};
+use printing::operation_word;
+use record::Entry;
 use register::Register;
 use std::fmt;
 use tag::Stamp;
@@ -105,15 +106,5 @@ impl fmt::Display for Steps {
             Some(answered) => write!(f, "{}", answered.saturating_sub(self.called)),
             None => f.write_str("-"),
         }
-    }
-}
-
-fn operation_word(operation: Operation) -> &'static str
-    ensures { result.now ≡ word_of_operation operation }
-{
-    match operation {
-        Operation::Read => "read",
-        Operation::Write => "write",
-        Operation::Move => "move",
     }
 }

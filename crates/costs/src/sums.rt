@@ -1,8 +1,9 @@
 //! The sums over the phases of a call.
 ghost use Rattle.std.specs.Prelude.{◌≡◌, sum_by, length};
 ghost use Rattle.record.specs.Accounts.{member_sum};
-ghost use Rattle.costs.specs.Cost.{bytes_for, came_at, capped, fragment_at, returned_in, sent_in, taken_bytes};
+ghost use Rattle.costs.specs.Cost.{bytes_for, came_at, fragment_at, returned_in, sent_in, taken_bytes};
 ghost use Rattle.std.specs.FinMap as map;
+ghost use Rattle.std.specs.Io.Iter.{u64_saturate};
 
 use bank::{Bank, Kind, Row};
 use phase::{Phase, Taken};
@@ -11,7 +12,7 @@ use tag::{CallId, Tag};
 
 /// The number of requests of these phases: one to each member that a phase asks.
 pub fn requests(phases: &[Phase]) -> u64
-    ensures { result ≡ capped (sum_by (λ p. p.members) phases.now) }
+    ensures { result ≡ u64_saturate (sum_by (λ p. p.members) phases.now) }
 {
     let mut total: u64 = 0;
     for phase in phases {
@@ -22,7 +23,7 @@ pub fn requests(phases: &[Phase]) -> u64
 
 /// The number of replies that these phases took.
 pub fn replies(phases: &[Phase]) -> u64
-    ensures { result ≡ capped (sum_by (λ p. length p.replies) phases.now) }
+    ensures { result ≡ u64_saturate (sum_by (λ p. length p.replies) phases.now) }
 {
     let mut total: u64 = 0;
     for phase in phases {
@@ -33,7 +34,7 @@ pub fn replies(phases: &[Phase]) -> u64
 
 /// The bytes of the fragments in the replies that these phases took.
 pub fn returned(phases: &[Phase]) -> u64
-    ensures { result ≡ capped (sum_by returned_in phases.now) }
+    ensures { result ≡ u64_saturate (sum_by returned_in phases.now) }
 {
     let mut total: u64 = 0;
     for phase in phases {
@@ -43,7 +44,7 @@ pub fn returned(phases: &[Phase]) -> u64
 }
 
 fn returned_in(replies: &[Taken]) -> u64
-    ensures { result ≡ capped (sum_by taken_bytes replies.now) }
+    ensures { result ≡ u64_saturate (sum_by taken_bytes replies.now) }
 {
     let mut total: u64 = 0;
     for taken in replies {
@@ -54,7 +55,7 @@ fn returned_in(replies: &[Taken]) -> u64
 
 /// The bytes of the fragments that the pre-writes among these phases of the call send.
 pub fn sent(register: &Register, call: CallId, phases: &[Phase]) -> u64
-    ensures { result ≡ capped (sum_by (sent_in register.now.object call) phases.now) }
+    ensures { result ≡ u64_saturate (sum_by (sent_in register.now.object call) phases.now) }
 {
     let mut total: u64 = 0;
     for phase in phases {
@@ -64,7 +65,7 @@ pub fn sent(register: &Register, call: CallId, phases: &[Phase]) -> u64
 }
 
 fn sent_in(register: &Register, call: CallId, phase: &Phase) -> u64
-    ensures { result ≡ capped (sent_in register.now.object call phase.now) }
+    ensures { result ≡ u64_saturate (sent_in register.now.object call phase.now) }
 {
     let position = phase.position();
     match phase.kind() {
@@ -87,7 +88,7 @@ fn fragment_at(register: &Register, call: CallId, position: u32) -> u64
 }
 
 fn came_to_all(register: &Register, fragment: u64, tag: Tag, position: u32, members: u8) -> u64
-    ensures { result ≡ capped (member_sum (came_at register.now.object fragment tag position) 0 members) }
+    ensures { result ≡ u64_saturate (member_sum (came_at register.now.object fragment tag position) 0 members) }
 {
     let mut total: u64 = 0;
     for member in 0..members {
@@ -97,7 +98,7 @@ fn came_to_all(register: &Register, fragment: u64, tag: Tag, position: u32, memb
 }
 
 fn came_at(register: &Register, fragment: u64, tag: Tag, position: u32, member: u8) -> u64
-    ensures { result ≡ capped (came_at register.now.object fragment tag position member) }
+    ensures { result ≡ u64_saturate (came_at register.now.object fragment tag position member) }
 {
     match register.bank_view(position, member) {
         Some(bank) => came_bytes(bank, fragment, tag),
@@ -107,7 +108,7 @@ fn came_at(register: &Register, fragment: u64, tag: Tag, position: u32, member: 
 
 // The bytes of a fragment where one came to a bank for the tag, even if the bank dropped it since; otherwise 0.
 fn came_bytes(bank: &Bank, fragment: u64, tag: Tag) -> u64
-    ensures { result ≡ capped (sum_by (bytes_for fragment tag) (map.entries bank.now.rows)) }
+    ensures { result ≡ u64_saturate (sum_by (bytes_for fragment tag) (map.entries bank.now.rows)) }
 {
     let mut total: u64 = 0;
     for i in 0..bank.count() {
@@ -118,7 +119,7 @@ fn came_bytes(bank: &Bank, fragment: u64, tag: Tag) -> u64
 }
 
 fn bytes_for(fragment: u64, tag: Tag, known: Tag, row: &Row) -> u64
-    ensures { result ≡ capped (bytes_for fragment tag (known, row.now)) }
+    ensures { result ≡ u64_saturate (bytes_for fragment tag (known, row.now)) }
 {
     if known == tag && row.arrival.is_some() {
         fragment

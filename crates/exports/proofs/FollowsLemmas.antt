@@ -35,16 +35,6 @@ pub record Follows (entries : List Entry) (processes : List Process) (clients : 
       → slice_get processes j ≡ Some (process.Client client)
       → IsAnsweredBefore (get_or entries i no_entry) (get_or entries j no_entry)
 
-pub none_yet : (entries : List Entry) → Follows entries [] []
-none_yet entries = record {
-  moves = λ i below. absurd (omega (arith, below));
-  known = λ i client e. absurd (cc);
-  free = λ i client since e. absurd (cc);
-  kept = λ client kept e. absurd (cc);
-  first = λ i client before e. absurd (cc);
-  apart = λ i j client below e. absurd (cc);
-}
-
 -- a call whose answer keeps its client busy was not answered before
 not_before : (entry next : Entry) (kept : Option ℕ) → entry.answered ≡ kept → IsBusy next.called kept
     → IsAnsweredBefore entry next → ⊥
@@ -63,9 +53,6 @@ answered_by entry since by (Some step) is e =
     let most = same_some (max step since) by e in (step, is, omega (arith, most))
 
 module _ (entries : List Entry) (processes : List Process) (old new : List (Option ℕ)) (so_far : Follows entries processes old) where
-  here : Entry
-  here = get_or entries (length processes) no_entry
-
   moves_too : (p : Process) → ((p ≡ process.Nemesis) ↔ ((get_or entries (length processes) no_entry).kind ≡ operation.Move))
       → (i : ℕ) → i < length (processes ++ p ∷ [])
       → (slice_get (processes ++ p ∷ []) i ≡ Some process.Nemesis) ↔ ((get_or entries i no_entry).kind ≡ operation.Move)

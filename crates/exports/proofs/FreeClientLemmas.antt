@@ -8,7 +8,7 @@ use Rattle.record.specs.declared.call.Operation.TheVariants as operation
 use Rattle.atomicity.specs.Atomic.{IsAnsweredBefore, no_entry}
 use Rattle.exports.specs.declared.event.Process.{Process}
 use Rattle.exports.specs.declared.event.Process.TheVariants as process
-use Rattle.exports.specs.Clients.{AreBusy, AreProcesses, TakesProcess, later}
+use Rattle.exports.specs.Clients.{AreBusy, TakesProcess, later}
 use Rattle.exports.proofs.FollowsLemmas.{Follows, IsAnsweredBy, IsKept, answered_by, later_than, to_nemesis}
 use Rattle.exports.proofs.FollowsLemmas as known
 use Rattle.exports.proofs.ListLemmas.{changed, last, length-changed, length-pushed, pushed, within}
@@ -186,13 +186,3 @@ one_more entries processes old new (process.Client client) so_far (is, (busy, in
     to_free entries processes old new so_far client is free.0 free.1 free.2 free.3 busy
 one_more entries processes old new (process.Client client) so_far (is, (busy, inr fresh)) =
     to_new entries processes old new so_far client is fresh.0 fresh.1 busy
-
--- all calls have theirs
-pub all_have : (entries : List Entry) (processes : List Process) (clients : List (Option ℕ)) → length processes ≡ length entries
-    → Follows entries processes clients → AreProcesses entries processes
-all_have entries processes clients same follows = record {
-  one_each = same;
-  moves = λ i below. follows.moves i (omega (arith, same, below));
-  apart = follows.apart;
-  first = follows.first;
-}

@@ -41,8 +41,8 @@ step_of_end end None = end
 step_of_end end (Some step) = step
 
 -- the event that begins the call of this entry
-abbrev pub begin_of : Entry → Process → Event
-begin_of entry process = record {
+abbrev pub begin_event : Entry → Process → Event
+begin_event entry process = record {
   step = entry.called;
   process = process;
   call = entry.call;
@@ -52,8 +52,8 @@ begin_of entry process = record {
 }
 
 -- the event that ends the call of this entry: at its answer, or at the step `end` where it is open
-abbrev pub end_of : (end : ℕ) → Entry → Process → Event
-end_of end entry process = record {
+abbrev pub end_event : (end : ℕ) → Entry → Process → Event
+end_event end entry process = record {
   step = step_of_end end entry.answered;
   process = process;
   call = entry.call;
@@ -64,7 +64,7 @@ end_of end entry process = record {
 
 -- the two events of the call of this entry
 abbrev pub ends_of : (end : ℕ) → Entry × Process → List Event
-ends_of end made = begin_of made.0 made.1 ∷ end_of end made.0 made.1 ∷ []
+ends_of end made = begin_event made.0 made.1 ∷ end_event end made.0 made.1 ∷ []
 
 -- the events are two for each entry, with the entry's own value, in the order of their steps; no process has two calls
 -- at once

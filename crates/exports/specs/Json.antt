@@ -2,11 +2,12 @@
 -- The lines of a history as JSON objects.
 use Rattle.std.specs.Prelude.{ℕ, List, [], ◌∷◌, ◌++◌, codes}
 use Rattle.std.specs.Fmt.{decimal}
-use Rattle.std.specs.List.{enumerate_from, flat_map}
+use Rattle.std.specs.List.{enumerate_from, flat_map, concat}
+use Rattle.printing.specs.Vocabulary.{word_of_operation}
 use Rattle.exports.specs.declared.event.Event.{Event}
 use Rattle.exports.specs.declared.event.Process.{Process}
 use Rattle.exports.specs.declared.event.Process.TheVariants as process
-use Rattle.exports.specs.Words.{quoted_or, texts, word_of_operation, word_of_stage}
+use Rattle.exports.specs.Words.{quoted_or, word_of_stage}
 
 -- the process that makes a call, in JSON
 abbrev pub process_text : Process → List ℕ
@@ -15,7 +16,7 @@ process_text process.Nemesis = codes "\"nemesis\""
 
 -- the object of an event
 abbrev pub object_text : (index : ℕ) → Event → List ℕ
-object_text index event = texts (
+object_text index event = concat (
     codes "{\"index\":" ∷ decimal index ∷ codes ",\"time\":" ∷ decimal event.step
     ∷ codes ",\"type\":\"" ∷ word_of_stage event.stage ∷ codes "\",\"process\":" ∷ process_text event.process
     ∷ codes ",\"f\":\"" ∷ word_of_operation event.kind

@@ -1,16 +1,9 @@
 -- The contracts that docs/trusted.md lists do not depend on this file; other contracts and proofs do.
 -- The words that both forms of a history share.
-use Rattle.std.specs.Prelude.{ℕ, List, [], ◌∷◌, ◌++◌, Option, Some, None, codes}
+use Rattle.std.specs.Prelude.{ℕ, List, ◌++◌, Option, Some, None, codes}
 use Rattle.words.specs.Hexadecimal.{hexadecimal_text}
-use Rattle.record.specs.declared.call.Operation.{Operation}
-use Rattle.record.specs.declared.call.Operation.TheVariants as operation
 use Rattle.exports.specs.declared.event.Stage.{Stage}
 use Rattle.exports.specs.declared.event.Stage.TheVariants as stage
-
--- the texts joined into one
-abbrev pub texts : List (List ℕ) → List ℕ
-texts [] = []
-texts (text ∷ more) = text ++ texts more
 
 -- a value in hexadecimal between quotes, or this word where there is none
 abbrev pub quoted_or : Option (List ℕ) → (none : List ℕ) → List ℕ
@@ -22,9 +15,3 @@ abbrev pub word_of_stage : Stage → List ℕ
 word_of_stage stage.Invoke = codes "invoke"
 word_of_stage stage.Complete = codes "ok"
 word_of_stage stage.Info = codes "info"
-
--- the word for what a call does
-abbrev pub word_of_operation : Operation → List ℕ
-word_of_operation operation.Read = codes "read"
-word_of_operation operation.Write = codes "write"
-word_of_operation operation.Move = codes "move"

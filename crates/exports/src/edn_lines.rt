@@ -3,7 +3,8 @@ ghost use Rattle.std.specs.Prelude.{Some};
 ghost use Rattle.exports.specs.Edn.{edn_text, map_text, process_text};
 
 use crate::event::{Event, Process};
-use crate::value::{QuotedOr, operation_word, stage_word};
+use crate::value::{QuotedOr, stage_word};
+use printing::operation_word;
 use std::fmt;
 
 /// A line for each event, in order. It is an EDN map: `{:index 0, :time 3, :type :invoke, :process 0, :f :write, :value

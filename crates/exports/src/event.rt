@@ -1,7 +1,7 @@
 //! The events of a history.
 ghost use Rattle.std.specs.Prelude.{◌≡◌, IfOk, List, length};
 ghost use Rattle.std.specs.List.{flat_map, zip};
-ghost use Rattle.exports.specs.Event.{IsHistory, begin_of, end_of, ends_of};
+ghost use Rattle.exports.specs.Event.{IsHistory, begin_event, end_event, ends_of};
 
 use crate::clients::assign;
 use bytes::Bytes;
@@ -69,14 +69,14 @@ fn both_ends(
     let mut events = Vec::new(alloc);
     for (index, entry) in entries.iter().enumerate() {
         let process = processes[index];
-        events.push(begin_of(entry, process)?)?;
-        events.push(end_of(entry, process, end)?)?;
+        events.push(begin_event(entry, process)?)?;
+        events.push(end_event(entry, process, end)?)?;
     }
     Ok(events)
 }
 
-fn begin_of(entry: &Entry, process: Process) -> Result<Event, AllocError>
-    ensures { IfOk result (λ event. event ≡ begin_of entry.now process) }
+fn begin_event(entry: &Entry, process: Process) -> Result<Event, AllocError>
+    ensures { IfOk result (λ event. event ≡ begin_event entry.now process) }
 {
     let stage = match entry.kind {
         Operation::Move => Stage::Info,
@@ -96,8 +96,8 @@ fn begin_of(entry: &Entry, process: Process) -> Result<Event, AllocError>
     })
 }
 
-fn end_of(entry: &Entry, process: Process, end: Stamp) -> Result<Event, AllocError>
-    ensures { IfOk result (λ event. event ≡ end_of end entry.now process) }
+fn end_event(entry: &Entry, process: Process, end: Stamp) -> Result<Event, AllocError>
+    ensures { IfOk result (λ event. event ≡ end_event end entry.now process) }
 {
     let stage = match (entry.kind, entry.answered) {
         (Operation::Move, _) | (_, None) => Stage::Info,

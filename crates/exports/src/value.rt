@@ -1,10 +1,9 @@
 //! The values and words in the lines of a history.
 ghost use Rattle.std.specs.Prelude.{◌≡◌, Some};
-ghost use Rattle.exports.specs.Words.{quoted_or, word_of_operation, word_of_stage};
+ghost use Rattle.exports.specs.Words.{quoted_or, word_of_stage};
 
 use crate::event::Stage;
 use bytes::Bytes;
-use record::Operation;
 use std::fmt;
 use words::Hexadecimal;
 
@@ -33,15 +32,5 @@ pub(crate) fn stage_word(stage: Stage) -> &'static str
         Stage::Invoke => "invoke",
         Stage::Complete => "ok",
         Stage::Info => "info",
-    }
-}
-
-pub(crate) fn operation_word(operation: Operation) -> &'static str
-    ensures { result.now ≡ word_of_operation operation }
-{
-    match operation {
-        Operation::Read => "read",
-        Operation::Write => "write",
-        Operation::Move => "move",
     }
 }

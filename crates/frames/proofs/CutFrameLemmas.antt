@@ -86,11 +86,13 @@ bytes_in_order n xs ys v rest e = here (ltb (length xs) n) refl
     whole enough =
         let long : n ≤ length xs = ltb-false _ _ enough in
         let more : n ≤ length (xs ++ ys) = omega (arith, length-append xs ys) in
-        let all : cond (ltb (length (xs ++ ys)) n) (Err (UnexpectedEnd, [])) (Ok (take n (xs ++ ys), drop n (xs ++ ys))) ≡ Ok (v, rest) = e in
+        let all : cond (ltb (length (xs ++ ys)) n) (Err (UnexpectedEnd, [])) (Ok (take n (xs ++ ys), drop n (xs ++ ys)))
+        ≡ Ok (v, rest) = e in
         let p = ok_is (take n (xs ++ ys), drop n (xs ++ ys)) (v, rest) (rw (le-ltb _ _ more) at all) in
         let front : take n xs ≡ v = sym (take-append-le n xs ys long) ∙ ap (λ (q : List ℕ × List ℕ). q.0) p in
         let behind : rest ≡ drop n xs ++ ys = sym (ap (λ (q : List ℕ × List ℕ). q.1) p) ∙ drop-append-le n xs ys long in
         inl (drop n xs, rw enough (ap (λ (q : List ℕ). Ok (q, drop n xs)) front), behind)
+
     here : (short : Bool) → ltb (length xs) n ≡ short → OfFront (bytes_at n xs) ys v rest
     here true short = inr (rw short refl)
     here false enough = whole enough
@@ -143,7 +145,8 @@ array_in_order =
 -- what stands behind the first byte of a frame
 marked_in_order : (is_star : Bool) → ReadsInOrder (λ xs. cond is_star (and_then (array_at xs) as_frame) (Err (BadType, xs)))
 marked_in_order true xs ys v rest e =
-    in_turn {A = List (List ℕ)} {B = Option (List (List ℕ))} array_at as_frame array_in_order (λ strings. at_once (Some strings)) xs ys v rest e
+    in_turn {A = List (List ℕ)} {B = Option (List (List ℕ))} array_at as_frame array_in_order
+    (λ strings. at_once (Some strings)) xs ys v rest e
 marked_in_order false xs ys v rest e = absurd cc
 
 frame_in_order : (byte : ℕ) → ReadsInOrder (λ xs. frame_at (byte ∷ xs))
@@ -159,7 +162,7 @@ cut_frame strings [] back lawful e some_front some_back = absurd (some_front ref
 cut_frame strings (byte ∷ front) back lawful e some_front some_back =
     let again = frame_again strings [] lawful in
     let split : frame_at (byte ∷ (front ++ back)) ≡ Ok (Some strings, []) =
-        ap frame_at (sym e ∙ sym (append-nil (frame_bytes strings))) ∙ again in
+    ap frame_at (sym e ∙ sym (append-nil (frame_bytes strings))) ∙ again in
     here (frame_in_order byte front back (Some strings) [] split)
   where
     here : OfFront (frame_at (byte ∷ front)) back (Some strings) [] → frame_at (byte ∷ front) ≡ Err (UnexpectedEnd, [])

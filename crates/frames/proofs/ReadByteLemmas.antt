@@ -8,19 +8,19 @@ use Rattle.frames.specs.declared.error.Fault.{Fault}
 use Rattle.frames.specs.declared.error.Fault.TheVariants.{NoLineEnd, UnexpectedEnd}
 use Rattle.frames.specs.declared.error.FrameError.{FrameError}
 use Rattle.frames.specs.declared.error.FrameError.TheVariants as errors
-use Rattle.frames.specs.Reading.{Parsed, and_then, GivesAs, Gives, byte_at, expected_at, line_end_at, bytes_at}
+use Rattle.frames.specs.Reading.{Parsed, and_then, GivesAs, Returns, byte_at, expected_at, line_end_at, bytes_at}
 use Rattle.frames.proofs.ReadPartLemmas.{bytes_again}
-use Rattle.frames.proofs.ReadSequenceLemmas.{Left, Between_as, then_ok, then_err, fails, succeeds, Gives_err}
+use Rattle.frames.proofs.ReadSequenceLemmas.{Left, Between_as, then_ok, then_err, fails, succeeds, GivesAs_err}
 
 -- ---- one byte
 
-pub byte_read : (old new : Left) (byte : ℕ) → Consumes old new (byte ∷ []) → Gives byte_at old new (succeeds byte)
+pub byte_read : (old new : Left) (byte : ℕ) → Consumes old new (byte ∷ []) → Returns byte_at old new (succeeds byte)
 unfolding byte_at
 byte_read None new byte p = tt
 byte_read (Some xs) None byte p = absurd p
 byte_read (Some xs) (Some ys) byte p = ap byte_at p
 
-pub byte_ended : (old new : Left) → IsAtEnd old → Keeps old new → Gives byte_at old new (fails ℕ (errors.Fault UnexpectedEnd))
+pub byte_ended : (old new : Left) → IsAtEnd old → Keeps old new → Returns byte_at old new (fails ℕ (errors.Fault UnexpectedEnd))
 unfolding byte_at
 byte_ended None new p q = tt
 byte_ended (Some xs) None p q = absurd q
@@ -30,32 +30,32 @@ byte_ended (Some xs) (Some ys) p q = ap byte_at p ∙ ap (λ (l : List ℕ). Err
 abbrev tested : ℕ → Fault → ℕ × List ℕ → Parsed ℕ
 tested expected fault b = cond (eqb b.0 expected) (Ok b) (Err (fault, b.1))
 
-pub expected_err : (expected : ℕ) (fault : Fault) (old new : Left) (e : FrameError) → Gives byte_at old new (fails ℕ e)
-    → Gives (expected_at expected fault) old new (fails ℕ e)
+pub expected_err : (expected : ℕ) (fault : Fault) (old new : Left) (e : FrameError) → Returns byte_at old new (fails ℕ e)
+    → Returns (expected_at expected fault) old new (fails ℕ e)
 unfolding expected_at
 expected_err expected fault old new e p = then_err byte_at (tested expected fault) old new e p
 
-pub expected_other : (expected : ℕ) (fault : Fault) (old new : Left) (byte : ℕ) → Gives byte_at old new (succeeds byte)
-    → (byte ≡ expected → ⊥) → Gives (expected_at expected fault) old new (fails ℕ (errors.Fault fault))
+pub expected_other : (expected : ℕ) (fault : Fault) (old new : Left) (byte : ℕ) → Returns byte_at old new (succeeds byte)
+    → (byte ≡ expected → ⊥) → Returns (expected_at expected fault) old new (fails ℕ (errors.Fault fault))
 unfolding expected_at
 expected_other expected fault old new byte p other =
     Between_as old new (λ xs ys a. ap (λ (r : Parsed ℕ). and_then r (tested expected fault)) a
     ∙ cond-false (eqb byte expected) _ _ (ne_eqb byte expected other)) p
 
-pub expected_same : (expected : ℕ) (fault : Fault) (old new : Left) (byte : ℕ) → Gives byte_at old new (succeeds byte)
-    → byte ≡ expected → Gives (expected_at expected fault) old new (succeeds byte)
+pub expected_same : (expected : ℕ) (fault : Fault) (old new : Left) (byte : ℕ) → Returns byte_at old new (succeeds byte)
+    → byte ≡ expected → Returns (expected_at expected fault) old new (succeeds byte)
 unfolding expected_at
 expected_same expected fault old new byte p same =
     Between_as old new (λ xs ys a. ap (λ (r : Parsed ℕ). and_then r (tested expected fault)) a
     ∙ cond-true (eqb byte expected) _ _ (eq-eqb byte expected same)) p
 
-pub line_end_err : (old new : Left) (e : FrameError) → Gives (expected_at 13 NoLineEnd) old new (fails ℕ e)
-    → Gives line_end_at old new (fails ℕ e)
+pub line_end_err : (old new : Left) (e : FrameError) → Returns (expected_at 13 NoLineEnd) old new (fails ℕ e)
+    → Returns line_end_at old new (fails ℕ e)
 unfolding line_end_at
 line_end_err old new e p = then_err (expected_at 13 NoLineEnd) (λ cr. expected_at 10 NoLineEnd cr.1) old new e p
 
-pub line_end_then : (old mid new : Left) (byte : ℕ) (r : Result ℕ FrameError) → Gives (expected_at 13 NoLineEnd) old mid (succeeds byte)
-    → Gives (expected_at 10 NoLineEnd) mid new r → Gives line_end_at old new r
+pub line_end_then : (old mid new : Left) (byte : ℕ) (r : Result ℕ FrameError) → Returns (expected_at 13 NoLineEnd) old mid (succeeds byte)
+    → Returns (expected_at 10 NoLineEnd) mid new r → Returns line_end_at old new r
 unfolding line_end_at
 line_end_then old mid new byte r p q = then_ok (expected_at 13 NoLineEnd) (λ cr. expected_at 10 NoLineEnd cr.1) old mid new byte r p q
 
@@ -97,7 +97,7 @@ bytes_filled n old new buf filled x len full p = bytes_done n old new buf x len 
 pub bytes_same_err : {X Z : Type 0} (view : X → List ℕ) (see : Z → List ℕ) (m n : ℕ) (old new : Left) (e : FrameError) → m ≡ n
     → GivesAs view (bytes_at m) old new (fails X e) → GivesAs see (bytes_at n) old new (fails Z e)
 bytes_same_err {Z = Z} view see m n old new e is p =
-    subst (λ (k : ℕ). GivesAs see (bytes_at k) old new (fails Z e)) is (Gives_err view see (bytes_at m) old new e p)
+    subst (λ (k : ℕ). GivesAs see (bytes_at k) old new (fails Z e)) is (GivesAs_err view see (bytes_at m) old new e p)
 
 pub bytes_same : {X Z : Type 0} (see : Z → List ℕ) (m n : ℕ) (old new : Left) (buf : List ℕ) (x : X) (z : Z) → m ≡ n → buf ≡ see z
     → GivesAs (λ (_ : X). buf) (bytes_at m) old new (succeeds x) → GivesAs see (bytes_at n) old new (succeeds z)

@@ -5,10 +5,10 @@ use Rattle.frames.specs.declared.error.Fault.{Fault}
 use Rattle.frames.specs.declared.error.Fault.TheVariants.{NoLineEnd}
 use Rattle.frames.specs.declared.error.FrameError.{FrameError}
 use Rattle.frames.specs.declared.error.FrameError.TheVariants as errors
-use Rattle.frames.specs.Reading.{Parsed, and_then, leaving, Between, Gives, byte_at, expected_at}
+use Rattle.frames.specs.Reading.{Parsed, and_then, leaving, Between, Returns, byte_at, expected_at}
 use Rattle.frames.specs.Reading.{with_digit, digits_at, first_digit, number_at}
 use Rattle.frames.proofs.ReadPartLemmas.{byte_ok}
-use Rattle.frames.proofs.ReadSequenceLemmas.{Left, Between_then, Between_as, then_ok, then_last, then_err, fails, succeeds, Gives_as}
+use Rattle.frames.proofs.ReadSequenceLemmas.{Left, Between_then, Between_as, then_ok, then_last, then_err, fails, succeeds, Returns_as}
 use Rattle.frames.proofs.RestAfterPartLemmas.{after_digits, after_first, after_byte}
 
 -- ---- digits
@@ -34,31 +34,31 @@ unfolding digits_at
 digits_cr most above n byte ys h = rw (eq-eqb byte 13 h) refl
 
 -- reading on from n and the byte behind its digits gives what reading from the first digit gives
-abbrev pub GoesOn : ℕ → Fault → ℕ → ℕ → ℕ → Left → Left → Type 0
-GoesOn most above first n byte old new = Between (λ xs ys. digits_at most above first xs ≡ digits_at most above n (byte ∷ ys)) old new
+abbrev pub IsSoFar : ℕ → Fault → ℕ → ℕ → ℕ → Left → Left → Type 0
+IsSoFar most above first n byte old new = Between (λ xs ys. digits_at most above first xs ≡ digits_at most above n (byte ∷ ys)) old new
 
-pub digits_init : (most : ℕ) (above : Fault) (first : ℕ) (old new : Left) (byte : ℕ) → Gives byte_at old new (succeeds byte)
-    → GoesOn most above first first byte old new
+pub digits_init : (most : ℕ) (above : Fault) (first : ℕ) (old new : Left) (byte : ℕ) → Returns byte_at old new (succeeds byte)
+    → IsSoFar most above first first byte old new
 digits_init most above first old new byte p = Between_as old new (λ xs ys a. ap (digits_at most above first) (byte_ok xs (byte, ys) a)) p
 
-pub digits_first_err : (most : ℕ) (above : Fault) (first : ℕ) (old new : Left) (e : FrameError) → Gives byte_at old new (fails ℕ e)
-    → Gives (digits_at most above first) old new (fails ℕ e)
+pub digits_first_err : (most : ℕ) (above : Fault) (first : ℕ) (old new : Left) (e : FrameError) → Returns byte_at old new (fails ℕ e)
+    → Returns (digits_at most above first) old new (fails ℕ e)
 digits_first_err most above first old new (errors.Fault fault) p =
     Between_as old new (λ xs ys a. digits_ended most above first xs (fault, ys) a) p
 digits_first_err most above first old new errors.NoMemory p = tt
 digits_first_err most above first old new (errors.Failed error) p = tt
 
-pub digits_preserved : (most : ℕ) (above : Fault) (first n byte m next : ℕ) (old mid new : Left) → GoesOn most above first n byte old mid
-    → (byte ≡ 13 → ⊥) → with_digit most above n byte ≡ Ok m → Gives byte_at mid new (succeeds next)
-    → GoesOn most above first m next old new
+pub digits_preserved : (most : ℕ) (above : Fault) (first n byte m next : ℕ) (old mid new : Left) → IsSoFar most above first n byte old mid
+    → (byte ≡ 13 → ⊥) → with_digit most above n byte ≡ Ok m → Returns byte_at mid new (succeeds next)
+    → IsSoFar most above first m next old new
 digits_preserved most above first n byte m next old mid new p other h q =
     Between_then old mid new (λ xs ys zs a b. a
     ∙ digits_go most above n byte m ys other h
     ∙ ap (digits_at most above m) (byte_ok ys (next, zs) b)) p q
 
 pub digits_next_err : (most : ℕ) (above : Fault) (first n byte m : ℕ) (old mid new : Left) (e : FrameError)
-    → GoesOn most above first n byte old mid → (byte ≡ 13 → ⊥) → with_digit most above n byte ≡ Ok m
-    → Gives byte_at mid new (fails ℕ e) → Gives (digits_at most above first) old new (fails ℕ e)
+    → IsSoFar most above first n byte old mid → (byte ≡ 13 → ⊥) → with_digit most above n byte ≡ Ok m
+    → Returns byte_at mid new (fails ℕ e) → Returns (digits_at most above first) old new (fails ℕ e)
 digits_next_err most above first n byte m old mid new (errors.Fault fault) p other h q =
     Between_then old mid new (λ xs ys zs a b. a
     ∙ digits_go most above n byte m ys other h
@@ -66,51 +66,52 @@ digits_next_err most above first n byte m old mid new (errors.Fault fault) p oth
 digits_next_err most above first n byte m old mid new errors.NoMemory p other h q = tt
 digits_next_err most above first n byte m old mid new (errors.Failed error) p other h q = tt
 
-pub digits_bad : (most : ℕ) (above : Fault) (first n byte : ℕ) (fault : Fault) (old new : Left) → GoesOn most above first n byte old new
-    → (byte ≡ 13 → ⊥) → with_digit most above n byte ≡ Err fault → Gives (digits_at most above first) old new (fails ℕ (errors.Fault fault))
+pub digits_bad : (most : ℕ) (above : Fault) (first n byte : ℕ) (fault : Fault) (old new : Left) → IsSoFar most above first n byte old new
+    → (byte ≡ 13 → ⊥) → with_digit most above n byte ≡ Err fault
+    → Returns (digits_at most above first) old new (fails ℕ (errors.Fault fault))
 digits_bad most above first n byte fault old new p other h =
     Between_as old new (λ xs ys a. a ∙ digits_fault most above n byte fault ys other h) p
 
-pub digits_done : (most : ℕ) (above : Fault) (first n byte : ℕ) (old new : Left) → GoesOn most above first n byte old new → byte ≡ 13
-    → Gives (digits_at most above first) old new (succeeds n)
+pub digits_done : (most : ℕ) (above : Fault) (first n byte : ℕ) (old new : Left) → IsSoFar most above first n byte old new → byte ≡ 13
+    → Returns (digits_at most above first) old new (succeeds n)
 digits_done most above first n byte old new p h = Between_as old new (λ xs ys a. a ∙ digits_cr most above n byte ys h) p
 
 -- ---- a number
 
-pub number_err : (most : ℕ) (above : Fault) (old new : Left) (e : FrameError) → Gives byte_at old new (fails ℕ e)
-    → Gives (number_at most above) old new (fails ℕ e)
+pub number_err : (most : ℕ) (above : Fault) (old new : Left) (e : FrameError) → Returns byte_at old new (fails ℕ e)
+    → Returns (number_at most above) old new (fails ℕ e)
 unfolding number_at
 number_err most above old new e p = then_err byte_at (after_byte most above) old new e p
 
-pub number_bad : (most : ℕ) (above : Fault) (old new : Left) (byte : ℕ) (fault : Fault) → Gives byte_at old new (succeeds byte)
-    → first_digit byte ≡ Err fault → Gives (number_at most above) old new (fails ℕ (errors.Fault fault))
+pub number_bad : (most : ℕ) (above : Fault) (old new : Left) (byte : ℕ) (fault : Fault) → Returns byte_at old new (succeeds byte)
+    → first_digit byte ≡ Err fault → Returns (number_at most above) old new (fails ℕ (errors.Fault fault))
 unfolding number_at
 number_bad most above old new byte fault p h = Between_as old new (λ xs ys a. ap (λ (r : Parsed ℕ). and_then r (after_byte most above)) a
     ∙ ap (λ (r : Result ℕ Fault). and_then (leaving r ys) (after_first most above)) h) p
 
 -- a first digit, and what follows it
 pub number_from : (most : ℕ) (above : Fault) (old mid new : Left) (byte first : ℕ) (r : Result ℕ FrameError)
-    → Gives byte_at old mid (succeeds byte) → first_digit byte ≡ Ok first → Gives (λ ys. after_first most above (first, ys)) mid new r
-    → Gives (number_at most above) old new r
+    → Returns byte_at old mid (succeeds byte) → first_digit byte ≡ Ok first → Returns (λ ys. after_first most above (first, ys)) mid new r
+    → Returns (number_at most above) old new r
 unfolding number_at
 number_from most above old mid new byte first r p h q = then_ok byte_at (after_byte most above) old mid new byte r p
-    (Gives_as (λ ys. after_byte most above (byte, ys)) (λ ys. after_first most above (first, ys)) mid new r
+    (Returns_as (λ ys. after_byte most above (byte, ys)) (λ ys. after_first most above (first, ys)) mid new r
     (λ ys. ap (λ (s : Result ℕ Fault). and_then (leaving s ys) (after_first most above)) h) q)
 
 pub number_digits_err : (most : ℕ) (above : Fault) (first : ℕ) (mid new : Left) (e : FrameError)
-    → Gives (digits_at most above first) mid new (fails ℕ e) → Gives (λ ys. after_first most above (first, ys)) mid new (fails ℕ e)
+    → Returns (digits_at most above first) mid new (fails ℕ e) → Returns (λ ys. after_first most above (first, ys)) mid new (fails ℕ e)
 number_digits_err most above first mid new e p = then_err (digits_at most above first) after_digits mid new e p
 
 pub number_line_err : (most : ℕ) (above : Fault) (first n : ℕ) (old mid new : Left) (e : FrameError)
-    → Gives (digits_at most above first) old mid (succeeds n) → Gives (expected_at 10 NoLineEnd) mid new (fails ℕ e)
-    → Gives (λ ys. after_first most above (first, ys)) old new (fails ℕ e)
+    → Returns (digits_at most above first) old mid (succeeds n) → Returns (expected_at 10 NoLineEnd) mid new (fails ℕ e)
+    → Returns (λ ys. after_first most above (first, ys)) old new (fails ℕ e)
 number_line_err most above first n old mid new e p q =
     then_ok (digits_at most above first) after_digits old mid new n (fails ℕ e) p
     (then_err (expected_at 10 NoLineEnd) (λ lf. Ok (n, lf.1)) mid new e q)
 
 pub number_done : (most : ℕ) (above : Fault) (first n lf : ℕ) (old mid new : Left)
-    → Gives (digits_at most above first) old mid (succeeds n) → Gives (expected_at 10 NoLineEnd) mid new (succeeds lf)
-    → Gives (λ ys. after_first most above (first, ys)) old new (succeeds n)
+    → Returns (digits_at most above first) old mid (succeeds n) → Returns (expected_at 10 NoLineEnd) mid new (succeeds lf)
+    → Returns (λ ys. after_first most above (first, ys)) old new (succeeds n)
 number_done most above first n lf old mid new p q =
     then_ok (digits_at most above first) after_digits old mid new n (succeeds n) p
     (then_last (expected_at 10 NoLineEnd) (λ lf. Ok (n, lf.1)) mid new lf n (λ ys. refl) q)

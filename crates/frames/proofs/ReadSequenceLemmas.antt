@@ -3,7 +3,7 @@ use Rattle.std.proofs.Common.{◌≡◌, List, ℕ, ◌++◌, Option, Some, None
 use Rattle.std.specs.Io.KnownBytes.{Consumes}
 use Rattle.frames.specs.declared.error.FrameError.{FrameError}
 use Rattle.frames.specs.declared.error.FrameError.TheVariants as errors
-use Rattle.frames.specs.Reading.{Parsed, and_then, Between, GivesAs, Gives}
+use Rattle.frames.specs.Reading.{Parsed, and_then, Between, GivesAs, Returns}
 
 -- what a reader has left, where that is known
 abbrev pub Left : Type 0
@@ -54,41 +54,41 @@ then_ok_as view see at k old mid new x (Err errors.NoMemory) p q = tt
 then_ok_as view see at k old mid new x (Err (errors.Failed error)) p q = tt
 
 pub then_ok : {Y V : Type 0} (at : List ℕ → Parsed Y) (k : Y × List ℕ → Parsed V) (old mid new : Left) (x : Y) (r : Result V FrameError)
-    → Gives at old mid (Ok x) → Gives (λ ys. k (x, ys)) mid new r → Gives (λ xs. and_then (at xs) k) old new r
+    → Returns at old mid (Ok x) → Returns (λ ys. k (x, ys)) mid new r → Returns (λ xs. and_then (at xs) k) old new r
 then_ok at k old mid new x r p q = then_ok_as (λ y. y) (λ v. v) at k old mid new x r p q
 
 -- a last part that was read, and the value that is made of it
 pub then_last : {Y V : Type 0} (at : List ℕ → Parsed Y) (k : Y × List ℕ → Parsed V) (old new : Left) (x : Y) (z : V)
-    → ((ys : List ℕ) → k (x, ys) ≡ Ok (z, ys)) → Gives at old new (Ok x) → Gives (λ xs. and_then (at xs) k) old new (Ok z)
+    → ((ys : List ℕ) → k (x, ys) ≡ Ok (z, ys)) → Returns at old new (Ok x) → Returns (λ xs. and_then (at xs) k) old new (Ok z)
 then_last {Y = Y} at k old new x z h p = Between_as old new (λ xs ys a. ap (λ (r : Parsed Y). and_then r k) a ∙ h ys) p
 
 -- a part that was not read
 pub then_err_as : {X Y V : Type 0} (view : X → Y) (at : List ℕ → Parsed Y) (k : Y × List ℕ → Parsed V) (old new : Left) (e : FrameError)
-    → GivesAs view at old new (fails X e) → Gives (λ xs. and_then (at xs) k) old new (fails V e)
+    → GivesAs view at old new (fails X e) → Returns (λ xs. and_then (at xs) k) old new (fails V e)
 then_err_as {Y = Y} view at k old new (errors.Fault fault) p = Between_as old new (λ xs ys a. ap (λ (r : Parsed Y). and_then r k) a) p
 then_err_as view at k old new errors.NoMemory p = tt
 then_err_as view at k old new (errors.Failed error) p = tt
 
 pub then_err : {Y V : Type 0} (at : List ℕ → Parsed Y) (k : Y × List ℕ → Parsed V) (old new : Left) (e : FrameError)
-    → Gives at old new (fails Y e) → Gives (λ xs. and_then (at xs) k) old new (fails V e)
+    → Returns at old new (fails Y e) → Returns (λ xs. and_then (at xs) k) old new (fails V e)
 then_err at k old new e p = then_err_as (λ y. y) at k old new e p
 
 -- the same reading, said otherwise
-pub Gives_as : {V : Type 0} (at by : List ℕ → Parsed V) (old new : Left) (r : Result V FrameError) → ((xs : List ℕ) → at xs ≡ by xs)
-    → Gives by old new r → Gives at old new r
-Gives_as at by old new (Ok z) h p = Between_as old new (λ xs ys a. h xs ∙ a) p
-Gives_as at by old new (Err (errors.Fault fault)) h p = Between_as old new (λ xs ys a. h xs ∙ a) p
-Gives_as at by old new (Err errors.NoMemory) h p = tt
-Gives_as at by old new (Err (errors.Failed error)) h p = tt
+pub Returns_as : {V : Type 0} (at by : List ℕ → Parsed V) (old new : Left) (r : Result V FrameError) → ((xs : List ℕ) → at xs ≡ by xs)
+    → Returns by old new r → Returns at old new r
+Returns_as at by old new (Ok z) h p = Between_as old new (λ xs ys a. h xs ∙ a) p
+Returns_as at by old new (Err (errors.Fault fault)) h p = Between_as old new (λ xs ys a. h xs ∙ a) p
+Returns_as at by old new (Err errors.NoMemory) h p = tt
+Returns_as at by old new (Err (errors.Failed error)) h p = tt
 
 -- an error, whatever the value would have been
-pub Gives_err : {X Z Y : Type 0} (view : X → Y) (see : Z → Y) (at : List ℕ → Parsed Y) (old new : Left) (e : FrameError)
+pub GivesAs_err : {X Z Y : Type 0} (view : X → Y) (see : Z → Y) (at : List ℕ → Parsed Y) (old new : Left) (e : FrameError)
     → GivesAs view at old new (fails X e) → GivesAs see at old new (fails Z e)
-Gives_err view see at old new (errors.Fault fault) p = p
-Gives_err view see at old new errors.NoMemory p = tt
-Gives_err view see at old new (errors.Failed error) p = tt
+GivesAs_err view see at old new (errors.Fault fault) p = p
+GivesAs_err view see at old new errors.NoMemory p = tt
+GivesAs_err view see at old new (errors.Failed error) p = tt
 
 -- the same value, made otherwise
-pub Gives_made : {V : Type 0} (at : List ℕ → Parsed V) (old new : Left) (x y : V) → y ≡ x → Gives at old new (succeeds x)
-    → Gives at old new (succeeds y)
-Gives_made {V = V} at old new x y is p = subst (λ (v : V). Gives at old new (succeeds v)) (sym is) p
+pub Returns_made : {V : Type 0} (at : List ℕ → Parsed V) (old new : Left) (x y : V) → y ≡ x → Returns at old new (succeeds x)
+    → Returns at old new (succeeds y)
+Returns_made {V = V} at old new x y is p = subst (λ (v : V). Returns at old new (succeeds v)) (sym is) p

@@ -9,7 +9,7 @@ use Rattle.frames.specs.declared.error.FrameError.{FrameError}
 use Rattle.frames.specs.declared.error.FrameError.TheVariants as errors
 use Rattle.frames.specs.declared.limits.TheConstants.{LONGEST_STRING}
 use Rattle.frames.specs.Frame.{IsShort}
-use Rattle.frames.specs.Reading.{Parsed, and_then, Between, GivesAs, Gives, expected_at, line_end_at, bytes_at}
+use Rattle.frames.specs.Reading.{Parsed, and_then, Between, GivesAs, Returns, expected_at, line_end_at, bytes_at}
 use Rattle.frames.specs.Reading.{number_at, string_at, strings_at}
 use Rattle.frames.proofs.ReadSequenceLemmas.{Left, Between_then, Between_as, Between_same, fails, succeeds}
 use Rattle.frames.proofs.ReadSequenceLemmas.{then_ok_as, then_ok, then_last, then_err_as, then_err}
@@ -17,39 +17,39 @@ use Rattle.frames.proofs.RestAfterPartLemmas.{after_string, after_length, after_
 
 -- ---- a string
 
-pub string_mark_err : (old new : Left) (e : FrameError) → Gives (expected_at 36 BadType) old new (fails ℕ e)
-    → Gives string_at old new (fails (List ℕ) e)
+pub string_mark_err : (old new : Left) (e : FrameError) → Returns (expected_at 36 BadType) old new (fails ℕ e)
+    → Returns string_at old new (fails (List ℕ) e)
 unfolding string_at
 string_mark_err old new e p = then_err (expected_at 36 BadType) after_mark old new e p
 
-pub string_length_err : (old mid new : Left) (mark : ℕ) (e : FrameError) → Gives (expected_at 36 BadType) old mid (succeeds mark)
-    → Gives (number_at LONGEST_STRING StringTooLong) mid new (fails ℕ e) → Gives string_at old new (fails (List ℕ) e)
+pub string_length_err : (old mid new : Left) (mark : ℕ) (e : FrameError) → Returns (expected_at 36 BadType) old mid (succeeds mark)
+    → Returns (number_at LONGEST_STRING StringTooLong) mid new (fails ℕ e) → Returns string_at old new (fails (List ℕ) e)
 unfolding string_at
 string_length_err old mid new mark e p q = then_ok (expected_at 36 BadType) after_mark old mid new mark (fails (List ℕ) e) p
     (then_err (number_at LONGEST_STRING StringTooLong) after_length mid new e q)
 
 -- a length, and what follows it
 pub string_from : (old mid end new : Left) (mark len : ℕ) (r : Result (List ℕ) FrameError)
-    → Gives (expected_at 36 BadType) old mid (succeeds mark) → Gives (number_at LONGEST_STRING StringTooLong) mid end (succeeds len)
-    → Gives (λ ys. after_length (len, ys)) end new r → Gives string_at old new r
+    → Returns (expected_at 36 BadType) old mid (succeeds mark) → Returns (number_at LONGEST_STRING StringTooLong) mid end (succeeds len)
+    → Returns (λ ys. after_length (len, ys)) end new r → Returns string_at old new r
 unfolding string_at
 string_from old mid end new mark len r p q s = then_ok (expected_at 36 BadType) after_mark old mid new mark r p
     (then_ok (number_at LONGEST_STRING StringTooLong) after_length mid end new len r q s)
 
 pub string_bytes_err : {X : Type 0} (view : X → List ℕ) (len : ℕ) (old new : Left) (e : FrameError)
-    → GivesAs view (bytes_at len) old new (fails X e) → Gives (λ ys. after_length (len, ys)) old new (fails (List ℕ) e)
+    → GivesAs view (bytes_at len) old new (fails X e) → Returns (λ ys. after_length (len, ys)) old new (fails (List ℕ) e)
 string_bytes_err view len old new e p = then_err_as view (bytes_at len) after_string old new e p
 
 pub string_line_err : {X : Type 0} (view : X → List ℕ) (x : X) (len : ℕ) (old mid new : Left) (e : FrameError)
-    → GivesAs view (bytes_at len) old mid (succeeds x) → Gives line_end_at mid new (fails ℕ e)
-    → Gives (λ ys. after_length (len, ys)) old new (fails (List ℕ) e)
+    → GivesAs view (bytes_at len) old mid (succeeds x) → Returns line_end_at mid new (fails ℕ e)
+    → Returns (λ ys. after_length (len, ys)) old new (fails (List ℕ) e)
 string_line_err view x len old mid new e p q =
     then_ok_as view (λ s. s) (bytes_at len) after_string old mid new x (fails (List ℕ) e) p
     (then_err line_end_at (λ lf. Ok (view x, lf.1)) mid new e q)
 
 pub string_done : {X : Type 0} (view : X → List ℕ) (x : X) (len lf : ℕ) (old mid new : Left)
-    → GivesAs view (bytes_at len) old mid (succeeds x) → Gives line_end_at mid new (succeeds lf)
-    → Gives (λ ys. after_length (len, ys)) old new (succeeds (view x))
+    → GivesAs view (bytes_at len) old mid (succeeds x) → Returns line_end_at mid new (succeeds lf)
+    → Returns (λ ys. after_length (len, ys)) old new (succeeds (view x))
 string_done view x len lf old mid new p q =
     then_ok_as view (λ s. s) (bytes_at len) after_string old mid new x (succeeds (view x)) p
     (then_last line_end_at (λ lf. Ok (view x, lf.1)) mid new lf (view x) (λ ys. refl) q)
@@ -106,13 +106,13 @@ strings_init count old = Between_same (λ xs ys. strings_at count xs ≡ with_fr
     (λ xs. sym (front_none (strings_at (count - 0) xs) ∙ ap (λ (n : ℕ). strings_at n xs) (minus_none count)))
 
 strings_more : (count : ℕ) (front : List (List ℕ)) (i : ℕ) (s : List ℕ) (old mid new : Left) → i < count
-    → Collects count front i old mid → Gives string_at mid new (succeeds s) → Collects count (front ++ s ∷ []) (i + 1) old new
+    → Collects count front i old mid → Returns string_at mid new (succeeds s) → Collects count (front ++ s ∷ []) (i + 1) old new
 strings_more count front i s old mid new lt p q =
     Between_then old mid new (λ xs ys zs a b. a ∙ strings_go front count i ys s zs lt b) p q
 
 -- one more string
 pub strings_pushed : (count i : ℕ) (front next : List (List ℕ)) (s : List ℕ) (old mid new : Left) → next ≡ front ++ s ∷ [] → i < count
-    → length front ≡ i → AllByRecursion IsShort front → IsShort s → Collects count front i old mid → Gives string_at mid new (succeeds s)
+    → length front ≡ i → AllByRecursion IsShort front → IsShort s → Collects count front i old mid → Returns string_at mid new (succeeds s)
     → (length next ≡ i + 1) × AllByRecursion IsShort next × Collects count next (i + 1) old new
 strings_pushed count i front next s old mid new is lt len short last p q =
     let more : length (front ++ s ∷ []) ≡ i + 1 = omega (arith, length-append front (s ∷ [])) in
@@ -127,7 +127,7 @@ strings_none count none old is =
     (refl, tt, strings_init count old)
 
 pub strings_err : {X : Type 0} (see : X → List (List ℕ)) (count : ℕ) (front : List (List ℕ)) (i : ℕ) (old mid new : Left) (e : FrameError)
-    → i < count → Collects count front i old mid → Gives string_at mid new (fails (List ℕ) e)
+    → i < count → Collects count front i old mid → Returns string_at mid new (fails (List ℕ) e)
     → GivesAs see (strings_at count) old new (fails X e)
 strings_err see count front i old mid new (errors.Fault fault) lt p q =
     Between_then old mid new (λ xs ys zs a b. a ∙ strings_fail front count i ys (fault, zs) lt b) p q

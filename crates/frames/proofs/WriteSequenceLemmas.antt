@@ -35,9 +35,6 @@ Appends_kept (Some us) (Some bs) (Some cs) xs p q = q ∙ p
 abbrev pub Gone : List ℕ → List ℕ → Held → Held → Type 0
 Gone bytes rest old new = (done : List ℕ) × (bytes ≡ done ++ rest) × Appends old new done
 
-pub gone_none : (bytes : List ℕ) (old : Held) → Gone bytes bytes old old
-gone_none bytes old = ([], refl, Appends_none old)
-
 -- `&rest[count..]`
 pub rest_of : (count : ℕ) (rest : List ℕ) → take (length rest - count) (drop count rest) ≡ drop count rest
 rest_of count rest = take_all (length rest - count) (drop count rest) (omega (arith, length-drop count rest))

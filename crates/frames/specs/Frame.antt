@@ -33,10 +33,10 @@ abbrev pub frame_bytes : List (List ℕ) → List ℕ
 frame_bytes strings = header 42 (length strings) ++ flat_map string_bytes strings
 
 -- why strings are no frame: there are too many, or, where there are not, one of them is too long
-abbrev pub IsRefused : List (List ℕ) → Fault → Type 0
-IsRefused strings faults.TooManyStrings = MOST_STRINGS < length strings
-IsRefused strings faults.StringTooLong = (length strings ≤ MOST_STRINGS) × (AllByRecursion IsShort strings → ⊥)
-IsRefused strings faults.BadType = ⊥
-IsRefused strings faults.BadNumber = ⊥
-IsRefused strings faults.NoLineEnd = ⊥
-IsRefused strings faults.UnexpectedEnd = ⊥
+abbrev pub IsNoFrame : List (List ℕ) → Fault → Type 0
+IsNoFrame strings faults.TooManyStrings = MOST_STRINGS < length strings
+IsNoFrame strings faults.StringTooLong = (length strings ≤ MOST_STRINGS) × (AllByRecursion IsShort strings → ⊥)
+IsNoFrame strings faults.BadType = ⊥
+IsNoFrame strings faults.BadNumber = ⊥
+IsNoFrame strings faults.NoLineEnd = ⊥
+IsNoFrame strings faults.UnexpectedEnd = ⊥

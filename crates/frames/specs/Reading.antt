@@ -113,5 +113,6 @@ GivesAs view at old new (Err errors.NoMemory) = ⊤
 GivesAs view at old new (Err (errors.Failed error)) = ⊤
 
 -- the same of what a function returned as it is
-abbrev pub Gives : {X : Type 0} → (List ℕ → Parsed X) → Option (List ℕ) → Option (List ℕ) → Result X FrameError → Type 0
-Gives at old new result = GivesAs (λ x. x) at old new result
+abbrev pub Returns : {X : Type 0} → (List ℕ → Parsed X) → Option (List ℕ) → Option (List ℕ) → Result X FrameError
+    → Type 0
+Returns at old new result = GivesAs (λ x. x) at old new result

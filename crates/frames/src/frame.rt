@@ -2,7 +2,7 @@ ghost use Rattle.std.specs.Prelude.{◌≡◌, ◌↔◌, IsOk, IfOk, IfErr, len
 ghost use Rattle.std.specs.List.{list_all};
 ghost use Rattle.frames.specs.declared.error.Fault.TheVariants.{TooManyStrings, StringTooLong};
 ghost use Rattle.frames.specs.declared.limits.TheConstants.{MOST_STRINGS, LONGEST_STRING};
-ghost use Rattle.frames.specs.Frame.{IsFrame, IsRefused};
+ghost use Rattle.frames.specs.Frame.{IsFrame, IsNoFrame};
 ghost use Rattle.frames.specs.Laws.{WrittenIsRead, ReadWasWritten, BeginsOneFrame, CutEndsEarly};
 
 use crate::error::Fault;
@@ -33,7 +33,7 @@ impl Frame {
     pub fn new(strings: Vec<Bytes>) -> Result<Frame, Fault>
         ensures made { IfOk result (λ frame. frame ≡ strings.items) }
         ensures lawful { IsOk result ↔ IsFrame strings.items }
-        ensures refused { IfErr result (λ fault. IsRefused strings.items fault) }
+        ensures refused { IfErr result (λ fault. IsNoFrame strings.items fault) }
     {
         if strings.len() > MOST_STRINGS {
             return Err(Fault::TooManyStrings);

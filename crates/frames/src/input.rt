@@ -2,7 +2,7 @@
 ghost use Rattle.std.specs.Prelude.{◌≡◌, ◌<◌, ◌≤◌, ◌+◌, ◌∷◌, [], IfOk, MatchOption, length, take, drop};
 ghost use Rattle.std.specs.Io.KnownBytes.{Consumes, IsAtEnd, Keeps, ReadConsumes};
 ghost use Rattle.std.specs.Io.{ReadsAtMost};
-ghost use Rattle.frames.specs.Reading.{GivesAs, Gives, byte_at, expected_at, line_end_at, bytes_at};
+ghost use Rattle.frames.specs.Reading.{GivesAs, Returns, byte_at, expected_at, line_end_at, bytes_at};
 ghost use Rattle.frames.specs.declared.error.Fault.TheVariants.{NoLineEnd};
 
 use crate::error::{Fault, FrameError};
@@ -12,7 +12,7 @@ use std::io::{ErrorKind, Read};
 
 /// One byte.
 pub(crate) fn read_byte<R: Read>(reader: &mut R) -> Result<u8, FrameError>
-    ensures { Gives byte_at (R.remaining reader.old) (R.remaining reader.new) result }
+    ensures { Returns byte_at (R.remaining reader.old) (R.remaining reader.new) result }
 {
     match next_byte(reader) {
         Ok(Some(byte)) => Ok(byte),
@@ -27,7 +27,7 @@ pub(crate) fn read_expected<R: Read>(
     expected: u8,
     fault: Fault,
 ) -> Result<u8, FrameError>
-    ensures { Gives (expected_at expected fault) (R.remaining reader.old) (R.remaining reader.new) result }
+    ensures { Returns (expected_at expected fault) (R.remaining reader.old) (R.remaining reader.new) result }
 {
     let byte = read_byte(reader)?;
     if byte != expected {
@@ -38,7 +38,7 @@ pub(crate) fn read_expected<R: Read>(
 
 /// CR LF.
 pub(crate) fn read_line_end<R: Read>(reader: &mut R) -> Result<u8, FrameError>
-    ensures { Gives line_end_at (R.remaining reader.old) (R.remaining reader.new) result }
+    ensures { Returns line_end_at (R.remaining reader.old) (R.remaining reader.new) result }
 {
     read_expected(reader, b'\r', Fault::NoLineEnd)?;
     read_expected(reader, b'\n', Fault::NoLineEnd)

@@ -1,6 +1,6 @@
 //! Numbers in decimal digits.
 ghost use Rattle.std.specs.Prelude.{◌≡◌, ◌≤◌, ◌<◌, IfOk};
-ghost use Rattle.frames.specs.Reading.{Gives, number_at, digits_at, with_digit, first_digit};
+ghost use Rattle.frames.specs.Reading.{Returns, number_at, digits_at, with_digit, first_digit};
 
 use crate::error::{Fault, FrameError};
 use crate::input::{read_byte, read_expected};
@@ -14,7 +14,7 @@ pub(crate) fn read_number<R: Read>(
 ) -> Result<u32, FrameError>
     requires { 9 ≤ most }
     ensures within { IfOk result (λ number. number ≤ most) }
-    ensures exact { Gives (number_at most above) (R.remaining reader.old) (R.remaining reader.new) result }
+    ensures exact { Returns (number_at most above) (R.remaining reader.old) (R.remaining reader.new) result }
 {
     let byte = read_byte(reader)?;
     let first = first_digit(byte)?;
@@ -32,7 +32,7 @@ fn read_digits<R: Read>(
 ) -> Result<u32, FrameError>
     requires { first ≤ most }
     ensures within { IfOk result (λ number. number ≤ most) }
-    ensures exact { Gives (digits_at most above first) (R.remaining reader.old) (R.remaining reader.new) result }
+    ensures exact { Returns (digits_at most above first) (R.remaining reader.old) (R.remaining reader.new) result }
 {
     let mut number = first;
     let mut byte = read_byte(reader)?;

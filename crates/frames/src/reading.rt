@@ -3,7 +3,7 @@ ghost use Rattle.std.specs.Prelude.{◌≡◌, ◌++◌, ℕ, List, Some, IfOk, 
 ghost use Rattle.std.specs.List.{AllByRecursion};
 ghost use Rattle.std.specs.Io.KnownBytes.{Consumes, IsAtEnd};
 ghost use Rattle.frames.specs.Frame.{IsFrame, IsShort, frame_bytes};
-ghost use Rattle.frames.specs.Reading.{GivesAs, Gives, frame_at, array_at, strings_at, string_at};
+ghost use Rattle.frames.specs.Reading.{GivesAs, Returns, frame_at, array_at, strings_at, string_at};
 
 use crate::error::{Fault, FrameError};
 use crate::frame::Frame;
@@ -27,16 +27,16 @@ pub fn read_frame<R: Read>(alloc: Global, reader: &mut R) -> Result<Option<Frame
     // A frame that stands at the front is read, unless memory is refused or the reader fails.
     ensures only { (strings : List (List ℕ)) (rest : List ℕ) → IsFrame strings
         → R.remaining reader.old ≡ Some (frame_bytes strings ++ rest)
-        → Gives (λ _. Ok (Some strings, rest)) (R.remaining reader.old) (R.remaining reader.new) result }
+        → Returns (λ _. Ok (Some strings, rest)) (R.remaining reader.old) (R.remaining reader.new) result }
     // Which fault it is, and what is left behind it.
-    ensures exact { Gives frame_at (R.remaining reader.old) (R.remaining reader.new) result }
+    ensures exact { Returns frame_at (R.remaining reader.old) (R.remaining reader.new) result }
 {
     read_next(alloc, reader)
 }
 
 // The same, by its exact clause.
 fn read_next<R: Read>(alloc: Global, reader: &mut R) -> Result<Option<Frame>, FrameError>
-    ensures { Gives frame_at (R.remaining reader.old) (R.remaining reader.new) result }
+    ensures { Returns frame_at (R.remaining reader.old) (R.remaining reader.new) result }
 {
     match next_byte(reader) {
         Ok(None) => Ok(None),
@@ -48,7 +48,7 @@ fn read_next<R: Read>(alloc: Global, reader: &mut R) -> Result<Option<Frame>, Fr
 
 // What follows the `*` of a frame.
 fn read_array<R: Read>(alloc: Global, reader: &mut R) -> Result<Frame, FrameError>
-    ensures { Gives array_at (R.remaining reader.old) (R.remaining reader.new) result }
+    ensures { Returns array_at (R.remaining reader.old) (R.remaining reader.new) result }
 {
     let count = read_number(reader, MOST_STRINGS as u32, Fault::TooManyStrings)?;
     let strings = read_strings(alloc, reader, count)?;
@@ -75,7 +75,7 @@ fn read_strings<R: Read>(
 
 fn read_string<R: Read>(alloc: Global, reader: &mut R) -> Result<Bytes, FrameError>
     ensures short { IfOk result IsShort }
-    ensures exact { Gives string_at (R.remaining reader.old) (R.remaining reader.new) result }
+    ensures exact { Returns string_at (R.remaining reader.old) (R.remaining reader.new) result }
 {
     read_expected(reader, b'$', Fault::BadType)?;
     let len = read_number(reader, LONGEST_STRING as u32, Fault::StringTooLong)?;

@@ -14,7 +14,7 @@ use Rattle.record.specs.declared.call.Entry.{Entry}
 use Rattle.record.specs.declared.call.Operation.{Operation}
 use Rattle.record.specs.declared.call.Operation.TheVariants as operation
 use Rattle.atomicity.specs.Atomic.{no_entry, entry_at}
-use Rattle.history.specs.Check.{MayAllStand, named, must_stand_as, must_stand}
+use Rattle.history.specs.Check.{MayAllStand, entries_listed, must_stand_as, must_stand}
 use Rattle.history.proofs.PairwiseByPlaceLemmas.{is_call}
 
 abbrev one : Bool → ℕ
@@ -101,17 +101,17 @@ abbrev both : (Entry → Bool) → List Entry → List ℕ → ℕ → Bool
 both p entries order index = p (get_or entries index no_entry) && has order (suc index)
 
 count_named : (p : Entry → Bool) (entries : List Entry) (order : List ℕ) → MayAllStand entries order →
-    IsDistinct nat_eq order → count_by p (named entries order) ≡ tally (both p entries order) (length entries)
+    IsDistinct nat_eq order → count_by p (entries_listed entries order) ≡ tally (both p entries order) (length entries)
 count_named p entries [] standing distinct = sym (tally_none _ (λ i. and_right _ false refl) (length entries))
 count_named p entries (zero ∷ cs) standing distinct = absurd (standing.0.0 refl)
 count_named p entries (suc c ∷ cs) standing distinct =
-    let ih : count_by p (named entries cs) ≡ tally (both p entries cs) (length entries) =
+    let ih : count_by p (entries_listed entries cs) ≡ tally (both p entries cs) (length entries) =
     count_named p entries cs standing.1 (IsDistinct-tail nat_eq (suc c) cs distinct) in
     let here = is_call entries (suc c) standing.0 in
     let new : has cs (suc c) ≡ false = has-head (suc c) cs distinct in
     let at_c : both p entries (suc c ∷ cs) c ≡ p (get_or entries c no_entry) =
     and_true (p (get_or entries c no_entry)) _ (or_left _ _ (eq-eqb (suc c) (suc c) refl)) in
-    sum_by-cons (λ e. one (p e)) (get_or entries c no_entry) (named entries cs)
+    sum_by-cons (λ e. one (p e)) (get_or entries c no_entry) (entries_listed entries cs)
     ∙ ap (λ (n : ℕ). one (p (get_or entries c no_entry)) + n) ih
     ∙ ap (λ (b : Bool). one b + tally (both p entries cs) (length entries)) (sym at_c)
     ∙ sym (tally_more (both p entries (suc c ∷ cs)) (both p entries cs) c (length entries) (omega arith) (and_right _ _ new)
@@ -138,7 +138,7 @@ HoldsAnswered entries order =
     IsTrue (has order call)
 
 pub holds_from_count : (entries : List Entry) (order : List ℕ) → MayAllStand entries order → IsDistinct nat_eq order →
-    count_by must_stand entries ≡ count_by must_stand (named entries order) → HoldsAnswered entries order
+    count_by must_stand entries ≡ count_by must_stand (entries_listed entries order) → HoldsAnswered entries order
 holds_from_count entries order standing distinct e zero no_move answered = absurd (no_move refl)
 holds_from_count entries order standing distinct e (suc index) no_move answered = elim (cases_lt index (length entries)) [
   | inl within ↦
@@ -151,7 +151,7 @@ holds_from_count entries order standing distinct e (suc index) no_move answered 
 ]
 
 pub count_from_holds : (entries : List Entry) (order : List ℕ) → MayAllStand entries order → IsDistinct nat_eq order →
-    HoldsAnswered entries order → count_by must_stand entries ≡ count_by must_stand (named entries order)
+    HoldsAnswered entries order → count_by must_stand entries ≡ count_by must_stand (entries_listed entries order)
 count_from_holds entries order standing distinct holds =
     count_all must_stand entries
     ∙ tally_same (λ i. must_stand (get_or entries i no_entry)) (both must_stand entries order) (length entries)

@@ -8,16 +8,11 @@ use Rattle.std.proofs.lemmas.Map.Keys.{apart_from_distinct, IsDistinct-from_apar
 use Rattle.std.proofs.lemmas.Option.{slice_get-get_or}
 use Rattle.record.specs.declared.call.Entry.{Entry}
 use Rattle.atomicity.specs.Atomic.{no_entry, entry_at, IsAnsweredBefore, KeepsOrder, MayStand}
-use Rattle.history.specs.Check.{AreLawfulEntries, MayAllStand, named}
+use Rattle.history.specs.Check.{AreLawfulEntries, MayAllStand, entries_listed}
 
 -- the entry of the call at a place of the list
 abbrev pub at : List Entry → List ℕ → (place : ℕ) → Entry
 at entries order place = entry_at entries (get_or order place 0)
-
-pub all_from_places : (P : ℕ → Type 0) (order : List ℕ) → ((place : ℕ) → place < length order → P (get_or order place 0)) →
-    AllByRecursion P order
-all_from_places P [] f = tt
-all_from_places P (x ∷ xs) f = (f 0 (omega arith), all_from_places P xs (λ place h. f (suc place) (omega arith)))
 
 pub place_from_all : (P : ℕ → Type 0) (order : List ℕ) → AllByRecursion P order → (place : ℕ) → place < length order →
     P (get_or order place 0)
@@ -39,18 +34,13 @@ pub call_there : (entries : List Entry) (order : List ℕ) → MayAllStand entri
 call_there entries order standing place h =
     is_call entries (get_or order place 0) (place_from_all (λ call. MayStand (entry_at entries call)) order standing place h)
 
-pub entry_at-sub : (entries : List Entry) (call : ℕ) → 0 < call → entry_at entries call ≡ get_or entries (call - 1) no_entry
-entry_at-sub entries zero h = absurd (omega arith)
-entry_at-sub entries (suc index) h =
-    let back : index ≡ suc index - 1 = omega arith in ap (λ (n : ℕ). get_or entries n no_entry) back
-
 -- a fact of each entry that the list names
 all_named : (entries : List Entry) (order : List ℕ) (P : Entry → Type 0) →
-    ((place : ℕ) → place < length order → P (at entries order place)) → AllByRecursion P (named entries order)
+    ((place : ℕ) → place < length order → P (at entries order place)) → AllByRecursion P (entries_listed entries order)
 all_named entries [] P all = tt
 all_named entries (x ∷ xs) P all = (all 0 (omega arith), all_named entries xs P (λ place h. all (suc place) (omega arith)))
 
-named_all : (entries : List Entry) (order : List ℕ) (P : Entry → Type 0) → AllByRecursion P (named entries order) →
+named_all : (entries : List Entry) (order : List ℕ) (P : Entry → Type 0) → AllByRecursion P (entries_listed entries order) →
     (place : ℕ) → place < length order → P (at entries order place)
 named_all entries [] P all place h = absurd (omega arith)
 named_all entries (x ∷ xs) P all zero h = all.0
@@ -62,7 +52,7 @@ KeepsPlaces entries order bound = (earlier later : ℕ) → earlier < later → 
     IsAnsweredBefore (at entries order later) (at entries order earlier) → ⊥
 
 pub keeps_from_places : (entries : List Entry) (order : List ℕ) → KeepsPlaces entries order (length order) →
-    KeepsOrder (named entries order)
+    KeepsOrder (entries_listed entries order)
 keeps_from_places entries [] keeps = tt
 keeps_from_places entries (x ∷ xs) keeps = (
   all_named entries xs (λ other. IsAnsweredBefore other (entry_at entries x) → ⊥)
@@ -70,7 +60,7 @@ keeps_from_places entries (x ∷ xs) keeps = (
   keeps_from_places entries xs (λ a b h k. keeps (suc a) (suc b) (omega arith) (omega arith)),
 )
 
-pub places_from_keeps : (entries : List Entry) (order : List ℕ) → KeepsOrder (named entries order) →
+pub places_from_keeps : (entries : List Entry) (order : List ℕ) → KeepsOrder (entries_listed entries order) →
     KeepsPlaces entries order (length order)
 places_from_keeps entries [] keeps earlier later h k = absurd (omega arith)
 places_from_keeps entries (x ∷ xs) keeps earlier zero h k = absurd (omega arith)

@@ -5,11 +5,11 @@ use Rattle.record.specs.declared.call.Entry.{Entry}
 use Rattle.record.specs.declared.call.Operation.{Operation}
 use Rattle.record.specs.declared.call.Operation.TheVariants as operation
 use Rattle.atomicity.specs.Atomic.{Leaves, IsRegister}
-use Rattle.history.specs.Check.{named}
+use Rattle.history.specs.Check.{entries_listed}
 use Rattle.history.proofs.PairwiseByPlaceLemmas.{at}
 
 pub named-drop : (entries : List Entry) (order : List ℕ) (index : ℕ) → index < length order →
-    named entries (drop index order) ≡ at entries order index ∷ named entries (drop (index + 1) order)
+    entries_listed entries (drop index order) ≡ at entries order index ∷ entries_listed entries (drop (index + 1) order)
 named-drop entries order index h = rw (add-one, drop-cons order index 0 h) refl
 
 abbrev pub Steps : Operation → Option (List ℕ) → (current : List ℕ) → List Entry → Type 0
@@ -44,26 +44,27 @@ wrong_read op value current bytes rest eo ev ne s =
 -- a call that stays a step carries what is to be shown of the whole list past it
 pub passes_on : (entries : List Entry) (order : List ℕ) (index : ℕ) (entry : Entry) (current next : List ℕ) →
     index < length order → entry ≡ at entries order index →
-    IsRegister [] (named entries order) ↔ IsRegister current (named entries (drop index order)) →
-    Steps entry.kind entry.value current (named entries (drop (index + 1) order))
-    ↔ IsRegister next (named entries (drop (index + 1) order)) →
-    IsRegister [] (named entries order) ↔ IsRegister next (named entries (drop (index + 1) order))
+    IsRegister [] (entries_listed entries order) ↔ IsRegister current (entries_listed entries (drop index order)) →
+    Steps entry.kind entry.value current (entries_listed entries (drop (index + 1) order))
+    ↔ IsRegister next (entries_listed entries (drop (index + 1) order)) →
+    IsRegister [] (entries_listed entries order) ↔ IsRegister next (entries_listed entries (drop (index + 1) order))
 passes_on entries order index entry current next h is whole step =
-    let cut : named entries (drop index order) ≡ entry ∷ named entries (drop (index + 1) order) =
-    named-drop entries order index h ∙ ap (λ (e : Entry). e ∷ named entries (drop (index + 1) order)) (sym is) in (
-      (λ (r : IsRegister [] (named entries order)). step.0 (subst (λ (es : List Entry). IsRegister current es) cut (whole.0 r))),
-      (λ (r : IsRegister next (named entries (drop (index + 1) order))).
+    let cut : entries_listed entries (drop index order) ≡ entry ∷ entries_listed entries (drop (index + 1) order) =
+    named-drop entries order index h ∙ ap (λ (e : Entry). e ∷ entries_listed entries (drop (index + 1) order)) (sym is) in (
+      (λ (r : IsRegister [] (entries_listed entries order)). step.0 (subst (λ (es : List Entry). IsRegister current es) cut (whole.0 r))),
+      (λ (r : IsRegister next (entries_listed entries (drop (index + 1) order))).
           whole.1 (subst (λ (es : List Entry). IsRegister current es) (sym cut) (step.1 r))),
     )
 
 -- a call that is no step ends it
 pub stops : (entries : List Entry) (order : List ℕ) (index : ℕ) (entry : Entry) (current : List ℕ) → index < length order →
-    entry ≡ at entries order index → IsRegister [] (named entries order) ↔ IsRegister current (named entries (drop index order)) →
-    (Steps entry.kind entry.value current (named entries (drop (index + 1) order)) → ⊥) →
-    IsRegister [] (named entries order) → ⊥
+    entry ≡ at entries order index →
+    IsRegister [] (entries_listed entries order) ↔ IsRegister current (entries_listed entries (drop index order)) →
+    (Steps entry.kind entry.value current (entries_listed entries (drop (index + 1) order)) → ⊥) →
+    IsRegister [] (entries_listed entries order) → ⊥
 stops entries order index entry current h is whole none r =
-    let cut : named entries (drop index order) ≡ entry ∷ named entries (drop (index + 1) order) =
-    named-drop entries order index h ∙ ap (λ (e : Entry). e ∷ named entries (drop (index + 1) order)) (sym is) in
+    let cut : entries_listed entries (drop index order) ≡ entry ∷ entries_listed entries (drop (index + 1) order) =
+    named-drop entries order index h ∙ ap (λ (e : Entry). e ∷ entries_listed entries (drop (index + 1) order)) (sym is) in
     none (subst (λ (es : List Entry). IsRegister current es) cut (whole.0 r))
 
 pub no_move : (op : Operation) (value : Option (List ℕ)) (current : List ℕ) (rest : List Entry) → op ≡ operation.Move →

@@ -16,8 +16,8 @@ abbrev pub MayAllStand : List Entry → (order : List ℕ) → Type 0
 MayAllStand entries order = AllByRecursion (λ call. MayStand (entry_at entries call)) order
 
 -- the entries of the listed calls
-abbrev pub named : List Entry → (order : List ℕ) → List Entry
-named entries order = map (λ call. entry_at entries call) order
+abbrev pub entries_listed : List Entry → (order : List ℕ) → List Entry
+entries_listed entries order = map (λ call. entry_at entries call) order
 
 -- whether a call with this operation has to stand in each sequence: an answered read or write has to
 abbrev pub must_stand_as : Operation → (is_answered : Bool) → Bool

@@ -5,7 +5,7 @@ ghost use Rattle.std.specs.List.{IsDistinct};
 ghost use Rattle.layout.specs.Quorum.{has};
 ghost use Rattle.record.specs.declared.call.Operation.TheVariants as operation;
 ghost use Rattle.atomicity.specs.Atomic.{IsSequence, IsRegister, KeepsOrder, MayStand, entry_at};
-ghost use Rattle.history.specs.Check.{AreLawfulEntries, MayAllStand, must_stand, named};
+ghost use Rattle.history.specs.Check.{AreLawfulEntries, MayAllStand, must_stand, entries_listed};
 
 use record::{Entry, Operation};
 use tag::{CallId, Stamp};
@@ -67,7 +67,7 @@ fn may_stand_at(entries: &[Entry], call: CallId) -> bool
 /// before the greatest step at which an earlier element was called.
 fn keeps_order(entries: &[Entry], order: &[CallId]) -> bool
     requires { MayAllStand entries.now order.now }
-    ensures { IsTrue result ↔ KeepsOrder (named entries.now order.now) }
+    ensures { IsTrue result ↔ KeepsOrder (entries_listed entries.now order.now) }
 {
     let mut latest = 0;
     for call in order {
@@ -82,7 +82,7 @@ fn keeps_order(entries: &[Entry], order: &[CallId]) -> bool
 
 fn has_no_repeat(entries: &[Entry], order: &[CallId]) -> bool
     requires standing { MayAllStand entries.now order.now }
-    requires in_order { KeepsOrder (named entries.now order.now) }
+    requires in_order { KeepsOrder (entries_listed entries.now order.now) }
     ensures { IsTrue result ↔ IsDistinct nat_eq order.now }
 {
     for place in 0..order.len() {
@@ -97,7 +97,7 @@ fn has_no_repeat(entries: &[Entry], order: &[CallId]) -> bool
 /// answered before this call was made: if the same call stood before that element, it would break the order.
 fn is_new(entries: &[Entry], order: &[CallId], place: usize) -> bool
     requires standing { MayAllStand entries.now order.now }
-    requires in_order { KeepsOrder (named entries.now order.now) }
+    requires in_order { KeepsOrder (entries_listed entries.now order.now) }
     requires within { place < length order.now }
     ensures { IsTrue result
         ↔ ((earlier : ℕ) → earlier < place → slice_index order.now earlier ≢ slice_index order.now place) }
@@ -139,7 +139,7 @@ fn answered_among(entries: &[Entry]) -> usize
 /// The number of answered reads and writes in the list.
 fn answered_in(entries: &[Entry], order: &[CallId]) -> usize
     requires { MayAllStand entries.now order.now }
-    ensures { result ≡ count_by must_stand (named entries.now order.now) }
+    ensures { result ≡ count_by must_stand (entries_listed entries.now order.now) }
 {
     let mut count = 0;
     for call in order {
@@ -154,7 +154,7 @@ fn answered_in(entries: &[Entry], order: &[CallId]) -> usize
 fn is_register(entries: &[Entry], order: &[CallId]) -> bool
     requires lawful { AreLawfulEntries entries.now }
     requires standing { MayAllStand entries.now order.now }
-    ensures { IsTrue result ↔ IsRegister [] (named entries.now order.now) }
+    ensures { IsTrue result ↔ IsRegister [] (entries_listed entries.now order.now) }
 {
     let mut current: &[u8] = &[];
     for call in order {

@@ -4,7 +4,7 @@ use Rattle.std.specs.Prelude.{◌≡◌, ◌++◌, ℕ, List, [], ◌∷◌, len
 use Rattle.std.specs.Int.{w64, to_be_bytes}
 use Rattle.std.specs.List.{flat_map}
 use Rattle.sha2.specs.Sha256.{sha256}
-use Rattle.frames.specs.Frame.{IsFrame, IsRefused, frame_bytes}
+use Rattle.frames.specs.Frame.{IsFrame, IsNoFrame, frame_bytes}
 use Rattle.frames.specs.declared.error.FrameError.{FrameError}
 use Rattle.frames.specs.declared.error.FrameError.TheVariants as errors
 
@@ -38,6 +38,6 @@ entry_bytes strings = frame_bytes (sealed strings)
 
 -- why strings become no entry: with their digest they are no frame, or memory is refused
 abbrev pub IsNoEntry : List (List ℕ) → FrameError → Type 0
-IsNoEntry strings (errors.Fault fault) = IsRefused (sealed strings) fault
+IsNoEntry strings (errors.Fault fault) = IsNoFrame (sealed strings) fault
 IsNoEntry strings errors.NoMemory = ⊤
 IsNoEntry strings (errors.Failed error) = ⊥

@@ -26,8 +26,8 @@ abbrev pub HadLeft : (List ℕ → Type 0) → Option (List ℕ) → Type 0
 HadLeft P None = ⊤
 HadLeft P (Some bytes) = P bytes
 
--- What was read: an entry that stood at the front, and nothing else was taken; or none, at the end of the log; or damage.
--- Where memory was refused or the reader failed, nothing is said.
+-- What was read: an entry that stood at the front, and nothing else was taken; or none, at the end of the log; or
+-- damage. Where memory was refused or the reader failed, nothing is said.
 abbrev pub ReadsEntry : Option (List ℕ) → Option (List ℕ) → Result (Option (List (List ℕ))) LogError → Type 0
 ReadsEntry old new (Ok (Some frame)) = IsSealed frame × IsFrame frame × Consumes old new (frame_bytes frame)
 ReadsEntry old new (Ok None) = HadLeft IsEnd old

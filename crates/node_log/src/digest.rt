@@ -19,7 +19,8 @@ pub(crate) fn digest_of(strings: &[Bytes]) -> [u8; 8]
 
 // Feeds the hasher with a string and the string's length before it.
 fn hash(hasher: &mut Sha256, string: &[u8])
-    ensures { (before : List ℕ) → Holds256 hasher.old before → Holds256 hasher.new (before ++ hashed_string string.now) }
+    ensures { (before : List ℕ) → Holds256 hasher.old before
+        → Holds256 hasher.new (before ++ hashed_string string.now) }
 {
     hasher.update(&(string.len() as u64).to_be_bytes());
     hasher.update(string);

@@ -3,8 +3,8 @@ ghost use Rattle.node_log.specs.Laws.{EntryIsRead, CutIsEnd, BeginsOneEntry};
 
 use frames::frames_are_read_back;
 
-/// A law: an entry that is written is read back, and exactly the bytes behind it are left; an entry that is cut short is
-/// the end of the log; and where two entries begin the same bytes, they are the same entry.
+/// A law: an entry that is written is read back, and exactly the bytes behind it are left; an entry that is cut short
+/// is the end of the log; and where two entries begin the same bytes, they are the same entry.
 pub fn entries_are_read_back()
     ensures written { EntryIsRead }
     ensures cut { CutIsEnd }

@@ -9,8 +9,8 @@ use frames::{Fault, Frame, FrameError, read_frame};
 use std::alloc::Global;
 use std::io::Read;
 
-/// The next entry, or none where the log ends: before the entry's first byte, or within the entry. An entry is cut short
-/// where its node stopped while it wrote it; nothing that depends on such an entry was sent.
+/// The next entry, or none where the log ends: before the entry's first byte, or within the entry. An entry is cut
+/// short where its node stopped while it wrote it; nothing that depends on such an entry was sent.
 ///
 /// `Damaged` says what is wrong with any other bytes. It takes no byte behind the entry. `NoMemory` and `Failed` leave
 /// the reader within the entry.
@@ -19,7 +19,8 @@ pub fn read_entry<R: Read>(alloc: Global, reader: &mut R) -> Result<Option<Entry
     ensures read { ReadsEntry (R.remaining reader.old) (R.remaining reader.new) result }
     // An entry that stands at the front is read, unless memory is refused or the reader fails.
     ensures only { (strings : List (List ℕ)) (rest : List ℕ) → IsEntry strings
-        → R.remaining reader.old ≡ Some (entry_bytes strings ++ rest) → ReadsThis strings rest (R.remaining reader.new) result }
+        → R.remaining reader.old ≡ Some (entry_bytes strings ++ rest)
+        → ReadsThis strings rest (R.remaining reader.new) result }
 {
     match read_frame(alloc, reader) {
         Ok(None) => Ok(None),

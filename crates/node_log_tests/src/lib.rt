@@ -1,5 +1,5 @@
-//! Entries of a log, written and read: tests alone. They stand in a crate of their own, so that `node_log` is proved once
-//! and not twice.
+//! Entries of a log, written and read: tests alone. They stand in a crate of their own, so that `node_log` is proved
+//! once and not twice.
 #![tactic(auto)]
 
 #[cfg(test)]

@@ -2,26 +2,14 @@
 -- The names and bars of the calls in a picture, as SVG.
 use Rattle.std.specs.Prelude.{ℕ, List, [], ◌∷◌, ◌++◌, Option, Some, None, codes}
 use Rattle.std.specs.Fmt.{decimal}
-use Rattle.std.specs.List.{flat_map}
+use Rattle.std.specs.List.{flat_map, concat}
+use Rattle.printing.specs.Vocabulary.{word_of_operation}
 use Rattle.record.specs.declared.call.Entry.{Entry}
-use Rattle.record.specs.declared.call.Operation.{Operation}
-use Rattle.record.specs.declared.call.Operation.TheVariants as operation
 use Rattle.picture.specs.declared.lane.Lane.{Lane}
 use Rattle.picture.specs.declared.plan.Plan.{Plan}
 use Rattle.picture.specs.Lane.{bar_top_of, baseline_of}
 use Rattle.picture.specs.Plan.{bar_end, x_of}
 use Rattle.picture.specs.Px.{px_text}
-
--- the word for what a call does
-abbrev pub word_of_operation : Operation → List ℕ
-word_of_operation operation.Read = codes "read"
-word_of_operation operation.Write = codes "write"
-word_of_operation operation.Move = codes "move"
-
--- the texts joined into one
-abbrev pub texts : List (List ℕ) → List ℕ
-texts [] = []
-texts (text ∷ more) = text ++ texts more
 
 -- the class of a bar, by which it is styled: an open call has a class of its own
 abbrev pub class_of : (answered : Option ℕ) → List ℕ
@@ -30,12 +18,12 @@ class_of (Some step) = codes "bar"
 
 -- the text that gives the steps of a call
 abbrev pub course_text : (called : ℕ) → (answered : Option ℕ) → List ℕ
-course_text called None = texts (codes "from step " ∷ decimal called ∷ codes ", open" ∷ [])
+course_text called None = concat (codes "from step " ∷ decimal called ∷ codes ", open" ∷ [])
 course_text called (Some step) = codes "steps " ++ decimal called ++ (codes " to " ++ decimal step)
 
 -- the name of a call, at the left of its lane
 abbrev pub name_text : Lane → List ℕ
-name_text lane = texts (
+name_text lane = concat (
     codes "<text x='8' y='" ∷ px_text (baseline_of lane) ∷ codes "'>call " ∷ decimal lane.entry.call
     ∷ codes " " ∷ word_of_operation lane.entry.kind ∷ codes "</text>\n" ∷ [])
 
@@ -52,7 +40,7 @@ title_text entry = codes "call " ++ (decimal entry.call ++ (codes " " ++ (word_o
 
 -- the bar of a call, with its title
 abbrev pub bar_text : Plan → Lane → List ℕ
-bar_text plan lane = texts (
+bar_text plan lane = concat (
     codes "<path class='" ∷ class_of lane.entry.answered ∷ codes "' d='" ∷ path_text plan lane
     ∷ codes "'><title>" ∷ title_text lane.entry ∷ codes "</title></path>\n" ∷ [])
 

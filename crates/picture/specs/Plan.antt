@@ -3,16 +3,16 @@
 use Rattle.std.specs.Prelude.{ℕ, ◌+◌, ◌-◌, ◌*◌, ◌/◌, max, Option, Some, None}
 use Rattle.picture.specs.declared.plan.Plan.{Plan}
 use Rattle.picture.specs.declared.plan.TheConstants.{LEFT}
-use Rattle.picture.specs.Px.{saturated}
+use Rattle.std.specs.Io.Iter.{u64_saturate}
 
 -- where a step is drawn: the steps from the first to the last share the width of the time axis evenly
 abbrev pub x_of : Plan → (step : ℕ) → ℕ
 x_of plan step =
-    saturated (LEFT + saturated ((step - plan.first) * plan.width) / max (plan.last - plan.first) 1)
+    u64_saturate (LEFT + u64_saturate ((step - plan.first) * plan.width) / max (plan.last - plan.first) 1)
 
 -- the right edge of the time axis
 abbrev pub right_of : Plan → ℕ
-right_of plan = saturated (LEFT + plan.width)
+right_of plan = u64_saturate (LEFT + plan.width)
 
 -- where the bar of a call ends: at the step of its answer, or at the right edge where the call is open
 abbrev pub bar_end : Plan → Option ℕ → ℕ

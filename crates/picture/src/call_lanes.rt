@@ -5,7 +5,7 @@ ghost use Rattle.picture.specs.CallLanes.{name_text, path_text, title_text};
 
 use crate::lane::Lane;
 use crate::plan::Plan;
-use crate::text::operation_word;
+use printing::operation_word;
 use record::Entry;
 use std::fmt;
 use tag::Stamp;

@@ -1,17 +1,36 @@
 //! What surrounds the lanes: the numbers of the steps, the bands of the moves, and the order of the calls.
 ghost use Rattle.std.specs.Prelude.{◌<◌};
 
-use crate::plan::{ORDERED, Plan, ROW};
+use crate::plan::{MARGIN, ORDERED, Plan, ROW};
 use crate::px::Px;
-use crate::text::{Front, operation_word};
+use crate::text::{FRONT, Front};
+use printing::operation_word;
 use record::{Entry, Operation};
 use std::fmt;
 use tag::Stamp;
 
+/// The upper edge of the vertical lines and of the bands.
+const GRID_TOP: u64 = 450;
+
+/// The baseline of the numbers of the steps.
+const NUMBER_BASE: u64 = 400;
+
+/// How many steps are numbered at most.
+const MOST_NUMBERED: u64 = 40;
+
+/// The distance between two numbered steps is chosen so that at most so many fit between the first and the last step.
+const MOST_DISTANCES: u64 = 25;
+
+/// How many powers of ten fit 64 bits, but for 1.
+const POWERS_OF_TEN: u32 = 19;
+
+/// The left edge of the order's rows.
+const ORDER_LEFT: u64 = 500;
+
 /// Draws the numbers of some steps, with a thin vertical line at each.
 pub(crate) fn draw_steps<W: fmt::Write>(f: &mut fmt::Formatter<W>, plan: &Plan) -> fmt::Result {
     let every = tick(plan.span());
-    for i in 0..40u64 {
+    for i in 0..MOST_NUMBERED {
         let step = (plan.first / every).saturating_add(i).saturating_mul(every);
         if step > plan.last {
             break;
@@ -25,10 +44,11 @@ pub(crate) fn draw_steps<W: fmt::Write>(f: &mut fmt::Formatter<W>, plan: &Plan) 
 
 fn draw_step<W: fmt::Write>(f: &mut fmt::Formatter<W>, plan: &Plan, step: Stamp) -> fmt::Result {
     let x = plan.x(step);
-    let height = Px(plan.bottom.saturating_sub(450));
+    let (top, height) = (Px(GRID_TOP), Px(plan.bottom.saturating_sub(GRID_TOP)));
     writeln!(
         f,
-        "<path class='grid' d='M{x} 45v{height}'/><text class='tick' x='{x}' y='40'>{step}</text>"
+        "<path class='grid' d='M{x} {top}v{height}'/><text class='tick' x='{x}' y='{}'>{step}</text>",
+        Px(NUMBER_BASE)
     )
 }
 
@@ -37,10 +57,10 @@ fn tick(span: u64) -> u64
     ensures { 0 < result }
 {
     let mut every: u64 = 1;
-    for _ in 0..19 {
+    for _ in 0..POWERS_OF_TEN {
         for more in [1, 2, 5u64] {
             let next = every.saturating_mul(more).max(1);
-            if span / next <= 25 {
+            if span / next <= MOST_DISTANCES {
                 return next;
             }
         }
@@ -68,11 +88,11 @@ fn draw_band<W: fmt::Write>(
     entry: &Entry,
     position: u64,
 ) -> fmt::Result {
-    let height = Px(plan.bottom.saturating_sub(450));
+    let (top, height) = (Px(GRID_TOP), Px(plan.bottom.saturating_sub(GRID_TOP)));
     let to = entry.answered.unwrap_or(plan.last);
     writeln!(
         f,
-        "<rect class='band' x='{}' y='45' width='{}' height='{height}'>\
+        "<rect class='band' x='{}' y='{top}' width='{}' height='{height}'>\
         <title>call {} moves the object to position {position}</title></rect>",
         plan.x(entry.called),
         plan.wide(entry.called, to),
@@ -87,7 +107,8 @@ pub(crate) fn draw_order<W: fmt::Write>(
     order: &[u64],
 ) -> fmt::Result {
     let y = plan.order_y();
-    writeln!(f, "<text class='head' x='8' y='{y}'>order</text>")?;
+    let left = Px(MARGIN);
+    writeln!(f, "<text class='head' x='{left}' y='{y}'>order</text>")?;
     for (index, call) in order.iter().take(plan.ordered(order.len())).enumerate() {
         if let Some(lane) = plan.lanes.get(call.saturating_sub(1) as usize) {
             draw_ordered(f, plan, index as u64, &lane.entry)?;
@@ -104,7 +125,7 @@ fn draw_ordered<W: fmt::Write>(
     entry: &Entry,
 ) -> fmt::Result {
     let (row, column) = (index / plan.columns(), index % plan.columns());
-    let x = Px(500).plus(column.saturating_mul(ORDERED));
+    let x = Px(ORDER_LEFT).plus(column.saturating_mul(ORDERED));
     let y = plan.order_y().plus(row.saturating_mul(ROW));
     writeln!(f, "<text x='{x}' y='{y}'>{}</text>", Ordered(entry))
 }
@@ -119,7 +140,7 @@ impl fmt::Display for Ordered<'_> {
         match &self.0.value {
             Some(value) => {
                 let bytes = value.as_slice();
-                write!(f, " {}", Front { bytes, most: 4 })
+                write!(f, " {}", Front { bytes, most: FRONT })
             }
             None => Ok(()),
         }

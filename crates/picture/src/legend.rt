@@ -1,5 +1,5 @@
 //! The legend, and the styles of a picture.
-use crate::plan::Plan;
+use crate::plan::{MARGIN, Plan};
 use crate::px::Px;
 use crate::retired::{HATCHED, has_retired};
 use crate::tag_marks::SQUARE;
@@ -17,6 +17,30 @@ rect{stroke:#000;stroke-width:.7}.next{fill:#fff}.spread{fill:#f6e6c4}.query{fil
 path.fin{stroke:#000;stroke-width:.7}.pending{fill:#fff;stroke:#000}.final{fill:#000;stroke:#000}\
 </style>";
 
+/// The distance between the legend's two lines.
+const LINE: u64 = 180;
+
+/// How far above the baseline the upper edge of a box is.
+const BOX_TOP: u64 = 90;
+
+/// How far above the baseline a diamond begins.
+const DIAMOND_TOP: u64 = 80;
+
+/// How far above the baseline the middle of a mark or of a line is.
+const MIDDLE: u64 = 40;
+
+/// The width of a kind of phases: its box with its letter, and its word.
+const KIND_WIDTH: u64 = 640;
+
+/// How far right of a box's left edge the middle of its letter is.
+const LETTER_MIDDLE: u64 = 60;
+
+/// How far above the baseline of a kind's word that of its letter is.
+const LETTER_BASE: u64 = 10;
+
+/// How far right of a box's left edge its word begins.
+const KIND_WORD: u64 = 150;
+
 /// Draws the legend, in two lines, of which the first has its baseline at `y`. It explains the square and the hatching
 /// only where there are some.
 pub(crate) fn draw_legend<W: fmt::Write>(
@@ -24,7 +48,7 @@ pub(crate) fn draw_legend<W: fmt::Write>(
     plan: &Plan,
     y: Px,
 ) -> fmt::Result {
-    let second = y.plus(180);
+    let second = y.plus(LINE);
     draw_kind_signs(f, y)?;
     draw_mark_signs(f, y)?;
     draw_line_signs(f, second)?;
@@ -60,10 +84,10 @@ static KINDS: [(&str, &str); 6] = [
 ];
 
 fn draw_kind_signs<W: fmt::Write>(f: &mut fmt::Formatter<W>, y: Px) -> fmt::Result {
-    let mut x = Px(80);
+    let mut x = Px(MARGIN);
     for (word, letter) in &KINDS {
         draw_kind_sign(f, x, y, word, letter)?;
-        x = x.plus(640);
+        x = x.plus(KIND_WIDTH);
     }
     Ok(())
 }
@@ -75,19 +99,19 @@ fn draw_kind_sign<W: fmt::Write>(
     word: &str,
     letter: &str,
 ) -> fmt::Result {
-    let (top, base) = (y.less(90), y.less(10));
+    let (top, base) = (y.less(BOX_TOP), y.less(LETTER_BASE));
     writeln!(
         f,
         "<rect class='{word}' x='{x}' y='{top}' width='12' height='11'/>\
         <text class='in' x='{}' y='{base}'>{letter}</text><text x='{}' y='{y}'>{word}</text>",
-        x.plus(60),
-        x.plus(150)
+        x.plus(LETTER_MIDDLE),
+        x.plus(KIND_WORD)
     )
 }
 
 // The marks in the lanes of servers, and the band of a move.
 fn draw_mark_signs<W: fmt::Write>(f: &mut fmt::Formatter<W>, y: Px) -> fmt::Result {
-    let (top, middle) = (y.less(90), y.less(40));
+    let (top, middle) = (y.less(BOX_TOP), y.less(MIDDLE));
     writeln!(
         f,
         "<circle cx='396' cy='{middle}' r='3'/><text x='403' y='{y}'>a piece came</text>\n\
@@ -95,13 +119,13 @@ fn draw_mark_signs<W: fmt::Write>(f: &mut fmt::Formatter<W>, y: Px) -> fmt::Resu
         <rect class='band' x='604' y='{top}' width='20' height='11'/><text x='629' y='{y}'>a move</text>\n\
         <circle cx='690' cy='{middle}' r='3' fill='none' stroke='#000'/>\
         <text x='697' y='{y}'>a dropped piece came</text>",
-        y.less(80)
+        y.less(DIAMOND_TOP)
     )
 }
 
 // The marks of pointers to the next position, and the lines of messages.
 fn draw_line_signs<W: fmt::Write>(f: &mut fmt::Formatter<W>, y: Px) -> fmt::Result {
-    let middle = y.less(40);
+    let middle = y.less(MIDDLE);
     writeln!(
         f,
         "<path class='pending' d='M12 {y}l-4 -8h8z'/><path class='final' d='M23 {y}l-4 -8h8z'/>\
@@ -117,7 +141,7 @@ fn draw_dropped_sign<W: fmt::Write>(f: &mut fmt::Formatter<W>, y: Px) -> fmt::Re
     writeln!(
         f,
         "<path d='M842 {}{SQUARE}/><text x='848' y='{y}'>dropped</text>",
-        y.less(40)
+        y.less(MIDDLE)
     )
 }
 
@@ -125,6 +149,6 @@ fn draw_retired_sign<W: fmt::Write>(f: &mut fmt::Formatter<W>, y: Px) -> fmt::Re
     writeln!(
         f,
         "<path {HATCHED} d='M770 {}h20v11h-20z'/><text x='795' y='{y}'>a retired position</text>",
-        y.less(90)
+        y.less(BOX_TOP)
     )
 }

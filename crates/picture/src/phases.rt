@@ -2,11 +2,24 @@
 use crate::lane::Lane;
 use crate::plan::{LETTER, Plan, WORD};
 use crate::px::Px;
-use crate::text::{KindText, Short, kind_letter, kind_word};
+use crate::text::{KindText, Short, kind_letter};
 use phase::Phase;
+use printing::kind_word;
 use record::Entry;
 use register::Register;
 use std::fmt;
+
+/// How far right of a call's end its value is.
+const END_GAP: u64 = 50;
+
+/// How far below the upper edge of its lane the box of a phase is.
+const BOX_TOP: u64 = 20;
+
+/// The height of the box of a phase.
+const BOX_HEIGHT: u64 = 120;
+
+/// How far below the upper edge of its lane the baseline of a phase's word is.
+const LABEL_BASE: u64 = 115;
 
 /// Draws the phases of each call, with their kinds and positions, and the value of each call beside its end.
 pub(crate) fn draw_phases<W: fmt::Write>(
@@ -25,7 +38,7 @@ pub(crate) fn draw_phases<W: fmt::Write>(
 
 // The value of a call beside its end, and whether it is open.
 fn draw_end<W: fmt::Write>(f: &mut fmt::Formatter<W>, plan: &Plan, lane: &Lane) -> fmt::Result {
-    let x = plan.end_x(lane.entry.answered).plus(50);
+    let x = plan.end_x(lane.entry.answered).plus(END_GAP);
     writeln!(
         f,
         "<text x='{x}' y='{}'>{}</text>",
@@ -73,12 +86,13 @@ fn draw_box<W: fmt::Write>(
     let ending = if end.is_some() { "" } else { " open" };
     write!(
         f,
-        "<rect class='{}{ending}' x='{}' y='{}' width='{}' height='12'>\
+        "<rect class='{}{ending}' x='{}' y='{}' width='{}' height='{}'>\
         <title>phase {} {} at position {}, {}</title></rect>",
         kind_word(phase.kind()),
         plan.x(start),
-        Px(lane.top).plus(20),
+        Px(lane.top).plus(BOX_TOP),
         plan.phase_width(phase),
+        Px(BOX_HEIGHT),
         phase.number(),
         KindText(phase.kind()),
         phase.position(),
@@ -95,7 +109,7 @@ fn draw_label<W: fmt::Write>(
 ) -> fmt::Result {
     let wide = plan.phase_width(phase).0;
     let x = plan.x(phase.steps().0).plus(wide / 2);
-    let y = Px(lane.top).plus(115);
+    let y = Px(lane.top).plus(LABEL_BASE);
     if wide >= WORD {
         let (word, position) = (kind_word(phase.kind()), phase.position());
         write!(

@@ -6,12 +6,22 @@ use crate::loss::Loss;
 use crate::messages::{draw_losses, draw_replies};
 use crate::omitted::draw_omitted;
 use crate::phases::draw_phases;
-use crate::plan::Plan;
+use crate::plan::{MARGIN, Plan};
+use crate::px::Px;
 use crate::retired::draw_retired;
 use crate::server_lanes::draw_servers;
 use crate::text::Escaped;
 use register::Register;
 use std::fmt;
+
+/// The baseline of the heading.
+const HEADING_BASE: u64 = 180;
+
+/// The height of the page below the baseline of the legend's first line.
+const LEGEND_HEIGHT: u64 = 460;
+
+/// How far below the baseline of the legend's first line it says what is left out.
+const OMITTED_GAP: u64 = 360;
 
 /// A picture of an object. It prints as SVG. A run of 40 calls fits a screen. In the picture of a long run narrow
 /// phases have no words, and a line at the foot says what else is left out.
@@ -53,7 +63,7 @@ fn draw_head<W: fmt::Write>(
     plan: &Plan,
     ordered: usize,
 ) -> fmt::Result {
-    let (width, height) = (plan.page(), plan.legend_y(ordered).plus(460));
+    let (width, height) = (plan.page(), plan.legend_y(ordered).plus(LEGEND_HEIGHT));
     writeln!(
         f,
         "<svg xmlns='http://www.w3.org/2000/svg' width='{width}' height='{height}' \
@@ -73,7 +83,9 @@ fn draw_heading<W: fmt::Write>(f: &mut fmt::Formatter<W>, name: &str, plan: &Pla
     let word = if calls == 1 { "call" } else { "calls" };
     writeln!(
         f,
-        "<text class='head' x='8' y='18'>object {}: {calls} {word}, steps {} to {}</text>",
+        "<text class='head' x='{}' y='{}'>object {}: {calls} {word}, steps {} to {}</text>",
+        Px(MARGIN),
+        Px(HEADING_BASE),
         Escaped(name),
         plan.first,
         plan.last
@@ -90,5 +102,5 @@ fn draw_foot<W: fmt::Write>(
     let y = plan.legend_y(order.len());
     draw_order(f, plan, order)?;
     draw_legend(f, plan, y)?;
-    draw_omitted(f, plan, register, order.len(), y.plus(360))
+    draw_omitted(f, plan, register, order.len(), y.plus(OMITTED_GAP))
 }

@@ -11,6 +11,9 @@ use register::Register;
 use std::alloc::{AllocError, Global};
 use tag::{CallId, MOST_POSITIONS, Stamp};
 
+/// The left edge of headings, and of the names of calls.
+pub(crate) const MARGIN: u64 = 80;
+
 /// The left edge of the time axis. The names of the lanes are left of it.
 pub(crate) const LEFT: u64 = 1500;
 
@@ -52,6 +55,15 @@ const MOST_ROWS: u64 = 6;
 
 /// The height of one row of the order.
 pub(crate) const ROW: u64 = 150;
+
+/// The room to the left and to the right of the order.
+const ORDER_MARGINS: u64 = 600;
+
+/// How far below the servers' lanes the baseline of the order's first row is.
+const ORDER_GAP: u64 = 200;
+
+/// How far below the order the baseline of the legend's first line is.
+const LEGEND_GAP: u64 = 60;
 
 /// Where the lanes of an object's calls and servers are drawn, and its first and last step.
 #[derive(Drop)]
@@ -157,7 +169,7 @@ impl Plan {
 
     /// The baseline of the first row of the order.
     pub(crate) fn order_y(&self) -> Px {
-        Px(self.bottom).plus(200)
+        Px(self.bottom).plus(ORDER_GAP)
     }
 
     /// How many of `calls` calls are shown in the order.
@@ -169,7 +181,7 @@ impl Plan {
     pub(crate) fn legend_y(&self, calls: usize) -> Px {
         let rows = (self.ordered(calls) as u64).div_ceil(self.columns()).max(1);
         self.order_y()
-            .plus(rows.saturating_mul(ROW).saturating_add(60))
+            .plus(rows.saturating_mul(ROW).saturating_add(LEGEND_GAP))
     }
 
     /// The width of a phase, which goes to the right edge of the time axis where it is open.
@@ -184,7 +196,7 @@ impl Plan {
     pub(crate) fn columns(&self) -> u64
         ensures { 0 < result }
     {
-        (self.page().0.saturating_sub(600) / ORDERED).max(1)
+        (self.page().0.saturating_sub(ORDER_MARGINS) / ORDERED).max(1)
     }
 }
 

@@ -1,6 +1,7 @@
 //! Lengths on the page.
 ghost use Rattle.std.specs.Prelude.{◌≡◌, ◌+◌, Some};
-ghost use Rattle.picture.specs.Px.{px_text, saturated};
+ghost use Rattle.std.specs.Io.Iter.{u64_saturate};
+ghost use Rattle.picture.specs.Px.{px_text};
 
 use std::fmt;
 
@@ -10,7 +11,7 @@ pub(crate) struct Px(pub(crate) u64);
 
 impl Px {
     pub(crate) fn plus(self, more: u64) -> Px
-        ensures { result.0 ≡ saturated (self.0 + more) }
+        ensures { result.0 ≡ u64_saturate (self.0 + more) }
     {
         Px(self.0.saturating_add(more))
     }

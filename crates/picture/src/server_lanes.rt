@@ -1,7 +1,7 @@
 //! The lanes of the servers.
 use crate::drops::Drops;
 use crate::place::Place;
-use crate::plan::Plan;
+use crate::plan::{MARGIN, Plan};
 use crate::px::Px;
 use crate::tag_marks::draw_tag;
 use bank::{Bank, Pointer};
@@ -11,6 +11,21 @@ use tag::Stamp;
 
 /// How many tags of one server are drawn at most.
 pub(crate) const MOST_TAGS: usize = 400;
+
+/// How far above the lanes of a position's servers the baseline of its heading is.
+const HEADING_GAP: u64 = 50;
+
+/// The left edge of the names of servers.
+const NAME_LEFT: u64 = 200;
+
+/// How far below the middle of a lane the baseline of the server's name is.
+const NAME_BASE: u64 = 40;
+
+/// How far above the middle of a lane the mark of its opening begins.
+const OPENED_TOP: u64 = 30;
+
+/// How far below the middle of a lane the foot of the mark of a status is.
+const STATUS_FOOT: u64 = 40;
 
 /// Draws a lane for each server of each position: when each tag came and was finalized, and when the pointer changed.
 pub(crate) fn draw_servers<W: fmt::Write>(
@@ -31,10 +46,10 @@ fn draw_place<W: fmt::Write>(
     register: &Register,
     place: &Place,
 ) -> fmt::Result {
-    let (y, position) = (Px(place.top).less(50), place.position);
+    let (x, y, position) = (Px(MARGIN), Px(place.top).less(HEADING_GAP), place.position);
     writeln!(
         f,
-        "<text class='head' x='8' y='{y}'>position {position}</text>"
+        "<text class='head' x='{x}' y='{y}'>position {position}</text>"
     )?;
     for member in 0..place.members {
         draw_server(f, plan, register, place, member)?;
@@ -52,7 +67,8 @@ fn draw_server<W: fmt::Write>(
 ) -> fmt::Result {
     let y = plan.server_y(place.position, member);
     if let Some(server) = register.server(place.position, member) {
-        writeln!(f, "<text x='20' y='{}'>server {server}</text>", y.plus(40))?;
+        let (x, base) = (Px(NAME_LEFT), y.plus(NAME_BASE));
+        writeln!(f, "<text x='{x}' y='{base}'>server {server}</text>")?;
     }
     draw_line(f, plan, place.opened, y)?;
     if let Some(bank) = register.bank_view(place.position, member) {
@@ -73,7 +89,7 @@ fn draw_line<W: fmt::Write>(
     writeln!(
         f,
         "<path class='lane' d='M{from} {}v6M{from} {y}H{to}'><title>opened at step {opened}</title></path>",
-        y.less(30)
+        y.less(OPENED_TOP)
     )
 }
 
@@ -124,7 +140,7 @@ fn draw_status<W: fmt::Write>(
     word: &str,
     y: Px,
 ) -> fmt::Result {
-    let (x, y) = (plan.x(since), y.plus(40));
+    let (x, y) = (plan.x(since), y.plus(STATUS_FOOT));
     writeln!(
         f,
         "<path class='{word}' d='M{x} {y}l-4 -8h8z'>\

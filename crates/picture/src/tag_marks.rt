@@ -8,6 +8,12 @@ use tag::{Stamp, Tag};
 /// The mark of a dropped piece, a square: the end of its SVG path, which follows the middle of the mark.
 pub(crate) const SQUARE: &str = "m-2 -2h4v4h-4z' fill='#fff' stroke='#000' stroke-width='.7'";
 
+/// How far above the middle of a lane the middle of the mark of a dropped piece is.
+const DROP_HEIGHT: u64 = 70;
+
+/// How far above the middle of a lane the mark of a finalized tag begins.
+const FINALIZED_TOP: u64 = 40;
+
 /// Draws when a tag came to a bank, whether its piece is still there, when that was dropped, and when the tag was
 /// finalized. The piece was dropped at the step `dropped`; none where it was not, or was never kept.
 pub(crate) fn draw_tag<W: fmt::Write>(
@@ -77,7 +83,7 @@ fn draw_drop<W: fmt::Write>(
     tag: Tag,
     step: Stamp,
 ) -> fmt::Result {
-    let (x, above) = (plan.x(step), y.less(70));
+    let (x, above) = (plan.x(step), y.less(DROP_HEIGHT));
     writeln!(
         f,
         "<path d='M{x} {above}{SQUARE}><title>the piece of tag {tag} was dropped at step {step}</title></path>"
@@ -92,7 +98,7 @@ fn draw_finalized<W: fmt::Write>(
     tag: Tag,
     since: Stamp,
 ) -> fmt::Result {
-    let (x, top) = (plan.x(since), y.less(40));
+    let (x, top) = (plan.x(since), y.less(FINALIZED_TOP));
     writeln!(
         f,
         "<path class='fin' d='M{x} {top}l4 4l-4 4l-4 -4z'>\

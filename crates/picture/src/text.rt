@@ -1,9 +1,6 @@
 //! Texts in a picture.
-ghost use Rattle.std.specs.Prelude.{◌≡◌};
-ghost use Rattle.picture.specs.CallLanes.{word_of_operation};
 
 use bank::{Kind, Status};
-use record::Operation;
 use std::fmt;
 use words::Hexadecimal;
 
@@ -28,6 +25,12 @@ fn write_escaped<W: fmt::Write>(f: &mut fmt::Formatter<W>, letter: char) -> fmt:
         _ => f.write_str("?"),
     }
 }
+
+/// How many bytes are shown of a value that is not shown whole.
+pub(crate) const FRONT: usize = 4;
+
+/// The longest value that is shown whole at the end of a call.
+const LONGEST_WHOLE: usize = 6;
 
 /// The first bytes of a value in hexadecimal, at most `most` of them.
 #[derive(Clone, Copy)]
@@ -54,10 +57,10 @@ pub(crate) struct Short<'a>(pub(crate) &'a [u8]);
 impl fmt::Display for Short<'_> {
     fn fmt<W: fmt::Write>(&self, f: &mut fmt::Formatter<W>) -> fmt::Result {
         let bytes = self.0;
-        if bytes.len() <= 6 {
+        if bytes.len() <= LONGEST_WHOLE {
             return write!(f, "{}", Hexadecimal(bytes));
         }
-        write!(f, "{} {} B", Front { bytes, most: 4 }, bytes.len())
+        write!(f, "{} {} B", Front { bytes, most: FRONT }, bytes.len())
     }
 }
 
@@ -82,17 +85,6 @@ impl fmt::Display for KindText {
     }
 }
 
-pub(crate) fn kind_word(kind: Kind) -> &'static str {
-    match kind {
-        Kind::Next => "next",
-        Kind::Spread(_) => "spread",
-        Kind::Query => "query",
-        Kind::PreWrite(_) => "pre",
-        Kind::Finalize(_) => "fin",
-        Kind::Fetch(_) => "fetch",
-    }
-}
-
 /// The letter for what a phase asks, which is drawn where its word has no room.
 pub(crate) fn kind_letter(kind: Kind) -> &'static str {
     match kind {
@@ -102,15 +94,5 @@ pub(crate) fn kind_letter(kind: Kind) -> &'static str {
         Kind::PreWrite(_) => "p",
         Kind::Finalize(_) => "f",
         Kind::Fetch(_) => "g",
-    }
-}
-
-pub(crate) fn operation_word(operation: Operation) -> &'static str
-    ensures { result.now ≡ word_of_operation operation }
-{
-    match operation {
-        Operation::Read => "read",
-        Operation::Write => "write",
-        Operation::Move => "move",
     }
 }

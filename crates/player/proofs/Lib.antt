@@ -3,6 +3,7 @@ mod DeliverLemmas
 mod FoundObjectLemmas
 mod MissingCallLemmas
 mod PrintedLineLemmas
+mod RangeTextLemmas
 mod StepCommandLemmas
 mod SupplyAsLemmas
 mod WholeCallLemmas

@@ -1,18 +1,18 @@
 -- What the run of a script comes to, line by line.
-use Rattle.std.proofs.Common.{◌≡◌, ◌+◌, ◌<◌, ◌≤◌, ◌⊎◌, Bor, map, get_or, ℕ, zero, suc, List, [], ◌∷◌, ◌++◌}
+use Rattle.std.proofs.Common.{◌≡◌, ◌+◌, ◌<◌, Bor, map, get_or, ℕ, zero, suc, List, [], ◌∷◌, ◌++◌}
 use Rattle.std.proofs.Common.{length, take, drop, Option, Some, None, Result, Ok, Err, refl, sym, ap, ◌∙◌, subst, inl, inr, arith}
 use Rattle.std.specs.Prelude.{option_map, slice_get, MatchResult}
 use Rattle.std.specs.Result.{IsErrAnd}
 use Rattle.std.proofs.lemmas.Option.{slice_get-map, slice_get-get_or}
 use Rattle.std.specs.Str.Lines.{lines}
 use Rattle.std.specs.Io.KnownBytes.{Appends}
-use Rattle.std.proofs.KnownBytes.{Appends-nil, Appends-trans, Appends-kept, Keeps-refl}
+use Rattle.std.proofs.KnownBytes.{Appends-nil, Appends-trans, Appends-kept}
 use Rattle.cluster.specs.Cluster.{Cluster}
 use Rattle.player.specs.declared.run.End.{End}
 use Rattle.player.specs.declared.run.End.TheVariants as end
 use Rattle.player.specs.Play.{Contents}
-use Rattle.player.specs.Script.{PlaysLines, IsPlayedTo, IsPlayedFrom, IsPlayedThrough, LosesLine}
-use Rattle.player.specs.Script.{LosesOutput, EndsLine, EndsAt, EndsBy, IsScriptOf, IsUnread, PlaysScript}
+use Rattle.player.specs.Script.{PlaysLines, IsPlayedTo, IsPlayedFrom, LosesLine}
+use Rattle.player.specs.Script.{LosesOutput, EndsLine, EndsAt}
 use Rattle.player.specs.Script.PlaysLines.{none, then_plays}
 
 -- The lines of a script
@@ -40,12 +40,6 @@ length_taken : {X : Type 0} (xs : List X) (i : ℕ) (x : X) → slice_get xs i �
 length_taken [] i x at = absurd (cc)
 length_taken (y ∷ ys) zero x at = refl
 length_taken (y ∷ ys) (suc i) x at = let rest = length_taken ys i x at in omega (arith, rest)
-
-take_whole : {X : Type 0} (xs : List X) (i : ℕ) → length xs ≤ i → take i xs ≡ xs
-take_whole [] zero over = refl
-take_whole [] (suc i) over = refl
-take_whole (y ∷ ys) zero over = absurd (omega (arith, over))
-take_whole (y ∷ ys) (suc i) over = ap (λ zs. y ∷ zs) (take_whole ys i (omega (arith, over)))
 
 module _ (all : List (List ℕ)) (count : ℕ) (words : List ℕ) (at : slice_get all count ≡ Some words) where
   more : suc count ≡ count + 1
@@ -107,15 +101,6 @@ module _ (all : List (List ℕ)) (count : ℕ) (words : List ℕ) (at : slice_ge
   }
   last_line script state old middle new end.OutputLost is so_far lost = lost_line script state so_far.text is so_far.played lost
 
-pub all_played : (all : List (List ℕ)) (count : ℕ) (script : List ℕ) (state : Option Cluster) (old new : Contents) →
-    all ≡ lines script → length all ≤ count → IsPlayedSoFar all count state old new → IsPlayedThrough script old new
-all_played all count script state old new is whole so_far = (
-  state,
-  so_far.text,
-  subst (λ front. PlaysLines front state so_far.text) (take_whole all count whole ∙ is) so_far.played,
-  so_far.printed,
-)
-
 -- what stands in the list of lines at a place
 pub line_at : (all : List (Bor (List ℕ))) (i : ℕ) (d : Bor (List ℕ)) → i < length all
     → slice_get (map (λ (line : Bor (List ℕ)). line.now) all) i ≡ Some (get_or all i d).now
@@ -127,28 +112,3 @@ pub stopped : (r : Result Unit End) (why : End) (Done : Type 0) (P : End → Typ
     MatchResult r (λ _. Done) P
 stopped (Ok x) why Done P is holds = absurd is
 stopped (Err y) why Done P is holds = subst P (sym is) holds
-
--- The script
-
-pub unread : (remaining old : Contents) (why : End) → IsUnread why ⊎ (why ≡ end.NoRoom) → EndsBy remaining old old why
-unread remaining old end.Unread is = Keeps-refl old
-unread remaining old end.NoRoom is = Keeps-refl old
-unread remaining old end.NoMemory (inl is) = absurd is
-unread remaining old end.NoMemory (inr is) = absurd (cc)
-unread remaining old (end.BadLine number) (inl is) = absurd is
-unread remaining old (end.BadLine number) (inr is) = absurd (cc)
-unread remaining old end.OutputLost (inl is) = absurd is
-unread remaining old end.OutputLost (inr is) = absurd (cc)
-
-pub plays_script : (remaining old new : Contents) (script : List ℕ) → IsScriptOf remaining script → IsPlayedThrough script old new →
-    PlaysScript remaining old new
-plays_script remaining old new script read through =
-    record { script = script; read = read; state = through.0; text = through.1; played = through.2; printed = through.3 }
-
-pub ends_script : (remaining old new : Contents) (script : List ℕ) (why : End) → IsScriptOf remaining script →
-    EndsAt script old new why → EndsBy remaining old new why
-ends_script remaining old new script end.Unread read ends = absurd ends
-ends_script remaining old new script end.NoRoom read ends = absurd ends
-ends_script remaining old new script end.NoMemory read ends = (script, read, ends)
-ends_script remaining old new script (end.BadLine number) read ends = (script, read, ends)
-ends_script remaining old new script end.OutputLost read ends = (script, read, ends)

@@ -11,20 +11,20 @@ use Rattle.encoder.specs.Fragment.{fragment}
 use Rattle.encoder.specs.Coded.{Coding, IsCodable, encode_cause}
 use Rattle.record.specs.declared.stage.Want.{Want}
 use Rattle.record.specs.declared.stage.Want.TheVariants as want
-use Rattle.record.specs.Records.{Call, Object}
+use Rattle.record.specs.Records.{Object}
 use Rattle.record.specs.Legal.{due_of}
 use Rattle.soundness.specs.Sound.{IsSound}
 use Rattle.record.specs.Sending.{sent_value, value_or_empty}
-use Rattle.record.specs.Wants.{current_phase, want_of}
+use Rattle.record.specs.Wants.{current_phase}
 use Rattle.soundness.proofs.Sound.SentPieceLemmas.{supply_counts}
 use Rattle.register.proofs.RoomLemmas.{is_lt, not_lt}
-use Rattle.register.specs.Causes.{call_at, if_call, unless, number_cause, supply_cause, supplied_cause, supply_room_cause}
+use Rattle.register.specs.Causes.{if_call, unless, supply_cause, supplied_cause, supply_room_cause}
 use Rattle.register.specs.Causes.{supplying_cause}
 use Rattle.register.specs.Coding.{bytes_eq, pieces_due, pieces_position}
 use Rattle.register.specs.State.{State}
 use Rattle.register.specs.View.{want_at, value_of, value_at, coding_at, coding_of, to_code}
 use Rattle.cluster.specs.Cluster.{Cluster, named}
-use Rattle.cluster.specs.Causes.{next, if_object, object_cause}
+use Rattle.cluster.specs.Causes.{next, object_cause}
 use Rattle.driver.specs.Driver.{wanted}
 use Rattle.driver.proofs.NamedObjectLemmas.{read_there, cause_there}
 use Rattle.driver.proofs.SuppliedValueLemmas.{Sends, sends, codable, supply_is}
@@ -89,30 +89,6 @@ length_decides k n len value lawful =
 module _ (cluster : Cluster) (name : List ℕ) (call : ℕ) (value : List ℕ) where
   abbrev cause : Object → Option Refusal
   cause object = supplying_as_cause cluster call value object
-
-  -- where there is no such call, these bytes are refused so
-  pub no_call : (r : Refusal) → object_cause cluster name (λ object. number_cause object call) ≡ Some r
-      → object_cause cluster name cause ≡ Some r
-  no_call r = go (named cluster.objects name)
-    where
-      at : (object : Object) (o : Option Call) → call_at object call ≡ o → if_call o (λ c. None) ≡ Some r → cause object ≡ Some r
-      at object None is e =
-          ap (λ (o : Option Call). first_cause_of (coding_cause value (option_map (λ c. want_of object (pred call) c) o))
-          (supply_cause (next cluster) object call (coding_for value (want_at object call)))) is
-          ∙ e
-      at object (Some c) is e = absurd (cc)
-
-      go : (o : Option State) → if_object o (λ object. number_cause object call) ≡ Some r → if_object o cause ≡ Some r
-      go None e = e
-      go (Some state) e = at state.object (call_at state.object call) refl e
-
-  -- where there is no object, all is refused so
-  pub no_object : (r : Refusal) → object_cause cluster name (λ object. None) ≡ Some r → object_cause cluster name cause ≡ Some r
-  no_object r = go (named cluster.objects name)
-    where
-      go : (o : Option State) → if_object o (λ object. None) ≡ Some r → if_object o cause ≡ Some r
-      go None e = e
-      go (Some state) e = absurd (cc)
 
   module _ (state : State) (there : named cluster.objects name ≡ Some state) where
     abbrev here : Object

@@ -11,12 +11,12 @@ use Rattle.driver.specs.declared.whole_call.NotAnswered.{NotAnswered}
 use Rattle.driver.specs.declared.whole_call.NotAnswered.TheVariants as unanswered
 use Rattle.driver.specs.WholeCalls as of
 use Rattle.player.specs.declared.report.Report.{Report}
-use Rattle.player.specs.Report.{whole}
+use Rattle.player.specs.Report.{whole_report}
 use Rattle.player.specs.WholeCalls.{IsWholeRun, chooses_first}
 
 pub told : (name : List ℕ) (turns : ℕ) (old : Cluster) (before : First) (new : Cluster) (after : First) (cause : Option
     Refusal) (step : Step) (answer : Result Receipt NotAnswered) (report : Report) →
-    of.IsWholeCall chooses_first name turns old before new after cause step answer → report ≡ whole answer →
+    of.IsWholeCall chooses_first name turns old before new after cause step answer → report ≡ whole_report answer →
     IsWholeRun old (stepped old name step) cause name turns new report
 told name turns old before new after cause step (Ok receipt) report is tells =
     subst (IsWholeRun old (stepped old name step) cause name turns new) (sym tells)
@@ -29,7 +29,7 @@ told name turns old before new after cause step (Err (unanswered.NotCalled refus
 -- the number of a layout as it was handed over
 pub told_move : (name : List ℕ) (turns : ℕ) (old : Cluster) (before : First) (new : Cluster) (after : First)
     (id number : ℕ) (answer : Result Receipt NotAnswered) (report : Report) → id ≡ number →
-    of.IsWholeMove chooses_first name turns old before new after id answer → report ≡ whole answer →
+    of.IsWholeMove chooses_first name turns old before new after id answer → report ≡ whole_report answer →
     IsWholeRun old (moved old name number) (object_cause old name (moving_cause old number)) name turns new report
 told_move name turns old before new after id number answer report same is tells =
     subst (λ n. IsWholeRun old (moved old name n) (object_cause old name (moving_cause old n)) name turns new report) same

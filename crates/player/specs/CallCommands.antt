@@ -64,8 +64,8 @@ next_receipt cluster name call =
     (if_named cluster name (λ object. receipt_at object (place_of cluster.objects name) call (next cluster)))
 
 -- the call of this number is answered
-abbrev pub Answers : Cluster → (name : List ℕ) → (call : ℕ) → Cluster → Report → Type 0
-Answers old name call new report =
+abbrev pub AnswersCall : Cluster → (name : List ℕ) → (call : ℕ) → Cluster → Report → Type 0
+AnswersCall old name call new report =
     IsGrowth old (stepped old name (Step.AnswerCall (pred call)))
     (object_cause old name (λ object. answer_cause (next old) object call))
     (next_receipt old name call) new report

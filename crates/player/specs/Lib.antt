@@ -6,6 +6,7 @@ pub mod CodingCommands
 pub mod MailCommands
 pub mod Deliver
 pub mod WholeCalls
+pub mod AccountLine
 pub mod Shown
 pub mod Play
 pub mod Script

@@ -12,11 +12,11 @@ use Rattle.player.specs.declared.player.Stop.TheVariants as stop
 use Rattle.player.specs.declared.report.Report.{Report}
 use Rattle.player.specs.Report.{report_text}
 use Rattle.player.specs.ClusterCommands.{AddsLayout, MakesObject, Retires, SetsServer}
-use Rattle.player.specs.CallCommands.{CallsRead, CallsWrite, CallsMove, Advances, BeginsAnew, Posts, Answers}
+use Rattle.player.specs.CallCommands.{CallsRead, CallsWrite, CallsMove, Advances, BeginsAnew, Posts, AnswersCall}
 use Rattle.player.specs.CodingCommands.{Supplies, SuppliesAs, SettlesValue}
 use Rattle.player.specs.MailCommands.{Serves, Takes, Loses, Repeats}
 use Rattle.player.specs.Deliver.{DeliversAll}
-use Rattle.player.specs.WholeCalls.{Reads, Writes, Moves, Resumes}
+use Rattle.player.specs.WholeCalls.{Reads, WritesValue, Moves, Resumes}
 use Rattle.player.specs.Shown.{line_of, ShowsCall, ShowsMail, ShowsBank, HasNoBank}
 use Rattle.player.specs.Shown.{ShowsAccount, ShowsHistory, ShowsSequence, ShowsCheck, HasNoCall}
 
@@ -52,14 +52,14 @@ Changes old (of.SupplyAs name call value) new report = SuppliesAs old name.now c
 Changes old (of.Settle name call) new report = SettlesValue old name.now call new report
 Changes old (of.Post name call) new report = Posts old name.now call new report
 Changes old (of.Again name call) new report = BeginsAnew old name.now call new report
-Changes old (of.Answer name call) new report = Answers old name.now call new report
+Changes old (of.Answer name call) new report = AnswersCall old name.now call new report
 Changes old (of.Serve name place) new report = Serves old name.now place new report
 Changes old (of.Take name place) new report = Takes old name.now place new report
 Changes old (of.Lose name place) new report = Loses old name.now place new report
 Changes old (of.Repeat name place) new report = Repeats old name.now place new report
 Changes old (of.Deliver name) new report = DeliversAll old name.now new report
 Changes old (of.Read name turns) new report = Reads old name.now turns new report
-Changes old (of.Write name value turns) new report = Writes old name.now value turns new report
+Changes old (of.Write name value turns) new report = WritesValue old name.now value turns new report
 Changes old (of.Move name layout turns) new report = Moves old name.now layout turns new report
 Changes old (of.Resume name call turns) new report = Resumes old name.now call turns new report
 Changes old _ new report = ⊥

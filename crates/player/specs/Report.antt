@@ -47,7 +47,7 @@ report_of tell (Ok given) = tell given
 report_of tell (Err refusal) = refused refusal
 
 -- the report of a whole call: its answer, the refusal of its first step, or that of the driver, which names the call
-abbrev pub whole : Result Receipt NotAnswered → Report
-whole (Ok receipt) = of.Answered receipt
-whole (Err (unanswered.NotCalled refusal)) = refused refusal
-whole (Err (unanswered.Open call refusal)) = of.Did (outcome.CallRefused call refusal)
+abbrev pub whole_report : Result Receipt NotAnswered → Report
+whole_report (Ok receipt) = of.Answered receipt
+whole_report (Err (unanswered.NotCalled refusal)) = refused refusal
+whole_report (Err (unanswered.Open call refusal)) = of.Did (outcome.CallRefused call refusal)

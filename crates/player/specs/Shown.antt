@@ -1,8 +1,8 @@
 -- The contracts that docs/trusted.md lists do not depend on this file; other contracts and proofs do.
 -- What the commands print that only show something.
-use Rattle.std.specs.Prelude.{◌≡◌, ◌⊎◌, ◌↔◌, ℕ, Bool, false, ◌++◌, List, [], ◌∷◌, map}
-use Rattle.std.specs.Prelude.{length, Option, Some, None, option_map, is_some, IsTrue}
-use Rattle.std.specs.List.{list_all, range_with_len}
+use Rattle.std.specs.Prelude.{◌≡◌, ◌⊎◌, ◌↔◌, ℕ, Bool, false, ◌++◌, List, [], ◌∷◌}
+use Rattle.std.specs.Prelude.{Option, Some, None, option_map, is_some, IsTrue}
+use Rattle.std.specs.List.{list_all}
 use Rattle.tag.specs.Cause.{IsRefusalBy}
 use Rattle.tag.specs.declared.refusal.Refusal.{Refusal}
 use Rattle.atomicity.specs.Atomic.{IsSequence}
@@ -12,18 +12,16 @@ use Rattle.history.specs.Check.{AreLawfulEntries}
 use Rattle.register.specs.Causes.{call_at, number_cause}
 use Rattle.register.specs.State.{State}
 use Rattle.register.specs.View.{view_at, bank_there}
-use Rattle.printing.specs.declared.account_line.Account.{Account}
 use Rattle.printing.specs.declared.outcome.Outcome.TheVariants as outcome
 use Rattle.printing.specs.Outcome.{outcome_text}
 use Rattle.printing.specs.CallLine.{call_text}
 use Rattle.printing.specs.MailLines.{mail_text}
 use Rattle.printing.specs.BankLine.{bank_text}
-use Rattle.printing.specs.AccountLine.{account_text}
 use Rattle.printing.specs.HistoryLines.{history_text}
 use Rattle.printing.specs.SequenceLine.{sequence_text}
 use Rattle.cluster.specs.Cluster.{Cluster, named, if_named}
 use Rattle.cluster.specs.Causes.{object_cause}
-use Rattle.cluster.specs.Accounts as accounts
+use Rattle.player.specs.AccountLine.{account_text}
 
 -- a line with its line feed
 abbrev pub line_of : List ℕ → List ℕ
@@ -66,16 +64,9 @@ abbrev pub HasNoBank : Cluster → (name : List ℕ) → (position member : ℕ)
 HasNoBank cluster name position member =
     (state : State) × (named cluster.objects name ≡ Some state) × (bank_there state.object position member ≡ None)
 
--- the account has the bytes that all servers store, that wait in messages, and that each server stores
-pub record IsAccount (cluster : Cluster) (account : Account) : Type 0 where
-  pub stored : account.stored ≡ accounts.stored_all cluster
-  pub mailed : account.mailed ≡ accounts.mailed cluster
-  pub servers : account.servers.items ≡ map (accounts.stored cluster) (range_with_len 0 (length cluster.servers))
-
--- the text is the account of the cluster
+-- the text is the line of the cluster's accounts
 abbrev pub ShowsAccount : Cluster → (text : List ℕ) → Type 0
-ShowsAccount cluster text =
-    (account : Account) × IsAccount cluster account × (text ≡ line_of (account_text account))
+ShowsAccount cluster text = text ≡ line_of (account_text cluster)
 
 -- the text is the history of the object of this name, or its refusal
 abbrev pub ShowsHistory : Cluster → (name : List ℕ) → (text : List ℕ) → Type 0

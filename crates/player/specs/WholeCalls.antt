@@ -1,6 +1,6 @@
 -- The contracts that docs/trusted.md lists do not depend on this file; other contracts and proofs do.
 -- Whole calls: the step that begins a call, and then the driver, which always handles the call's first message.
-use Rattle.std.specs.Prelude.{◌≡◌, ◌⊎◌, ℕ, suc, Bool, true, false, List, length, Option, Some, None}
+use Rattle.std.specs.Prelude.{◌≡◌, ◌⊎◌, ℕ, Bool, true, false, List, Option, Some, None}
 use Rattle.tag.specs.Cause.{IsRefusalBy}
 use Rattle.tag.specs.declared.refusal.Refusal.{Refusal}
 use Rattle.record.specs.Steps.{Step}
@@ -9,7 +9,8 @@ use Rattle.printing.specs.declared.outcome.Outcome.{Outcome}
 use Rattle.printing.specs.declared.outcome.Outcome.TheVariants as outcome
 use Rattle.driver.specs.declared.chooser.First.{First}
 use Rattle.driver.specs.Driver.{IsFinished, IsUnfinished}
-use Rattle.cluster.specs.Cluster.{Cluster, if_named}
+use Rattle.driver.specs.WholeCalls.{next_number}
+use Rattle.cluster.specs.Cluster.{Cluster}
 use Rattle.cluster.specs.Steps.{stepped, moved}
 use Rattle.cluster.specs.Causes.{next, object_cause, moving_cause}
 use Rattle.player.specs.declared.report.Report.{Report}
@@ -30,21 +31,18 @@ LeavesOpen name call resumed turns begun new (outcome.CallRefused number refusal
 LeavesOpen name call resumed turns begun new _ = ⊥
 
 -- the driver continues a call: it brings the call to its answer, or it is refused
-abbrev pub GoesOn : (name : List ℕ) → (call : ℕ) → (resumed : Bool) → (turns : ℕ) →
+abbrev pub ContinuesCall : (name : List ℕ) → (call : ℕ) → (resumed : Bool) → (turns : ℕ) →
     (begun new : Cluster) → Report → Type 0
-GoesOn name call resumed turns begun new (of.Answered receipt) =
+ContinuesCall name call resumed turns begun new (of.Answered receipt) =
     (before : First) × (after : First) × IsFinished chooses_first name call resumed turns begun before new after receipt
-GoesOn name call resumed turns begun new (of.Did outcome) = LeavesOpen name call resumed turns begun new outcome
-
--- the number of the next call of the object of this name
-abbrev pub next_number : Cluster → (name : List ℕ) → Option ℕ
-next_number cluster name = if_named cluster name (λ object. Some (suc (length object.calls)))
+ContinuesCall name call resumed turns begun new (of.Did outcome) = LeavesOpen name call resumed turns begun new outcome
 
 -- the call begins, in the cluster `begun`, and the driver continues it; or the first step is refused
 abbrev pub IsWholeRun : (old begun : Cluster) → Option Refusal → (name : List ℕ) → (turns : ℕ) →
     (new : Cluster) → Report → Type 0
 IsWholeRun old begun cause name turns new report =
-    ((call : ℕ) × (cause ≡ None) × (next_number old name ≡ Some call) × GoesOn name call false turns begun new report)
+    ((call : ℕ) × (cause ≡ None) × (next_number old name ≡ Some call)
+    × ContinuesCall name call false turns begun new report)
     ⊎ ((refusal : Refusal) × IsRefusalBy cause refusal × IsRefusedCommand old refusal new report)
 
 -- the command makes a whole read
@@ -54,8 +52,8 @@ Reads old name turns new report =
     (object_cause old name (λ object. read_cause (next old) object)) name turns new report
 
 -- the command makes a whole write of this value
-abbrev pub Writes : Cluster → (name value : List ℕ) → (turns : ℕ) → Cluster → Report → Type 0
-Writes old name value turns new report =
+abbrev pub WritesValue : Cluster → (name value : List ℕ) → (turns : ℕ) → Cluster → Report → Type 0
+WritesValue old name value turns new report =
     IsWholeRun old (stepped old name (Step.CallWrite value))
     (object_cause old name (λ object. write_cause value (next old) object))
     name turns new report
@@ -69,6 +67,7 @@ Moves old name layout turns new report =
 -- the command continues a call that is there, whose first turn may resend or restart; or the command is refused
 abbrev pub Resumes : Cluster → (name : List ℕ) → (call turns : ℕ) → Cluster → Report → Type 0
 Resumes old name call turns new report =
-    ((object_cause old name (λ object. number_cause object call) ≡ None) × GoesOn name call true turns old new report)
+    ((object_cause old name (λ object. number_cause object call) ≡ None)
+    × ContinuesCall name call true turns old new report)
     ⊎ ((refusal : Refusal) × (object_cause old name (λ object. number_cause object call) ≡ Some refusal)
     × IsRefusedCommand old refusal new report)

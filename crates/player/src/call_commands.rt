@@ -6,7 +6,7 @@ ghost use Rattle.record.specs.Sending.{value_or_empty};
 ghost use Rattle.register.specs.Causes.{supplying_cause};
 ghost use Rattle.cluster.specs.Causes.{next, object_cause};
 ghost use Rattle.cluster.specs.Steps.{stepped};
-ghost use Rattle.player.specs.CallCommands.{CallsRead, CallsWrite, CallsMove, Advances, BeginsAnew, Posts, Answers};
+ghost use Rattle.player.specs.CallCommands.{CallsRead, CallsWrite, CallsMove, Advances, BeginsAnew, Posts, AnswersCall};
 ghost use Rattle.player.specs.CodingCommands.{Supplies, SuppliesAs, SettlesValue, supplying_as_cause};
 
 use crate::cluster_commands::layout_id;
@@ -135,7 +135,7 @@ pub(crate) fn again(cluster: &mut Cluster, name: &str, call: CallId) -> Report
 
 /// Answers the call.
 pub(crate) fn answer(cluster: &mut Cluster, name: &str, call: CallId) -> Report
-    ensures { Answers cluster.old name.entry.now call cluster.new result }
+    ensures { AnswersCall cluster.old name.entry.now call cluster.new result }
 {
     Report::of_answer(cluster.answer(name, call))
 }

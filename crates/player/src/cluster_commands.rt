@@ -28,10 +28,7 @@ fn layout_of(k: u64, members: &[u64], servers: u8) -> Result<Layout, Refusal>
     ensures lawful { IfOk result IsLawful }
     ensures bad { IfErr result (λ r. (r ≡ BadLayout) × IsBadLayout (record { k = k; members = members.now }) servers) }
 {
-    let members = match members_of(members, servers) {
-        Ok(members) => members,
-        Err(refusal) => return Err(refusal),
-    };
+    let members = members_of(members, servers)?;
     if k > members.len() as u64 {
         return Err(Refusal::BadLayout);
     }

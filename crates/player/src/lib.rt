@@ -3,6 +3,7 @@
 
 pub use run::{End, play_line, read_script, report_end, report_unread, run_script};
 
+mod account_line;
 mod call_commands;
 mod cluster_commands;
 mod mail_commands;

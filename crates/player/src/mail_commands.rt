@@ -76,8 +76,6 @@ fn first_handled(cluster: &Cluster, name: &str, from: usize) -> Result<Option<us
     ensures there { OnOk result (object_cause cluster.now name.now (λ object. None) ≡ None) }
     ensures refused { IfErr result (λ refusal. object_cause cluster.now name.now (λ object. None) ≡ Some refusal) }
 {
-    match cluster.register(name) {
-        Ok(register) => Ok(choice_at(cluster, register, Filter::All, from, 0)),
-        Err(refusal) => Err(refusal),
-    }
+    let register = cluster.register(name)?;
+    Ok(choice_at(cluster, register, Filter::All, from, 0))
 }

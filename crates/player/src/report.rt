@@ -19,7 +19,7 @@ pub enum Report {
 }
 
 impl Report {
-    ghost use Rattle.player.specs.Report.{report_of, done, added_layout, called, took, freed, refused, whole};
+    ghost use Rattle.player.specs.Report.{report_of, done, added_layout, called, took, freed, refused, whole_report};
     ghost use Rattle.player.specs.declared.report.Report.TheVariants as report;
 
     /// The report of a refused command.
@@ -91,7 +91,7 @@ impl Report {
 
     /// The report of a whole call.
     pub(crate) fn of_whole(answered: Result<Receipt, NotAnswered>) -> Report
-        ensures { result ≡ whole answered }
+        ensures { result ≡ whole_report answered }
     {
         match answered {
             Ok(receipt) => Report::Answered(receipt),

@@ -96,10 +96,7 @@ fn play_script<R: Read, O: Write>(alloc: Global, reader: &mut R, out: &mut O) ->
     ensures { MatchResult result (λ _. PlaysScript (R.remaining reader.old) (O.contents out.old) (O.contents out.new))
         (EndsBy (R.remaining reader.old) (O.contents out.old) (O.contents out.new)) }
 {
-    let text = match read_script(alloc, reader) {
-        Ok(text) => text,
-        Err(end) => return Err(end),
-    };
+    let text = read_script(alloc, reader)?;
     let Ok(lines) = split_lines(alloc, &text) else {
         return Err(End::NoRoom);
     };

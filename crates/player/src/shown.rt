@@ -7,16 +7,14 @@ ghost use Rattle.register.specs.View.{view_at};
 ghost use Rattle.cluster.specs.Cluster.{if_named};
 ghost use Rattle.cluster.specs.Causes.{object_cause};
 ghost use Rattle.player.specs.Play.{Prints};
-ghost use Rattle.player.specs.Shown.{ShowsCall, ShowsMail, ShowsBank, HasNoBank, IsAccount};
+ghost use Rattle.player.specs.Shown.{ShowsCall, ShowsMail, ShowsBank, HasNoBank};
 ghost use Rattle.player.specs.Shown.{ShowsAccount, ShowsHistory, ShowsSequence, ShowsCheck, HasNoCall};
 
+use crate::account_line::AccountLine;
 use crate::player::{Stop, print, print_line, refuse};
-use arrayvec::ArrayVec;
 use cluster::Cluster;
 use history::{check, sequence};
-use printing::{
-    Account, AccountLine, BankLine, CallLine, HistoryLines, MailLines, Outcome, SequenceLine,
-};
+use printing::{BankLine, CallLine, HistoryLines, MailLines, Outcome, SequenceLine};
 use register::{CallView, Register};
 use std::alloc::Global;
 use std::io::Write;
@@ -41,10 +39,7 @@ fn view_of(cluster: &Cluster, name: &str, call: CallId) -> Result<CallView, Refu
     ensures view { IfOk result (λ view. if_named cluster.now name.now (λ object. view_at object call) ≡ Some view) }
     ensures cause { IsExactlyByCause (object_cause cluster.now name.now (λ object. number_cause object call)) result }
 {
-    match cluster.register(name) {
-        Ok(register) => register.call_view(call),
-        Err(refusal) => Err(refusal),
-    }
+    cluster.register(name)?.call_view(call)
 }
 
 /// Prints the waiting messages of an object.
@@ -89,21 +84,7 @@ pub(crate) fn bank<W: Write>(
 pub(crate) fn account<W: Write>(cluster: &Cluster, out: &mut W) -> Result<(), Stop>
     ensures { Prints (W.contents out.old) (W.contents out.new) (ShowsAccount cluster.now) ⊥ result }
 {
-    print_line(out, AccountLine(&account_of(cluster)))
-}
-
-fn account_of(cluster: &Cluster) -> Account
-    ensures { IsAccount cluster.now result }
-{
-    let mut servers = ArrayVec::new();
-    for server in 0..cluster.servers() {
-        servers.push(cluster.stored(server));
-    }
-    Account {
-        stored: cluster.stored_all(),
-        mailed: cluster.mailed(),
-        servers,
-    }
+    print_line(out, AccountLine(cluster))
 }
 
 /// Prints the history of an object.

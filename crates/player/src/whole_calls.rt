@@ -1,6 +1,6 @@
 //! Whole calls.
 ghost use Rattle.std.specs.Prelude.{true};
-ghost use Rattle.player.specs.WholeCalls.{Reads, Writes, Moves, Resumes, GoesOn};
+ghost use Rattle.player.specs.WholeCalls.{Reads, WritesValue, Moves, Resumes, ContinuesCall};
 
 use crate::cluster_commands::layout_id;
 use crate::report::Report;
@@ -20,7 +20,7 @@ pub fn read(alloc: Global, cluster: &mut Cluster, name: &str, turns: u64) -> Rep
 
 /// Makes a whole write. A refusal after its first step names the call, which stays open.
 pub fn write(alloc: Global, cluster: &mut Cluster, name: &str, value: Bytes, turns: u64) -> Report
-    ensures { Writes cluster.old name.entry.now value turns cluster.new result }
+    ensures { WritesValue cluster.old name.entry.now value turns cluster.new result }
 {
     Report::of_whole(driver::write(alloc, cluster, name, value, &mut First, turns))
 }
@@ -46,7 +46,7 @@ pub fn resume(alloc: Global, cluster: &mut Cluster, name: &str, call: CallId, tu
 // Continues the call. Its first turn resends the requests that the call waits for, or restarts a call that lacks
 // pieces.
 fn carried_on(alloc: Global, cluster: &mut Cluster, name: &str, call: CallId, turns: u64) -> Report
-    ensures { GoesOn name.entry.now call true turns cluster.old cluster.new result }
+    ensures { ContinuesCall name.entry.now call true turns cluster.old cluster.new result }
 {
     match finish(alloc, cluster, name, call, true, &mut First, turns) {
         Ok(receipt) => Report::Answered(receipt),

@@ -8,10 +8,15 @@ use Rattle.std.proofs.lemmas.List.FromFn.{get_or-enumerate_from, length-enumerat
 use Rattle.std.proofs.lemmas.Option.{get_or_from_slice_get, slice_get_within}
 
 -- the first elements and one more
-pub flat_map-take_more : {X : Type 0} (f : X → List ℕ) (xs : List X) (i : ℕ) (d : X) → i < length xs
+pub flat_map-take_more : {X Y : Type 0} (f : X → List Y) (xs : List X) (i : ℕ) (d : X) → i < length xs
     → flat_map f (take (i + 1) xs) ≡ flat_map f (take i xs) ++ f (get_or xs i d)
 flat_map-take_more {X} f xs i d below =
     ap (λ (ys : List X). flat_map f ys) (take_more xs i d below) ∙ sym (flat_map_more f [] (take i xs) (get_or xs i d))
+
+pub flat_map-take_item : {X : Type 0} (f : X → List ℕ) (xs : List X) (i : ℕ) (x : X) → i < length xs → x ≡ get_or xs i x
+    → flat_map f (take (i + 1) xs) ≡ flat_map f (take i xs) ++ f x
+flat_map-take_item {X} f xs i x below is =
+    flat_map-take_more f xs i x below ∙ ap (λ (y : X). flat_map f (take i xs) ++ f y) (sym is)
 
 pub flat_map-take_at : {X : Type 0} (f : X → List ℕ) (xs : List X) (i : ℕ) (x : X) → slice_get xs i ≡ Some x
     → flat_map f (take (i + 1) xs) ≡ flat_map f (take i xs) ++ f x
@@ -27,6 +32,11 @@ flat_map-numbered_more {X} f xs i d below =
     flat_map-take_more f (enumerate_from 0 xs) i (0, d) (subst P (sym (length-enumerate_from 0 xs)) below)
     ∙ ap (λ (p : ℕ × X). flat_map f (take i (enumerate_from 0 xs)) ++ f p)
     (get_or-enumerate_from 0 xs i (0, d) below ∙ ap (λ (j : ℕ). (j, get_or xs i d)) (zero-add i))
+
+pub flat_map-numbered_item : {X : Type 0} (f : ℕ × X → List ℕ) (xs : List X) (i : ℕ) (x : X) → i < length xs → x ≡ get_or xs i x
+    → flat_map f (take (i + 1) (enumerate_from 0 xs)) ≡ flat_map f (take i (enumerate_from 0 xs)) ++ f (i, x)
+flat_map-numbered_item {X} f xs i x below is =
+    flat_map-numbered_more f xs i x below ∙ ap (λ (y : X). flat_map f (take i (enumerate_from 0 xs)) ++ f (i, y)) (sym is)
 
 pub flat_map-numbered_at : {X : Type 0} (f : ℕ × X → List ℕ) (xs : List X) (i : ℕ) (x : X) → slice_get xs i ≡ Some x
     → flat_map f (take (i + 1) (enumerate_from 0 xs)) ≡ flat_map f (take i (enumerate_from 0 xs)) ++ f (i, x)

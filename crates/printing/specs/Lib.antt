@@ -3,7 +3,6 @@ pub mod Words
 pub mod CallLine
 pub mod MailLines
 pub mod BankLine
-pub mod AccountLine
 pub mod HistoryLines
 pub mod SequenceLine
 pub mod AnswerLine

@@ -4,7 +4,6 @@
 //! lines, each with its line feed.
 #![tactic(auto)]
 
-pub use account_line::{Account, AccountLine};
 pub use answer_line::AnswerLine;
 pub use bank_line::BankLine;
 pub use call_line::CallLine;
@@ -12,8 +11,8 @@ pub use history_lines::HistoryLines;
 pub use mail_lines::MailLines;
 pub use outcome::Outcome;
 pub use sequence_line::SequenceLine;
+pub use vocabulary::{kind_word, operation_word};
 
-mod account_line;
 mod answer_line;
 mod bank_line;
 mod call_line;

@@ -1,9 +1,10 @@
 use Rattle.std.proofs.Common.{◌≤◌, List, length, sum_by, take, ap, ◌∙◌, arith}
 use Rattle.std.specs.FinMap as map
 use Rattle.std.proofs.lemmas.List.{take_all}
+use Rattle.std.specs.Io.Iter.{u64_saturate}
 use Rattle.tag.specs.declared.tag.Tag.{Tag}
 use Rattle.bank.specs.declared.row.Row.{Row}
-use Rattle.costs.specs.Cost.{bytes_for, capped}
+use Rattle.costs.specs.Cost.{bytes_for}
 use Rattle.costs.proofs.CappedSumLemmas.{capped_more, sum_at}
 use Rattle.costs.proofs.sums.came_bytes.Goals as goal
 
@@ -19,4 +20,4 @@ returns c =
     let rows = map.entries c.args.bank.now.rows in
     let all : length rows ≤ c.loop-i.i = omega (arith, map.len-entries c.args.bank.now.rows) in
     c.loop-i.invariant
-    ∙ ap (λ (kept : List (Tag × Row)). capped (sum_by (bytes_for c.args.fragment c.args.tag) kept)) (take_all c.loop-i.i rows all)
+    ∙ ap (λ (kept : List (Tag × Row)). u64_saturate (sum_by (bytes_for c.args.fragment c.args.tag) kept)) (take_all c.loop-i.i rows all)

@@ -11,7 +11,7 @@ loop-index-preserved c =
     let beside : c.loop-index.index < length c.args.processes.now = omega (arith, same, below) in
     let pair : Event → Event → List Event = λ one two. one ∷ two ∷ [] in
     both_more (ends_of c.args.end) c.args.entries.now c.args.processes.now c.loop-index.index c.index-entries-index.result _ _ _
-    _ _ _ below beside c.index-entries-index.is (sym (ap₂ pair c.in_ok-begin_of.ensures c.in_ok-end_of.ensures))
+    _ _ _ below beside c.index-entries-index.is (sym (ap₂ pair c.in_ok-begin_event.ensures c.in_ok-end_event.ensures))
     c.loop-index.invariant c.in_ok-push.ensures.items c.in_ok-push-2.ensures.items
 
 pub returns : goal.returns

@@ -1,7 +1,7 @@
 use Rattle.std.proofs.Common.{List, ℕ, Vec, Global}
 use Rattle.std.proofs.lemmas.Result.{err_from_is_err_and}
 use Rattle.frames.specs.Reading.{array_at}
-use Rattle.frames.proofs.ReadSequenceLemmas.{succeeds, Gives_made}
+use Rattle.frames.proofs.ReadSequenceLemmas.{succeeds, Returns_made}
 use Rattle.frames.proofs.ReadFrameLemmas.{array_err, array_then, array_then_err}
 use Rattle.frames.proofs.reading.read_array.Goals as goal
 
@@ -23,5 +23,5 @@ returns-in_err-strings g c =
 pub returns : goal.returns
 returns g c =
     let strings = c.in_ok-strings.strings.items in
-    Gives_made array_at _ _ strings c.of.result c.of.ensures
+    Returns_made array_at _ _ strings c.of.result c.of.ensures
     (array_then _ _ _ c.in_ok-count.count (succeeds strings) c.in_ok-count.ensures.exact c.in_ok-strings.ensures.exact)

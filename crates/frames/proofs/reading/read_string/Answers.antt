@@ -1,7 +1,7 @@
 use Rattle.std.proofs.Common.{List, ℕ, Vec, Global}
 use Rattle.std.proofs.lemmas.Result.{err_from_is_err_and}
 use Rattle.frames.specs.Reading.{string_at}
-use Rattle.frames.proofs.ReadSequenceLemmas.{fails, succeeds, Gives_made}
+use Rattle.frames.proofs.ReadSequenceLemmas.{fails, succeeds, Returns_made}
 use Rattle.frames.proofs.ReadStringLemmas.{string_mark_err, string_length_err, string_from, string_bytes_err, string_line_err, string_done}
 use Rattle.frames.proofs.reading.read_string.Goals as goal
 
@@ -38,7 +38,7 @@ returns-in_err-read_line_end-clause-exact g c =
 
 pub returns-clause-exact : goal.returns-clause-exact
 returns-clause-exact g c =
-    Gives_made string_at _ _ (items c.in_ok-string.string) c.in_ok-from_vec.field-0 c.in_ok-from_vec.ensures.ok
+    Returns_made string_at _ _ (items c.in_ok-string.string) c.in_ok-from_vec.field-0 c.in_ok-from_vec.ensures.ok
     (string_from _ _ _ _ c.in_ok-read_expected.field-0 c.in_ok-len.len (succeeds (items c.in_ok-string.string))
     c.in_ok-read_expected.ensures c.in_ok-len.ensures.exact
     (string_done items c.in_ok-string.string c.in_ok-len.len c.in_ok-read_line_end.field-0 _ _ _

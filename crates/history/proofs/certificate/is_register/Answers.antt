@@ -1,6 +1,6 @@
 use Rattle.std.proofs.Common.{[], get_or}
 use Rattle.atomicity.specs.Atomic.{IsRegister, MayStand, entry_at}
-use Rattle.history.specs.Check.{named}
+use Rattle.history.specs.Check.{entries_listed}
 use Rattle.history.proofs.PairwiseByPlaceLemmas.{call_there, place_from_all, value_there}
 use Rattle.history.proofs.RegisterPassLemmas.{after_write, after_read, wrong_read, no_move, passes_on, stops}
 use Rattle.history.proofs.certificate.is_register.Goals as goal
@@ -19,7 +19,7 @@ value_of-value-requires c =
 pub returns-then-not-are_same : goal.returns-then-not-are_same
 returns-then-not-are_same c = (
   (λ f. absurd (cc)),
-  (λ (whole : IsRegister [] (named c.args.entries.now c.args.order.now)).
+  (λ (whole : IsRegister [] (entries_listed c.args.entries.now c.args.order.now)).
       absurd (stops c.args.entries.now c.args.order.now c.loop-call.call-index c.entry_at-entry.result.now c.loop-call.current.now
       c.loop-call-test.true c.entry_at-entry.ensures c.loop-call.invariant
       (wrong_read _ _ _ _ _ c.in-Read.is c.value_of-value.ensures (λ same. let t = c.are_same.ensures.1 same in cc)) whole)),
@@ -28,7 +28,7 @@ returns-then-not-are_same c = (
 pub returns-in-Move : goal.returns-in-Move
 returns-in-Move c = (
   (λ f. absurd (cc)),
-  (λ (whole : IsRegister [] (named c.args.entries.now c.args.order.now)).
+  (λ (whole : IsRegister [] (entries_listed c.args.entries.now c.args.order.now)).
       absurd (stops c.args.entries.now c.args.order.now c.loop-call.call-index c.entry_at-entry.result.now c.loop-call.current.now
       c.loop-call-test.true c.entry_at-entry.ensures c.loop-call.invariant
       (no_move _ _ _ _ c.in-Move.is) whole)),

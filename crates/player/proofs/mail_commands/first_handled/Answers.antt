@@ -1,7 +1,7 @@
 use Rattle.player.proofs.DeliverLemmas.{found}
 use Rattle.player.proofs.mail_commands.first_handled.Goals as goal
 
-pub returns-in-Ok-clause-first : goal.returns-in-Ok-clause-first
-returns-in-Ok-clause-first c =
-    found c.args.cluster.now c.args.name.now c.in-Ok.register.now c.in-Ok.ensures.object c.args.from
+pub returns-clause-first : goal.returns-clause-first
+returns-clause-first c =
+    found c.args.cluster.now c.args.name.now c.in_ok-register.register.now c.in_ok-register.ensures.object c.args.from
     c.choice_at.result c.requires c.choice_at.ensures

@@ -3,4 +3,4 @@ use Rattle.player.proofs.PrintedLineLemmas.{prints_as}
 use Rattle.player.proofs.shown.account.Goals as goal
 
 pub returns : goal.returns
-returns g c = prints_as _ _ _ _ _ _ (c.account_of.result, c.account_of.ensures, refl) (c.print_line.ensures _ refl)
+returns g c = prints_as _ _ _ _ _ _ refl (c.print_line.ensures _ refl)

@@ -6,7 +6,8 @@ use Rattle.record.specs.declared.call.Entry.{Entry}
 use Rattle.costs.specs.declared.cost.Cost.{Cost}
 use Rattle.costs.specs.Cost.{plus}
 use Rattle.costs.specs.CostLines.{cost_line, line_text, total_of, total_text}
-use Rattle.costs.proofs.TextLemmas.{flat_map-take_item, total_of-take_item}
+use Rattle.printing.proofs.TextLemmas.{flat_map-take_item}
+use Rattle.costs.proofs.CostSumLemmas.{total_of-take_item}
 use Rattle.costs.proofs.cost_lines.CostLinesDisplay.fmt.Goals as goal
 
 pub loop-entry-preserved : goal.loop-entry-preserved

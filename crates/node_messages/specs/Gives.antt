@@ -1,0 +1,23 @@
+-- The contracts that docs/trusted.md lists do not depend on this file; other contracts and proofs do.
+-- What functions that read give.
+use Rattle.std.specs.Prelude.{◌≡◌, Result, Ok, Err}
+use denote.Ref.{Bor}
+use Rattle.node_messages.specs.declared.error.Fault.{Fault}
+use Rattle.node_messages.specs.declared.error.MessageError.{MessageError}
+use Rattle.node_messages.specs.declared.error.MessageError.TheVariants as errors
+use Rattle.node_messages.specs.Reading.{Parsed}
+use Rattle.node_messages.specs.Strings.{Strings}
+
+-- what a function returned, seen by `view`, is what reading gives; where memory was refused, nothing is said
+abbrev pub GivesAs : {X Y : Type 0} → (X → Y) → Result X MessageError → Result Y Fault → Type 0
+GivesAs view (Ok x) read = read ≡ Ok (view x)
+GivesAs view (Err (errors.Fault fault)) read = read ≡ Err fault
+GivesAs view (Err errors.NoMemory) read = Unit {0}
+
+-- the same of what a function returned as it is
+abbrev pub Gives : {X : Type 0} → Result X MessageError → Result X Fault → Type 0
+Gives result read = GivesAs (λ x. x) result read
+
+-- the same of a value and the strings behind it
+abbrev pub GivesAt : {X : Type 0} → Result (X × Bor Strings) MessageError → Parsed X → Type 0
+GivesAt result read = GivesAs (λ x. (x.0, x.1.now)) result read

@@ -1,0 +1,108 @@
+-- The contracts that docs/trusted.md lists do not depend on this file; other contracts and proofs do.
+-- Which values are messages between nodes.
+use Rattle.std.specs.Prelude.{◌≡◌, ◌<◌, ◌≤◌, ◌^◌, length, IfSome, is_some, Bool, true, false}
+use Rattle.tag.specs.declared.limits.TheConstants.{LONGEST_NAME}
+use Rattle.tag.specs.declared.tag.Tag.{Tag}
+use Rattle.piece.specs.declared.piece.Piece.{Piece}
+use Rattle.layout.specs.Layout.{IsLawful}
+use Rattle.bank.specs.declared.kind.Kind.{Kind}
+use Rattle.bank.specs.declared.kind.Kind.TheVariants as kind
+use Rattle.bank.specs.declared.reply.Answer.{Answer}
+use Rattle.bank.specs.declared.reply.Answer.TheVariants as answer
+use Rattle.bank.specs.declared.request.Request.{Request}
+use Rattle.bank.specs.declared.request.Request.TheVariants as request
+use Rattle.bank.specs.declared.status.Status.{Status}
+use Rattle.bank.specs.declared.status.Status.TheVariants as status
+use Rattle.mail.specs.declared.message.Body.{Body}
+use Rattle.mail.specs.declared.message.Body.TheVariants as body
+use Rattle.node_messages.specs.declared.message.NodeMessage.{NodeMessage}
+use Rattle.node_messages.specs.declared.message.TheConstants.{DIGEST_LENGTH}
+
+-- whether a pointer with this status names a next position
+abbrev pub is_set : Status → Bool
+is_set status.Unset = false
+is_set status.Pending = true
+is_set status.Final = true
+
+-- whether a request says that the pointer is pending or final
+abbrev pub request_names_next : Request → Bool
+request_names_next (request.Spread found) = is_set found
+request_names_next q = false
+
+-- whether an answer says that the pointer is pending or final
+abbrev pub answer_names_next : Answer → Bool
+answer_names_next (answer.Pointer found) = is_set found
+answer_names_next a = false
+
+-- whether the body of a message says that the pointer is pending or final
+abbrev pub names_next : Body → Bool
+names_next (body.Request q) = request_names_next q
+names_next (body.Reply k r) = answer_names_next r.answer
+
+-- whether this is an answer to a request of this kind
+abbrev pub is_answer_to : Kind → Answer → Bool
+is_answer_to kind.Next (answer.Pointer found) = true
+is_answer_to (kind.Spread found) answer.Done = true
+is_answer_to kind.Query (answer.Greatest tag) = true
+is_answer_to (kind.PreWrite tag) answer.Done = true
+is_answer_to (kind.Finalize tag) answer.Done = true
+is_answer_to (kind.Fetch tag) (answer.Piece piece) = true
+is_answer_to k a = false
+
+-- whether the body of a message is a request, or a reply with an answer to a request of its kind
+abbrev pub is_fitting : Body → Bool
+is_fitting (body.Request q) = true
+is_fitting (body.Reply k r) = is_answer_to k r.answer
+
+-- the numbers of a tag have 64 bits
+abbrev pub IsTag : Tag → Type 0
+IsTag t = (t.number < 2 ^ 64) × (t.call < 2 ^ 64)
+
+-- the point of a piece has 8 bits, and the length of its value 32
+abbrev pub IsPiece : Piece → Type 0
+IsPiece p = (p.point < 2 ^ 8) × (p.len < 2 ^ 32)
+
+-- the numbers in a kind are within their bits
+abbrev pub IsKind : Kind → Type 0
+IsKind kind.Next = Unit {0}
+IsKind (kind.Spread found) = Unit {0}
+IsKind kind.Query = Unit {0}
+IsKind (kind.PreWrite tag) = IsTag tag
+IsKind (kind.Finalize tag) = IsTag tag
+IsKind (kind.Fetch tag) = IsTag tag
+
+-- the numbers in a request are within their bits
+abbrev pub IsRequest : Request → Type 0
+IsRequest request.Next = Unit {0}
+IsRequest (request.Spread found) = Unit {0}
+IsRequest request.Query = Unit {0}
+IsRequest (request.PreWrite tag piece) = IsTag tag × IsPiece piece
+IsRequest (request.Finalize tag) = IsTag tag
+IsRequest (request.Fetch tag) = IsTag tag
+
+-- the numbers in an answer are within their bits
+abbrev pub IsAnswer : Answer → Type 0
+IsAnswer answer.Done = Unit {0}
+IsAnswer (answer.Pointer found) = Unit {0}
+IsAnswer (answer.Greatest tag) = IsTag tag
+IsAnswer (answer.Piece piece) = IfSome piece IsPiece
+
+-- the numbers in the body of a message are within their bits, and an answer is one to a request of its kind
+abbrev pub IsBody : Body → Type 0
+IsBody (body.Request q) = IsRequest q
+IsBody (body.Reply k r) = IsKind k × (r.step < 2 ^ 64) × IsAnswer r.answer × (is_answer_to k r.answer ≡ true)
+
+-- What a message between nodes is: the digest has its length, the name is not too long, the layouts are lawful, the
+-- member is one of the layout, there is a next layout exactly where the message says that the pointer is pending or
+-- final, an answer is one to a request of its kind, and numbers are within their bits.
+pub record IsMessage (m : NodeMessage) : Type 0 where
+  pub digest : length m.digest ≡ DIGEST_LENGTH
+  pub name : length m.name ≤ LONGEST_NAME
+  pub layout : IsLawful m.layout
+  pub call : m.message.call < 2 ^ 64
+  pub phase : m.message.phase < 2 ^ 32
+  pub position : m.message.position < 2 ^ 32
+  pub member : m.message.member < length m.layout.members
+  pub body : IsBody m.message.body
+  pub named : is_some m.next ≡ names_next m.message.body
+  pub next : IfSome m.next IsLawful

@@ -1,0 +1,40 @@
+-- The contracts that docs/trusted.md lists do not depend on this file; other contracts and proofs do.
+-- Why a message has no frame.
+use Rattle.std.specs.Prelude.{nat_lt, nat_le, not, ◌&&◌, length, is_some, Bool, if◌then◌else◌, Result, Ok, Err}
+use Rattle.std.specs.List.{list_all}
+use Rattle.tag.specs.declared.limits.TheConstants.{LONGEST_NAME}
+use Rattle.frames.specs.declared.limits.TheConstants.{LONGEST_STRING, MOST_STRINGS}
+use Rattle.node_messages.specs.declared.error.Fault.{Fault}
+use Rattle.node_messages.specs.declared.error.Fault.TheVariants.{NameTooLong, NoMember, BadAnswer, BadNext}
+use Rattle.node_messages.specs.declared.error.Fault.TheVariants.{PieceTooLong}
+use Rattle.node_messages.specs.declared.message.NodeMessage.{NodeMessage}
+use Rattle.node_messages.specs.Message.{names_next, is_fitting}
+use Rattle.node_messages.specs.Numbers.{and_then}
+use Rattle.node_messages.specs.Strings.{Strings, strings_of}
+
+-- whether two answers to a question are the same
+abbrev pub same : Bool → Bool → Bool
+same a b = if a then b else not b
+
+-- the first fault of a message, if it has one: its name is too long, its member is none of the layout, its answer is
+-- none to a request of its kind, or it has a next layout where it names none or has none where it names one
+abbrev pub checked : NodeMessage → Result (Unit {0}) Fault
+checked m =
+    if nat_lt LONGEST_NAME (length m.name) then Err NameTooLong
+    else (if not (nat_lt m.message.member (length m.layout.members)) then Err NoMember
+    else (if not (is_fitting m.message.body) then Err BadAnswer
+    else (if not (same (is_some m.next) (names_next m.message.body)) then Err BadNext
+    else Ok tt)))
+
+-- whether strings are those of a frame: there are not too many, and none is too long
+abbrev pub is_frame : Strings → Bool
+is_frame strings =
+    nat_le (length strings) MOST_STRINGS && list_all (λ string. nat_le (length string) LONGEST_STRING) strings
+
+-- these strings, unless they are none of a frame
+abbrev pub framed : Strings → Result Strings Fault
+framed strings = if is_frame strings then Ok strings else Err PieceTooLong
+
+-- the strings of a message, or its first fault
+abbrev pub written : NodeMessage → Result Strings Fault
+written m = and_then (checked m) (λ _. framed (strings_of m))

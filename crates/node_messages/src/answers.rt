@@ -1,0 +1,76 @@
+//! Replies.
+ghost use Rattle.std.specs.Prelude.{Ok};
+ghost use Rattle.node_messages.specs.Gives.{GivesAs, GivesAt};
+ghost use Rattle.node_messages.specs.Reading.{held_at, answer_at, reply_at};
+
+use crate::error::MessageError;
+use crate::fields::{long_of, piece_of, status_of, string_of, tag_of};
+use crate::words::read_is_piece;
+use bank::{Answer, HeldPiece, Kind, Reply};
+use bytes::Bytes;
+use piece::Piece;
+use std::alloc::Global;
+
+// A piece on the heap.
+fn held(alloc: Global, piece: Piece) -> Result<HeldPiece, MessageError>
+    ensures { GivesAs (λ h. h) result (Ok piece) }
+{
+    match HeldPiece::new(alloc, piece) {
+        Ok(held) => Ok(held),
+        Err(_) => Err(MessageError::NoMemory),
+    }
+}
+
+// A piece that a bank keeps, or that there is none.
+#[tactic(auto, unfolding(crate::specs::Reading::held_at))]
+fn held_of(alloc: Global, strings: &[Bytes]) -> Result<(Option<HeldPiece>, &[Bytes]), MessageError>
+    ensures { GivesAt result (held_at strings.now) }
+{
+    let (word, rest) = string_of(strings)?;
+    if !read_is_piece(word)? {
+        return Ok((None, rest));
+    }
+    let (piece, rest) = piece_of(rest)?;
+    let piece = held(alloc, piece)?;
+    Ok((Some(piece), rest))
+}
+
+// An answer to a request of this kind.
+#[tactic(auto, unfolding(crate::specs::Reading::answer_at))]
+fn answer_of(
+    alloc: Global,
+    kind: Kind,
+    strings: &[Bytes],
+) -> Result<(Answer, &[Bytes]), MessageError>
+    ensures { GivesAt result (answer_at kind strings.now) }
+{
+    match kind {
+        Kind::Next => {
+            let (status, rest) = status_of(strings)?;
+            Ok((Answer::Pointer(status), rest))
+        }
+        Kind::Spread(_) | Kind::PreWrite(_) | Kind::Finalize(_) => Ok((Answer::Done, strings)),
+        Kind::Query => {
+            let (tag, rest) = tag_of(strings)?;
+            Ok((Answer::Greatest(tag), rest))
+        }
+        Kind::Fetch(_) => {
+            let (piece, rest) = held_of(alloc, strings)?;
+            Ok((Answer::Piece(piece), rest))
+        }
+    }
+}
+
+/// A reply to a request of this kind.
+#[tactic(auto, unfolding(crate::specs::Reading::reply_at))]
+pub(crate) fn reply_of(
+    alloc: Global,
+    kind: Kind,
+    strings: &[Bytes],
+) -> Result<(Reply, &[Bytes]), MessageError>
+    ensures { GivesAt result (reply_at kind strings.now) }
+{
+    let (step, rest) = long_of(strings)?;
+    let (answer, rest) = answer_of(alloc, kind, rest)?;
+    Ok((Reply { step, answer }, rest))
+}

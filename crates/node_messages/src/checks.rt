@@ -1,0 +1,53 @@
+//! What the parts of a message must have in common.
+ghost use Rattle.std.specs.Prelude.{◌≡◌};
+ghost use Rattle.node_messages.specs.Message.{is_set, is_answer_to, names_next, is_fitting};
+
+use bank::{Answer, Kind, Request, Status};
+use mail::Body;
+
+// Whether a pointer with this status names a next position.
+fn is_set(status: Status) -> bool
+    ensures { result ≡ is_set status }
+{
+    match status {
+        Status::Unset => false,
+        Status::Pending | Status::Final => true,
+    }
+}
+
+/// Whether the body of a message says that the pointer is pending or final.
+pub(crate) fn names_next(body: &Body) -> bool
+    ensures { result ≡ names_next body.now }
+{
+    match body {
+        Body::Request(Request::Spread(status)) => is_set(*status),
+        Body::Request(_) => false,
+        Body::Reply { kind: _, reply } => match reply.answer {
+            Answer::Pointer(status) => is_set(status),
+            _ => false,
+        },
+    }
+}
+
+// Whether this is an answer to a request of this kind.
+fn is_answer_to(kind: Kind, answer: &Answer) -> bool
+    ensures { result ≡ is_answer_to kind answer.now }
+{
+    match (kind, answer) {
+        (Kind::Next, Answer::Pointer(_)) => true,
+        (Kind::Query, Answer::Greatest(_)) => true,
+        (Kind::Fetch(_), Answer::Piece(_)) => true,
+        (Kind::Spread(_) | Kind::PreWrite(_) | Kind::Finalize(_), Answer::Done) => true,
+        _ => false,
+    }
+}
+
+/// Whether the body of a message is a request, or a reply with an answer to a request of its kind.
+pub(crate) fn is_fitting(body: &Body) -> bool
+    ensures { result ≡ is_fitting body.now }
+{
+    match body {
+        Body::Request(_) => true,
+        Body::Reply { kind, reply } => is_answer_to(*kind, &reply.answer),
+    }
+}

@@ -1,0 +1,236 @@
+//! The parts of a message that stand in its frame's first strings, and the parts of which the others are made.
+ghost use Rattle.std.specs.Prelude.{◌≡◌, ◌≤◌, ◌^◌, ◌-◌, ◌<◌, IfOk, length};
+ghost use Rattle.node_messages.specs.Gives.{GivesAs, GivesAt};
+ghost use Rattle.node_messages.specs.Reading.{
+  string_at,
+  number_at,
+  tag_at,
+  piece_at,
+  status_at,
+  checked_layout,
+  layout_from,
+  layout_at,
+  digest_from,
+  digest_at,
+  name_at,
+  subject_at,
+  member_at,
+  numbers_at,
+};
+
+use crate::error::{Fault, MessageError};
+use crate::message::DIGEST_LENGTH;
+use crate::number::read_number;
+use crate::words::read_status;
+use bank::Status;
+use bytes::Bytes;
+use layout::Layout;
+use piece::Piece;
+use tag::{CallId, LONGEST_NAME, Tag};
+
+/// What a message is about.
+#[derive(Drop)]
+pub struct Subject {
+    pub digest: [u8; DIGEST_LENGTH],
+    pub name: Bytes,
+    pub layout: Layout,
+}
+
+/// The numbers of a message.
+#[derive(Clone, Copy)]
+pub struct Numbers {
+    pub call: CallId,
+    pub phase: u32,
+    pub position: u32,
+    pub member: u8,
+}
+
+/// The first string.
+#[tactic(auto, unfolding(crate::specs::Reading::string_at))]
+pub(crate) fn string_of(strings: &[Bytes]) -> Result<(&Bytes, &[Bytes]), MessageError>
+    ensures { GivesAs (λ x. (x.0.now, x.1.now)) result (string_at strings.now) }
+{
+    match strings {
+        [first, rest @ ..] => Ok((first, rest)),
+        [] => Err(MessageError::Fault(Fault::WrongCount)),
+    }
+}
+
+/// A number up to `most`.
+#[tactic(auto, unfolding(crate::specs::Reading::number_at))]
+pub(crate) fn number_of(strings: &[Bytes], most: u64) -> Result<(u64, &[Bytes]), MessageError>
+    requires { 9 ≤ most }
+    ensures within { IfOk result (λ x. x.0 ≤ most) }
+    ensures exact { GivesAt result (number_at most strings.now) }
+{
+    let (string, rest) = string_of(strings)?;
+    let number = read_number(string, most)?;
+    Ok((number, rest))
+}
+
+/// A number of 64 bits.
+pub(crate) fn long_of(strings: &[Bytes]) -> Result<(u64, &[Bytes]), MessageError>
+    ensures { GivesAt result (number_at (2 ^ 64 - 1) strings.now) }
+{
+    number_of(strings, u64::MAX)
+}
+
+/// A number of 32 bits.
+pub(crate) fn number_of_32(strings: &[Bytes]) -> Result<(u32, &[Bytes]), MessageError>
+    ensures { GivesAt result (number_at (2 ^ 32 - 1) strings.now) }
+{
+    let (number, rest) = number_of(strings, u64::from(u32::MAX))?;
+    Ok((number as u32, rest))
+}
+
+/// A number of 8 bits.
+pub(crate) fn number_of_8(strings: &[Bytes]) -> Result<(u8, &[Bytes]), MessageError>
+    ensures { GivesAt result (number_at (2 ^ 8 - 1) strings.now) }
+{
+    let (number, rest) = number_of(strings, u64::from(u8::MAX))?;
+    Ok((number as u8, rest))
+}
+
+/// A tag.
+#[tactic(auto, unfolding(crate::specs::Reading::tag_at))]
+pub(crate) fn tag_of(strings: &[Bytes]) -> Result<(Tag, &[Bytes]), MessageError>
+    ensures { GivesAt result (tag_at strings.now) }
+{
+    let (number, rest) = long_of(strings)?;
+    let (call, rest) = long_of(rest)?;
+    Ok((Tag { number, call }, rest))
+}
+
+/// A piece.
+#[tactic(auto, unfolding(crate::specs::Reading::piece_at))]
+pub(crate) fn piece_of(strings: &[Bytes]) -> Result<(Piece, &[Bytes]), MessageError>
+    ensures { GivesAt result (piece_at strings.now) }
+{
+    let (point, rest) = number_of_8(strings)?;
+    let (len, rest) = number_of_32(rest)?;
+    let (bytes, rest) = string_of(rest)?;
+    let bytes = bytes.clone()?;
+    Ok((Piece { point, len, bytes }, rest))
+}
+
+/// A status.
+#[tactic(auto, unfolding(crate::specs::Reading::status_at))]
+pub(crate) fn status_of(strings: &[Bytes]) -> Result<(Status, &[Bytes]), MessageError>
+    ensures { GivesAt result (status_at strings.now) }
+{
+    let (word, rest) = string_of(strings)?;
+    let status = read_status(word)?;
+    Ok((status, rest))
+}
+
+// This layout, unless it is not lawful.
+fn checked_layout(k: u8, members: &[u8]) -> Result<Layout, Fault>
+    ensures { result ≡ checked_layout (record { k = k; members = members.now }) }
+{
+    match Layout::new(k, members) {
+        Ok(layout) => Ok(layout),
+        Err(_) => Err(Fault::BadLayout),
+    }
+}
+
+#[tactic(auto, unfolding(crate::specs::Reading::layout_from))]
+fn read_layout(string: &[u8]) -> Result<Layout, Fault>
+    ensures { result ≡ layout_from string.now }
+{
+    match string {
+        [k, members @ ..] => checked_layout(*k, members),
+        [] => Err(Fault::BadLayout),
+    }
+}
+
+/// A layout.
+#[tactic(auto, unfolding(crate::specs::Reading::layout_at))]
+pub(crate) fn layout_of(strings: &[Bytes]) -> Result<(Layout, &[Bytes]), MessageError>
+    ensures { GivesAt result (layout_at strings.now) }
+{
+    let (string, rest) = string_of(strings)?;
+    let layout = read_layout(string)?;
+    Ok((layout, rest))
+}
+
+fn read_digest(string: &[u8]) -> Result<[u8; DIGEST_LENGTH], Fault>
+    ensures { result ≡ digest_from string.now }
+{
+    match <[u8; DIGEST_LENGTH]>::try_from(string) {
+        Ok(digest) => Ok(digest),
+        Err(_) => Err(Fault::BadDigest),
+    }
+}
+
+// The digest of a cluster file.
+#[tactic(auto, unfolding(crate::specs::Reading::digest_at))]
+fn digest_of(strings: &[Bytes]) -> Result<([u8; DIGEST_LENGTH], &[Bytes]), MessageError>
+    ensures { GivesAt result (digest_at strings.now) }
+{
+    let (string, rest) = string_of(strings)?;
+    let digest = read_digest(string)?;
+    Ok((digest, rest))
+}
+
+// A name.
+#[tactic(auto, unfolding(crate::specs::Reading::name_at))]
+fn name_of(strings: &[Bytes]) -> Result<(&Bytes, &[Bytes]), MessageError>
+    ensures { GivesAs (λ x. (x.0.now, x.1.now)) result (name_at strings.now) }
+{
+    let (string, rest) = string_of(strings)?;
+    if string.len() > LONGEST_NAME {
+        return Err(MessageError::Fault(Fault::NameTooLong));
+    }
+    Ok((string, rest))
+}
+
+/// What a message is about.
+#[tactic(auto, unfolding(crate::specs::Reading::subject_at))]
+pub(crate) fn subject_of(strings: &[Bytes]) -> Result<(Subject, &[Bytes]), MessageError>
+    ensures { GivesAt result (subject_at strings.now) }
+{
+    let (digest, rest) = digest_of(strings)?;
+    let (name, rest) = name_of(rest)?;
+    let (layout, rest) = layout_of(rest)?;
+    let name = name.clone()?;
+    Ok((
+        Subject {
+            digest,
+            name,
+            layout,
+        },
+        rest,
+    ))
+}
+
+// A member of a layout with n members.
+#[tactic(auto, unfolding(crate::specs::Reading::member_at))]
+fn member_of(strings: &[Bytes], n: u8) -> Result<(u8, &[Bytes]), MessageError>
+    ensures { GivesAt result (member_at n strings.now) }
+{
+    let (member, rest) = number_of_8(strings)?;
+    if member >= n {
+        return Err(MessageError::Fault(Fault::NoMember));
+    }
+    Ok((member, rest))
+}
+
+/// The numbers of a message to or from a member of a layout with n members.
+#[tactic(auto, unfolding(crate::specs::Reading::numbers_at))]
+pub(crate) fn numbers_of(strings: &[Bytes], n: u8) -> Result<(Numbers, &[Bytes]), MessageError>
+    ensures { GivesAt result (numbers_at n strings.now) }
+{
+    let (call, rest) = long_of(strings)?;
+    let (phase, rest) = number_of_32(rest)?;
+    let (position, rest) = number_of_32(rest)?;
+    let (member, rest) = member_of(rest, n)?;
+    Ok((
+        Numbers {
+            call,
+            phase,
+            position,
+            member,
+        },
+        rest,
+    ))
+}

@@ -1,0 +1,20 @@
+ghost use Rattle.node_messages.specs.Laws.{
+  WrittenIsRead,
+  ReadWasWritten,
+  StringsNameOneMessage,
+  ShortPiecesHaveFrames,
+};
+
+/// A law: the strings of a message are read as that message; what is read as a message is one, and the strings are
+/// those of that message; and two messages with the same strings are the same message.
+pub fn messages_are_read_back()
+    ensures written { WrittenIsRead }
+    ensures read { ReadWasWritten }
+    ensures one { StringsNameOneMessage }
+{}
+
+/// A law: a message has a frame if its piece is not longer than a string of a frame. So `PieceTooLong` comes only of a
+/// piece.
+pub fn short_pieces_have_frames()
+    ensures { ShortPiecesHaveFrames }
+{}

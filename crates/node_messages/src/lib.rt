@@ -1,0 +1,21 @@
+//! Messages between nodes, to frames and back.
+#![tactic(auto)]
+
+pub use error::{Fault, MessageError};
+pub use laws::{messages_are_read_back, short_pieces_have_frames};
+pub use message::{DIGEST_LENGTH, NodeMessage};
+pub use reading::read_message;
+pub use writing::frame_of;
+
+mod answers;
+mod bodies;
+mod checks;
+mod error;
+mod fields;
+mod laws;
+mod message;
+mod number;
+mod reading;
+mod strings;
+mod words;
+mod writing;

@@ -1,0 +1,23 @@
+use bytes::Bytes;
+use layout::Layout;
+use mail::Message;
+
+/// The length of the digest of a cluster file, in bytes. With 16 bytes, nobody finds two files with one digest, not
+/// even on purpose.
+pub const DIGEST_LENGTH: usize = 16;
+
+/// A message from one node to another, about one object.
+#[derive(Debug, Drop)]
+pub struct NodeMessage {
+    /// The digest of the cluster file that the sender uses.
+    pub digest: [u8; DIGEST_LENGTH],
+    /// The object's name, of at most `LONGEST_NAME` bytes.
+    pub name: Bytes,
+    /// The layout of the position that the message speaks of.
+    pub layout: Layout,
+    /// The layout of the next position, exactly where the message says that the pointer is pending or final: a request
+    /// `Spread` with that status, or an answer `Pointer` with it.
+    pub next: Option<Layout>,
+    /// The request, or the reply. The step of a reply is one of the node that answers.
+    pub message: Message,
+}

@@ -1,0 +1,45 @@
+/* The way to other nodes: NATS. A frame of node A to node B is a message with the subject PREFIX.A.B. */
+#ifndef BUS_H
+#define BUS_H
+
+#include "child.h"
+
+#include <nats/nats.h>
+#include <poll.h>
+#include <pthread.h>
+
+struct bus_options {
+    const char *url, *prefix, *credentials, *authority, *certificate, *key;
+};
+
+struct bus {
+    natsOptions *options;
+    natsConnection *connection;
+    natsSubscription *subscription;
+    const char *prefix, *node;
+    struct buffer message;      /* the message that is being sent */
+    uint64_t lost, lost_said;   /* frames that were dropped, and how many of them were reported */
+    pthread_mutex_t lock;       /* of all below, which the library changes from threads of its own */
+    int wake;                   /* an event descriptor that is written at each change */
+    int socket;                 /* -1 while there is no connection */
+    bool reads, writes, closed;
+};
+
+/* Connects, or goes on trying in the background. False where an option is refused. */
+bool bus_open(struct bus *bus, const struct bus_options *options, const char *node);
+
+/* Sets what to wait for: two descriptors. */
+void bus_poll(struct bus *bus, struct pollfd *polled);
+
+/* Reads and writes, and hands the frames that came to the child. False where the connection is closed for good. */
+bool bus_serve(struct bus *bus, struct child *child, const struct pollfd *polled);
+
+/* Sends a frame to a node: `count` strings, whose bytes are `body`. A frame that cannot be sent is dropped. */
+void bus_send(struct bus *bus, uint64_t node, size_t count, const char *body, size_t length);
+
+/* Reports how many frames were dropped, where more were since the last report. */
+void bus_report(struct bus *bus);
+
+void bus_close(struct bus *bus);
+
+#endif

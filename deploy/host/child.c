@@ -1,0 +1,110 @@
+#define _GNU_SOURCE
+#include "child.h"
+#include "say.h"
+
+#include <errno.h>
+#include <fcntl.h>
+#include <signal.h>
+#include <string.h>
+#include <sys/file.h>
+#include <sys/ioctl.h>
+#include <sys/prctl.h>
+#include <sys/wait.h>
+#include <time.h>
+#include <unistd.h>
+
+/* A pipe of this size takes more in one turn of the loop. The system may refuse it, which does no harm. */
+enum { PIPE_SIZE = 1 << 20 };
+
+/* Locks the folder. The child inherits the descriptor, and so the lock. */
+static bool lock_folder(const char *folder) {
+    int descriptor = open(folder, O_RDONLY | O_DIRECTORY);
+    if (descriptor < 0) {
+        say("cannot open the folder %s: %s", folder, strerror(errno));
+        return false;
+    }
+    if (flock(descriptor, LOCK_EX | LOCK_NB) != 0) {
+        say("the folder %s is in use by another node", folder);
+        return false;
+    }
+    return true;
+}
+
+/* In the child: becomes the node program, which ends where the host ends. */
+static void become(int input, int output, pid_t host, char *const arguments[]) {
+    sigset_t none;
+    sigemptyset(&none);
+    sigprocmask(SIG_SETMASK, &none, NULL);
+    signal(SIGPIPE, SIG_DFL);
+    prctl(PR_SET_PDEATHSIG, SIGKILL);
+    if (getppid() != host)
+        _exit(1);
+    dup2(input, STDIN_FILENO);
+    dup2(output, STDOUT_FILENO);
+    execvp(arguments[0], arguments);
+    say("cannot start %s: %s", arguments[0], strerror(errno));
+    _exit(127);
+}
+
+bool child_start(struct child *child, const char *program, const char *file, const char *node, const char *folder) {
+    int input[2], output[2];
+    if (!lock_folder(folder))
+        return false;
+    if (pipe2(input, O_CLOEXEC) != 0 || pipe2(output, O_CLOEXEC) != 0) {
+        say("cannot make a pipe: %s", strerror(errno));
+        return false;
+    }
+    pid_t host = getpid();
+    child->process = fork();
+    if (child->process < 0) {
+        say("cannot start a process: %s", strerror(errno));
+        return false;
+    }
+    if (child->process == 0) {
+        char *const arguments[] = {(char *)program, (char *)file, (char *)node, (char *)folder, NULL};
+        become(input[0], output[1], host, arguments);
+    }
+    close(input[0]);
+    close(output[1]);
+    child->to = input[1];
+    child->from = output[0];
+    fcntl(child->to, F_SETFL, O_NONBLOCK);
+    fcntl(child->from, F_SETFL, O_NONBLOCK);
+    fcntl(child->to, F_SETPIPE_SZ, PIPE_SIZE);
+    fcntl(child->from, F_SETPIPE_SZ, PIPE_SIZE);
+    return true;
+}
+
+bool child_send(struct child *child, const char *address, size_t count, const char *body, size_t length) {
+    size_t before = buffer_length(&child->out);
+    if (!add_head(&child->out, count, address) || !buffer_add(&child->out, body, length))
+        return false;
+    child->queued += buffer_length(&child->out) - before;
+    return true;
+}
+
+bool child_tick(struct child *child) {
+    int unread = 0;
+    ioctl(child->to, FIONREAD, &unread);
+    if (child->tick_end > child->queued - buffer_length(&child->out) - (size_t)unread)
+        return true;
+    if (!child_send(child, "tick", 0, "", 0))
+        return false;
+    child->tick_end = child->queued;
+    return true;
+}
+
+int child_stop(struct child *child) {
+    int status = 0;
+    close(child->to);
+    close(child->from);
+    kill(child->process, SIGTERM);
+    for (int waits = 0; waits < 500 && waitpid(child->process, &status, WNOHANG) == 0; waits++) {
+        if (waits == 300)
+            kill(child->process, SIGKILL);
+        nanosleep(&(struct timespec){.tv_nsec = 10000000}, NULL);
+    }
+    buffer_free(&child->out);
+    buffer_free(&child->in);
+    return status;
+}

@@ -1,0 +1,27 @@
+/* The node program: the host's child, which reads and writes frames on its standard input and output. */
+#ifndef CHILD_H
+#define CHILD_H
+
+#include "frame.h"
+
+struct child {
+    pid_t process;
+    int to, from;           /* the host's ends of the pipes */
+    struct buffer out, in;  /* what waits to be written, and what was read */
+    struct scanner scanner;
+    uint64_t queued, tick_end;  /* bytes queued so far, and the end of the last tick among them */
+};
+
+/* Starts `program FILE NODE FOLDER`. The folder stays locked until the host and the child have both ended. */
+bool child_start(struct child *child, const char *program, const char *file, const char *node, const char *folder);
+
+/* Queues a frame of this address: `count` strings, whose bytes are `body`. False where memory is refused. */
+bool child_send(struct child *child, const char *address, size_t count, const char *body, size_t length);
+
+/* Queues a tick, unless the child has not read the last one yet: a busy child does not find many at once. */
+bool child_tick(struct child *child);
+
+/* Closes the pipes, asks the child to end, ends it if it has not after some seconds, and gives its status. */
+int child_stop(struct child *child);
+
+#endif

@@ -1,0 +1,38 @@
+/* The clients: TCP connections on which frames come and answers go. */
+#ifndef CLIENTS_H
+#define CLIENTS_H
+
+#include "child.h"
+
+#include <poll.h>
+
+enum { MOST_CLIENTS = 1000, MOST_POLLED = MOST_CLIENTS + 16 };
+
+struct client;
+
+struct clients {
+    int listener;
+    bool paused;  /* no connection is accepted until the next tick, because the last try failed */
+    struct client *slots[MOST_CLIENTS];
+    uint64_t opened;  /* connections so far */
+    size_t first;     /* the slot that is served first in this turn */
+};
+
+/* Listens; says at which port, since port 0 stands for any free one. */
+bool clients_listen(struct clients *clients, const char *address, const char *port);
+
+/* Adds what to wait for, and returns how many. */
+nfds_t clients_poll(struct clients *clients, const struct child *child, struct pollfd *polled);
+
+/* Accepts, reads, hands whole frames to the child while it takes them, and writes. False where memory is refused. */
+bool clients_serve(struct clients *clients, struct child *child, const struct pollfd *polled, nfds_t count);
+
+/* Writes an answer, or closes the connection after what was written where the answer has no strings. */
+bool clients_answer(struct clients *clients, uint64_t number, const char *frame, size_t at, size_t strings);
+
+/* Counts down how long connections that are being closed may take. */
+void clients_tick(struct clients *clients);
+
+void clients_close(struct clients *clients);
+
+#endif

@@ -1,0 +1,200 @@
+#!/usr/bin/env python3
+"""Tests a cluster that runs over NATS, by clients that send bytes: cluster_test.py NATS PORT PORT PORT, where NATS is
+the port of its server, and the others are those of the nodes."""
+import os
+import random
+import socket
+import sys
+import threading
+import time
+import unittest
+
+from connection import Connection
+from frames import encode
+
+NATS, *PORTS = [int(word) for word in sys.argv[1:]]
+del sys.argv[1:]
+REFUSED = b"-ERR protocol\r\n"
+
+MALFORMED = [
+    b"PING\r\n", b"GET photo\r\n", b"\n", b"\r\r", b"\0", b"hello",
+    b"*\r\n", b"*-1\r\n", b"*+1\r\n", b"*01\r\n", b"*1x\r\n", b"*1\rx", b"*1\n", b"*1024\r\n",
+    b"*99999999999999999999\r\n",
+    b"$4\r\nPING\r\n", b"+PING\r\n", b"*1\r\n+PING\r\n", b"*1\r\n:1\r\n", b"*1\r\n*1\r\n$4\r\nPING\r\n",
+    b"*1\r\n$\r\n", b"*1\r\n$-1\r\n", b"*1\r\n$04\r\nPING\r\n", b"*1\r\n$4\rxPING", b"*1\r\n$4\r\nPINGx",
+    b"*1\r\n$4\r\nPING\rx",
+    b"*1\r\n$16842753\r\n", b"*1\r\n$99999999999999999999\r\n", b"*2\r\n$3\r\nGET\r\nphoto\r\n",
+]
+
+
+class BadInput(unittest.TestCase):
+    def setUp(self):
+        self.port = random.choice(PORTS)
+
+    def said_to(self, data, then_end=False):
+        """All that a client gets that sends these bytes."""
+        with Connection(self.port) as client:
+            try:
+                client.send(data)
+                if then_end:
+                    client.send_end()
+            except (BrokenPipeError, ConnectionResetError):
+                pass
+            return client.rest()
+
+    def test_malformed_frames(self):
+        for data in MALFORMED:
+            self.assertEqual((data, self.said_to(data)), (data, REFUSED))
+
+    def test_malformed_frame_behind_commands(self):
+        """What came before is answered first, in order, although a write takes longer than a PING."""
+        for data in MALFORMED:
+            good = encode([b"SET", b"before", b"1"]) + encode([b"PING"]) + encode([b"GET", b"before"])
+            self.assertEqual((data, self.said_to(good + data)), (data, b"+OK\r\n+PONG\r\n$1\r\n1\r\n" + REFUSED))
+
+    def test_much_behind_a_malformed_frame(self):
+        self.assertEqual(self.said_to(b"*1\r\n$x" + bytes(4 << 20)), REFUSED)
+
+    def test_cut_frames(self):
+        """A frame that is cut is not answered and has no effect."""
+        data = encode([b"SET", b"cut", b"no"])
+        for length in range(len(data)):
+            self.assertEqual((length, self.said_to(data[:length], then_end=True)), (length, b""))
+        with Connection(self.port) as client:
+            self.assertEqual(client.ask(b"GET", b"cut"), b"")
+
+    def test_commands_before_a_cut_are_answered(self):
+        data = encode([b"SET", b"whole", b"yes"]) + encode([b"GET", b"whole"])
+        for length in (1, 5, 20):
+            said = self.said_to(data + data[:length], then_end=True)
+            self.assertEqual(said, b"+OK\r\n$3\r\nyes\r\n")
+
+    def test_random_bytes(self):
+        """Each client that sends random bytes is refused or not answered; another one notices nothing."""
+        source = random.Random(7)
+        with Connection(self.port) as other:
+            for number in range(200):
+                data = source.randbytes(source.choice([1, 10, 1000, 100000]))
+                if source.random() < 0.5:
+                    data = source.choice([b"*1\r\n", b"*3\r\n$3\r\nSET\r\n", b"*2\r\n$5\r\n"]) + data
+                self.assertIn(self.said_to(data, then_end=True), (b"", REFUSED))
+                if number % 10 == 0:
+                    value = b"%d" % number
+                    self.assertEqual(other.ask(b"SET", b"other", value), b"+OK")
+                    self.assertEqual(other.ask(b"GET", b"other"), value)
+
+    def test_changed_frames(self):
+        """Good commands of which one byte was changed: nothing but answers, or a refusal, and then the end."""
+        source = random.Random(8)
+        good = encode([b"PING"]) + encode([b"ECHO", b"twelve bytes"]) + encode([b"PING", b"x"])
+        for _ in range(200):
+            place, byte = source.randrange(len(good)), source.randbytes(1)
+            said = self.said_to(good[:place] + byte + good[place + 1:], then_end=True)
+            first = said.split(b"\r\n")[0]
+            self.assertTrue(said == b"" or first in (b"+PONG", REFUSED[:-2]) or first[:1] in b"$-", said)
+
+
+class BadMessages(unittest.TestCase):
+    """Messages that no node sent, on the subjects of nodes."""
+
+    def publish(self, messages):
+        """Speaks the protocol of NATS: the server answers a PING once it has taken what came before."""
+        with socket.create_connection(("127.0.0.1", NATS), timeout=30) as nats:
+            lines = nats.makefile("rb")
+            self.assertTrue(lines.readline().startswith(b"INFO "))
+            nats.sendall(b'CONNECT {"verbose":false}\r\n')
+            for subject, data in messages:
+                nats.sendall(b"PUB %b %d\r\n%b\r\n" % (subject, len(data), data))
+            nats.sendall(b"PING\r\n")
+            self.assertEqual(lines.readline(), b"PONG\r\n")
+
+    def test_messages_that_are_no_frames(self):
+        source, good = random.Random(9), encode([b"stored", b"1.1.1"])
+        datas = [b"", b"hello", good[:-1], good + b"x", good + good, source.randbytes(100000), *MALFORMED]
+        self.publish([(b"cas.2.1", data) for data in datas])
+        nobody = (b"x", b"02", b"-2", b"99999999999999999999")
+        self.publish([(b"cas.%b.1" % name, good) for name in nobody])
+        with Connection(PORTS[0]) as client:
+            for n in range(20):
+                self.assertEqual(client.ask(b"SET", b"behind", b"%d" % n), b"+OK")
+                self.assertEqual(client.ask(b"GET", b"behind"), b"%d" % n)
+
+
+class Sessions(unittest.TestCase):
+    def test_bytes_one_by_one(self):
+        data = encode([b"SET", b"slowly", b"a\r\nb"]) + encode([b"GET", b"slowly"])
+        with Connection(PORTS[0]) as client:
+            for place in range(len(data)):
+                client.send(data[place:place + 1])
+            self.assertEqual(client.answer(), b"+OK")
+            self.assertEqual(client.answer(), b"a\r\nb")
+
+    def test_empty_lines_and_empty_frames(self):
+        """Redis gives no answer to an empty line, nor to an array without strings."""
+        with Connection(PORTS[0]) as client:
+            client.send(b"\r\n*0\r\n\r\n\r\n" + encode([b"PING"]) + b"*0\r\n\r\n" + encode([b"PING", b"x"]))
+            self.assertEqual(client.answer(), b"+PONG")
+            self.assertEqual(client.answer(), b"x")
+
+    def test_answers_keep_the_order(self):
+        with Connection(PORTS[1]) as client:
+            client.send(b"".join(
+                encode([b"SET", b"n%d" % (n % 7), b"%d" % n]) + encode([b"GET", b"n%d" % (n % 7)]) + encode([b"PING"])
+                for n in range(300)))
+            for n in range(300):
+                self.assertEqual([client.answer() for _ in range(3)], [b"+OK", b"%d" % n, b"+PONG"])
+
+    def test_quit(self):
+        with Connection(PORTS[0]) as client:
+            client.send(encode([b"PING"]) + encode([b"QUIT"]) + encode([b"PING"]))
+            self.assertEqual(client.rest(), b"+PONG\r\n+OK\r\n")
+
+    def test_any_node_reads_what_another_one_wrote(self):
+        with Connection(PORTS[0]) as one, Connection(PORTS[1]) as two, Connection(PORTS[2]) as three:
+            for n in range(20):
+                self.assertEqual(one.ask(b"SET", b"shared", b"%d" % n), b"+OK")
+                self.assertEqual(two.ask(b"GET", b"shared"), b"%d" % n)
+                self.assertEqual(three.ask(b"GET", b"shared"), b"%d" % n)
+
+    def test_longest_value(self):
+        value = os.urandom(16 << 20)
+        with Connection(PORTS[0]) as one, Connection(PORTS[2]) as other:
+            self.assertEqual(one.ask(b"SET", b"long", value), b"+OK")
+            self.assertTrue(other.ask(b"GET", b"long") == value)
+
+    def test_many_clients_at_once(self):
+        """Sixteen clients, each with a name of its own and one that all write: the last is one of theirs."""
+        faults = []
+
+        def go(number):
+            with Connection(PORTS[number % 3]) as client:
+                for n in range(20):
+                    own = b"%d of %d" % (n, number)
+                    good = client.ask(b"SET", b"own-%d" % number, own) == b"+OK"
+                    good = good and client.ask(b"SET", b"all", own) == b"+OK"
+                    if not good or client.ask(b"GET", b"own-%d" % number) != own:
+                        faults.append(number)
+
+        threads = [threading.Thread(target=go, args=[number]) for number in range(16)]
+        for thread in threads:
+            thread.start()
+        for thread in threads:
+            thread.join()
+        self.assertEqual(faults, [])
+        with Connection(PORTS[0]) as client:
+            self.assertIn(client.ask(b"GET", b"all"), [b"19 of %d" % number for number in range(16)])
+
+    def test_clients_that_leave(self):
+        """Clients that leave while their calls are open do no harm."""
+        for n in range(100):
+            client = Connection(PORTS[n % 3])
+            client.send(encode([b"SET", b"left", b"%d" % n]) * 5)
+            client.close()
+        with Connection(PORTS[0]) as client:
+            self.assertEqual(client.ask(b"SET", b"left", b"end"), b"+OK")
+            time.sleep(0.5)
+            self.assertIn(client.ask(b"GET", b"left"), [b"end", *(b"%d" % n for n in range(100))])
+
+
+if __name__ == "__main__":
+    unittest.main()

@@ -1,0 +1,270 @@
+#!/usr/bin/python3
+"""A test double of the node program `casd`: standin.py [OPTION] FILE NODE FOLDER.
+
+It exists so that the host, the driver of the test cluster and the checker of histories can be tried before there is
+the real node. It is not proved, it codes nothing, and no user should keep data in it. It speaks the same frames on
+standard input and output, and keeps a register for each name by the plain protocol of majorities: every node keeps the
+whole value with its tag, and a call asks a majority for its greatest tag and then stores at a majority. A tag is a
+number and the id of the write, which holds the node, its start count and a counter, so that no two writes share one.
+
+Each option breaks it in one way, so that one can see the checker find it:
+--forgets             a node starts with nothing each time
+--forgets-starts      a node keeps its values but not its start count, so that ids of calls come again
+--reads-in-one-phase  a read does not store what it found before it answers
+"""
+import os
+import sys
+from collections import deque
+
+from frames import Frames, encode
+
+NEVER_WRITTEN = ((0, 0, 0, 0), b"")
+
+
+def tag_bytes(tag):
+    return b".".join(b"%d" % part for part in tag)
+
+
+def tag_of(text):
+    return tuple(int(part) for part in text.split(b"."))
+
+
+class Log:
+    """The folder's log: frames, of which the last may be cut short."""
+
+    def __init__(self, folder, forgets):
+        path = os.path.join(folder, "log")
+        self.entries = []
+        if forgets or not os.path.exists(path):
+            open(path, "wb").close()
+        with open(path, "r+b") as file:
+            frames = Frames()
+            self.entries = frames.take(file.read())
+            file.truncate(file.seek(0, os.SEEK_END) - len(frames.data))
+        self.file = open(path, "ab")
+        self.dirty = False
+
+    def add(self, *strings):
+        self.file.write(encode(strings))
+        self.dirty = True
+
+    def sync(self):
+        if self.dirty:
+            self.file.flush()
+            os.fsync(self.file.fileno())
+            self.dirty = False
+
+
+class Call:
+    """A read or a write that is open: its first phase asks for tags, its second one stores."""
+
+    def __init__(self, client, name, value):
+        self.client, self.name, self.value = client, name, value
+        self.request, self.found, self.replied = None, NEVER_WRITTEN, set()
+        self.phase, self.age = 1, 0
+
+
+class Connection:
+    """A client's connection: the commands that wait, whether one is being carried out, and whether it has quit."""
+
+    def __init__(self):
+        self.waiting, self.is_open, self.has_quit = deque(), False, False
+
+
+class Node:
+    def __init__(self, file, node, folder, options):
+        settings = dict(line.split(None, 1) for line in open(file) if line.strip() and not line.startswith("#"))
+        self.nodes = [int(word) for word in settings["nodes"].split()]
+        self.patience = int(settings["ticks"])
+        self.name, self.number, self.in_one_phase = settings["cluster"].strip(), node, "--reads-in-one-phase" in options
+        self.log = Log(folder, "--forgets" in options)
+        self.kept, starts = {}, 0
+        for entry in self.log.entries:
+            if entry[0] == b"start":
+                starts += 1
+            elif entry[0] == b"keep":
+                self.kept[entry[1]] = (tag_of(entry[2]), entry[3])
+        self.log.add(b"start")
+        self.start, self.counter, self.answered = starts + 1, 0, 0
+        if "--forgets-starts" in options:
+            self.start = 1
+        if "--forgets" in options:
+            self.start = time_of_start()
+        self.calls, self.clients, self.out = {}, {}, []
+        self.ready = deque()  # connections whose open call has ended
+
+    # Between nodes.
+
+    def send(self, to, *strings):
+        if to == self.number:
+            self.take_from_node(to, list(strings))
+        else:
+            self.out.append(encode([b"node %d" % to, *strings]))
+
+    def take_from_node(self, sender, frame):
+        kind = frame[0]
+        if kind == b"query":
+            tag, value = self.kept.get(frame[2], NEVER_WRITTEN)
+            self.send(sender, b"state", frame[1], tag_bytes(tag), value)
+        elif kind == b"store":
+            self.keep(frame[2], tag_of(frame[3]), frame[4])
+            self.send(sender, b"stored", frame[1])
+        elif kind in (b"state", b"stored"):
+            self.take_reply(sender, frame)
+
+    def keep(self, name, tag, value):
+        if tag > self.kept.get(name, NEVER_WRITTEN)[0]:
+            self.kept[name] = (tag, value)
+            self.log.add(b"keep", name, tag_bytes(tag), value)
+
+    def take_reply(self, sender, frame):
+        call = self.calls.get(frame[1])
+        if call is None or call.phase != (1 if frame[0] == b"state" else 2):
+            return
+        call.replied.add(sender)
+        if call.phase == 1:
+            call.found = max(call.found, (tag_of(frame[2]), frame[3]))
+        if len(call.replied) > len(self.nodes) // 2:
+            self.go_on(frame[1], call)
+
+    def go_on(self, number, call):
+        """A majority has replied: goes to the second phase, or answers."""
+        if call.phase == 2 or (call.value is None and self.in_one_phase):
+            self.answered += 1
+            self.end_call(number, b"+OK\r\n" if call.value is not None else bulk(call.found[1]))
+            return
+        if call.value is not None:
+            call.found = ((call.found[0][0] + 1, *(int(part) for part in number.split(b"."))), call.value)
+        call.phase, call.replied = 2, set()
+        call.request = [b"store", number, call.name, tag_bytes(call.found[0]), call.found[1]]
+        self.ask(call)
+
+    def ask(self, call):
+        """Sends the request of the current phase to all that have not replied to it, and to itself last, since with
+        its own reply the call may go on."""
+        phase = call.phase
+        for to in sorted(self.nodes, key=lambda number: number == self.number):
+            if to not in call.replied and call.phase == phase:
+                self.send(to, *call.request)
+
+    def begin(self, client, name, value):
+        self.counter += 1
+        number = b"%d.%d.%d" % (self.number, self.start, self.counter)
+        call = self.calls[number] = Call(client, name, value)
+        call.request = [b"query", number, name]
+        self.ask(call)
+
+    def tick(self):
+        for number, call in list(self.calls.items()):
+            call.age += 1
+            if call.age > self.patience:
+                self.end_call(number, b"-ERR no quorum answered in time\r\n")
+            elif number in self.calls:
+                self.ask(call)
+
+    # Clients: the commands of one connection are carried out one after another.
+
+    def take_from_client(self, client, frame):
+        if not frame:
+            self.clients.pop(client, None)
+            return
+        self.clients.setdefault(client, Connection()).waiting.append(frame)
+        self.serve(client)
+
+    def serve(self, client):
+        """Carries out the next commands of a connection, until one of them stays open."""
+        connection = self.clients[client]
+        while connection.waiting and not connection.is_open and not connection.has_quit:
+            connection.is_open = True
+            self.carry_out(client, connection.waiting.popleft())
+
+    def answer(self, client, answer):
+        connection = self.clients.get(client)
+        if connection is not None:
+            self.out.append(encode([b"client %d" % client, answer]))
+            connection.is_open = False
+
+    def end_call(self, number, answer):
+        client = self.calls.pop(number).client
+        self.answer(client, answer)
+        if client in self.clients:
+            self.ready.append(client)
+
+    def carry_out(self, client, frame):
+        command, words = frame[0].upper(), frame[1:]
+        if command == b"GET" and len(words) == 1:
+            self.begin(client, words[0], None)
+        elif command == b"SET" and len(words) == 2:
+            self.begin(client, words[0], words[1])
+        else:
+            self.answer(client, plain_answer(client, command, words, self.info))
+        if command == b"QUIT":
+            self.out.append(encode([b"client %d" % client]))
+            self.clients[client].has_quit = True
+
+    def info(self):
+        stored = sum(len(value) for _, value in self.kept.values())
+        lines = [("program", "stand-in"), ("node", self.number), ("cluster", self.name), ("objects", len(self.kept)),
+                 ("bytes_stored", stored), ("calls_open", len(self.calls)), ("calls_answered", self.answered),
+                 ("bytes_of_the_log", self.log.file.tell())]
+        return "".join(f"{key}:{value}\r\n" for key, value in lines).encode()
+
+    def take(self, frame):
+        address = frame[0].split()
+        if address[0] == b"tick":
+            self.tick()
+        elif address[0] == b"node":
+            self.take_from_node(int(address[1]), frame[1:])
+        elif address[0] == b"client":
+            self.take_from_client(int(address[1]), frame[1:])
+        while self.ready:
+            if (client := self.ready.popleft()) in self.clients:
+                self.serve(client)
+
+
+def plain_answer(client, command, words, info):
+    """The answer to a command that neither reads nor writes a name."""
+    if command == b"PING" and len(words) < 2:
+        return bulk(words[0]) if words else b"+PONG\r\n"
+    if command == b"ECHO" and len(words) == 1:
+        return bulk(words[0])
+    if command == b"INFO":
+        return bulk(info())
+    if command == b"COMMAND":
+        return b"*0\r\n"
+    if command == b"CLIENT" and words and words[0].upper() == b"ID":
+        return b":%d\r\n" % client
+    if command == b"CLIENT" or command == b"QUIT":
+        return b"+OK\r\n"
+    if command == b"SET" and len(words) > 2:
+        return b"-ERR syntax error\r\n"
+    if command in (b"GET", b"SET", b"PING", b"ECHO"):
+        return b"-ERR wrong number of arguments for '%s' command\r\n" % command.lower()
+    return b"-ERR unknown command\r\n"
+
+
+def time_of_start():
+    """A number that no other start has, for a node that forgets how often it started."""
+    return int.from_bytes(os.urandom(6), "big")
+
+
+def bulk(value):
+    return b"$%d\r\n%b\r\n" % (len(value), value)
+
+
+def main(words):
+    options = [word for word in words if word.startswith("--")]
+    file, node, folder = [word for word in words if not word.startswith("--")]
+    node, frames = Node(file, int(node), folder, options), Frames()
+    while data := os.read(0, 1 << 20):
+        for frame in frames.take(data):
+            node.take(frame)
+        node.log.sync()
+        view = memoryview(b"".join(node.out))
+        node.out.clear()
+        while view:
+            view = view[os.write(1, view):]
+
+
+if __name__ == "__main__":
+    main(sys.argv[1:])

@@ -1,0 +1,187 @@
+"""A cluster of node programs on pipes. Nothing moves by itself: a frame is given to a node, which then handles it."""
+import os
+import select
+import subprocess
+from collections import namedtuple
+from pathlib import Path
+
+from frames import Frames, encode
+
+CLUSTER_FILE = Path(__file__).resolve().parent.parent.parent / "deploy" / "cluster-file"
+PATIENCE = 30
+BARRIER = b"client 0"
+
+# A frame on its way: the step from which on it may arrive, and where it goes to and comes from.
+Flying = namedtuple("Flying", "due to sender strings")
+
+
+class NodeEnded(Exception):
+    """A node program ended by itself, wrote what is no frame, or did not answer in time."""
+
+
+class Node:
+    """One node program. After each frame it is sent a PING, whose answer says that it has handled the frame."""
+
+    def __init__(self, words, number, folder, file):
+        self.words, self.number, self.folder, self.file = words, number, folder, file
+        self.process = None
+
+    def start(self):
+        arguments = [*self.words, str(self.file), str(self.number), str(self.folder)]
+        try:
+            self.process = subprocess.Popen(arguments, stdin=subprocess.PIPE, stdout=subprocess.PIPE, bufsize=0)
+        except OSError as fault:
+            raise NodeEnded(f"node {self.number} does not start: {fault}") from None
+        self.frames = Frames()
+        return self.give(None)
+
+    def kill(self):
+        self.process.kill()
+        self.process.wait()
+        self.process.stdin.close()
+        self.process.stdout.close()
+        self.process = None
+
+    def give(self, frame):
+        """Gives the node a frame, and returns all frames that it wrote until it had handled it."""
+        given = b"" if frame is None else encode(frame)
+        self.write(given + encode([BARRIER, b"PING"]))
+        written = []
+        while not any(frame[0] == BARRIER for frame in written):
+            written += self.frames.take(self.read())
+        return [frame for frame in written if frame[0] != BARRIER]
+
+    def write(self, data):
+        """Writes while the node reads: a frame can be longer than the pipe, but the node reads it whole."""
+        view = memoryview(data)
+        try:
+            while view:
+                view = view[os.write(self.process.stdin.fileno(), view):]
+        except BrokenPipeError:
+            raise NodeEnded(f"node {self.number} ended") from None
+
+    def read(self):
+        output = self.process.stdout.fileno()
+        ready, _, _ = select.select([output], [], [], PATIENCE)
+        data = os.read(output, 1 << 20) if ready else b""
+        if not data:
+            raise NodeEnded(f"node {self.number} ended, or was silent for {PATIENCE} s")
+        return data
+
+
+class Cluster:
+    """`due` gives the step from which on a frame that is sent may arrive; calls are given up after some ticks."""
+
+    def __init__(self, words, count, ticks, folder, history, due):
+        file = Path(folder) / "cluster"
+        with open(file, "wb") as output:
+            subprocess.run([CLUSTER_FILE, str(count), str(ticks)], check=True, stdout=output)
+        self.nodes, self.history, self.due = {}, history, due
+        self.flying = []   # frames between nodes, in the order in which they were sent
+        self.open = {}     # the calls that are open: of a connection, its client, node and key in the history
+        self.ended = []    # the clients whose calls have ended
+        self.connections = 0
+        for number in range(1, count + 1):
+            (Path(folder) / str(number)).mkdir()
+            self.nodes[number] = Node(words, number, Path(folder) / str(number), file)
+
+    def up(self):
+        return [number for number, node in self.nodes.items() if node.process is not None]
+
+    def down(self):
+        return [number for number, node in self.nodes.items() if node.process is None]
+
+    def start(self, number):
+        self.route(number, self.nodes[number].start())
+
+    def start_all(self):
+        for number in self.down():
+            self.start(number)
+
+    def stop(self):
+        for number in self.up():
+            self.nodes[number].kill()
+
+    def kill(self, number):
+        """Kills a node between two frames. The calls of its clients stay open for good."""
+        self.nodes[number].kill()
+        for connection, (client, node, _) in list(self.open.items()):
+            if node == number:
+                del self.open[connection]
+                self.ended.append(client)
+
+    def kill_at_work(self, number, flying):
+        """Gives a node a frame, and kills it at once. What it wrote meanwhile is lost with it."""
+        self.nodes[number].write(encode([b"node %d" % flying.sender, *flying.strings]))
+        self.kill(number)
+
+    def deliver(self, flying):
+        if self.nodes[flying.to].process is not None:
+            self.give(flying.to, [b"node %d" % flying.sender, *flying.strings])
+
+    def tick(self, number):
+        self.give(number, [b"tick"])
+
+    def give(self, number, frame):
+        self.route(number, self.nodes[number].give(frame))
+
+    def route(self, sender, frames):
+        for address, *strings in frames:
+            kind, number = address.split()
+            if kind == b"node":
+                self.flying.append(Flying(self.due(), int(number), sender, strings))
+            elif kind == b"client":
+                self.take_answer(int(number), b"".join(strings))
+            else:
+                raise NodeEnded(f"node {sender} wrote a frame with the address {address}")
+
+    # Clients.
+
+    def call(self, number, client, name, value):
+        """A client reads a name, or writes it where a value is given."""
+        self.connections += 1
+        connection, key = self.connections, self.history.begin(name, value)
+        self.open[connection] = client, number, key
+        words = [b"GET", name.encode()] if value is None else [b"SET", name.encode(), value.encode()]
+        self.give(number, [b"client %d" % connection, *words])
+
+    def take_answer(self, connection, answer):
+        if connection not in self.open:
+            return
+        client, _, key = self.open.pop(connection)
+        self.ended.append(client)
+        if key is None:
+            self.history.moves += answer == b"+OK\r\n"
+        elif answer == b"+OK\r\n":
+            self.history.end(key, None)
+        elif answer.startswith(b"$"):
+            self.history.end(key, answer.partition(b"\r\n")[2][:-2].decode())
+        elif answer.startswith(b"-ERR no quorum answered in time"):
+            self.history.give_up(key)
+        else:
+            raise NodeEnded(f"unexpected answer: {answer[:80]}")
+
+    def leave(self, connection):
+        """A client closes its connection while its call is open."""
+        client, number, _ = self.open.pop(connection)
+        self.ended.append(client)
+        self.give(number, [b"client %d" % connection])
+
+    def move(self, source, name):
+        """Asks the administrator's node, which is node 1, to move an object to some of the nodes."""
+        if 1 not in self.up():
+            return
+        members = sorted(source.sample(sorted(self.nodes), source.randint(1, len(self.nodes))))
+        k = source.randint(1, len(members))
+        self.connections += 1
+        self.open[self.connections] = "administrator", 1, None
+        words = [b"MOVE", name.encode(), b"%d" % k, *(b"%d" % member for member in members)]
+        self.give(1, [b"client %d" % self.connections, *words])
+
+    def take_ended(self):
+        """The clients that may call again."""
+        ended, self.ended = self.ended, []
+        return [client for client in ended if client not in ("administrator", "last")]
+
+    def clients_with_calls(self):
+        return list(self.open)
