@@ -3,11 +3,11 @@
 #![tactic(auto)]
 
 #[cfg(test)]
+mod commands;
+#[cfg(test)]
 mod limits;
 #[cfg(test)]
 mod reading;
-#[cfg(test)]
-mod samples;
 #[cfg(test)]
 mod slow;
 #[cfg(test)]

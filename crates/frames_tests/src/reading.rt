@@ -1,5 +1,5 @@
 //! Frames and faults, read from memory and from a slow reader.
-use crate::samples::{GET, SET, is_get, is_set};
+use crate::commands::{GET, SET, is_get, is_set};
 use crate::slow::Slow;
 use frames::{Fault, FrameError, read_frame};
 use std::io::ErrorKind;

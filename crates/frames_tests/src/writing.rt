@@ -1,5 +1,5 @@
 //! Frames written to memory and to a slow writer.
-use crate::samples::{SET, set};
+use crate::commands::{SET, set};
 use crate::slow::Slow;
 use frames::write_frame;
 use std::io::ErrorKind;

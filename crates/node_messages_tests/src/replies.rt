@@ -2,6 +2,7 @@
 use crate::samples::{NEXT, TAG, assert_body, message, piece};
 use bank::{Answer, HeldPiece, Kind, Reply, Status};
 use mail::Body;
+use tag::Tag;
 
 /// A reply of step 99.
 fn reply(kind: Kind, answer: Answer) -> Body {
@@ -97,12 +98,16 @@ fn the_greatest_numbers(rt: HostRuntime) {
         b"18446744073709551615",
         b"0",
     ];
-    let read = message(&rt, rt.alloc(), &strings);
-    let Body::Reply { kind: _, reply } = read.message.body else {
-        panic!(rt; "no reply");
+    let tag = Tag {
+        number: u64::MAX,
+        call: 0,
     };
-    assert_eq!(rt; reply.step, u64::MAX);
-    assert!(rt;
-        matches!(reply.answer, Answer::Greatest(tag) if tag.number == u64::MAX && tag.call == 0)
-    );
+    let body = Body::Reply {
+        kind: Kind::Query,
+        reply: Reply {
+            step: u64::MAX,
+            answer: Answer::Greatest(tag),
+        },
+    };
+    assert_body(&rt, rt.alloc(), &strings, &body);
 }
