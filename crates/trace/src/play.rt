@@ -48,14 +48,8 @@ fn play_lines(alloc: Global, lines: &[&[u8]], name: &str) -> Result<Played, Faul
     let mut losses = Vec::new(alloc);
     for (index, line) in lines.iter().enumerate() {
         let lost = lost_by(alloc, &cluster, name, line);
-        match play_numbered(alloc, &mut cluster, index + 1, line) {
-            Ok(()) => {}
-            Err(fault) => return Err(fault),
-        }
-        match note(&mut losses, lost) {
-            Ok(()) => {}
-            Err(fault) => return Err(fault),
-        }
+        play_numbered(alloc, &mut cluster, index + 1, line)?;
+        note(&mut losses, lost)?;
     }
     Ok(Played { cluster, losses })
 }
