@@ -10,7 +10,7 @@ use crate::fault::Fault;
 use cluster::Cluster;
 use picture::Loss;
 use player::{End, play_line, read_script};
-use script::{Command, Line, parse_line, split_lines};
+use script::{Change, Command, Line, parse_line, split_lines};
 use std::alloc::Global;
 use std::io;
 use std::io::Read;
@@ -81,7 +81,9 @@ fn note(losses: &mut Vec<Loss>, lost: Option<Loss>) -> Result<(), Fault>
 // The message of the named object that this line loses, if it loses one.
 fn lost_by(alloc: Global, cluster: &Option<Cluster>, name: &str, line: &[u8]) -> Option<Loss> {
     let cluster = cluster.as_ref()?;
-    let Ok(Line::Command(Command::Lose { name: of, place })) = parse_line(alloc, line) else {
+    let Ok(Line::Command(Command::Change(Change::Lose { name: of, place }))) = parse_line(
+        alloc, line,
+    ) else {
         return None;
     };
     let register = cluster.register(name).ok()?;
