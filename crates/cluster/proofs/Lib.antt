@@ -17,5 +17,6 @@ pub mod StepEffectLemmas
 pub mod StepInvariantLemmas
 pub mod StepLimitLemmas
 pub mod SumBoundLemmas
+mod NamedObjectPlaceLemmas
 mod ObjectAtPlaceLemmas
 mod RetiredSumLemmas

@@ -19,6 +19,7 @@ mod laws;
 mod mailing;
 mod messages;
 mod phases;
+mod placed;
 mod reach;
 mod retiring;
 mod room;

@@ -5,6 +5,7 @@ ghost use Rattle.register.specs.Act.{IsActCause, act_cause, answered_by, step_of
 ghost use Rattle.cluster.specs.Acts.{IsReady, begun_by};
 ghost use Rattle.cluster.specs.Causes.{next, object_cause};
 ghost use Rattle.cluster.specs.Cluster.{if_named, place_of};
+ghost use Rattle.cluster.specs.Places.{IsObjectAt};
 ghost use Rattle.cluster.specs.Preconditions.{MayMake};
 ghost use Rattle.cluster.specs.Steps.{stepped};
 
@@ -24,16 +25,30 @@ impl Cluster {
         ensures cause { IsActCause act (object_cause self.old name.entry.now (act_cause act (next self.old))) result }
         ensures unchanged { OnErr result (self.new ≡ self.old) }
     {
-        let Some(place) = self.objects.get_index_of(name) else {
+        let Some(object) = self.find(name) else {
             return Err(Refusal::NoObject);
         };
+        self.act_at(name, object, act)
+    }
+
+    // Makes the step that an act asks for, of the object of this name, which is at this index.
+    pub(crate) fn act_at(&mut self, name: &str, object: u32, act: Act) -> Result<Answered, Refusal>
+        requires ready { IsReady (length self.old.servers) act }
+        requires placed { IsObjectAt self.old name.now object }
+        ensures step { OnOk result (self.new ≡ stepped self.old name.entry.now (step_of act)) }
+        ensures may { OnOk result (MayMake self.old name.entry.now (step_of act)) }
+        ensures answered { IfOk result (λ a. if_named self.old name.entry.now
+            (answered_by act (place_of self.old.objects name.entry.now) (next self.old)) ≡ Some a) }
+        ensures cause { IsActCause act (object_cause self.old name.entry.now (act_cause act (next self.old))) result }
+        ensures unchanged { OnErr result (self.new ≡ self.old) }
+    {
         let now = self.counter + 1;
         let begun = begun(&act);
         act.values_are_lawful();
-        let register = &mut self.objects[place];
+        let register = &mut self.objects[object as usize];
         register.allowed_steps_may_be_made();
         let waited = waiting(register);
-        match register.act(act, place as u32, now) {
+        match register.act(act, object, now) {
             Ok(answered) => {
                 self.mailed = exchanged(self.mailed, waited, waiting(register));
                 self.counter = now;

@@ -7,6 +7,7 @@ ghost use Rattle.record.specs.Steps.{Step};
 ghost use Rattle.register.specs.Causes.{take_cause, lose_cause, repeat_cause};
 ghost use Rattle.register.specs.View.{took_at};
 ghost use Rattle.cluster.specs.Cluster.{Cluster as Store, if_named, is_reached};
+ghost use Rattle.cluster.specs.Places.{IsObjectAt};
 ghost use Rattle.cluster.specs.Preconditions.{MayMake};
 ghost use Rattle.cluster.specs.Steps.{stepped};
 ghost use Rattle.cluster.specs.Serving.{GoesTo, IsOf};
@@ -32,10 +33,22 @@ impl Cluster {
         ensures cause { IsByCause (object_cause self.old name.entry.now (serving_cause self.old place)) result }
         ensures unchanged { OnErr result (self.new ≡ self.old) }
     {
-        let Some(index) = self.objects.get_index_of(name) else {
+        let Some(object) = self.find(name) else {
             return Err(Refusal::NoObject);
         };
-        let register = &mut self.objects[index];
+        self.serve_at(name, object, place)
+    }
+
+    /// The server to which the request at a place is sent serves the request, as by `serve`. `object` must be the index
+    /// of the object of this name.
+    pub fn serve_at(&mut self, name: &str, object: u32, place: usize) -> Result<(), Refusal>
+        requires { IsObjectAt self.old name.now object }
+        ensures step { OnOk result (self.new ≡ stepped self.old name.entry.now (Step.Serve place)) }
+        ensures may { OnOk result (MayMake self.old name.entry.now (Step.Serve place)) }
+        ensures cause { IsByCause (object_cause self.old name.entry.now (serving_cause self.old place)) result }
+        ensures unchanged { OnErr result (self.new ≡ self.old) }
+    {
+        let register = &mut self.objects[object as usize];
         register.allowed_steps_may_be_made();
         let server = match room_to_serve(
             &self.servers,

@@ -1,13 +1,13 @@
 //! What a caller can ask of a cluster and of its calls before it makes a step.
 
-ghost use Rattle.std.specs.Prelude.{◌≡◌, ℕ, nat_le, option_map, Some, None, IfOk};
+ghost use Rattle.std.specs.Prelude.{◌≡◌, ℕ, nat_le, option_map, Some, None, IfOk, MatchOption};
 ghost use Rattle.tag.specs.Refusal.{IsByCause, IsExactlyByCause};
 ghost use Rattle.tag.specs.declared.limits.TheConstants.{LONGEST_VALUE};
 ghost use Rattle.tag.specs.declared.refusal.Refusal.TheVariants.{TooLong};
 ghost use Rattle.record.specs.Journals.{entry_of};
 ghost use Rattle.register.specs.Causes.{unless, call_at, number_cause, read_cause, supplying_cause};
-ghost use Rattle.cluster.specs.Cluster.{place_of};
-ghost use Rattle.cluster.specs.Places.{if_placed, placed_cause};
+ghost use Rattle.cluster.specs.Cluster.{named, place_of};
+ghost use Rattle.cluster.specs.Places.{IsObjectAt, if_placed, placed_cause};
 ghost use Rattle.cluster.specs.Causes.{moving_cause, next, object_cause};
 ghost use Rattle.cluster.specs.Kept.{IsKeptCluster};
 
@@ -30,11 +30,23 @@ impl Cluster {
     /// `NoObject` where no object has this name.
     pub fn place(&self, name: &str) -> Result<u32, Refusal>
         ensures place { IfOk result (λ p. p ≡ place_of self.now.objects name.now) }
+        ensures placed { IfOk result (λ p. IsObjectAt self.now name.now p) }
         ensures cause { IsExactlyByCause (object_cause self.now name.now (λ object. None)) result }
     {
-        match self.objects.get_index_of(name) {
-            Some(place) => Ok(place as u32),
+        match self.find(name) {
+            Some(object) => Ok(object),
             None => Err(Refusal::NoObject),
+        }
+    }
+
+    // The index of the object of this name, if there is one.
+    pub(crate) fn find(&self, name: &str) -> Option<u32>
+        ensures { MatchOption result (named self.now.objects name.now ≡ None)
+            (λ object. IsObjectAt self.now name.now object) }
+    {
+        match self.objects.get_index_of(name) {
+            Some(place) => Some(place as u32),
+            None => None,
         }
     }
 

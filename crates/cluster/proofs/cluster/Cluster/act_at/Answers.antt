@@ -1,0 +1,97 @@
+use Rattle.std.proofs.Common.{◌≡◌, suc, ◌+◌, length, Ok, Err, subst, ap, sym, ◌∙◌}
+use Rattle.cluster.specs.Acts.{IsReady}
+use Rattle.register.specs.Act.{act_cause, answered_by, step_of}
+use Rattle.cluster.specs.Causes.{next}
+use Rattle.cluster.specs.Cluster.{Cluster, place_of}
+use Rattle.cluster.proofs.ActLemmas.{act_at, act_by, act_none, no_more, no_less}
+use Rattle.cluster.proofs.NamedObjectPlaceLemmas.{object_is_at, index_within}
+use Rattle.cluster.proofs.ObjectStepLemmas.{stepped_at, unchanged_at, last_before, cause_at, next_is, read_at}
+use Rattle.cluster.proofs.PreconditionLemmas.{may_at}
+use Rattle.cluster.proofs.RunningSumLemmas.{part_mailed, refused_counted, summed_at}
+use Rattle.cluster.proofs.cluster.Cluster.act_at.Goals as goal
+
+pub index_mut-register-requires : goal.index_mut-register-requires
+index_mut-register-requires c =
+    index_within c.self.inside.objects.entries c.args.name.now c.args.object c.self.view_is c.requires.placed
+
+pub act-requires : goal.act-requires
+act-requires c =
+    let at = object_is_at c.self.inside.objects.entries c.args.name.now c.args.object c.self.view_is c.index_mut-register.result.now
+    c.requires.placed c.index_mut-register.ensures.value in
+    record { after = last_before c.self.invariant.kept at }
+
+pub invariant_of-self : goal.invariant_of-self
+invariant_of-self c =
+    let at = object_is_at c.self.inside.objects.entries c.args.name.now c.args.object c.self.view_is c.index_mut-register.result.now
+    c.requires.placed c.index_mut-register.ensures.value in
+    let ready = subst (λ n. IsReady n c.args.act) (sym (ap (λ (k : Cluster). length k.servers) c.self.view_is)) c.requires.ready in
+    record {
+      kept = act_at c.self.invariant.kept at c.args.act ready c.in-Ok.ensures.step
+          (act_none c.in-Ok.answered c.args.act c.in-Ok.ensures.cause)
+          c.begun-begun.ensures.count;
+      summed = summed_at c.self.invariant.summed at c.waiting-waited.ensures.sound (step_of c.args.act)
+          (no_more (length c.self.inside.servers) c.index_mut-register.result.now.object c.args.act ready)
+          (no_less (length c.self.inside.servers) c.index_mut-register.result.now.object c.args.act ready (suc c.self.inside.counter))
+          c.in-Ok.ensures.step
+          c.waiting-waited.result c.waiting.result c.exchanged-self-inside.result c.waiting-waited.ensures.value c.waiting.ensures.value
+          c.waiting.ensures.within c.exchanged-self-inside.ensures;
+    }
+
+pub invariant_of-self-in-Err : goal.invariant_of-self-in-Err
+invariant_of-self-in-Err c =
+    let at = object_is_at c.self.inside.objects.entries c.args.name.now c.args.object c.self.view_is c.index_mut-register.result.now
+    c.requires.placed c.index_mut-register.ensures.value in
+    refused_counted c.self.invariant at c.in-Err.ensures.unchanged
+
+pub returns-in-Ok-clause-step : goal.returns-in-Ok-clause-step
+returns-in-Ok-clause-step c =
+    let at = object_is_at c.self.inside.objects.entries c.args.name.now c.args.object c.self.view_is c.index_mut-register.result.now
+    c.requires.placed c.index_mut-register.ensures.value in
+    stepped_at c.self.view_is at (step_of c.args.act) c.in-Ok.ensures.step
+
+pub returns-in-Ok-clause-may : goal.returns-in-Ok-clause-may
+returns-in-Ok-clause-may c =
+    let at = object_is_at c.self.inside.objects.entries c.args.name.now c.args.object c.self.view_is c.index_mut-register.result.now
+    c.requires.placed c.index_mut-register.ensures.value in
+    may_at c.self.view_is at (step_of c.args.act)
+    (c.allowed_steps_may_be_made.ensures.acts c.args.act (c.self.inside.counter + 1) c.values_are_lawful.ensures
+    (act_none c.in-Ok.answered c.args.act c.in-Ok.ensures.cause))
+
+pub returns-in-Ok-clause-cause : goal.returns-in-Ok-clause-cause
+returns-in-Ok-clause-cause c =
+    let at = object_is_at c.self.inside.objects.entries c.args.name.now c.args.object c.self.view_is c.index_mut-register.result.now
+    c.requires.placed c.index_mut-register.ensures.value in
+    act_by (Ok c.in-Ok.answered) c.args.act (cause_at c.self.view_is at (act_cause c.args.act)) c.in-Ok.ensures.cause
+
+pub returns-in-Err-clause-cause : goal.returns-in-Err-clause-cause
+returns-in-Err-clause-cause c =
+    let at = object_is_at c.self.inside.objects.entries c.args.name.now c.args.object c.self.view_is c.index_mut-register.result.now
+    c.requires.placed c.index_mut-register.ensures.value in
+    act_by (Err c.in-Err.refusal) c.args.act (cause_at c.self.view_is at (act_cause c.args.act)) c.in-Err.ensures.cause
+
+pub returns-in-Err-clause-unchanged : goal.returns-in-Err-clause-unchanged
+returns-in-Err-clause-unchanged c =
+    let at = object_is_at c.self.inside.objects.entries c.args.name.now c.args.object c.self.view_is c.index_mut-register.result.now
+    c.requires.placed c.index_mut-register.ensures.value in
+    unchanged_at at c.in-Err.ensures.unchanged ∙ c.self.view_is
+
+pub returns-in-Ok-clause-answered : goal.returns-in-Ok-clause-answered
+returns-in-Ok-clause-answered c =
+    let at = object_is_at c.self.inside.objects.entries c.args.name.now c.args.object c.self.view_is c.index_mut-register.result.now
+    c.requires.placed c.index_mut-register.ensures.value in
+    let now = c.args.self.now in
+    let name = c.args.name.now in
+    let old = c.index_mut-register.result.now.object in
+    let here : place_of now.objects name ≡ c.args.object = c.requires.placed.0 in
+    read_at c.self.view_is at (answered_by c.args.act (place_of now.objects name) (next now))
+    ∙ ap (λ p. answered_by c.args.act p (next now) old) here
+    ∙ ap (λ n. answered_by c.args.act c.args.object n old) (next_is c.self.view_is)
+    ∙ c.in-Ok.ensures.answered
+
+pub exchanged-self-inside-requires : goal.exchanged-self-inside-requires
+exchanged-self-inside-requires c =
+    let at = object_is_at c.self.inside.objects.entries c.args.name.now c.args.object c.self.view_is c.index_mut-register.result.now
+    c.requires.placed c.index_mut-register.ensures.value in
+    let room = part_mailed c.self.invariant at c.waiting-waited.result c.waiting.result c.waiting-waited.ensures.value
+    c.waiting.ensures.within in
+    record { part = room.0; within = room.1 }

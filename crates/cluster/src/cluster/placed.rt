@@ -1,0 +1,182 @@
+//! Steps of an object that the caller has looked up by `Cluster::place`, so that they look up nothing. They are for the
+//! crates `driver` and `locked_steps`; other callers name the object alone.
+//!
+//! Each does what the method of the same name without `_at` does. `object` must be the index of the object of this
+//! name, which stays the same in every step. The code reads the index, and the contract speaks of the name.
+
+ghost use Rattle.std.specs.Prelude.{◌≡◌, pred, true, Some, None, IfOk, OnOk, OnErr};
+ghost use Rattle.tag.specs.Refusal.{IsByCause, IsExactlyByCause};
+ghost use Rattle.record.specs.Steps.{Step};
+ghost use Rattle.register.specs.Causes.{number_cause, advance_cause, again_cause, answer_cause, post_cause};
+ghost use Rattle.register.specs.Causes.{supply_cause, settle_cause, take_cause};
+ghost use Rattle.register.specs.View.{receipt_at, took_at, want_at};
+ghost use Rattle.cluster.specs.Causes.{next, object_cause};
+ghost use Rattle.cluster.specs.Cluster.{if_named, named, place_of};
+ghost use Rattle.cluster.specs.Places.{IsObjectAt};
+ghost use Rattle.cluster.specs.Preconditions.{MayMake};
+ghost use Rattle.cluster.specs.Steps.{stepped};
+
+use crate::cluster::Cluster;
+use decoder::Decoded;
+use encoder::Coded;
+use phase::Took;
+use record::Want;
+use register::{Act, Answered, Receipt, Register};
+use tag::{CallId, Refusal};
+
+impl Cluster {
+    /// The index of the object, as `place` returns it. A caller that knew the index in an earlier cluster gives it as
+    /// `guess`: where the object of this index has this name, nothing is looked up.
+    pub fn place_near(&self, name: &str, guess: u32) -> Result<u32, Refusal>
+        ensures place { IfOk result (λ p. p ≡ place_of self.now.objects name.now) }
+        ensures placed { IfOk result (λ p. IsObjectAt self.now name.now p) }
+        ensures cause { IsExactlyByCause (object_cause self.now name.now (λ object. None)) result }
+    {
+        if self.is_named_at(name, guess) {
+            return Ok(guess);
+        }
+        self.place(name)
+    }
+
+    // Whether the object at this index has this name.
+    fn is_named_at(&self, name: &str, object: u32) -> bool
+        ensures { result ≡ true → IsObjectAt self.now name.now object }
+    {
+        match self.objects.get_index(object as usize) {
+            Some((key, _)) => name == key.as_str(),
+            None => false,
+        }
+    }
+
+    /// The object, for reading. It allocates no memory.
+    pub fn register_at(&self, _name: &str, object: u32) -> &Register
+        requires { IsObjectAt self.now _name.now object }
+        ensures { named self.now.objects _name.now ≡ Some result.now }
+    {
+        &self.objects[object as usize]
+    }
+
+    /// What the call of this number wants next, as `want` does.
+    pub fn want_at(&self, name: &str, object: u32, call: CallId) -> Result<Want, Refusal>
+        requires { IsObjectAt self.now name.now object }
+        ensures want { IfOk result (λ w. if_named self.now name.now (λ object. want_at object call) ≡ Some w) }
+        ensures cause { IsExactlyByCause (object_cause self.now name.now (λ object. number_cause object call)) result }
+    {
+        self.register_at(name, object).want(call)
+    }
+
+    /// The call of this number begins the phase that is due, as by `advance`.
+    pub fn advance_at(&mut self, name: &str, object: u32, call: CallId) -> Result<(), Refusal>
+        requires { IsObjectAt self.old name.now object }
+        ensures step { OnOk result (self.new ≡ stepped self.old name.entry.now (Step.Advance (pred call))) }
+        ensures may { OnOk result (MayMake self.old name.entry.now (Step.Advance (pred call))) }
+        ensures cause { IsByCause
+            (object_cause self.old name.entry.now (λ object. advance_cause (next self.old) object call)) result }
+        ensures unchanged { OnErr result (self.new ≡ self.old) }
+    {
+        self.act_at(name, object, Act::Advance(call))?;
+        Ok(())
+    }
+
+    /// Restarts the call of this number, as `again` does.
+    pub fn again_at(&mut self, name: &str, object: u32, call: CallId) -> Result<(), Refusal>
+        requires { IsObjectAt self.old name.now object }
+        ensures step { OnOk result (self.new ≡ stepped self.old name.entry.now (Step.Again (pred call))) }
+        ensures may { OnOk result (MayMake self.old name.entry.now (Step.Again (pred call))) }
+        ensures cause { IsByCause
+            (object_cause self.old name.entry.now (λ object. again_cause (next self.old) object call)) result }
+        ensures unchanged { OnErr result (self.new ≡ self.old) }
+    {
+        self.act_at(name, object, Act::Again(call))?;
+        Ok(())
+    }
+
+    /// Hands in the encoded value of the call of this number, as `supply` does.
+    pub fn supply_at(
+        &mut self,
+        name: &str,
+        object: u32,
+        call: CallId,
+        coded: Coded,
+    ) -> Result<(), Refusal>
+        requires { IsObjectAt self.old name.now object }
+        ensures step { OnOk result (self.new ≡ stepped self.old name.entry.now (Step.Supply (pred call))) }
+        ensures may { OnOk result (MayMake self.old name.entry.now (Step.Supply (pred call))) }
+        ensures cause { IsByCause
+            (object_cause self.old name.entry.now (λ object. supply_cause (next self.old) object call coded)) result }
+        ensures unchanged { OnErr result (self.new ≡ self.old) }
+    {
+        self.act_at(name, object, Act::Supply(call, coded))?;
+        Ok(())
+    }
+
+    /// Resends the requests of the current phase of the call of this number, as `post` does.
+    pub fn post_at(&mut self, name: &str, object: u32, call: CallId) -> Result<(), Refusal>
+        requires { IsObjectAt self.old name.now object }
+        ensures step { OnOk result (self.new ≡ stepped self.old name.entry.now (Step.Post (pred call))) }
+        ensures may { OnOk result (MayMake self.old name.entry.now (Step.Post (pred call))) }
+        ensures cause { IsByCause
+            (object_cause self.old name.entry.now (λ object. post_cause (next self.old) object call)) result }
+        ensures unchanged { OnErr result (self.new ≡ self.old) }
+    {
+        self.act_at(name, object, Act::Post(call))?;
+        Ok(())
+    }
+
+    /// The call of this number settles the value that was decoded, as by `settle`.
+    pub fn settle_at(
+        &mut self,
+        name: &str,
+        object: u32,
+        call: CallId,
+        decoded: Decoded,
+    ) -> Result<(), Refusal>
+        requires { IsObjectAt self.old name.now object }
+        ensures step { OnOk result
+            (self.new ≡ stepped self.old name.entry.now (Step.Settle (pred call) decoded.value)) }
+        ensures may { OnOk result (MayMake self.old name.entry.now (Step.Settle (pred call) decoded.value)) }
+        ensures cause { IsExactlyByCause (object_cause self.old name.entry.now
+            (λ object. settle_cause (next self.old) object call decoded)) result }
+        ensures unchanged { OnErr result (self.new ≡ self.old) }
+    {
+        self.act_at(name, object, Act::Settle(call, decoded))?;
+        Ok(())
+    }
+
+    /// Answers the call of this number, as `answer` does.
+    pub fn answer_at(&mut self, name: &str, object: u32, call: CallId) -> Result<Receipt, Refusal>
+        requires { IsObjectAt self.old name.now object }
+        ensures step { OnOk result (self.new ≡ stepped self.old name.entry.now (Step.AnswerCall (pred call))) }
+        ensures may { OnOk result (MayMake self.old name.entry.now (Step.AnswerCall (pred call))) }
+        ensures receipt { IfOk result (λ r. if_named self.old name.entry.now (λ object.
+            receipt_at object (place_of self.old.objects name.entry.now) call (next self.old)) ≡ Some r) }
+
+        ensures cause { IsByCause
+            (object_cause self.old name.entry.now (λ object. answer_cause (next self.old) object call)) result }
+        ensures unchanged { OnErr result (self.new ≡ self.old) }
+    {
+        match self.act_at(name, object, Act::Answer(call)) {
+            Ok(Answered::Receipt(receipt)) => Ok(receipt),
+            Ok(_) => unreachable!(),
+            Err(refusal) => Err(refusal),
+        }
+    }
+
+    /// The call that the reply at a place names takes the reply, as by `take`.
+    pub fn take_at(&mut self, name: &str, object: u32, place: usize) -> Result<Took, Refusal>
+        requires { IsObjectAt self.old name.now object }
+        ensures step { OnOk result (self.new ≡ stepped self.old name.entry.now (Step.Take place)) }
+        ensures may { OnOk result (MayMake self.old name.entry.now (Step.Take place)) }
+        ensures took { IfOk result
+            (λ t. if_named self.old name.entry.now (λ object. Some (took_at object place)) ≡ Some t) }
+        ensures cause { IsExactlyByCause
+            (object_cause self.old name.entry.now (λ object. take_cause (next self.old) object place)) result }
+        ensures unchanged { OnErr result (self.new ≡ self.old) }
+    {
+        match self.act_at(name, object, Act::Take(place)) {
+            Ok(Answered::Took(took)) => Ok(took),
+            Ok(_) => unreachable!(),
+            Err(refusal) => Err(refusal),
+        }
+    }
+}
