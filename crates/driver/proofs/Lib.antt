@@ -17,3 +17,4 @@ pub mod TurnLemmas
 pub mod WholeCallLemmas
 pub mod OtherCallMessageLemmas
 pub mod AfterCallStepLemmas
+pub mod ObjectIndexLemmas

@@ -1,10 +1,11 @@
 //! The driver of one call, for one thread.
 ghost use Rattle.std.specs.Prelude.{◌≡◌, IfOk, IfErr, OnErr, MatchOption};
+ghost use Rattle.cluster.specs.Places.{IsObjectAt};
 ghost use Rattle.driver.specs.Driver.{asks_again, IsAnswerTurn, IsFinished, IsOpen, IsRefused, IsTurn, IsUnfinished};
 
 use crate::Chooser;
 use crate::coding::{settle_pieces, supply_value};
-use crate::round::{Round, make_round};
+use crate::round::{Round, make_round_at};
 use cluster::Cluster;
 use record::Want;
 use register::Receipt;
@@ -42,13 +43,14 @@ pub fn finish<C: Chooser>(
         (λ e. IsUnfinished C.chooses name.entry.now call resumed turns cluster.old chooser.old cluster.new chooser.new
         e) }
 {
+    let object = cluster.place(name)?;
     for turn in 0..turns {
         let again = asks_again(resumed, turn);
-        if let Some(receipt) = make_turn(alloc, cluster, name, call, again, chooser)? {
+        if let Some(receipt) = make_turn(alloc, cluster, name, object, call, again, chooser)? {
             return Ok(receipt);
         }
     }
-    match cluster.want(name, call)? {
+    match cluster.want_at(name, object, call)? {
         Want::Done => Err(Refusal::NotNow),
         _ => Err(Refusal::GaveUp),
     }
@@ -67,10 +69,12 @@ fn make_turn<C: Chooser>(
     alloc: Global,
     cluster: &mut Cluster,
     name: &str,
+    object: u32,
     call: CallId,
     asks_again: bool,
     chooser: &mut C,
 ) -> Result<Option<Receipt>, Refusal>
+    requires { IsObjectAt cluster.old name.now object }
     ensures turn { IfOk result
         (λ o. MatchOption o
         (IsTurn C.chooses name.entry.now call asks_again cluster.old chooser.old cluster.new chooser.new
@@ -82,8 +86,8 @@ fn make_turn<C: Chooser>(
         (λ e. IsRefused C.chooses name.entry.now call cluster.old asks_again chooser.old chooser.new e) }
     ensures unchanged { OnErr result (cluster.new ≡ cluster.old) }
 {
-    let want = cluster.want(name, call)?;
-    match make_round(cluster, name, call, want, asks_again, chooser)? {
+    let want = cluster.want_at(name, object, call)?;
+    match make_round_at(cluster, name, object, call, want, asks_again, chooser)? {
         Round::Stepped => Ok(None),
         Round::Encode { value, k, n } => {
             supply_value(alloc, cluster, name, call, value, k, n)?;

@@ -5,8 +5,8 @@ pub use choices::{Filter, choice_at, choose};
 pub use chooser::{Chooser, First};
 pub use coding::{settle, supply};
 pub use driver::finish;
-pub use messages::{Handled, handle};
-pub use round::{Round, make_round};
+pub use messages::{Handled, handle, handle_at};
+pub use round::{Round, make_round, make_round_at};
 pub use whole_call::{NotAnswered, move_to, read, write};
 
 mod choices;

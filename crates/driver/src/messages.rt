@@ -4,6 +4,7 @@ ghost use Rattle.tag.specs.Refusal.{IsByCause, IsExactlyByCause};
 ghost use Rattle.record.specs.declared.stage.Want.TheVariants as want;
 ghost use Rattle.cluster.specs.Cluster.{if_named};
 ghost use Rattle.cluster.specs.Causes.{object_cause, place_cause};
+ghost use Rattle.cluster.specs.Places.{IsObjectAt};
 ghost use Rattle.cluster.specs.Preconditions.{MayMake};
 ghost use Rattle.cluster.specs.Steps.{stepped};
 ghost use Rattle.driver.specs.Choices.{Picks, choices, handled_result_at, handling_cause, request_at, step_of_handled};
@@ -37,18 +38,38 @@ pub fn handle(cluster: &mut Cluster, name: &str, place: usize) -> Result<Handled
     ensures cause { IsByCause (object_cause cluster.old name.entry.now (handling_cause cluster.old place)) result }
     ensures unchanged { OnErr result (cluster.new ≡ cluster.old) }
 {
-    let is_request = is_request(cluster, name, place)?;
-    handle_as(cluster, name, place, is_request)
+    let object = cluster.place(name)?;
+    handle_at(cluster, name, object, place)
+}
+
+/// `handle` for a caller that has looked the object up by `Cluster::place`: `object` must be its index.
+pub fn handle_at(
+    cluster: &mut Cluster,
+    name: &str,
+    object: u32,
+    place: usize,
+) -> Result<Handled, Refusal>
+    requires { IsObjectAt cluster.old name.now object }
+    ensures step { IfOk result (λ h. cluster.new ≡ stepped cluster.old name.entry.now (step_of_handled place h)) }
+    ensures may { IfOk result (λ h. MayMake cluster.old name.entry.now (step_of_handled place h)) }
+    ensures handled { IfOk result (λ h. if_named cluster.old name.entry.now (handled_result_at place) ≡ Some h) }
+    ensures cause { IsByCause (object_cause cluster.old name.entry.now (handling_cause cluster.old place)) result }
+    ensures unchanged { OnErr result (cluster.new ≡ cluster.old) }
+{
+    let is_request = is_request(cluster, name, object, place)?;
+    handle_as(cluster, name, object, place, is_request)
 }
 
 // Handles the message at a place. The caller knows whether it is a request.
 fn handle_as(
     cluster: &mut Cluster,
     name: &str,
+    object: u32,
     place: usize,
     is_request: bool,
 ) -> Result<Handled, Refusal>
-    requires { if_named cluster.old name.now (request_at place) ≡ Some is_request }
+    requires request { if_named cluster.old name.now (request_at place) ≡ Some is_request }
+    requires placed { IsObjectAt cluster.old name.now object }
     ensures step { IfOk result (λ h. cluster.new ≡ stepped cluster.old name.entry.now (step_of_handled place h)) }
     ensures may { IfOk result (λ h. MayMake cluster.old name.entry.now (step_of_handled place h)) }
     ensures handled { IfOk result (λ h. if_named cluster.old name.entry.now (handled_result_at place) ≡ Some h) }
@@ -56,41 +77,44 @@ fn handle_as(
     ensures unchanged { OnErr result (cluster.new ≡ cluster.old) }
 {
     if is_request {
-        cluster.serve(name, place)?;
+        cluster.serve_at(name, object, place)?;
         return Ok(Handled::Served);
     }
-    Ok(Handled::Taken(cluster.take(name, place)?))
+    Ok(Handled::Taken(cluster.take_at(name, object, place)?))
 }
 
 /// Handles the chosen one of the call's messages that can be handled. `Stuck` where there is none.
 pub(crate) fn handle_chosen<C: Chooser>(
     cluster: &mut Cluster,
     name: &str,
+    object: u32,
     call: CallId,
     chooser: &mut C,
 ) -> Result<(), Refusal>
-    requires { wanted cluster.old name.now call ≡ Some want.Replies }
+    requires wanted { wanted cluster.old name.now call ≡ Some want.Replies }
+    requires placed { IsObjectAt cluster.old name.now object }
     ensures turn { OnOk result
         (IsTurn C.chooses name.entry.now call false cluster.old chooser.old cluster.new chooser.new) }
     ensures refused { IfErr result
         (λ e. IsRefused C.chooses name.entry.now call cluster.old false chooser.old chooser.new e) }
     ensures unchanged { OnErr result (cluster.new ≡ cluster.old) }
 {
-    let register = cluster.register(name)?;
+    let register = cluster.register_at(name, object);
     let Some(place) = chosen(cluster, register, call, chooser) else {
         return Err(Refusal::Stuck);
     };
     let is_request = is_request_at(register, place);
-    handle_as(cluster, name, place, is_request)?;
+    handle_as(cluster, name, object, place, is_request)?;
     Ok(())
 }
 
 // Whether the message at a place is a request.
-fn is_request(cluster: &Cluster, name: &str, place: usize) -> Result<bool, Refusal>
+fn is_request(cluster: &Cluster, name: &str, object: u32, place: usize) -> Result<bool, Refusal>
+    requires { IsObjectAt cluster.now name.now object }
     ensures value { IfOk result (λ b. if_named cluster.now name.now (request_at place) ≡ Some b) }
     ensures cause { IsExactlyByCause (object_cause cluster.now name.now (place_cause place)) result }
 {
-    let register = cluster.register(name)?;
+    let register = cluster.register_at(name, object);
     if register.mail_view().len() <= place {
         return Err(Refusal::NoMessage);
     }

@@ -1,6 +1,7 @@
 //! One round of the driver, without the coding.
 ghost use Rattle.std.specs.Prelude.{◌≡◌, true, Some, IfOk, IfErr, OnErr};
 ghost use Rattle.record.specs.declared.stage.Want.TheVariants as want;
+ghost use Rattle.cluster.specs.Places.{IsObjectAt};
 ghost use Rattle.driver.specs.Driver.{wanted, IsRefused};
 ghost use Rattle.driver.specs.Rounds.{IsRound};
 
@@ -56,16 +57,38 @@ pub fn make_round<C: Chooser>(
         (λ e. IsRefused C.chooses name.entry.now call cluster.old asks_again chooser.old chooser.new e) }
     ensures unchanged { OnErr result (cluster.new ≡ cluster.old) }
 {
+    let object = cluster.place(name)?;
+    make_round_at(cluster, name, object, call, want, asks_again, chooser)
+}
+
+/// `make_round` for a caller that has looked the object up by `Cluster::place`: `object` must be its index.
+pub fn make_round_at<C: Chooser>(
+    cluster: &mut Cluster,
+    name: &str,
+    object: u32,
+    call: CallId,
+    want: Want,
+    asks_again: bool,
+    chooser: &mut C,
+) -> Result<Round, Refusal>
+    requires wanted { wanted cluster.old name.now call ≡ Some want }
+    requires placed { IsObjectAt cluster.old name.now object }
+    ensures round { IfOk result
+        (λ r. IsRound C.chooses name.entry.now call asks_again cluster.old chooser.old cluster.new chooser.new r) }
+    ensures refused { IfErr result
+        (λ e. IsRefused C.chooses name.entry.now call cluster.old asks_again chooser.old chooser.new e) }
+    ensures unchanged { OnErr result (cluster.new ≡ cluster.old) }
+{
     match want {
         Want::Replies => {
             if asks_again {
                 return ask_again(cluster, name, call, chooser);
             }
-            handle_chosen(cluster, name, call, chooser)?;
+            handle_chosen(cluster, name, object, call, chooser)?;
             Ok(Round::Stepped)
         }
         Want::Advance => {
-            cluster.advance(name, call)?;
+            cluster.advance_at(name, object, call)?;
             Ok(Round::Stepped)
         }
         Want::Supply { k: _, n: _ } => {
@@ -80,10 +103,10 @@ pub fn make_round<C: Chooser>(
             if !asks_again {
                 return Err(Refusal::Collected);
             }
-            cluster.again(name, call)?;
+            cluster.again_at(name, object, call)?;
             Ok(Round::Stepped)
         }
-        Want::Answer => Ok(Round::Answered(cluster.answer(name, call)?)),
+        Want::Answer => Ok(Round::Answered(cluster.answer_at(name, object, call)?)),
         Want::Done => Err(Refusal::NotNow),
     }
 }
