@@ -7,7 +7,7 @@ ghost use Rattle.locked_steps.specs.Messages.{Disturbs, DisturbsNot, Stirs, Stir
 
 use crate::booked::{Booked, StoreName};
 use cluster::Cluster;
-use driver::{Chooser, Filter, choose, handle};
+use driver::{Chooser, Filter, choose, handle_at};
 use tag::Refusal;
 
 /// Handles one message of an object, the one that `chooser` chooses among those that can be handled: a request to a
@@ -37,11 +37,12 @@ fn stir<C: Chooser>(cluster: &mut Cluster, name: &str, chooser: &mut C) -> Resul
     ensures count { client_calls cluster.new ≡ client_calls cluster.old }
     ensures course { PreservesReachable cluster.old cluster.new }
 {
-    let register = cluster.register(name)?;
+    let object = cluster.place(name)?;
+    let register = cluster.register_at(name, object);
     let Some(place) = choose(cluster, register, Filter::All, 0, chooser) else {
         return Ok(false);
     };
-    handle(cluster, name, place)?;
+    handle_at(cluster, name, object, place)?;
     Ok(true)
 }
 

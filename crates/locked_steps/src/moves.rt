@@ -121,6 +121,7 @@ pub fn move_round_in<L: StoreName, C: Chooser>(
     let (round, _copy) = round_with_copy(
         &mut booked.cluster,
         admin.name.as_str(),
+        pending.object,
         pending.call,
         hand,
         asks_again,

@@ -8,6 +8,7 @@ ghost use Rattle.record.specs.declared.stage.Want.TheVariants as want;
 ghost use Rattle.register.specs.State.{State};
 ghost use Rattle.register.specs.View.{value_at};
 ghost use Rattle.cluster.specs.Cluster.{if_named, named};
+ghost use Rattle.cluster.specs.Places.{IsObjectAt};
 ghost use Rattle.locked_steps.specs.Calls.{client_calls};
 ghost use Rattle.locked_steps.specs.Course.{PreservesReachable, IsStateOf};
 ghost use Rattle.driver.specs.Driver.{wanted};
@@ -20,7 +21,7 @@ use crate::handed_in::HandedIn;
 use crate::seat::Seat;
 use bytes::Bytes;
 use cluster::Cluster;
-use driver::{Chooser, Round, make_round};
+use driver::{Chooser, Round, make_round_at};
 use record::Want;
 use tag::{CallId, MOST_STEPS, Refusal};
 
@@ -62,9 +63,11 @@ pub fn round_in<L: StoreName, C: Chooser>(
         return Err(Refusal::NoCall);
     };
     let call = record.call;
+    let object = record.object;
     let (round, copy) = round_with_copy(
         &mut booked.cluster,
         seat.name.as_str(),
+        object,
         call,
         hand,
         asks_again,
@@ -81,9 +84,11 @@ pub fn round_in<L: StoreName, C: Chooser>(
 }
 
 /// Makes one round of a call. If it answers the call, it also returns a second copy of the value, made before the step.
+/// The object is looked up unless the one at the index `guess` has this name.
 pub(crate) fn round_with_copy<C: Chooser>(
     cluster: &mut Cluster,
     name: &str,
+    guess: u32,
     call: CallId,
     hand: HandedIn,
     asks_again: bool,
@@ -102,10 +107,10 @@ pub(crate) fn round_with_copy<C: Chooser>(
     ensures count { client_calls cluster.new ≡ client_calls cluster.old }
     ensures course { PreservesReachable cluster.old cluster.new }
 {
-    let want = want_to_go(cluster, name, call, turns)?;
+    let (want, object) = want_to_go(cluster, name, guess, call, turns)?;
     let copy = copy_to_keep(cluster, name, call, want, &hand)?;
     past_calls_at_end(cluster, name, want);
-    let round = round_with(cluster, name, call, want, hand, asks_again, chooser)?;
+    let round = round_with(cluster, name, object, call, want, hand, asks_again, chooser)?;
     cluster.invariant();
     let copy = kept_value(&round, copy);
     Ok((round, copy))
@@ -177,33 +182,43 @@ fn kept_value(round: &Round, copy: Option<Bytes>) -> Option<Bytes>
     }
 }
 
-// What the call wants now, where a round of it may be made.
-fn want_to_go(cluster: &Cluster, name: &str, call: CallId, turns: u64) -> Result<Want, Refusal>
-    ensures want { IfOk result (λ w. wanted cluster.now name.now call ≡ Some w) }
+// What the call wants now, where a round of it may be made, and the index of its object.
+fn want_to_go(
+    cluster: &Cluster,
+    name: &str,
+    guess: u32,
+    call: CallId,
+    turns: u64,
+) -> Result<(Want, u32), Refusal>
+    ensures want { IfOk result (λ w. wanted cluster.now name.now call ≡ Some w.0) }
+    ensures placed { IfOk result (λ w. IsObjectAt cluster.now name.now w.1) }
     ensures cause { MatchResult result (λ w. going_cause cluster.now name.now call turns ≡ None)
         (λ e. going_cause cluster.now name.now call turns ≡ Some e) }
 {
-    let want = cluster.want(name, call)?;
+    let object = cluster.place_near(name, guess)?;
+    let want = cluster.want_at(name, object, call)?;
     if want == Want::Done {
         return Err(Refusal::NotNow);
     }
     if turns == 0 {
         return Err(Refusal::GaveUp);
     }
-    Ok(want)
+    Ok((want, object))
 }
 
 // One round of a call that wants this. It answers the call only if the call wants that and nothing is handed in.
 fn round_with<C: Chooser>(
     cluster: &mut Cluster,
     name: &str,
+    object: u32,
     call: CallId,
     due: Want,
     hand: HandedIn,
     asks_again: bool,
     chooser: &mut C,
 ) -> Result<Round, Refusal>
-    requires { wanted cluster.old name.now call ≡ Some due }
+    requires wanted { wanted cluster.old name.now call ≡ Some due }
+    requires placed { IsObjectAt cluster.old name.now object }
     ensures steps { IfOk result
         (λ r. Goes C.chooses name.entry.now call hand asks_again cluster.old chooser.old cluster.new chooser.new r) }
     ensures refused { IfErr result
@@ -213,16 +228,18 @@ fn round_with<C: Chooser>(
     ensures course { PreservesReachable cluster.old cluster.new }
 {
     match hand {
-        HandedIn::Empty => match make_round(cluster, name, call, due, asks_again, chooser) {
-            Ok(round) => Ok(round),
-            Err(refusal) => Err(refusal),
-        },
-        HandedIn::Coded(coded) => match cluster.supply(name, call, coded) {
+        HandedIn::Empty => {
+            match make_round_at(cluster, name, object, call, due, asks_again, chooser) {
+                Ok(round) => Ok(round),
+                Err(refusal) => Err(refusal),
+            }
+        }
+        HandedIn::Coded(coded) => match cluster.supply_at(name, object, call, coded) {
             Ok(()) => Ok(Round::Stepped),
             Err(Refusal::NotNow) => Ok(Round::Late),
             Err(refusal) => Err(refusal),
         },
-        HandedIn::Decoded(decoded) => match cluster.settle(name, call, decoded) {
+        HandedIn::Decoded(decoded) => match cluster.settle_at(name, object, call, decoded) {
             Ok(()) => Ok(Round::Stepped),
             Err(refusal) => Err(refusal),
         },

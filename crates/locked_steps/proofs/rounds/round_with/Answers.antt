@@ -7,30 +7,30 @@ use Rattle.locked_steps.proofs.rounds.round_with.Goals as goal
 pub returns-in-Ok-clause-count : goal.returns-in-Ok-clause-count
 returns-in-Ok-clause-count g c =
     counted_round g.C.Chooser.chooses c.args.name.now c.args.call c.args.asks_again c.args.cluster.now c.args.chooser.now
-    c.make_round.new.cluster c.make_round.new.chooser
+    c.make_round_at.new.cluster c.make_round_at.new.chooser
     c.in-Ok.round c.in-Ok.ensures.round
 
-pub returns-in-Ok-supply-clause-count : goal.returns-in-Ok-supply-clause-count
-returns-in-Ok-supply-clause-count g c =
-    kept_step c.args.cluster.now c.supply.new.self c.args.name.now (Step.Supply (pred c.args.call)) refl c.in-Ok-supply.ensures.step
+pub returns-in-Ok-supply_at-clause-count : goal.returns-in-Ok-supply_at-clause-count
+returns-in-Ok-supply_at-clause-count g c =
+    kept_step c.args.cluster.now c.supply_at.new.self c.args.name.now (Step.Supply (pred c.args.call)) refl c.in-Ok-supply_at.ensures.step
 
-pub returns-in-Ok-settle-clause-count : goal.returns-in-Ok-settle-clause-count
-returns-in-Ok-settle-clause-count g c =
-    kept_step c.args.cluster.now c.settle.new.self c.args.name.now (Step.Settle (pred c.args.call) c.in-Decoded.decoded.value) refl
-    c.in-Ok-settle.ensures.step
+pub returns-in-Ok-settle_at-clause-count : goal.returns-in-Ok-settle_at-clause-count
+returns-in-Ok-settle_at-clause-count g c =
+    kept_step c.args.cluster.now c.settle_at.new.self c.args.name.now (Step.Settle (pred c.args.call) c.in-Decoded.decoded.value) refl
+    c.in-Ok-settle_at.ensures.step
 
 pub returns-in-Ok-clause-course : goal.returns-in-Ok-clause-course
 returns-in-Ok-clause-course g c =
     goes_on_round g.C.Chooser.chooses c.args.name.now c.args.call c.args.asks_again c.args.cluster.now c.args.chooser.now
-    c.make_round.new.cluster c.make_round.new.chooser
+    c.make_round_at.new.cluster c.make_round_at.new.chooser
     c.in-Ok.round c.in-Ok.ensures.round
 
-pub returns-in-Ok-supply-clause-course : goal.returns-in-Ok-supply-clause-course
-returns-in-Ok-supply-clause-course g c =
-    goes_on_step c.args.cluster.now c.supply.new.self c.args.name.now (Step.Supply (pred c.args.call)) c.in-Ok-supply.ensures.may
-    c.in-Ok-supply.ensures.step
+pub returns-in-Ok-supply_at-clause-course : goal.returns-in-Ok-supply_at-clause-course
+returns-in-Ok-supply_at-clause-course g c =
+    goes_on_step c.args.cluster.now c.supply_at.new.self c.args.name.now (Step.Supply (pred c.args.call)) c.in-Ok-supply_at.ensures.may
+    c.in-Ok-supply_at.ensures.step
 
-pub returns-in-Ok-settle-clause-course : goal.returns-in-Ok-settle-clause-course
-returns-in-Ok-settle-clause-course g c =
-    goes_on_step c.args.cluster.now c.settle.new.self c.args.name.now (Step.Settle (pred c.args.call) c.in-Decoded.decoded.value)
-    c.in-Ok-settle.ensures.may c.in-Ok-settle.ensures.step
+pub returns-in-Ok-settle_at-clause-course : goal.returns-in-Ok-settle_at-clause-course
+returns-in-Ok-settle_at-clause-course g c =
+    goes_on_step c.args.cluster.now c.settle_at.new.self c.args.name.now (Step.Settle (pred c.args.call) c.in-Decoded.decoded.value)
+    c.in-Ok-settle_at.ensures.may c.in-Ok-settle_at.ensures.step
