@@ -44,18 +44,23 @@ class Beside:
             said = file.read()
         self.proved, self.has_ended, self.looked = set(PROVED.findall(said)), bool(ENDED.search(said)), time.monotonic()
 
-    def is_ready(self, crate):
-        """Whether all libraries below the crate are proved and stand built."""
+    def look_again(self):
         if not self.has_ended and time.monotonic() > self.looked + PAUSE:
             self.look()
+
+    def is_ready(self, crate):
+        """Whether all libraries below the crate are proved and stand built."""
+        self.look_again()
         is_proved = self.has_ended or all(it.name in self.proved for it in below(crate))
         return is_proved and all(os.path.isdir(it.rlib) for it in below(crate))
 
     def share(self):
-        """The part of the free memory that trials may take: `rt ci` counts on it too."""
-        return 0.45
+        """The part of the free memory that trials may take: as long as `rt ci` runs, it counts on it too."""
+        self.look_again()
+        return 0.85 if self.has_ended else 0.45
 
     def patience(self):
+        self.look_again()
         return None if self.has_ended else PAUSE
 
     def wait_for(self, crate):
