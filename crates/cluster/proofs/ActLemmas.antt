@@ -45,15 +45,15 @@ pub act_by : {T : Type 0} {cause own : Option Refusal} (answer : Result T Refusa
 act_by answer a same by = subst (λ c. IsActCause a c answer) (sym same) by
 
 -- no server stores more, or less
-pub no_more : (servers : ℕ) (object : Object) (a : Act) → IsReady servers a → (server : ℕ) →
-    of.stored_by object (step_of a) server ≡ 0
-no_more servers object (act.Serve place) ready server = absurd ready
-no_more servers object _ ready server = refl
+pub no_more : (servers number : ℕ) (object : Object) (a : Act) → IsReady servers a → (server : ℕ) →
+    of.stored_by object (step_of number a) server ≡ 0
+no_more servers number object (act.Serve place) ready server = absurd ready
+no_more servers number object _ ready server = refl
 
-pub no_less : (servers : ℕ) (object : Object) (a : Act) → IsReady servers a → (now server : ℕ) →
-    of.freed_by object (step_of a) now server ≡ 0
-no_less servers object (act.Serve place) ready now server = absurd ready
-no_less servers object _ ready now server = refl
+pub no_less : (servers number : ℕ) (object : Object) (a : Act) → IsReady servers a → (now server : ℕ) →
+    of.freed_by object (step_of number a) now server ≡ 0
+no_less servers number object (act.Serve place) ready now server = absurd ready
+no_less servers number object _ ready now server = refl
 
 no_call : {cluster : Cluster} {bytes count : ℕ} → IsKeptCluster cluster bytes count → IsKeptCluster cluster bytes (count + 0)
 no_call {cluster} {bytes} {count} kept = subst (λ n. IsKeptCluster cluster bytes n) (omega arith) kept
@@ -61,13 +61,13 @@ no_call {cluster} {bytes} {count} kept = subst (λ n. IsKeptCluster cluster byte
 -- what the cluster keeps
 module _ {servers : List Bool} {layouts : List Layout} {counter : ℕ} {entries : List Entry} {name : List ℕ}
     {place : ℕ} {old : State} where
-  kept_at : {bytes count : ℕ} {new : State} → IsKeptCluster (cluster_of servers layouts entries counter) bytes count →
+  kept_at : {bytes count number : ℕ} {new : State} → IsKeptCluster (cluster_of servers layouts entries counter) bytes count →
       IsAt entries name place old → (a : Act) → IsReady (length servers) a →
-      new ≡ made (step_of a) (counter + 1) old → counter + 1 ≤ MOST_STEPS →
+      new ≡ made (step_of number a) (counter + 1) old → counter + 1 ≤ MOST_STEPS →
       IsKeptCluster (cluster_of servers layouts (set_value_at entries place new) (counter + 1)) bytes (count + begun_by a)
-  kept_at kept at act.CallRead ready is few = call_at kept at Step.CallRead is few read_called
-  kept_at kept at (act.CallWrite v) ready is few = call_at kept at (Step.CallWrite v) is few (write_called v)
-  kept_at kept at (act.CallMove l) ready is few = move_at kept at l is few (move_moved l) ready
+  kept_at {number = n} kept at act.CallRead ready is few = call_at kept at (Step.CallRead n) is few (read_called n)
+  kept_at {number = n} kept at (act.CallWrite v) ready is few = call_at kept at (Step.CallWrite n v) is few (write_called n v)
+  kept_at {number = n} kept at (act.CallMove l) ready is few = move_at kept at n l is few (move_moved n l) ready
   kept_at kept at (act.Advance n) ready is few = no_call (quiet_at kept at (Step.Advance (pred n)) is few (advance_quiet (pred n)))
   kept_at kept at (act.Again n) ready is few = no_call (quiet_at kept at (Step.Again (pred n)) is few (again_quiet (pred n)))
   kept_at kept at (act.Supply n coded) ready is few = no_call (quiet_at kept at (Step.Supply (pred n)) is few (supply_quiet (pred n)))
@@ -80,10 +80,10 @@ module _ {servers : List Bool} {layouts : List Layout} {counter : ℕ} {entries 
   kept_at kept at (act.Lose p) ready is few = no_call (quiet_at kept at (Step.Lose p) is few (lose_quiet p))
   kept_at kept at (act.Repeat p) ready is few = no_call (quiet_at kept at (Step.Repeat p) is few (repeat_quiet p))
 
-  pub act_at : {bytes count begun : ℕ} {new : State} → IsKeptCluster (cluster_of servers layouts entries counter) bytes count →
+  pub act_at : {bytes count begun number : ℕ} {new : State} → IsKeptCluster (cluster_of servers layouts entries counter) bytes count →
       IsAt entries name place old → (a : Act) → IsReady (length servers) a →
-      new ≡ made (step_of a) (counter + 1) old → act_cause a (counter + 1) old.object ≡ None → begun ≡ begun_by a →
+      new ≡ made (step_of number a) (counter + 1) old → act_cause a (counter + 1) old.object ≡ None → begun ≡ begun_by a →
       IsKeptCluster (cluster_of servers layouts (set_value_at entries place new) (counter + 1)) bytes (count + begun)
-  act_at {bytes} {count} {begun} {new} kept at a ready is none all =
+  act_at {bytes} {count} {begun} {new = new} kept at a ready is none all =
       subst (λ n. IsKeptCluster (cluster_of servers layouts (set_value_at entries place new) (counter + 1)) bytes (count + n)) (sym all)
       (kept_at kept at a ready is (act_few (counter + 1) old.object a none))

@@ -92,10 +92,10 @@ abbrev pub written_len : Begin → ℕ
 written_len begin.Read = 0
 written_len (begin.Write value) = length value
 
--- the step that begins such a call
-abbrev pub call_step : Begin → Step
-call_step begin.Read = Step.CallRead
-call_step (begin.Write value) = Step.CallWrite value
+-- the step that begins such a call, with this id
+abbrev pub call_step : (id : ℕ) → Begin → Step
+call_step id begin.Read = Step.CallRead id
+call_step id (begin.Write value) = Step.CallWrite id value
 
 -- how many calls an object has; 0 where there is no object
 abbrev pub call_count : Option State → ℕ

@@ -59,6 +59,7 @@ opened_keeps layout delta now lawful = record {
     stored = omega (arith, none);
   };
   based = sym (ap (λ (o : Option ℕ). cond (is_some o) 1 0) (opened_unretired layout.members 0 delta now));
+  numbered = λ index call at. absurd (cc);
   staged = λ index t at. absurd (cc);
   moving = refl;
   stored = sym none;

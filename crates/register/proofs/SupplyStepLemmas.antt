@@ -98,7 +98,7 @@ module _ {c : Contents} {number index : ℕ} {t : Tracked} {coded : Coding} {pos
         ∙ ap (λ d. begun_object fragment object index t.call d now)
         (ap (λ i. due_of object i t.call) (place found) ∙ sym (same_due wanted) ∙ due_is)
         ∙ with_due_is c index t kind target layout now (sent_pieces fragment object t.call target)
-        (ap (layout_at object) target_is ∙ s.placed)
+        (ap (layout_at object) target_is ∙ s.placed) (found.kept.numbered index t.call (at found))
         ∙ ap (λ (piece : ℕ → Piece). (state_of (with_due c index t kind target layout now piece)).object)
         (ap (λ p. sent_pieces fragment object t.call p) target_is ∙ pieces_are s))
 

@@ -5,7 +5,7 @@ ghost use Rattle.tag.specs.Refusal.{IsByCause};
 ghost use Rattle.record.specs.Steps.{Step};
 ghost use Rattle.register.specs.Causes.{read_cause, write_cause, answer_cause};
 ghost use Rattle.register.specs.View.{receipt_at};
-ghost use Rattle.cluster.specs.Cluster.{if_named, layout_of, place_of};
+ghost use Rattle.cluster.specs.Cluster.{next_call_id, if_named, layout_of, place_of};
 ghost use Rattle.cluster.specs.Preconditions.{MayMake};
 ghost use Rattle.cluster.specs.Steps.{stepped, moved};
 ghost use Rattle.cluster.specs.Causes.{next, object_cause, moving_cause};
@@ -22,8 +22,10 @@ impl Cluster {
     /// `NoObject` where no object has this name. `Full` where the counter is at `MOST_STEPS`, the object has
     /// `MOST_CALLS` calls, or the n requests would make more than `MOST_MESSAGES` waiting messages of the object.
     pub fn call_read(&mut self, name: &str) -> Result<CallId, Refusal>
-        ensures step { OnOk result (self.new ≡ stepped self.old name.entry.now (Step.CallRead)) }
-        ensures may { OnOk result (MayMake self.old name.entry.now (Step.CallRead)) }
+        ensures step { OnOk result (self.new
+            ≡ stepped self.old name.entry.now (Step.CallRead (next_call_id self.old name.entry.now))) }
+        ensures may { OnOk result
+            (MayMake self.old name.entry.now (Step.CallRead (next_call_id self.old name.entry.now))) }
         ensures number { IfOk result
             (λ n. if_named self.old name.entry.now (λ object. Some (suc (length object.calls))) ≡ Some n) }
         ensures cause { IsByCause
@@ -43,8 +45,10 @@ impl Cluster {
     /// `NoObject` where no object has this name, `TooLong` where the value is longer than `LONGEST_VALUE` bytes, and
     /// `Full` as for `call_read`.
     pub fn call_write(&mut self, name: &str, value: Bytes) -> Result<CallId, Refusal>
-        ensures step { OnOk result (self.new ≡ stepped self.old name.entry.now (Step.CallWrite value)) }
-        ensures may { OnOk result (MayMake self.old name.entry.now (Step.CallWrite value)) }
+        ensures step { OnOk result (self.new
+            ≡ stepped self.old name.entry.now (Step.CallWrite (next_call_id self.old name.entry.now) value)) }
+        ensures may { OnOk result
+            (MayMake self.old name.entry.now (Step.CallWrite (next_call_id self.old name.entry.now) value)) }
         ensures number { IfOk result
             (λ n. if_named self.old name.entry.now (λ object. Some (suc (length object.calls))) ≡ Some n) }
         ensures cause { IsByCause
@@ -68,7 +72,8 @@ impl Cluster {
     /// messages of the object.
     pub fn call_move(&mut self, name: &str, id: LayoutId) -> Result<CallId, Refusal>
         ensures step { OnOk result (self.new ≡ moved self.old name.entry.now id) }
-        ensures may { OnOk result (MayMake self.old name.entry.now (Step.CallMove (layout_of self.old id))) }
+        ensures may { OnOk result (MayMake self.old name.entry.now
+            (Step.CallMove (next_call_id self.old name.entry.now) (layout_of self.old id))) }
         ensures number { IfOk result
             (λ n. if_named self.old name.entry.now (λ object. Some (suc (length object.calls))) ≡ Some n) }
         ensures cause { IsByCause (object_cause self.old name.entry.now (moving_cause self.old id)) result }

@@ -39,8 +39,8 @@ impl Register {
         ensures refused { IfErr result (λ e. e ≡ NoMemory) }
     {
         let mut entries = Vec::with_capacity(*self.calls.allocator(), self.calls.len())?;
-        for (index, call) in self.calls.iter().enumerate() {
-            entries.push(call.entry(index as u64 + 1)?)?;
+        for call in &self.calls {
+            entries.push(call.entry()?)?;
         }
         Ok(entries)
     }
@@ -56,7 +56,7 @@ impl Register {
             Ok(index) => index,
             Err(refusal) => return Err(refusal),
         };
-        self.calls[index].entry(call)
+        self.calls[index].entry()
     }
 
     /// How many bytes of pieces this server stores, over all positions of which it is a member.
