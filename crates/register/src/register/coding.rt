@@ -12,14 +12,13 @@ ghost use Rattle.tag.specs.declared.limits.TheConstants.{MOST_POSITIONS};
 ghost use Rattle.register.specs.Tracked.{HasPositionsBelow, tracked_want};
 ghost use Rattle.register.specs.Coding.{pieces_position, sending_position};
 ghost use Rattle.register.specs.Causes.{unless, value_cause, supply_cause, supplying_cause, pieces_cause, settle_cause};
-ghost use Rattle.register.specs.Causes.{is_replied};
 ghost use Rattle.register.specs.View.{coding_at, pieces_at};
 
 use crate::call::Call;
 use crate::pieces::{is_coded_for, is_decoded_from, piece_by};
 use crate::position::Position;
 use crate::register::Register;
-use crate::register::phases::{index_of, is_pre_write, want_of};
+use crate::register::phases::{index_of, is_pre_write, is_replied, want_of};
 use bytes::Bytes;
 use decoder::Decoded;
 use encoder::Coded;
@@ -236,16 +235,6 @@ fn sending_position(phase: Option<&Phase>) -> Option<u32>
             }
         }
         None => None,
-    }
-}
-
-// Whether there is a phase, and a quorum has replied to it.
-fn is_replied(phase: Option<&Phase>) -> bool
-    ensures { result ≡ is_replied (option_copied phase.entry) }
-{
-    match phase {
-        Some(phase) => phase.complete(),
-        None => false,
     }
 }
 

@@ -11,7 +11,7 @@ ghost use Rattle.tag.specs.declared.limits.TheConstants.{MOST_POSITIONS};
 ghost use Rattle.register.specs.Tracked.{HasPositionsBelow, tracked_want};
 ghost use Rattle.register.specs.State.{made, object_of};
 ghost use Rattle.register.specs.Causes.{number_cause, advance_cause, again_cause, post_cause, is_plain};
-ghost use Rattle.register.specs.Causes.{due_step, due_cause, wants_due};
+ghost use Rattle.register.specs.Causes.{due_step, due_cause, wants_due, is_replied};
 ghost use Rattle.register.specs.View.{want_at};
 
 use crate::call::Call;
@@ -229,6 +229,16 @@ fn is_plain(phase: Option<&Phase>) -> bool
 {
     match phase {
         Some(phase) => !is_pre_write(phase.kind()),
+        None => false,
+    }
+}
+
+// Whether there is a phase, and a quorum has replied to it.
+pub fn is_replied(phase: Option<&Phase>) -> bool
+    ensures { result ≡ is_replied (option_copied phase.entry) }
+{
+    match phase {
+        Some(phase) => phase.complete(),
         None => false,
     }
 }
