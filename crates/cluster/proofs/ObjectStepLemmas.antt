@@ -1,10 +1,11 @@
 -- A step of the object that a look-up found: the cluster once it is written back, what the cluster keeps, and the cause of a refusal.
-use Rattle.std.proofs.Common.{◌≡◌, ℕ, suc, ◌+◌, ◌≤◌, ◌<◌, ◌⊎◌, inl, inr, false, Bool}
-use Rattle.std.proofs.Common.{List, length, Option, Some, None, is_some, sym, ap, subst, ◌∙◌, arith, add-one}
+use Rattle.std.proofs.Common.{◌≡◌, ℕ, suc, ◌+◌, ◌≤◌, ◌<◌, false, Bool}
+use Rattle.std.proofs.Common.{List, length, Option, Some, is_some, Result, Ok, Err, IsErrAnd, sym, ap, subst, ◌∙◌, arith, add-one}
 use Rattle.std.specs.Map.{lookup}
+use Rattle.tag.specs.Refusal.{IsExactlyByCause}
 use Rattle.tag.specs.declared.limits.TheConstants.{MOST_BYTES, MOST_STEPS}
 use Rattle.tag.specs.declared.refusal.Refusal.{Refusal}
-use Rattle.tag.specs.declared.refusal.Refusal.TheVariants.{NoObject, NoMemory}
+use Rattle.tag.specs.declared.refusal.Refusal.TheVariants.{NoObject}
 use Rattle.indexmap.specs.IndexMap.{set_value_at}
 use Rattle.layout.specs.Layout.{Layout}
 use Rattle.encoder.specs.Fragment.{fragment}
@@ -128,8 +129,8 @@ module _ {servers : List Bool} {layouts : List Layout} {counter : ℕ} {entries 
       (cause : ℕ → Object → Option Refusal) → object_cause now name (cause (next now)) ≡ cause (counter + 1) old.object
   cause_at {now} same at cause = own_cause_at same at (cause (next now)) ∙ ap (λ n. cause n old.object) (next_is same)
 
--- the refusal of an object's step is the cluster's
-pub refused_by : {a b : Option Refusal} {r : Refusal} → a ≡ b → (b ≡ Some r) ⊎ ((b ≡ None) × (r ≡ NoMemory)) →
-    (a ≡ Some r) ⊎ ((a ≡ None) × (r ≡ NoMemory))
-refused_by e (inl some) = inl (e ∙ some)
-refused_by e (inr none) = inr (e ∙ none.0, none.1)
+-- a refusal that is handed on is by its cause
+pub exactly_refused : {T : Type 0} {cause : Option Refusal} (r : Result T Refusal) (refusal : Refusal) → IsErrAnd r (λ e. e ≡ refusal)
+    → cause ≡ Some refusal → IsExactlyByCause cause r
+exactly_refused (Ok x) refusal refused by = absurd refused
+exactly_refused (Err e) refusal refused by = by ∙ ap Some (sym refused)

@@ -32,11 +32,10 @@ impl Cluster {
             (object_cause self.old name.entry.now (λ object. read_cause (next self.old) object)) result }
         ensures unchanged { OnErr result (self.new ≡ self.old) }
     {
-        match self.act(name, Act::CallRead) {
-            Ok(Answered::Call(number)) => Ok(number),
-            Ok(_) => unreachable!(),
-            Err(refusal) => Err(refusal),
-        }
+        let Answered::Call(number) = self.act(name, Act::CallRead)? else {
+            unreachable!();
+        };
+        Ok(number)
     }
 
     /// Begins a write of a value to an object: its first phase sends a request Next to each of the n members of the
@@ -55,11 +54,10 @@ impl Cluster {
             (object_cause self.old name.entry.now (λ object. write_cause value (next self.old) object)) result }
         ensures unchanged { OnErr result (self.new ≡ self.old) }
     {
-        match self.act(name, Act::CallWrite(value)) {
-            Ok(Answered::Call(number)) => Ok(number),
-            Ok(_) => unreachable!(),
-            Err(refusal) => Err(refusal),
-        }
+        let Answered::Call(number) = self.act(name, Act::CallWrite(value))? else {
+            unreachable!();
+        };
+        Ok(number)
     }
 
     /// Begins a move of an object to a layout. The object's next position exists from this step on, with a bank for
@@ -89,11 +87,10 @@ impl Cluster {
             return Err(Refusal::BadLayout);
         };
         let layout = layout.clone()?;
-        match self.act(name, Act::CallMove(layout)) {
-            Ok(Answered::Call(number)) => Ok(number),
-            Ok(_) => unreachable!(),
-            Err(refusal) => Err(refusal),
-        }
+        let Answered::Call(number) = self.act(name, Act::CallMove(layout))? else {
+            unreachable!();
+        };
+        Ok(number)
     }
 
     /// Answers the call of this number. The receipt names the object by its place in the order of creation.
@@ -110,10 +107,9 @@ impl Cluster {
             (object_cause self.old name.entry.now (λ object. answer_cause (next self.old) object call)) result }
         ensures unchanged { OnErr result (self.new ≡ self.old) }
     {
-        match self.act(name, Act::Answer(call)) {
-            Ok(Answered::Receipt(receipt)) => Ok(receipt),
-            Ok(_) => unreachable!(),
-            Err(refusal) => Err(refusal),
-        }
+        let Answered::Receipt(receipt) = self.act(name, Act::Answer(call))? else {
+            unreachable!();
+        };
+        Ok(receipt)
     }
 }

@@ -4,11 +4,11 @@ use coding_pool::Gate;
 
 /// Prints each job as it is entered and left.
 #[derive(Clone, Copy)]
-pub(crate) struct Told<'a> {
+pub(crate) struct PrintingGate<'a> {
     pub(crate) host: &'a HostRuntime,
 }
 
-impl<'a> Gate for Told<'a> {
+impl<'a> Gate for PrintingGate<'a> {
     fn enter(&self, job: usize) {
         let _ = println!(self.host; "enter {job}");
     }
