@@ -30,9 +30,6 @@ same_want a b e = cc
 same_pieces : (a b : List Piece) → Some a ≡ Some b → a ≡ b
 same_pieces a b e = cc
 
-settle_both : (a b c d : ℕ) → Some (want.Settle a b) ≡ Some (want.Settle c d) → (a ≡ c) × (b ≡ d)
-settle_both a b c d e = (cc, cc)
-
 module _ {C : Type 0} (chooses : C → ℕ → ℕ → C → Type 0) (name : List ℕ) (call : ℕ) (again : Bool) (old : Cluster) (before : C) where
   abbrev Made : Cluster → C → Type 0
   Made new after = IsTurn chooses name call again old before new after × IsOpen new name call
