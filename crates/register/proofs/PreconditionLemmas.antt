@@ -142,8 +142,10 @@ module _ (c : Contents) (kept : IsKept c) where
   pub may_act : (now : ℕ) (a : Act) → HasLawfulValues a → act_cause a now object ≡ None
       → MayStep fragment object (step_of (next_id object) a)
   may_act now act.CallRead lawful none = next_is_new c kept
-  may_act now (act.CallWrite value) bytes none =
-      (next_is_new c kept, bytes, le_of (length value) LONGEST_VALUE (passed (nat_le (length value) LONGEST_VALUE) _ _ none).0)
+  may_act now (act.CallWrite value) bytes none = (
+    next_is_new c kept,
+    (bytes, le_of (length value) LONGEST_VALUE (passed (nat_le (length value) LONGEST_VALUE) _ _ none).0),
+  )
   may_act now (act.CallMove layout) lawful none = (
     next_is_new c kept,
     lawful,

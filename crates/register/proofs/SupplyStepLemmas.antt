@@ -30,7 +30,7 @@ use Rattle.register.specs.Tracked.{Tracked, calls_of, asked_again}
 use Rattle.register.proofs.BeginPhaseLemmas.{IsBeginning}
 use Rattle.register.proofs.ChangedCallLemmas.{with_due, with_due_is}
 use Rattle.register.proofs.FirstReadingLemmas.{begun_due}
-use Rattle.register.proofs.FoundCallLemmas.{IsFound, same, place, due_kept}
+use Rattle.register.proofs.FoundCallLemmas.{IsFound, at, same, place, due_kept}
 use Rattle.register.proofs.AskAgainLemmas.{IsAsking, phase_members, phase_call}
 use Rattle.register.proofs.SentPieceLemmas.{IsSending, sending_of, takes}
 use Rattle.register.proofs.SuppliedPieceLemmas.{IsSupplied, members_are, pieces_are, room_is, step_is}
