@@ -17,7 +17,7 @@ use Rattle.soundness.proofs.Sound.WantCaseLemmas.{Unsettled}
 use Rattle.soundness.proofs.Sound.WantPreconditionLemmas.{unsettled_of}
 use Rattle.register.specs.Causes.{if_call, if_step, unless, if_settle, is_decoded_in}
 use Rattle.register.specs.Causes.{settle_cause}
-use Rattle.register.specs.Coding.{same_piece, has_piece, is_recorded, piece_by, listed}
+use Rattle.register.specs.Coding.{same_piece, has_same_piece, is_recorded, piece_by, listed}
 use Rattle.register.specs.Coding.{pieces_below, least_of}
 use Rattle.register.specs.View.{want_at, pieces_at, pieces_of}
 use Rattle.register.proofs.RoomLemmas.{step_within}
@@ -40,11 +40,11 @@ recorded (t ∷ replies) member p e = go (recorded replies member p) (t.member =
     go : (piece_by replies member ≡ Some p → is_recorded replies p ≡ true) → (b : Bool) → (t.member == member) ≡ b
         → is_recorded (t ∷ replies) p ≡ true
     go rest true is =
-        ap (λ o. has_piece p o || is_recorded replies p)
+        ap (λ o. has_same_piece p o || is_recorded replies p)
         (sym (ap (λ b. cond b (answer_piece t.reply.answer) (piece_by replies member)) is) ∙ e)
         ∙ ap (λ b. b || is_recorded replies p) (same_self p)
     go rest false is =
-        or_right (has_piece p (answer_piece t.reply.answer)) (is_recorded replies p)
+        or_right (has_same_piece p (answer_piece t.reply.answer)) (is_recorded replies p)
         (rest (sym (ap (λ b. cond b (answer_piece t.reply.answer) (piece_by replies member)) is) ∙ e))
 
 all_both : (test : Piece → Bool) (xs ys : List Piece) → list_all test xs ≡ true → list_all test ys ≡ true → list_all test (xs ++ ys) ≡ true

@@ -61,13 +61,13 @@ abbrev pub same_piece : Piece → Piece → Bool
 same_piece a b = a.point == b.point && (a.len == b.len && bytes_eq a.bytes b.bytes)
 
 -- whether there is a piece, and it is the same as the given one
-abbrev pub has_piece : Piece → Option Piece → Bool
-has_piece piece None = false
-has_piece piece (Some other) = same_piece piece other
+abbrev pub has_same_piece : Piece → Option Piece → Bool
+has_same_piece piece None = false
+has_same_piece piece (Some other) = same_piece piece other
 
 -- whether one of the recorded replies carries this piece
 abbrev pub is_recorded : List Taken → Piece → Bool
-is_recorded replies piece = list_any (λ t. has_piece piece (answer_piece t.reply.answer)) replies
+is_recorded replies piece = list_any (λ t. has_same_piece piece (answer_piece t.reply.answer)) replies
 
 -- whether the value was decoded from k pieces, each carried by one of these replies
 abbrev pub is_decoded_from : (k : ℕ) → List Taken → Decoding → Bool
