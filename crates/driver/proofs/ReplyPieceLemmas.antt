@@ -17,7 +17,7 @@ use Rattle.record.specs.Fragments.{IsValue, IfCoded, answer_piece, answer_tag}
 use Rattle.record.specs.Journals.{IsJournaled}
 use Rattle.soundness.specs.Sound.{IsSound}
 use Rattle.record.specs.Wants.{value_len, len_or}
-use Rattle.register.specs.Coding.{piece_by, listed, pieces_below}
+use Rattle.register.specs.Coding.{piece_by, piece_list, pieces_below}
 
 -- a reply that brought a piece brought the member's piece of the value
 abbrev pub Brought : (value : List ℕ) → (k : ℕ) → Taken → Type 0
@@ -45,7 +45,7 @@ is_of value k member piece e =
     let point : piece.point ≡ member = ap (λ (p : Piece). p.point) e in
     (e ∙ ap (piece_of value k) (sym point), omega (arith, point))
 
-all_listed : (P : Piece → Type 0) (o : Option Piece) → ((piece : Piece) → o ≡ Some piece → P piece) → AllByRecursion P (listed o)
+all_listed : (P : Piece → Type 0) (o : Option Piece) → ((piece : Piece) → o ≡ Some piece → P piece) → AllByRecursion P (piece_list o)
 all_listed P None each = tt
 all_listed P (Some piece) each = (each piece refl, tt)
 
@@ -71,7 +71,7 @@ pub all_below : (value : List ℕ) (k : ℕ) (replies : List Taken) (n : ℕ) �
     → AllByRecursion (IsOf value k n) (pieces_below replies n)
 all_below value k replies zero all = tt
 all_below value k replies (suc n) all =
-    all_both (IsOf value k (suc n)) (pieces_below replies n) (listed (piece_by replies n))
+    all_both (IsOf value k (suc n)) (pieces_below replies n) (piece_list (piece_by replies n))
     (all_wider value k n (pieces_below replies n) (all_below value k replies n all))
     (all_listed (IsOf value k (suc n)) (piece_by replies n) (λ piece e. is_of value k n piece (by_member value k replies n piece all e)))
 

@@ -17,7 +17,7 @@ use Rattle.soundness.proofs.Sound.WantCaseLemmas.{Unsettled}
 use Rattle.soundness.proofs.Sound.WantPreconditionLemmas.{unsettled_of}
 use Rattle.register.specs.Causes.{if_call, if_step, unless, if_settle, is_decoded_in}
 use Rattle.register.specs.Causes.{settle_cause}
-use Rattle.register.specs.Coding.{same_piece, has_same_piece, is_recorded, piece_by, listed}
+use Rattle.register.specs.Coding.{same_piece, has_same_piece, is_recorded, piece_by, piece_list}
 use Rattle.register.specs.Coding.{pieces_below, least_of}
 use Rattle.register.specs.View.{want_at, pieces_at, pieces_of}
 use Rattle.register.proofs.RoomLemmas.{step_within}
@@ -67,14 +67,14 @@ all_take test (suc k) (x ∷ xs) a = go (all_take test k xs) (test x) a
     go rest true a = rest a
     go rest false a = absurd (cc)
 
-all_listed : (test : Piece → Bool) (o : Option Piece) → ((p : Piece) → o ≡ Some p → test p ≡ true) → list_all test (listed o) ≡ true
+all_listed : (test : Piece → Bool) (o : Option Piece) → ((p : Piece) → o ≡ Some p → test p ≡ true) → list_all test (piece_list o) ≡ true
 all_listed test None each = refl
 all_listed test (Some p) each = ap (λ b. b && true) (each p refl)
 
 all_recorded : (replies : List Taken) (n : ℕ) → list_all (is_recorded replies) (pieces_below replies n) ≡ true
 all_recorded replies zero = refl
 all_recorded replies (suc n) =
-    all_both (is_recorded replies) (pieces_below replies n) (listed (piece_by replies n)) (all_recorded replies n)
+    all_both (is_recorded replies) (pieces_below replies n) (piece_list (piece_by replies n)) (all_recorded replies n)
     (all_listed (is_recorded replies) (piece_by replies n) (λ p e. recorded replies n p e))
 
 both_true : (a b : Bool) → a ≡ true → b ≡ true → (a && b) ≡ true

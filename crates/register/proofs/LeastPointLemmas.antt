@@ -9,7 +9,7 @@ use Rattle.record.specs.Wants.{current_phase}
 use Rattle.record.specs.declared.stage.Want.{Want}
 use Rattle.record.specs.declared.stage.Want.TheVariants as want
 use Rattle.register.specs.Causes.{pieces_cause, if_settle}
-use Rattle.register.specs.Coding.{piece_by, listed, pieces_below, least_of}
+use Rattle.register.specs.Coding.{piece_by, piece_list, pieces_below, least_of}
 use Rattle.register.specs.State.{Contents, state_of}
 use Rattle.register.specs.Tracked.{Tracked}
 use Rattle.register.specs.View.{pieces_at, pieces_of}
@@ -43,20 +43,20 @@ pub least_pushed : (k member : ℕ) (replies : List Taken) (items : List Piece) 
 least_pushed k member replies items piece is less by =
     ap (λ xs. xs ++ piece ∷ []) is
     ∙ sym (take_push k (pieces_below replies member) piece (subst (λ (xs : List Piece). length xs < k) is less))
-    ∙ ap (λ o. take k (pieces_below replies member ++ listed o)) by
+    ∙ ap (λ o. take k (pieces_below replies member ++ piece_list o)) by
 
 pub least_full : (k member : ℕ) (replies : List Taken) (items : List Piece) → items ≡ take k (pieces_below replies member)
     → k ≤ length items
     → items ≡ take k (pieces_below replies (suc member))
 least_full k member replies items is full =
-    is ∙ sym (take_full k (pieces_below replies member) (listed (piece_by replies member))
+    is ∙ sym (take_full k (pieces_below replies member) (piece_list (piece_by replies member))
     (subst (λ (xs : List Piece). k ≤ length xs) is full))
 
 pub least_none : (k member : ℕ) (replies : List Taken) (items : List Piece) → items ≡ take k (pieces_below replies member)
     → None ≡ piece_by replies member
     → items ≡ take k (pieces_below replies (suc member))
 least_none k member replies items is none =
-    is ∙ ap (take k) (sym (nil_end (pieces_below replies member))) ∙ ap (λ o. take k (pieces_below replies member ++ listed o)) none
+    is ∙ ap (take k) (sym (nil_end (pieces_below replies member))) ∙ ap (λ o. take k (pieces_below replies member ++ piece_list o)) none
 
 pub pieces_cause_is : {c : Contents} {number index : ℕ} {t : Tracked} {w : Want} → IsWanting c number index t w
     → pieces_cause (state_of c).object number ≡ if_settle w None

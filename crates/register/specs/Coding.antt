@@ -79,14 +79,14 @@ piece_by [] member = None
 piece_by (t ∷ replies) member = if t.member == member then answer_piece t.reply.answer else piece_by replies member
 
 -- the piece as a list of one, or the empty list where there is none
-abbrev pub listed : Option Piece → List Piece
-listed None = []
-listed (Some piece) = piece ∷ []
+abbrev pub piece_list : Option Piece → List Piece
+piece_list None = []
+piece_list (Some piece) = piece ∷ []
 
 -- the pieces that the replies of the first `count` members carry, by rising member, which is the point of the piece
 abbrev pub pieces_below : List Taken → (count : ℕ) → List Piece
 pieces_below replies zero = []
-pieces_below replies (suc member) = pieces_below replies member ++ listed (piece_by replies member)
+pieces_below replies (suc member) = pieces_below replies member ++ piece_list (piece_by replies member)
 
 -- of the pieces that the replies of a layout's members carry, the k with the least points
 abbrev pub least_pieces : Layout → List Taken → List Piece
