@@ -44,14 +44,15 @@ pub record SettlesOwn (old : Cluster) (name : List ℕ) (call : ℕ) (new : Clus
 
 module _ {C : Type 0} (chooses : C → ℕ → ℕ → C → Type 0) (name : List ℕ) (call : ℕ) where
   -- a round is a turn, or it changes nothing and hands out a value to encode or pieces to decode
-  abbrev pub IsRound : (again : Bool) → (old : Cluster) → (before : C) → (new : Cluster) → (after : C) → Round → Type 0
-  IsRound again old before new after round.Stepped =
+  abbrev pub MakesRound : (again : Bool) → (old : Cluster) → (before : C) → (new : Cluster) → (after : C) → Round
+      → Type 0
+  MakesRound again old before new after round.Stepped =
       IsTurn chooses name call again old before new after × (wanted old name call ≢ Some want.Answer)
-  IsRound again old before new after (round.Encode value k n) =
+  MakesRound again old before new after (round.Encode value k n) =
       (new ≡ old) × (after ≡ before) × IsDue chooses name call old again before before (Step.Supply (pred call))
       × IsToEncode old name call k n value
-  IsRound again old before new after (round.Decode pieces k len) =
+  MakesRound again old before new after (round.Decode pieces k len) =
       (new ≡ old) × (after ≡ before) × IsToDecode old name call k len pieces.items
-  IsRound again old before new after (round.Answered receipt) =
+  MakesRound again old before new after (round.Answered receipt) =
       IsAnswerTurn chooses name call again old before new after receipt
-  IsRound again old before new after round.Late = ⊥
+  MakesRound again old before new after round.Late = ⊥
