@@ -40,13 +40,13 @@ pending_of name None = None
 pending_of name (Some r) = Some (record { name = name; kept = r })
 
 -- the record of the pending call as a list, which is empty where none is pending
-abbrev pub listed : Option Pending → List CallRecord
-listed None = []
-listed (Some p) = p.kept ∷ []
+abbrev pub pending_list : Option Pending → List CallRecord
+pending_list None = []
+pending_list (Some p) = p.kept ∷ []
 
 -- all records of a seat, in the order of their calls
 abbrev pub records_of : SeatState → List CallRecord
-records_of s = s.records ++ listed s.pending
+records_of s = s.records ++ pending_list s.pending
 
 -- a pending call has no receipt
 abbrev pub IsUnanswered : Option Pending → Type 0

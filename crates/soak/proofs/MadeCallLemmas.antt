@@ -12,7 +12,7 @@ use Rattle.locked_steps.specs.declared.call_record.CallRecord.{CallRecord}
 use Rattle.cluster.specs.Cluster.{Cluster}
 use Rattle.locked_steps.specs.Closing.{all_records, receipts_of}
 use Rattle.locked_steps.specs.Moves.{AdminState}
-use Rattle.locked_steps.specs.Seats.{SeatState, SettlesPending, record_begun, listed, new_seat, new_seats, records_of, with_pending}
+use Rattle.locked_steps.specs.Seats.{SeatState, SettlesPending, record_begun, pending_list, new_seat, new_seats, records_of, with_pending}
 use Rattle.locked_steps.proofs.SeatRecordLemmas.{all_append, all_back, all_front}
 use Rattle.soak.specs.Call.{object_called}
 use Rattle.soak.specs.Closed.{IsClosed, IsOfClosed}
@@ -80,7 +80,8 @@ MakesAll-counts first (suc n) number t (s, before, (receipt, (b, (cluster, (stat
 HasMade-receipts : (first : Cluster) (n : ℕ) (t : SeatState) → HasMade first n t → receipts_of (records_of t) ≡ n
 HasMade-receipts first n t (number, made) =
     let counts = MakesAll-counts first n number t made in
-    ap (λ (o : Option _). receipts_of (t.records ++ listed o)) counts.settled ∙ ap receipts_of (append-nil t.records) ∙ counts.receipts
+    ap (λ (o : Option _). receipts_of (t.records ++ pending_list o)) counts.settled ∙ ap receipts_of (append-nil t.records)
+      ∙ counts.receipts
 
 -- each seat has so many receipts
 pub all-receipts : (first : Cluster) (n : ℕ) (seats : List SeatState) → AllByRecursion (HasMade first n) seats
