@@ -24,7 +24,7 @@ use Rattle.locked_steps.specs.Calls.{shown_from}
 use Rattle.locked_steps.specs.Calls.{told_in, written_in}
 use Rattle.locked_steps.specs.Seats.{SeatState, records_of, IsRising, IsInOrder, IsAnsweredLater, least_after}
 use Rattle.locked_steps.specs.Closing.{IsWrittenAs, IsToldAs, Matches, Stands, AllStand, all_records, key_of, same_key, are_distinct, Fit}
-use Rattle.locked_steps.specs.Closing.{answer_of, value_of, shown_record, IsAccounted}
+use Rattle.locked_steps.specs.Closing.{answer_of, value_returned, shown_record, IsAccounted}
 use Rattle.locked_steps.proofs.SameElementsLemmas.{AreApart, contains_here, contains_there, same_elements}
 use Rattle.locked_steps.proofs.SeatRecordLemmas.{all_front, all_back}
 
@@ -39,7 +39,7 @@ written_client (Write v) value written h = refl
 written_client Move value written h = absurd h
 
 told_shown : (object : ℕ) (e : Entry) (o : Option Receipt) → IsToldAs object e o → (e.answered ≡ answer_of o)
-    × (told_in e.answered e.value ≡ value_of o)
+    × (told_in e.answered e.value ≡ value_returned o)
 told_shown object e None h = (h, ap (λ (a : Option ℕ). told_in a e.value) h)
 told_shown object e (Some t) h = (h.answered, ap (λ (a : Option ℕ). told_in a e.value) h.answered ∙ sym h.value)
 

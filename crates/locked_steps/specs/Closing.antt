@@ -83,9 +83,9 @@ answer_of None = None
 answer_of (Some t) = Some t.answered
 
 -- the value that was returned; none where there is no receipt
-abbrev pub value_of : Option Receipt → Option (List ℕ)
-value_of None = None
-value_of (Some t) = t.value
+abbrev pub value_returned : Option Receipt → Option (List ℕ)
+value_returned None = None
+value_returned (Some t) = t.value
 
 -- what the record of a call shows
 abbrev pub shown_record : CallRecord → Shown
@@ -96,7 +96,7 @@ shown_record r = record {
   written = r.written;
   called = r.called;
   answered = answer_of r.receipt;
-  told = value_of r.receipt;
+  told = value_returned r.receipt;
 }
 
 -- the reads and writes of the history are the seats' records, each once; each seat's calls are in the records' order
