@@ -8,7 +8,7 @@ use Rattle.std.proofs.lemmas.List.Elements.{All-from_recursion}
 use Rattle.std.proofs.lemmas.Map.Made.{AllPairs-from_IsDistinct}
 use Rattle.tag.specs.declared.tag.Tag.{Tag}
 use Rattle.layout.specs.Layout.{Layout, IsLawful}
-use Rattle.encoder.specs.Fragment.{fragment, piece_of}
+use Rattle.encoder.specs.Fragment.{fragment, piece_at_point}
 use Rattle.piece.specs.declared.piece.Piece.{Piece}
 use Rattle.decoder.specs.Pieces.{ArePiecesOf, points_of}
 use Rattle.bank.specs.declared.kind.Kind.{Kind}
@@ -164,8 +164,8 @@ module _ (object : Object) (last index : ℕ) (call : Call) (sound : IsSound fra
         (apart_take layout.k (pieces_below u.phase.replies (length layout.members))
         (apart_below value layout.k u.phase.replies (length layout.members) brought)));
     pieces_of =
-        All-from_recursion (λ p. p ≡ piece_of value layout.k p.point) ps
-        (all_weaker _ (λ p. p ≡ piece_of value layout.k p.point) ps (λ p is. is.0) all_of);
+        All-from_recursion (λ p. p ≡ piece_at_point value layout.k p.point) ps
+        (all_weaker _ (λ p. p ≡ piece_at_point value layout.k p.point) ps (λ p is. is.0) all_of);
   }
 
   pub len_of : value_len u.phase.replies ≡ length value

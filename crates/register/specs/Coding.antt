@@ -5,7 +5,7 @@ use Rattle.std.specs.Prelude.{◌∷◌, ◌++◌, length, take, Option, Some, N
 use Rattle.std.specs.List.{list_any, list_all}
 use Rattle.std.specs.Cmp.Lexicographic.{pointwise}
 use Rattle.layout.specs.Layout.{Layout}
-use Rattle.encoder.specs.Fragment.{piece_of}
+use Rattle.encoder.specs.Fragment.{piece_at_point}
 use Rattle.encoder.specs.Coded.{Coding}
 use Rattle.piece.specs.declared.piece.Piece.{Piece}
 use Rattle.decoder.specs.Decoded.{Decoding}
@@ -54,7 +54,7 @@ is_coded_for layout value coded = bytes_eq coded.value value &&
 -- the piece of a member: of the encoded value if there is one, and else of the empty value
 abbrev pub piece_from : Option Coding → (member : ℕ) → Piece
 piece_from None member = empty_piece member
-piece_from (Some coded) member = piece_of coded.value coded.k member
+piece_from (Some coded) member = piece_at_point coded.value coded.k member
 
 -- whether two pieces are the same
 abbrev pub same_piece : Piece → Piece → Bool
