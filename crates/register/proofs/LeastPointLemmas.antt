@@ -32,10 +32,6 @@ take_full zero xs ys full = refl
 take_full (suc k) [] ys full = absurd (omega (arith, full))
 take_full (suc k) (x ∷ xs) ys full = ap (λ zs. x ∷ zs) (take_full k xs ys (omega (arith, full)))
 
-nil_end : {X : Type 0} (xs : List X) → xs ++ [] ≡ xs
-nil_end [] = refl
-nil_end (x ∷ xs) = ap (λ ys. x ∷ ys) (nil_end xs)
-
 -- one more member
 pub least_pushed : (k member : ℕ) (replies : List Taken) (items : List Piece) (piece : Piece) → items ≡ take k (pieces_below replies member)
     → length items < k
@@ -51,12 +47,6 @@ pub least_full : (k member : ℕ) (replies : List Taken) (items : List Piece) �
 least_full k member replies items is full =
     is ∙ sym (take_full k (pieces_below replies member) (piece_list (piece_by replies member))
     (subst (λ (xs : List Piece). k ≤ length xs) is full))
-
-pub least_none : (k member : ℕ) (replies : List Taken) (items : List Piece) → items ≡ take k (pieces_below replies member)
-    → None ≡ piece_by replies member
-    → items ≡ take k (pieces_below replies (suc member))
-least_none k member replies items is none =
-    is ∙ ap (take k) (sym (nil_end (pieces_below replies member))) ∙ ap (λ o. take k (pieces_below replies member ++ piece_list o)) none
 
 pub pieces_cause_is : {c : Contents} {number index : ℕ} {t : Tracked} {w : Want} → IsWanting c number index t w
     → pieces_cause (state_of c).object number ≡ if_settle w None

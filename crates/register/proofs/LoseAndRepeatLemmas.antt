@@ -17,9 +17,6 @@ pub losing_keeps : (c : Contents) (place now : ℕ) → c.last < now → IsKept 
 losing_keeps c place now after kept within =
     mail_kept c (remove c.mail place) now kept (steps_on c now (Step.Lose place) after kept (found c.mail place within))
 
-pub lose_cause_none : (mail : List Message) (place : ℕ) → place < length mail → if_message (slice_get mail place) (λ message. None) ≡ None
-lose_cause_none mail place within = let there = found mail place within in ap (λ m. if_message m (λ message. None)) there.1
-
 -- what is repeated, by the message that is there
 repeated_is : (mail : List Message) (place : ℕ) (m : Message) → slice_get mail place ≡ Some m → repeated mail place ≡ mail ++ m ∷ []
 repeated_is mail place m there = ap (repeated_message mail) there

@@ -186,13 +186,6 @@ waits_behind call phase member (suc from) (m ∷ mail) others =
     ap (λ b. b || waits mail call phase member) (not_of call phase member m others.0)
     ∙ waits_behind call phase member from mail others.1
 
-pub waits_end : (mail : List Message) (call phase member place : ℕ) → length mail ≤ place
-    → waits (drop place mail) call phase member ≡ false
-waits_end [] call phase member zero past = refl
-waits_end [] call phase member (suc place) past = refl
-waits_end (x ∷ xs) call phase member zero past = absurd (omega (arith, past))
-waits_end (x ∷ xs) call phase member (suc place) past = waits_end xs call phase member place (omega (arith, past))
-
 -- the same requests, by the numbers that a phase has
 pub same_requests : (mail : List Message) (replies : List Taken) (call : ℕ) (n m : ℕ) (j k : Kind) (p q : ℕ) (servers : List ℕ)
     (piece : ℕ → Piece) → n ≡ m → j ≡ k → p ≡ q

@@ -13,9 +13,6 @@ use Rattle.register.specs.Position.{Position, banks_bytes, all_bytes}
 use Rattle.register.specs.Kept.{IsKept}
 use Rattle.register.proofs.FragmentCodeLemmas.{fragments_are_code}
 
-pub opened_position : Layout → Option ℕ → ℕ → Position
-opened_position layout delta now = record { layout = layout; banks = opened_banks layout.members 0 delta now }
-
 -- open banks store nothing
 pub opened_banks_bytes : (servers : List ℕ) (member : ℕ) (delta : Option ℕ) (now : ℕ)
     → banks_bytes (opened_banks servers member delta now) ≡ 0
