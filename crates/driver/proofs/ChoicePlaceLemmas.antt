@@ -27,7 +27,8 @@ places_few test place [] = omega arith
 places_few test place (message ∷ messages) = go (test message) (places_few test (suc place) messages)
   where
     go : (b : Bool) → length (places_passing test (suc place) messages) ≤ length messages
-        → length (cond b (place ∷ places_passing test (suc place) messages) (places_passing test (suc place) messages)) ≤ suc (length messages)
+        → length (cond b (place ∷ places_passing test (suc place) messages) (places_passing test (suc place) messages))
+        ≤ suc (length messages)
     go true few = omega (arith, few)
     go false few = omega (arith, few)
 
@@ -78,7 +79,8 @@ module _ (test : Message → Bool) (mail : List Message) (place : ℕ) (b : Bool
           ∙ ap (λ b. length (cond b (place ∷ later test mail place) (later test mail place))) passes
 
       add-one-of : (place : ℕ)
-          → length (places_passing test (place + 1) (drop (place + 1) mail)) ≡ length (places_passing test (suc place) (drop (suc place) mail))
+          → length (places_passing test (place + 1) (drop (place + 1) mail))
+          ≡ length (places_passing test (suc place) (drop (suc place) mail))
       add-one-of place = ap (λ n. length (places_passing test n (drop n mail))) (add-one place)
 
   pub uncounted : (count total : ℕ) → b ≡ false → count + length (from test mail place) ≡ total

@@ -85,8 +85,8 @@ fn finish_begun<C: Chooser>(
     turns: u64,
 ) -> Result<Receipt, NotAnswered>
     ensures { MatchResult result
-        (λ receipt. FinishesCall C.chooses name.entry.now call false turns cluster.old chooser.old cluster.new chooser.new
-        receipt)
+        (λ receipt. FinishesCall C.chooses name.entry.now call false turns cluster.old chooser.old cluster.new
+        chooser.new receipt)
         (λ e. (refusal : Refusal) × (e ≡ unanswered.Open call refusal)
         × IsUnfinished C.chooses name.entry.now call false turns cluster.old chooser.old cluster.new chooser.new
         refusal) }
