@@ -9,7 +9,7 @@ use Rattle.bank.proofs.BankBytesLemmas.{opened_bytes}
 use Rattle.record.specs.Records.{no_bank}
 use Rattle.record.specs.Steps.{opened_banks}
 use Rattle.soundness.proofs.Sound.OpenedObjectLemmas.{opening_sound}
-use Rattle.register.specs.Position.{Position, banks_bytes, all_bytes}
+use Rattle.register.specs.Position.{banks_bytes, all_bytes}
 use Rattle.register.specs.Kept.{IsKept}
 use Rattle.register.proofs.FragmentCodeLemmas.{fragments_are_code}
 

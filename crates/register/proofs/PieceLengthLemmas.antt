@@ -1,5 +1,5 @@
 -- No piece is longer than a value may be.
-use Rattle.std.proofs.Common.{◌≡◌, ℕ, zero, suc, ◌+◌, ◌*◌, ◌<◌, ◌≤◌, ◌||◌, Bool, true, false, cond, List, [], ◌∷◌, ◌++◌, length, Option}
+use Rattle.std.proofs.Common.{◌≡◌, ℕ, zero, suc, ◌+◌, ◌*◌, ◌<◌, ◌≤◌, List, [], ◌∷◌, length, Option}
 use Rattle.std.proofs.Common.{Some, None, sym, subst, inl, inr, refl, arith}
 use Rattle.std.specs.List.{AllByRecursion}
 use Rattle.std.proofs.lemmas.Grind.{div_ceil_times}
@@ -7,7 +7,6 @@ use Rattle.tag.specs.declared.limits.TheConstants.{LONGEST_VALUE, MOST_BYTES, MO
 use Rattle.tag.specs.declared.tag.Tag.{Tag}
 use Rattle.piece.specs.declared.piece.Piece.{Piece}
 use Rattle.encoder.specs.Fragment.{fragment, fragment_len}
-use Rattle.encoder.specs.Coded.{Coding}
 use Rattle.encoder.proofs.ColumnLemmas.{length-fragment}
 use Rattle.layout.specs.Layout.{Layout, IsLawful}
 use Rattle.bank.specs.Answer.{answer_bytes}
@@ -29,9 +28,6 @@ use Rattle.record.specs.Knowledge.{IsTruePhase}
 use Rattle.record.specs.Fragments.{IsCoded, IfCoded, body_tag, body_piece, answer_tag, answer_piece}
 use Rattle.record.specs.Journals.{IsJournaled}
 use Rattle.soundness.specs.Sound.{IsSound, IsPosted}
-use Rattle.layout.specs.Quorum.{has}
-use Rattle.record.specs.Sending.{request_to, requests, missing, waits}
-use Rattle.register.specs.Coding.{HavePieces, piece_from}
 use Rattle.register.specs.Kept.{HasRoomIfFew}
 use Rattle.register.proofs.ListLemmas.{all_found, found, found_or}
 

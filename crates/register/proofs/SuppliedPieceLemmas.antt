@@ -14,7 +14,7 @@ use Rattle.phase.specs.Phase.{Phase}
 use Rattle.record.specs.Records.{Object, layout_at}
 use Rattle.record.specs.Steps.{Step, stepped, on_call, advanced_object}
 use Rattle.record.specs.Sending.{sent_value, value_or_empty, fragment_piece, sent_pieces}
-use Rattle.record.specs.Steps.{begun_object, supplied_by, supplied_object}
+use Rattle.record.specs.Steps.{supplied_by, supplied_object}
 use Rattle.record.specs.Steps as steps
 use Rattle.record.specs.Wants.{current_phase}
 use Rattle.register.specs.Causes.{supply_cause, supplied_cause, supply_room_cause, is_replied, if_step, unless}

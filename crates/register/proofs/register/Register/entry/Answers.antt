@@ -1,9 +1,6 @@
-use Rattle.std.proofs.Common.{◌≡◌, Some, sym, ◌∙◌, ap}
+use Rattle.std.proofs.Common.{Some, sym, ◌∙◌, ap}
 use Rattle.std.proofs.lemmas.Result.{IfOk-weaker}
-use Rattle.std.specs.Prelude.{option_map}
 use Rattle.record.specs.declared.call.Entry.{Entry}
-use Rattle.record.specs.Journals.{entry_of}
-use Rattle.register.specs.Causes.{call_at}
 use Rattle.register.proofs.FoundCallLemmas.{entry_is, is_found}
 use Rattle.register.proofs.register.Register.entry.Goals as goal
 
