@@ -35,7 +35,7 @@ abbrev pub ContinuesCall : (name : List ℕ) → (call : ℕ) → (resumed : Boo
     (begun new : Cluster) → Report → Type 0
 ContinuesCall name call resumed turns begun new (of.Answered receipt) =
     (before : First) × (after : First)
-        × FinishesCall chooses_first name call resumed turns begun before new after receipt
+    × FinishesCall chooses_first name call resumed turns begun before new after receipt
 ContinuesCall name call resumed turns begun new (of.Did outcome) = LeavesOpen name call resumed turns begun new outcome
 
 -- the call begins, in the cluster `begun`, and the driver continues it; or the first step is refused

@@ -81,7 +81,7 @@ HasMade-receipts : (first : Cluster) (n : ℕ) (t : SeatState) → HasMade first
 HasMade-receipts first n t (number, made) =
     let counts = MakesAll-counts first n number t made in
     ap (λ (o : Option _). receipts_of (t.records ++ pending_list o)) counts.settled ∙ ap receipts_of (append-nil t.records)
-      ∙ counts.receipts
+    ∙ counts.receipts
 
 -- each seat has so many receipts
 pub all-receipts : (first : Cluster) (n : ℕ) (seats : List SeatState) → AllByRecursion (HasMade first n) seats
