@@ -19,7 +19,7 @@ use Rattle.register.specs.Causes.{if_call, if_step, unless, if_settle, is_decode
 use Rattle.register.specs.Causes.{settle_cause}
 use Rattle.register.specs.Coding.{same_piece, has_same_piece, is_recorded, piece_by, piece_list}
 use Rattle.register.specs.Coding.{pieces_below, least_of}
-use Rattle.register.specs.View.{want_at, call_pieces, pieces_of}
+use Rattle.register.specs.View.{want_at, fetched_pieces, pieces_of}
 use Rattle.register.proofs.RoomLemmas.{step_within}
 use Rattle.driver.specs.Coding.{settling_cause}
 use Rattle.driver.proofs.WantLemmas.{WantsAt, wants_at}
@@ -83,7 +83,7 @@ both_true false b p q = absurd (cc)
 
 pub settle_is : (object : Object) (number k len now : ℕ) (decoded : Decoding) → want_at object number ≡ Some (want.Settle k len)
     → decoded.k ≡ k
-    → decoded.pieces ≡ call_pieces object number → settle_cause now object number decoded ≡ settling_cause now object number
+    → decoded.pieces ≡ fetched_pieces object number → settle_cause now object number decoded ≡ settling_cause now object number
 settle_is object number k len now decoded e same_k same_pieces =
     ap (λ o. if_call o (λ call. if_settle (want_of object (pred number) call)
     (unless (is_decoded_in object (current_phase call.phases) decoded) WrongCode (if_step now None)))) w.at

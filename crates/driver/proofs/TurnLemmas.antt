@@ -10,7 +10,7 @@ use Rattle.record.specs.Steps.{Step}
 use Rattle.record.specs.declared.stage.Want.{Want}
 use Rattle.record.specs.declared.stage.Want.TheVariants as want
 use Rattle.register.specs.Causes.{supplying_cause}
-use Rattle.register.specs.View.{want_at, call_pieces}
+use Rattle.register.specs.View.{want_at, fetched_pieces}
 use Rattle.cluster.specs.Cluster.{Cluster}
 use Rattle.cluster.specs.Causes.{next, object_cause}
 use Rattle.cluster.specs.Preconditions.{MayMake}
@@ -91,8 +91,8 @@ module _ {C : Type 0} (chooses : C → ℕ → ℕ → C → Type 0) (name : Lis
         let r = subst (λ o. MakesRound chooses name call again old before middle after o) is made_by in
         let own = subst (λ m. SettlesOwn m name call new) r.0 settles in
         let s = is_there old name (λ object. want_at object call) (want.Settle own.k own.len) own.wants in
-        let read : call_pieces s.0.object call ≡ own.pieces =
-        same_pieces _ _ (sym (read_there old name s.0 (λ object. Some (call_pieces object call)) s.1) ∙ own.taken) in
+        let read : fetched_pieces s.0.object call ≡ own.pieces =
+        same_pieces _ _ (sym (read_there old name s.0 (λ object. Some (fetched_pieces object call)) s.1) ∙ own.taken) in
         let given = subst (λ (ps : List Piece). IsInterpolated own.k own.len ps own.value) (sym read) own.given in
         made new after (Step.Settle (pred call) own.value)
         (record { state = s.0; there = s.1; want = want.Settle own.k own.len; wants = s.2; next = (r.1, (own.value, refl, given)) })
@@ -110,7 +110,7 @@ module _ {C : Type 0} (chooses : C → ℕ → ℕ → C → Type 0) (name : Lis
         (λ state there. (
           r.2.give.0,
           subst (λ (ps : List Piece). IsInterpolated k len ps r.2.give.0)
-              (sym (same_pieces _ _ (sym (read_there old name state (λ object. Some (call_pieces object call)) there) ∙ r.2.taken)))
+              (sym (same_pieces _ _ (sym (read_there old name state (λ object. Some (fetched_pieces object call)) there) ∙ r.2.taken)))
               (IsInterpolated-pieces_of r.2.give.0 k len pieces.items r.2.give.1 r.2.give.2),
         ))
         (subst (λ (m : Cluster). (object_cause m name (λ object. settling_cause (next m) object call) ≡ Some refusal)

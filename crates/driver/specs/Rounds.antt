@@ -7,7 +7,7 @@ use Rattle.decoder.specs.Pieces.{IsInterpolated}
 use Rattle.record.specs.Steps.{Step}
 use Rattle.record.specs.declared.stage.Want.TheVariants as want
 use Rattle.register.specs.Causes.{supplying_cause}
-use Rattle.register.specs.View.{coding_at, call_pieces}
+use Rattle.register.specs.View.{coding_at, fetched_pieces}
 use Rattle.cluster.specs.Cluster.{Cluster, if_named}
 use Rattle.cluster.specs.Causes.{next, object_cause}
 use Rattle.cluster.specs.Preconditions.{MayMake}
@@ -26,7 +26,7 @@ pub record IsToEncode (cluster : Cluster) (name : List ℕ) (call k n : ℕ) (va
 -- these are the pieces that the call is to decode; some value has them, and nothing refuses the settle
 pub record IsToDecode (cluster : Cluster) (name : List ℕ) (call k len : ℕ) (pieces : List Piece) : Type 0 where
   pub wants : wanted cluster name call ≡ Some (want.Settle k len)
-  pub taken : if_named cluster name (λ object. Some (call_pieces object call)) ≡ Some pieces
+  pub taken : if_named cluster name (λ object. Some (fetched_pieces object call)) ≡ Some pieces
   pub give : GiveBack k len pieces
   pub room : object_cause cluster name (λ object. settling_cause (next cluster) object call) ≡ None
 
@@ -36,7 +36,7 @@ pub record SettlesOwn (old : Cluster) (name : List ℕ) (call : ℕ) (new : Clus
   pub len : ℕ
   pub wants : wanted old name call ≡ Some (want.Settle k len)
   pub pieces : List Piece
-  pub taken : if_named old name (λ object. Some (call_pieces object call)) ≡ Some pieces
+  pub taken : if_named old name (λ object. Some (fetched_pieces object call)) ≡ Some pieces
   pub value : List ℕ
   pub given : IsInterpolated k len pieces value
   pub may : MayMake old name (Step.Settle (pred call) value)

@@ -12,7 +12,7 @@ use Rattle.register.specs.Causes.{pieces_cause, if_settle}
 use Rattle.register.specs.Coding.{piece_by, piece_list, pieces_below, least_of}
 use Rattle.register.specs.State.{Contents, state_of}
 use Rattle.register.specs.Tracked.{Tracked}
-use Rattle.register.specs.View.{call_pieces, pieces_of}
+use Rattle.register.specs.View.{fetched_pieces, pieces_of}
 use Rattle.register.proofs.CallViewLemmas.{truth}
 use Rattle.register.proofs.FoundCallLemmas.{IsWanting, at_number, caused}
 use Rattle.register.proofs.SettleLemmas.{k_is}
@@ -54,7 +54,8 @@ pieces_cause_is wanted = caused wanted.found _ ∙ ap (λ v. if_settle v None) w
 
 pub pieces_are : {c : Contents} {number index : ℕ} {t : Tracked} {k len : ℕ} {phase : Phase}
     → IsWanting c number index t (want.Settle k len)
-    → current_phase t.call.phases ≡ Some phase → call_pieces (state_of c).object number ≡ take k (pieces_below phase.replies phase.members)
+    → current_phase t.call.phases ≡ Some phase
+    → fetched_pieces (state_of c).object number ≡ take k (pieces_below phase.replies phase.members)
 pieces_are {c = c} {t = t} {k = k} {phase = phase} wanted current =
     ap (pieces_of (state_of c).object) (at_number wanted.found)
     ∙ ap (least_of (state_of c).object) current
