@@ -1,6 +1,5 @@
 -- Requests and faults of the command line.
 use Rattle.std.proofs.Common.{◌≡◌, ◌∙◌, ℕ, List, [], ◌∷◌, get_or, refl, ap, sym, arith, subst, inl, inr, codes}
-use Rattle.std.specs.Prelude.{Result, Ok, Err}
 use Rattle.words.specs.Number.{IsNumber}
 use Rattle.soak.specs.declared.plan.Plan.{Plan}
 use Rattle.coding_commands.specs.Request.{Word}

@@ -12,7 +12,7 @@ use Rattle.cluster.specs.Preconditions.{MayMake}
 use Rattle.cluster.specs.Steps.{stepped}
 use Rattle.driver.specs.declared.whole_call.NotAnswered.{NotAnswered}
 use Rattle.driver.specs.declared.whole_call.NotAnswered.TheVariants as unanswered
-use Rattle.driver.specs.Driver.{IsFinished, IsUnfinished}
+use Rattle.driver.specs.Driver.{FinishesCall, IsUnfinished}
 
 -- the number of the next call of the object of this name
 abbrev pub next_number : Cluster → (name : List ℕ) → Option ℕ
@@ -25,7 +25,7 @@ module _ {C : Type 0} (chooses : C → ℕ → ℕ → C → Type 0) (name : Lis
   abbrev pub IsWholeCall : (cause : Option Refusal) → (step : Step) → Result Receipt NotAnswered → Type 0
   IsWholeCall cause step (Ok receipt) =
       (call : ℕ) × (cause ≡ None) × (next_number old name ≡ Some call) × MayMake old name step
-      × IsFinished chooses name call false turns (stepped old name step) before new after receipt
+      × FinishesCall chooses name call false turns (stepped old name step) before new after receipt
   IsWholeCall cause step (Err (unanswered.Open call refusal)) =
       (cause ≡ None) × (next_number old name ≡ Some call) × MayMake old name step
       × IsUnfinished chooses name call false turns (stepped old name step) before new after refusal

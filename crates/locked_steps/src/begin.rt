@@ -7,7 +7,8 @@ ghost use Rattle.cluster.specs.Cluster.{next_call_id, named};
 ghost use Rattle.cluster.specs.Steps.{stepped};
 ghost use Rattle.locked_steps.specs.Calls.{client_calls};
 ghost use Rattle.locked_steps.specs.Course.{PreservesReachable, IsStateOf};
-ghost use Rattle.locked_steps.specs.Seats.{begin_cause, begun, call_count, call_step, calling_cause, with_pending};
+ghost use Rattle.locked_steps.specs.Seats.{begin_cause, record_begun, call_count, call_step, calling_cause};
+ghost use Rattle.locked_steps.specs.Seats.{with_pending};
 
 use crate::booked::{Booked, StoreName};
 use crate::call_record::{Begin, CallRecord};
@@ -31,7 +32,7 @@ pub fn begin_in<L: StoreName>(
     ensures step { OnOk result (booked.new
         ≡ stepped booked.old name.now (call_step (next_call_id booked.old name.now) what)) }
     ensures seat { OnOk result
-        (seat.new ≡ with_pending seat.old name.now (begun booked.old name.now seat.old.floor what)) }
+        (seat.new ≡ with_pending seat.old name.now (record_begun booked.old name.now seat.old.floor what)) }
     ensures cause { IsByCause (begin_cause booked.old seat.old name.now what) result }
     ensures unchanged { OnErr result (booked.new ≡ booked.old) }
     ensures kept { OnErr result (seat.new ≡ seat.old) }

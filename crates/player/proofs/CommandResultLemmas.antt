@@ -11,10 +11,10 @@ use Rattle.player.specs.declared.player.Stop.TheVariants as stop
 use Rattle.player.specs.declared.report.Report.{Report}
 use Rattle.player.specs.Report.{report_text}
 use Rattle.player.specs.Shown.{line_of}
-use Rattle.player.specs.Play.{Contents, Prints, IsPlayed, IsBad, Plays, IsBadAt, Changes}
+use Rattle.player.specs.Play.{Written, Prints, IsPlayed, IsBad, Plays, IsBadAt, Changes}
 
 -- a text that is so is also so in another way
-pub prints_more : (old new : Contents) (Is More : List ℕ → Type 0) (Bad Worse : Type 0) (r : Result Unit Stop)
+pub prints_more : (old new : Written) (Is More : List ℕ → Type 0) (Bad Worse : Type 0) (r : Result Unit Stop)
     → ((text : List ℕ) → Is text → More text) → (Bad → Worse) → Prints old new Is Bad r → Prints old new More Worse r
 prints_more old new Is More Bad Worse (Ok x) more worse printed = (printed.0, more printed.0 printed.1, printed.2)
 prints_more old new Is More Bad Worse (Err stop.Bad) more worse printed = (worse printed.0, printed.1)
@@ -25,7 +25,7 @@ pub no_bad : {Bad : Type 0} → ⊥ → Bad
 no_bad bad = absurd bad
 
 -- the command is this one, and only shows something
-pub shown : (old new : Contents) (before after : Cluster) (command arm : Command) (r : Result Unit Stop) (is : command
+pub shown : (old new : Written) (before after : Cluster) (command arm : Command) (r : Result Unit Stop) (is : command
     ≡ arm) (Is : List ℕ → Type 0) (Bad : Type 0) → ((text : List ℕ) → Is text → IsPlayed before arm after text) →
     (Bad → IsBad before arm × (after ≡ before)) → Prints old new Is Bad r →
     Prints old new (IsPlayed before command after) (IsBad before command × (after ≡ before)) r
@@ -34,7 +34,7 @@ shown old new before after command arm r is Is Bad played bad printed =
     (prints_more old new Is (IsPlayed before arm after) Bad (IsBad before arm × (after ≡ before)) r played bad printed)
 
 -- the command is this change, and its report is printed
-pub changed : (old new : Contents) (before after : Cluster) (command : Command) (asked : Change) (report : Report) (r : Result Unit Stop) →
+pub changed : (old new : Written) (before after : Cluster) (command : Command) (asked : Change) (report : Report) (r : Result Unit Stop) →
     command ≡ of.Change asked → Changes before asked after report →
     Prints old new (λ text. text ≡ line_of (report_text report)) ⊥ r →
     Prints old new (IsPlayed before command after) (IsBad before command × (after ≡ before)) r
@@ -44,7 +44,7 @@ changed old new before after command asked report r is made printed =
     (IsBad before (of.Change asked) × (after ≡ before)) r (λ text line. (report, made, line)) no_bad printed)
 
 -- the first command made the cluster
-pub begun : (old new : Contents) (at : Option Cluster) (after : Cluster) (command : Command) (count : ℕ) (r : Result Unit Stop) →
+pub begun : (old new : Written) (at : Option Cluster) (after : Cluster) (command : Command) (count : ℕ) (r : Result Unit Stop) →
     at ≡ None → command ≡ of.Servers count →
     after ≡ record { servers = all_up count; layouts = []; objects = []; counter = 0 } →
     Prints old new (λ text. text ≡ line_of (outcome_text outcome.Done)) ⊥ r →

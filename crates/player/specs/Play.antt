@@ -23,12 +23,12 @@ use Rattle.player.specs.Shown.{line_of, ShowsCall, ShowsMail, ShowsBank, HasNoBa
 use Rattle.player.specs.Shown.{ShowsAccount, ShowsHistory, ShowsSequence, ShowsCheck, HasNoCall}
 
 -- the bytes that a writer holds; none where they are not known
-abbrev pub Contents : Type 0
-Contents = Option (List ℕ)
+abbrev pub Written : Type 0
+Written = Option (List ℕ)
 
 -- the command was carried out and its text printed; or its line is bad, and nothing was printed; or it was carried out,
 -- and its text was lost
-abbrev pub Prints : (old new : Contents) → (Is : List ℕ → Type 0) → (Bad : Type 0) → Result Unit Stop → Type 0
+abbrev pub Prints : (old new : Written) → (Is : List ℕ → Type 0) → (Bad : Type 0) → Result Unit Stop → Type 0
 Prints old new Is Bad (Ok x) = (text : List ℕ) × Is text × Appends old new text
 Prints old new Is Bad (Err stop.Bad) = Bad × Keeps old new
 Prints old new Is Bad (Err stop.NoMemory) = (text : List ℕ) × Is text

@@ -8,7 +8,7 @@ use Rattle.register.specs.Causes.{number_cause, read_cause, write_cause}
 use Rattle.printing.specs.declared.outcome.Outcome.{Outcome}
 use Rattle.printing.specs.declared.outcome.Outcome.TheVariants as outcome
 use Rattle.driver.specs.declared.chooser.First.{First}
-use Rattle.driver.specs.Driver.{IsFinished, IsUnfinished}
+use Rattle.driver.specs.Driver.{FinishesCall, IsUnfinished}
 use Rattle.driver.specs.WholeCalls.{next_number}
 use Rattle.cluster.specs.Cluster.{Cluster, next_call_id}
 use Rattle.cluster.specs.Steps.{stepped, moved}
@@ -34,7 +34,8 @@ LeavesOpen name call resumed turns begun new _ = ⊥
 abbrev pub ContinuesCall : (name : List ℕ) → (call : ℕ) → (resumed : Bool) → (turns : ℕ) →
     (begun new : Cluster) → Report → Type 0
 ContinuesCall name call resumed turns begun new (of.Answered receipt) =
-    (before : First) × (after : First) × IsFinished chooses_first name call resumed turns begun before new after receipt
+    (before : First) × (after : First)
+    × FinishesCall chooses_first name call resumed turns begun before new after receipt
 ContinuesCall name call resumed turns begun new (of.Did outcome) = LeavesOpen name call resumed turns begun new outcome
 
 -- the call begins, in the cluster `begun`, and the driver continues it; or the first step is refused

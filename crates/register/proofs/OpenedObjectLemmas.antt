@@ -9,12 +9,9 @@ use Rattle.bank.proofs.BankBytesLemmas.{opened_bytes}
 use Rattle.record.specs.Records.{no_bank}
 use Rattle.record.specs.Steps.{opened_banks}
 use Rattle.soundness.proofs.Sound.OpenedObjectLemmas.{opening_sound}
-use Rattle.register.specs.Position.{Position, banks_bytes, all_bytes}
+use Rattle.register.specs.Position.{banks_bytes, all_bytes}
 use Rattle.register.specs.Kept.{IsKept}
 use Rattle.register.proofs.FragmentCodeLemmas.{fragments_are_code}
-
-pub opened_position : Layout → Option ℕ → ℕ → Position
-opened_position layout delta now = record { layout = layout; banks = opened_banks layout.members 0 delta now }
 
 -- open banks store nothing
 pub opened_banks_bytes : (servers : List ℕ) (member : ℕ) (delta : Option ℕ) (now : ℕ)

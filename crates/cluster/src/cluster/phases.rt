@@ -5,7 +5,7 @@ ghost use Rattle.tag.specs.Refusal.{IsByCause, IsExactlyByCause};
 ghost use Rattle.record.specs.Steps.{Step};
 ghost use Rattle.register.specs.Causes.{number_cause, advance_cause, again_cause, post_cause, value_cause};
 ghost use Rattle.register.specs.Causes.{supply_cause, pieces_cause, settle_cause};
-ghost use Rattle.register.specs.View.{want_at, coding_at, pieces_at};
+ghost use Rattle.register.specs.View.{want_at, coding_at, fetched_pieces};
 ghost use Rattle.cluster.specs.Cluster.{if_named};
 ghost use Rattle.cluster.specs.Preconditions.{MayMake};
 ghost use Rattle.cluster.specs.Steps.{stepped};
@@ -125,7 +125,7 @@ impl Cluster {
     /// wants to settle a value, and `Collected` where its fetch lacks pieces, so that it wants to be restarted.
     pub fn pieces(&self, name: &str, call: CallId) -> Result<Vec<Piece>, Refusal>
         ensures pieces { IfOk result
-            (λ ps. if_named self.now name.now (λ object. Some (pieces_at object call)) ≡ Some ps.items) }
+            (λ ps. if_named self.now name.now (λ object. Some (fetched_pieces object call)) ≡ Some ps.items) }
         ensures cause { IsByCause (object_cause self.now name.now (λ object. pieces_cause object call)) result }
     {
         match self.objects.get(name) {
