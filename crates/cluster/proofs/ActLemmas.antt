@@ -9,7 +9,7 @@ use Rattle.record.specs.Accounts as of
 use Rattle.record.specs.Records.{Object}
 use Rattle.record.specs.Steps.{Step}
 use Rattle.register.specs.Act.{IsActCause, IsCausedBy, act_cause, step_of, takes_memory}
-use Rattle.register.specs.State.{State, made}
+use Rattle.register.specs.State.{State, made, next_id}
 use Rattle.register.specs.declared.act.Act.{Act}
 use Rattle.register.specs.declared.act.Act.TheVariants as act
 use Rattle.cluster.specs.Acts.{IsReady, begun_by}
@@ -61,13 +61,15 @@ no_call {cluster} {bytes} {count} kept = subst (λ n. IsKeptCluster cluster byte
 -- what the cluster keeps
 module _ {servers : List Bool} {layouts : List Layout} {counter : ℕ} {entries : List Entry} {name : List ℕ}
     {place : ℕ} {old : State} where
-  kept_at : {bytes count number : ℕ} {new : State} → IsKeptCluster (cluster_of servers layouts entries counter) bytes count →
+  kept_at : {bytes count : ℕ} {new : State} → IsKeptCluster (cluster_of servers layouts entries counter) bytes count →
       IsAt entries name place old → (a : Act) → IsReady (length servers) a →
-      new ≡ made (step_of number a) (counter + 1) old → counter + 1 ≤ MOST_STEPS →
+      new ≡ made (step_of (next_id old.object) a) (counter + 1) old → counter + 1 ≤ MOST_STEPS →
       IsKeptCluster (cluster_of servers layouts (set_value_at entries place new) (counter + 1)) bytes (count + begun_by a)
-  kept_at {number = n} kept at act.CallRead ready is few = call_at kept at (Step.CallRead n) is few (read_called n)
-  kept_at {number = n} kept at (act.CallWrite v) ready is few = call_at kept at (Step.CallWrite n v) is few (write_called n v)
-  kept_at {number = n} kept at (act.CallMove l) ready is few = move_at kept at n l is few (move_moved n l) ready
+  kept_at kept at act.CallRead ready is few = call_at kept at (Step.CallRead (next_id old.object)) is few (read_called (next_id old.object))
+  kept_at kept at (act.CallWrite v) ready is few =
+      call_at kept at (Step.CallWrite (next_id old.object) v) is few (write_called (next_id old.object) v)
+  kept_at kept at (act.CallMove l) ready is few =
+      move_at kept at (next_id old.object) l is few (move_moved (next_id old.object) l) ready
   kept_at kept at (act.Advance n) ready is few = no_call (quiet_at kept at (Step.Advance (pred n)) is few (advance_quiet (pred n)))
   kept_at kept at (act.Again n) ready is few = no_call (quiet_at kept at (Step.Again (pred n)) is few (again_quiet (pred n)))
   kept_at kept at (act.Supply n coded) ready is few = no_call (quiet_at kept at (Step.Supply (pred n)) is few (supply_quiet (pred n)))
@@ -80,10 +82,10 @@ module _ {servers : List Bool} {layouts : List Layout} {counter : ℕ} {entries 
   kept_at kept at (act.Lose p) ready is few = no_call (quiet_at kept at (Step.Lose p) is few (lose_quiet p))
   kept_at kept at (act.Repeat p) ready is few = no_call (quiet_at kept at (Step.Repeat p) is few (repeat_quiet p))
 
-  pub act_at : {bytes count begun number : ℕ} {new : State} → IsKeptCluster (cluster_of servers layouts entries counter) bytes count →
+  pub act_at : {bytes count begun : ℕ} {new : State} → IsKeptCluster (cluster_of servers layouts entries counter) bytes count →
       IsAt entries name place old → (a : Act) → IsReady (length servers) a →
-      new ≡ made (step_of number a) (counter + 1) old → act_cause a (counter + 1) old.object ≡ None → begun ≡ begun_by a →
+      new ≡ made (step_of (next_id old.object) a) (counter + 1) old → act_cause a (counter + 1) old.object ≡ None → begun ≡ begun_by a →
       IsKeptCluster (cluster_of servers layouts (set_value_at entries place new) (counter + 1)) bytes (count + begun)
-  act_at {bytes} {count} {begun} {new = new} kept at a ready is none all =
+  act_at {bytes} {count} {begun} {new} kept at a ready is none all =
       subst (λ n. IsKeptCluster (cluster_of servers layouts (set_value_at entries place new) (counter + 1)) bytes (count + n)) (sym all)
       (kept_at kept at a ready is (act_few (counter + 1) old.object a none))
