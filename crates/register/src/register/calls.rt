@@ -153,10 +153,7 @@ impl Register {
         if now > MOST_STEPS {
             return Err(Refusal::Full);
         }
-        let value = match self.calls[index].returned(true) {
-            Ok(value) => value,
-            Err(refusal) => return Err(refusal),
-        };
+        let value = self.calls[index].returned(true)?;
         let operation = self.calls[index].operation();
         let called = self.calls[index].called();
         self.calls[index].answer(now);

@@ -62,10 +62,7 @@ impl Register {
         ensures coded { (coded : Coding) → (supply_cause now self.now.object call coded ≡ Some WrongCode)
             ⊎ (supply_cause now self.now.object call coded ≡ supplying_cause now self.now.object call) }
     {
-        let index = match index_of(&self.calls, call) {
-            Ok(index) => index,
-            Err(refusal) => return Err(refusal),
-        };
+        let index = index_of(&self.calls, call)?;
         let tracked = &self.calls[index];
         let Some(position) = pieces_position(&self.positions, tracked) else {
             return Err(Refusal::NotNow);
@@ -181,10 +178,7 @@ impl Register {
         ensures cause { IsExactlyByCause (settle_cause now self.old.object call decoded) result }
         ensures unchanged { OnErr result (self.new ≡ self.old) }
     {
-        let index = match index_of(&self.calls, call) {
-            Ok(index) => index,
-            Err(refusal) => return Err(refusal),
-        };
+        let index = index_of(&self.calls, call)?;
         let k = match want_of(&self.positions, &self.calls[index]) {
             Want::Settle { k, len: _ } => k,
             Want::Again => return Err(Refusal::Collected),

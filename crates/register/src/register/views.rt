@@ -52,10 +52,7 @@ impl Register {
         ensures entry { IfOk result (λ e. option_map (entry_of call) (call_at self.now.object call) ≡ Some e) }
         ensures cause { IsByCause (number_cause self.now.object call) result }
     {
-        let index = match index_of(&self.calls, call) {
-            Ok(index) => index,
-            Err(refusal) => return Err(refusal),
-        };
+        let index = index_of(&self.calls, call)?;
         self.calls[index].entry()
     }
 
@@ -94,10 +91,7 @@ impl Register {
         ensures view { IfOk result (λ v. view_at self.now.object call ≡ Some v) }
         ensures cause { IsExactlyByCause (number_cause self.now.object call) result }
     {
-        let index = match index_of(&self.calls, call) {
-            Ok(index) => index,
-            Err(refusal) => return Err(refusal),
-        };
+        let index = index_of(&self.calls, call)?;
         let tracked = &self.calls[index];
         let Some(phase) = tracked.current() else {
             unreachable!();
