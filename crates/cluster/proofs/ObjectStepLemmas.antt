@@ -1,6 +1,6 @@
 -- A step of the object that a look-up found: the cluster once it is written back, what the cluster keeps, and the cause of a refusal.
 use Rattle.std.proofs.Common.{◌≡◌, ℕ, suc, ◌+◌, ◌≤◌, ◌<◌, false, Bool}
-use Rattle.std.proofs.Common.{List, length, Option, Some, is_some, Result, Ok, Err, IsErrAnd, sym, ap, subst, ◌∙◌, arith, add-one}
+use Rattle.std.proofs.Common.{List, length, Option, Some, is_some, Result, Ok, Err, OnErr, IsErrAnd, sym, ap, subst, ◌∙◌, arith, add-one}
 use Rattle.std.specs.Map.{lookup}
 use Rattle.tag.specs.Refusal.{IsExactlyByCause}
 use Rattle.tag.specs.declared.limits.TheConstants.{MOST_BYTES, MOST_STEPS}
@@ -134,3 +134,8 @@ pub exactly_refused : {T : Type 0} {cause : Option Refusal} (r : Result T Refusa
     → cause ≡ Some refusal → IsExactlyByCause cause r
 exactly_refused (Ok x) refusal refused by = absurd refused
 exactly_refused (Err e) refusal refused by = by ∙ ap Some (sym refused)
+
+-- what a refusal leaves, where it is handed on
+pub on_err : {T E : Type 0} {P : Type 0} (r : Result T E) → P → OnErr r P
+on_err (Ok x) p = tt
+on_err (Err e) p = p

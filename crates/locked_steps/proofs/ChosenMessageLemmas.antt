@@ -1,6 +1,6 @@
 -- A message that is chosen to be handled, lost or repeated.
 use Rattle.std.proofs.Common.{◌≡◌, ℕ, zero, suc, ◌+◌, ◌%◌, ◌==◌, ◌⊎◌, inl, inr, Bool, true, false, cond, if◌then◌else◌, List, [], ◌∷◌}
-use Rattle.std.proofs.Common.{length, Option, Some, None, slice_get, Result, Ok, Err, OnErr, IsErrAnd, MatchResult, refl, sym, ap, subst}
+use Rattle.std.proofs.Common.{length, Option, Some, None, slice_get, Result, Ok, Err, IsErrAnd, MatchResult, refl, sym, ap, subst}
 use Rattle.std.proofs.Common.{◌∙◌, arith}
 use Rattle.std.specs.Prelude.{option_map}
 use Rattle.std.proofs.lemmas.Bool.{eq-eqb, eqb-true}
@@ -121,7 +121,3 @@ pub err_match : {T : Type 0} (r : Result T Refusal) (e : Refusal) (P : T → Typ
     → MatchResult r P Q
 err_match (Ok x) e P Q is holds = absurd is
 err_match (Err y) e P Q is holds = subst Q (sym is) holds
-
-pub on_err : {T E : Type 0} {P : Type 0} (r : Result T E) → P → OnErr r P
-on_err (Ok x) p = tt
-on_err (Err e) p = p

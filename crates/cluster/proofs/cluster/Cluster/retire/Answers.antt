@@ -3,7 +3,7 @@ use Rattle.tag.specs.declared.limits.TheConstants.{MOST_STEPS}
 use Rattle.record.specs.Steps.{Step}
 use Rattle.register.specs.Retiring.{retire_cause}
 use Rattle.cluster.proofs.LookupLemmas.{at_place}
-use Rattle.cluster.proofs.ObjectStepLemmas.{stepped_at, unchanged_at, last_before, cause_at, no_object, exactly_refused}
+use Rattle.cluster.proofs.ObjectStepLemmas.{stepped_at, on_err, unchanged_at, last_before, cause_at, no_object, exactly_refused}
 use Rattle.cluster.proofs.PreconditionLemmas.{may_at}
 use Rattle.cluster.proofs.RetiredSumLemmas.{past_retired, part_loaded, load_within, part_freed, retire_counted, freed_exactly}
 use Rattle.cluster.proofs.RunningSumLemmas.{refused_counted}
@@ -31,12 +31,6 @@ returns-in_err-may_retire-clause-cause c =
     c.index_mut-register.ensures.value in
     exactly_refused c.from_residual.result _ c.from_residual.ensures.1
     (cause_at c.self.view_is at (λ now object. retire_cause now object c.args.position) ∙ c.in_err-may_retire.ensures.cause)
-
-pub returns-in_err-may_retire-clause-unchanged : goal.returns-in_err-may_retire-clause-unchanged
-returns-in_err-may_retire-clause-unchanged c =
-    let at = at_place c.self.inside.objects.entries c.args.name.now c.in-Some.place c.index_mut-register.result.now c.in-Some.ensures.index
-    c.index_mut-register.ensures.value in
-    unchanged_at at refl ∙ c.self.view_is
 
 pub unload-requires-clause-count : goal.unload-requires-clause-count
 unload-requires-clause-count c = let same = c.self.invariant.summed.servers in omega (arith, same, c.count.ensures)
@@ -106,3 +100,9 @@ returns-clause-cause c =
 -- what the register refuses it would have refused before
 pub unreachable-requires : goal.unreachable-requires
 unreachable-requires c = absurd (let clash = sym c.in_ok-may_retire.ensures.cause ∙ c.in-Err.ensures.cause in cc)
+
+pub returns-in_err-may_retire-clause-unchanged : goal.returns-in_err-may_retire-clause-unchanged
+returns-in_err-may_retire-clause-unchanged c =
+    let at = at_place c.self.inside.objects.entries c.args.name.now c.in-Some.place c.index_mut-register.result.now c.in-Some.ensures.index
+    c.index_mut-register.ensures.value in
+    on_err c.from_residual.result (unchanged_at at refl ∙ c.self.view_is)

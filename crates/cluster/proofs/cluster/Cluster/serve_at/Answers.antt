@@ -5,7 +5,7 @@ use Rattle.register.specs.declared.act.Act.TheVariants as act
 use Rattle.register.proofs.RoomLemmas.{same_cause}
 use Rattle.cluster.specs.Causes.{serving_cause}
 use Rattle.cluster.proofs.NamedObjectPlaceLemmas.{object_is_at, index_within}
-use Rattle.cluster.proofs.ObjectStepLemmas.{cluster_of, stepped_at, unchanged_at, last_before, own_cause_at}
+use Rattle.cluster.proofs.ObjectStepLemmas.{cluster_of, stepped_at, on_err, unchanged_at, last_before, own_cause_at}
 use Rattle.cluster.proofs.PreconditionLemmas.{may_at}
 use Rattle.cluster.proofs.RequestRoomLemmas.{has_room, own_none, own_of, is_of, memory_left}
 use Rattle.cluster.proofs.RunningSumLemmas.{part_mailed, refused_counted}
@@ -31,20 +31,14 @@ returns-in_err-server-clause-cause c =
     (inl (own_cause_at c.self.view_is at (serving_cause c.args.self.now c.args.place)
     ∙ c.in_err-server.ensures.cause c.args.self.now (is_of c.self.invariant.kept c.self.view_is)))
 
-pub returns-in_err-server-clause-unchanged : goal.returns-in_err-server-clause-unchanged
-returns-in_err-server-clause-unchanged c =
-    let at = object_is_at c.self.inside.objects.entries c.args.name.now c.args.object c.self.view_is c.index_mut-register.result.now
-    c.requires c.index_mut-register.ensures.value in
-    unchanged_at at refl ∙ c.self.view_is
-
 pub serve-requires : goal.serve-requires
 serve-requires c =
     let at = object_is_at c.self.inside.objects.entries c.args.name.now c.args.object c.self.view_is c.index_mut-register.result.now
     c.requires c.index_mut-register.ensures.value in
     record { after = last_before c.self.invariant.kept at }
 
-pub invariant_of-self-3 : goal.invariant_of-self-3
-invariant_of-self-3 c =
+pub invariant_of-self-2 : goal.invariant_of-self-2
+invariant_of-self-2 c =
     let at = object_is_at c.self.inside.objects.entries c.args.name.now c.args.object c.self.view_is c.index_mut-register.result.now
     c.requires c.index_mut-register.ensures.value in
     let here = c.in_ok-server.ensures.cause
@@ -61,8 +55,8 @@ invariant_of-self-3 c =
     c.waiting-waited.result c.waiting.result c.exchanged-self-inside-2.result c.waiting-waited.ensures.value
     c.waiting.ensures.value c.waiting.ensures.within c.exchanged-self-inside-2.ensures
 
-pub invariant_of-self-2 : goal.invariant_of-self-2
-invariant_of-self-2 c =
+pub invariant_of-self-in_err-serve : goal.invariant_of-self-in_err-serve
+invariant_of-self-in_err-serve c =
     let at = object_is_at c.self.inside.objects.entries c.args.name.now c.args.object c.self.view_is c.index_mut-register.result.now
     c.requires c.index_mut-register.ensures.value in
     refused_counted c.self.invariant at c.in_err-serve.ensures.unchanged
@@ -105,12 +99,6 @@ returns-in_err-serve-clause-cause c =
     ∙ c.in_ok-server.ensures.cause c.args.self.now (is_of c.self.invariant.kept c.self.view_is))
     (own_none room (c.self.inside.counter + 1) few (omega (arith, part, all))) c.in_err-serve.ensures.cause)
 
-pub returns-in_err-serve-clause-unchanged : goal.returns-in_err-serve-clause-unchanged
-returns-in_err-serve-clause-unchanged c =
-    let at = object_is_at c.self.inside.objects.entries c.args.name.now c.args.object c.self.view_is c.index_mut-register.result.now
-    c.requires c.index_mut-register.ensures.value in
-    unchanged_at at c.in_err-serve.ensures.unchanged ∙ c.self.view_is
-
 pub exchanged-self-inside-requires : goal.exchanged-self-inside-requires
 exchanged-self-inside-requires c =
     let at = object_is_at c.self.inside.objects.entries c.args.name.now c.args.object c.self.view_is c.index_mut-register.result.now
@@ -146,3 +134,15 @@ exchanged-self-inside-requires-2 c =
     let room = part_mailed c.self.invariant at c.waiting-waited.result c.waiting.result c.waiting-waited.ensures.value
     c.waiting.ensures.within in
     record { part = room.0; within = room.1 }
+
+pub returns-in_err-server-clause-unchanged : goal.returns-in_err-server-clause-unchanged
+returns-in_err-server-clause-unchanged c =
+    let at = object_is_at c.self.inside.objects.entries c.args.name.now c.args.object c.self.view_is c.index_mut-register.result.now
+    c.requires c.index_mut-register.ensures.value in
+    on_err c.from_residual.result (unchanged_at at refl ∙ c.self.view_is)
+
+pub returns-in_err-serve-clause-unchanged : goal.returns-in_err-serve-clause-unchanged
+returns-in_err-serve-clause-unchanged c =
+    let at = object_is_at c.self.inside.objects.entries c.args.name.now c.args.object c.self.view_is c.index_mut-register.result.now
+    c.requires c.index_mut-register.ensures.value in
+    on_err c.from_residual-in_err-serve.result (unchanged_at at c.in_err-serve.ensures.unchanged ∙ c.self.view_is)
