@@ -44,13 +44,16 @@ numbers_again (n ∷ ns) nodes =
 
 -- ---- as a loop reads numbers
 
+abbrev all_of : List ℕ → Result (List ℕ) CommandFault
+all_of ns = Ok ns
+
 -- what is read of the strings, with these numbers in front
 abbrev pub behind : List ℕ → Result (List ℕ) CommandFault → Result (List ℕ) CommandFault
 behind ns read = and_then read (λ (ms : List ℕ). Ok (ns ++ ms))
 
 behind_more : (ns : List ℕ) (n : ℕ) (read : Result (List ℕ) CommandFault)
     → behind ns (and_then read (λ (ms : List ℕ). Ok (n ∷ ms))) ≡ behind (ns ++ n ∷ []) read
-behind_more ns n (Ok ms) = ap (λ (l : List ℕ). Ok l) (sym (append_assoc ns (n ∷ []) ms))
+behind_more ns n (Ok ms) = ap all_of (sym (append_assoc ns (n ∷ []) ms))
 behind_more ns n (Err fault) = refl
 
 one_more : (ns : List ℕ) (n : ℕ) (string : List ℕ) (strings : Strings) → Ok n ≡ number_from string
@@ -91,7 +94,7 @@ numbers_stop_at ns fault i strings lt e so_far =
 pub numbers_end_at : (ns : List ℕ) (i : ℕ) (strings : Strings) → length strings ≤ i
     → numbers_from strings ≡ behind ns (numbers_from (drop i strings)) → numbers_from strings ≡ Ok ns
 numbers_end_at ns i strings le so_far =
-    so_far ∙ ap (λ (s : Strings). behind ns (numbers_from s)) (drop_all i strings le) ∙ ap (λ (l : List ℕ). Ok l) (append-nil ns)
+    so_far ∙ ap (λ (s : Strings). behind ns (numbers_from s)) (drop_all i strings le) ∙ ap all_of (append-nil ns)
 
 -- ---- layouts
 
