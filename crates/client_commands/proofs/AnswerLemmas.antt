@@ -1,8 +1,14 @@
 -- The strings of an answer are its bytes, and the texts of errors are printable.
-use Rattle.std.proofs.Common.{◌≡◌, ℕ, List, [], ◌∷◌, ◌++◌, true, refl, ap, ◌∙◌}
+use Rattle.std.proofs.Common.{◌≡◌, ℕ, ◌^◌, ◌<◌, ◌≤◌, leb, List, [], ◌∷◌, ◌++◌, true, refl, ap, ◌∙◌, arith}
+use Rattle.std.specs.Char.{is_ascii_digit}
+use Rattle.std.specs.Fmt.{decimal}
 use Rattle.std.specs.List.{concat, list_all}
+use Rattle.std.specs.Prelude.{codes}
+use Rattle.std.proofs.lemmas.Bool.{leb-true, le-leb, and_parts, and_from}
+use Rattle.std.proofs.lemmas.Fmt.{digits_decimal}
 use Rattle.std.proofs.lemmas.List.{append-nil}
-use Rattle.std.proofs.lemmas.List.Folds.{concat-append}
+use Rattle.std.proofs.lemmas.List.Folds.{concat-append, list_all-append}
+use Rattle.tag.specs.Refusal.{number_of, name_of, refusal_text}
 use Rattle.tag.specs.declared.refusal.Refusal.{Refusal}
 use Rattle.tag.specs.declared.refusal.Refusal.TheVariants as refusal
 use Rattle.client_commands.specs.Answers.{answer_bytes, answer_strings}
@@ -16,6 +22,7 @@ use Rattle.client_commands.specs.declared.command.CommandName.{CommandName}
 use Rattle.client_commands.specs.declared.command.CommandName.TheVariants as of
 use Rattle.client_commands.specs.declared.fault.CommandFault.{CommandFault}
 use Rattle.client_commands.specs.declared.fault.CommandFault.TheVariants as fault
+use Rattle.client_commands.proofs.NumberLemmas.{AreDigits, numerals}
 
 joined : (a : Answer) → concat (answer_strings a) ≡ answer_bytes a
 joined answer.Ok = refl
@@ -56,24 +63,42 @@ fault_printable fault.BadNumber = refl
 fault_printable fault.OutOfRange = refl
 fault_printable fault.BadLayout = refl
 
+digits_printable : (ds : List ℕ) → AreDigits ds → IsPrintable ds
+digits_printable [] e = refl
+digits_printable (d ∷ ds) e =
+    let p = and_parts (is_ascii_digit d) (list_all is_ascii_digit ds) e in
+    let r = and_parts (leb 48 d) (leb d 57) p.0 in
+    let low : 48 ≤ d = leb-true 48 d r.0 in
+    let high : d ≤ 57 = leb-true d 57 r.1 in
+    and_from (is_printable d) (list_all is_printable ds)
+    (and_from (leb 32 d) (leb d 126) (le-leb 32 d (omega arith)) (le-leb d 126 (omega arith))) (digits_printable ds p.1)
+
+both_printable : (a b : List ℕ) → IsPrintable a → IsPrintable b → IsPrintable (a ++ b)
+both_printable a b e f = list_all-append is_printable a b ∙ and_from (list_all is_printable a) (list_all is_printable b) e f
+
+numbered : (r : Refusal) → number_of r < 2 ^ 64 → IsPrintable (32 ∷ name_of r) → IsPrintable (error_text (error.Refused r))
+numbered r lt name =
+    both_printable (codes "refused: ") (refusal_text r) refl
+    (both_printable (decimal (number_of r)) (32 ∷ name_of r) (digits_printable (decimal (number_of r)) (digits_decimal numerals (number_of r) lt)) name)
+
 refusal_printable : (r : Refusal) → IsPrintable (error_text (error.Refused r))
-refusal_printable refusal.NoMemory = refl
-refusal_printable refusal.BadLayout = refl
-refusal_printable refusal.NoObject = refl
-refusal_printable refusal.ObjectExists = refl
-refusal_printable refusal.TooLong = refl
-refusal_printable refusal.NoCall = refl
-refusal_printable refusal.NotNow = refl
-refusal_printable refusal.NoMessage = refl
-refusal_printable refusal.Down = refl
-refusal_printable refusal.WrongCode = refl
-refusal_printable refusal.MovePending = refl
-refusal_printable refusal.Full = refl
-refusal_printable refusal.Stuck = refl
-refusal_printable refusal.GaveUp = refl
-refusal_printable refusal.BadPieces = refl
-refusal_printable refusal.Collected = refl
-refusal_printable refusal.Stranger = refl
+refusal_printable refusal.NoMemory = numbered refusal.NoMemory (omega arith) refl
+refusal_printable refusal.BadLayout = numbered refusal.BadLayout (omega arith) refl
+refusal_printable refusal.NoObject = numbered refusal.NoObject (omega arith) refl
+refusal_printable refusal.ObjectExists = numbered refusal.ObjectExists (omega arith) refl
+refusal_printable refusal.TooLong = numbered refusal.TooLong (omega arith) refl
+refusal_printable refusal.NoCall = numbered refusal.NoCall (omega arith) refl
+refusal_printable refusal.NotNow = numbered refusal.NotNow (omega arith) refl
+refusal_printable refusal.NoMessage = numbered refusal.NoMessage (omega arith) refl
+refusal_printable refusal.Down = numbered refusal.Down (omega arith) refl
+refusal_printable refusal.WrongCode = numbered refusal.WrongCode (omega arith) refl
+refusal_printable refusal.MovePending = numbered refusal.MovePending (omega arith) refl
+refusal_printable refusal.Full = numbered refusal.Full (omega arith) refl
+refusal_printable refusal.Stuck = numbered refusal.Stuck (omega arith) refl
+refusal_printable refusal.GaveUp = numbered refusal.GaveUp (omega arith) refl
+refusal_printable refusal.BadPieces = numbered refusal.BadPieces (omega arith) refl
+refusal_printable refusal.Collected = numbered refusal.Collected (omega arith) refl
+refusal_printable refusal.Stranger = numbered refusal.Stranger (omega arith) refl
 
 pub printable : ErrorTextsArePrintable
 printable (error.Fault f) = fault_printable f

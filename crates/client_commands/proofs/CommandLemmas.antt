@@ -54,7 +54,7 @@ set_ok word args c w e =
     let name = name_ok a.0.0 b.0 b.1 in
     let value = value_ok a.0.1 d.0 d.1 in
     subst (Asks (word ∷ args)) (ok_is (ask.Set b.0 d.0) c d.2)
-    ((w, both_ok args a.0 a.1 ∙ ap (λ (n : List ℕ). n ∷ a.0.1 ∷ []) name.0 ∙ ap (λ (v : List ℕ). b.0 ∷ v ∷ []) value.0), (name.1, value.1))
+    ((w, both_ok args a.0 a.1 ∙ ap (λ (n : List ℕ). n ∷ a.0.1 ∷ []) name.0 ∙ ap (λ (v : List ℕ). b.0 ∷ v ∷ []) value.0), name.1, value.1)
 
 move_ok : (word : List ℕ) (args : Strings) (c : Command) → IsTrue (is_word word (codes "move"))
     → move_from args ≡ Ok c → Asks (word ∷ args) c
@@ -62,7 +62,7 @@ unfolding move_from
 move_ok word args c w e =
     let a = bind_ok (layout_from args) (λ (l : Layout). Ok (ask.Move (get_or args 0 []) l)) c e in
     let h = layout_from_ok args a.0 a.1 in
-    subst (Asks (word ∷ args)) (ok_is (ask.Move (get_or args 0 []) a.0) c a.2) ((w, h.0), h.1)
+    subst (Asks (word ∷ args)) (ok_is (ask.Move (get_or args 0 []) a.0) c a.2) ((w, h.0), h.1, h.2, h.3)
 
 ping_ok : (word : List ℕ) (args : Strings) (c : Command) → IsTrue (is_word word (codes "ping"))
     → ping_from args ≡ Ok c → Asks (word ∷ args) c
@@ -98,13 +98,13 @@ client_ok word [] c w e = absurd cc
 client_ok word (what ∷ rest) c w e =
     let n = length rest in
     elim (chosen (is_word what (codes "id")) (counted n 0 ask.ClientId) (after_id what n) c e) [
-      | inl h ↦ let k = counted_ok n 0 ask.ClientId c h.1 in subst (Asks (word ∷ what ∷ rest)) k.1 (w, (h.0, k.0))
+      | inl h ↦ let k = counted_ok n 0 ask.ClientId c h.1 in subst (Asks (word ∷ what ∷ rest)) k.1 (w, h.0, k.0)
       | inr f ↦ elim (chosen (is_word what (codes "setname")) (counted n 1 ask.DescribeClient) (after_name what n) c f) [
-          | inl h ↦ let k = counted_ok n 1 ask.DescribeClient c h.1 in subst (Asks (word ∷ what ∷ rest)) k.1 (inl (w, (h.0, k.0)))
+          | inl h ↦ let k = counted_ok n 1 ask.DescribeClient c h.1 in subst (Asks (word ∷ what ∷ rest)) k.1 (inl (w, h.0, k.0))
           | inr g ↦
               let h = guarded (is_word what (codes "setinfo")) (counted n 2 ask.DescribeClient) UnknownSubcommand c g in
               let k = counted_ok n 2 ask.DescribeClient c h.1 in
-              subst (Asks (word ∷ what ∷ rest)) k.1 (inr (w, (h.0, k.0)))
+              subst (Asks (word ∷ what ∷ rest)) k.1 (inr (w, h.0, k.0))
         ]
     ]
 

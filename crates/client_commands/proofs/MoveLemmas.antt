@@ -128,7 +128,7 @@ layout_of_ok name k nodes l e =
     let others = numbers_ok nodes d.0 d.1 in
     subst (LayoutIs name (k ∷ nodes)) (ok_is found l f.1)
     (ap (λ (s : List ℕ). s ∷ nodes) first.0 ∙ ap (λ (ss : Strings). decimal c.0 ∷ ss) others.0,
-    (ltb-false LONGEST_NAME (length name) b.0, (lawful_ok found f.0, others.1)))
+    ltb-false LONGEST_NAME (length name) b.0, lawful_ok found f.0, others.1)
 
 -- the arguments are a name and the strings of a layout
 abbrev pub MoveIs : Strings → Layout → Type 0
@@ -141,7 +141,7 @@ layout_from_ok [] l e = absurd cc
 layout_from_ok (name ∷ []) l e = absurd cc
 layout_from_ok (name ∷ k ∷ nodes) l e =
     let h = layout_of_ok name k nodes l e in
-    (ap (λ (s : Strings). name ∷ s) h.0, h.1)
+    (ap (λ (s : Strings). name ∷ s) h.0, h.1, h.2, h.3)
 
 pub layout_from_some : (arguments : Strings) (l : Layout) → layout_from arguments ≡ Ok l → 0 < length arguments
 unfolding layout_from

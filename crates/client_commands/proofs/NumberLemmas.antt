@@ -1,6 +1,6 @@
 -- A number that is read is the number that was written, and what was written is read again.
 use Rattle.std.proofs.Common.{◌≡◌, ℕ, zero, suc, ◌+◌, ◌^◌, ◌<◌, ◌≤◌, Bool, true, false, cond, not, ◌||◌, ltb, leb, eqb, List, [], ◌∷◌}
-use Rattle.std.proofs.Common.{length, get_or, Result, Ok, Err, refl, sym, ap, subst, ◌∙◌, arith}
+use Rattle.std.proofs.Common.{length, get_or, Result, Ok, Err, refl, sym, ap, subst, ◌∙◌, arith, rules}
 use Rattle.std.specs.Char.{is_ascii_digit}
 use Rattle.std.specs.Fmt.{decimal}
 use Rattle.std.specs.List.{list_all}
@@ -17,10 +17,10 @@ use Rattle.client_commands.specs.Numbers.{is_number, within_a_byte, number_from}
 use Rattle.client_commands.specs.declared.fault.CommandFault.TheVariants.{BadNumber, OutOfRange}
 use Rattle.client_commands.proofs.PartLemmas.{guarded, guarded_above, ok_is, implied, implies}
 
-abbrev AreDigits : List ℕ → Type 0
+abbrev pub AreDigits : List ℕ → Type 0
 AreDigits ds = list_all is_ascii_digit ds ≡ true
 
-numerals : IsNumeralModel AreDigits (digits_value 10)
+pub numerals : IsNumeralModel AreDigits (digits_value 10)
 numerals = numerals_by_value AreDigits (search rules)
 
 -- ---- what a number consists of

@@ -16,7 +16,7 @@ answer_bytes answer.Ok = codes "+OK" ++ line_end
 answer_bytes answer.Pong = codes "+PONG" ++ line_end
 answer_bytes (answer.Value value) = string_bytes value
 answer_bytes (answer.Number n) = header 58 n
-answer_bytes answer.NoCommands = header 42 0
+answer_bytes answer.NoCommands = codes "*0" ++ line_end
 answer_bytes (answer.Error error) = error_line (error_text error)
 
 -- the strings in which these bytes are: a value is in one of its own

@@ -21,13 +21,22 @@ fn values(rt: HostRuntime) {
     let value = text(&rt, alloc, b"");
     assert_answer(&rt, alloc, Answer::Value(value), 3, b"$0\r\n\r\n");
     let value = text(&rt, alloc, b"a\r\n\x00\xff$3\r\n");
-    assert_answer(&rt, alloc, Answer::Value(value), 3, b"$9\r\na\r\n\x00\xff$3\r\n\r\n");
+    assert_answer(
+        &rt,
+        alloc,
+        Answer::Value(value),
+        3,
+        b"$9\r\na\r\n\x00\xff$3\r\n\r\n",
+    );
 }
 
 /// The errors of frames, and their lines.
 static FAULTS: [(CommandFault, &[u8]); 11] = [
     (CommandFault::UnknownCommand, b"-ERR unknown command\r\n"),
-    (CommandFault::UnknownSubcommand, b"-ERR unknown subcommand\r\n"),
+    (
+        CommandFault::UnknownSubcommand,
+        b"-ERR unknown subcommand\r\n",
+    ),
     (
         CommandFault::WrongCount(CommandName::Get),
         b"-ERR wrong number of arguments for 'get' command\r\n",
@@ -65,7 +74,13 @@ fn errors(rt: HostRuntime) {
     let error = Answer::Error(AnswerError::Protocol);
     assert_answer(&rt, alloc, error, 1, b"-ERR protocol\r\n");
     let error = Answer::Error(AnswerError::NotAdministrator);
-    assert_answer(&rt, alloc, error, 1, b"-ERR only the administrator moves objects\r\n");
+    assert_answer(
+        &rt,
+        alloc,
+        error,
+        1,
+        b"-ERR only the administrator moves objects\r\n",
+    );
     let error = Answer::Error(AnswerError::Refused(Refusal::Full));
     assert_answer(&rt, alloc, error, 1, b"-ERR refused: 12 Full\r\n");
 }

@@ -56,7 +56,11 @@ fn connections(rt: HostRuntime) {
     assert!(rt; asked_by(&rt, alloc, &[b"client", b"id"]) == Ok(Command::ClientId));
     let command = asked_by(&rt, alloc, &[b"CLIENT", b"SETNAME", b"tester"]);
     assert!(rt; command == Ok(Command::DescribeClient));
-    let command = asked_by(&rt, alloc, &[b"CLIENT", b"SETINFO", b"LIB-NAME", b"redis-py"]);
+    let command = asked_by(
+        &rt,
+        alloc,
+        &[b"CLIENT", b"SETINFO", b"LIB-NAME", b"redis-py"],
+    );
     assert!(rt; command == Ok(Command::DescribeClient));
     assert!(rt; asked_by(&rt, alloc, &[b"QUIT"]) == Ok(Command::Quit));
 }

@@ -85,7 +85,12 @@ fn long_names(rt: HostRuntime) {
     assert!(rt; command == Err(CommandFault::NameTooLong));
 }
 
-fn set_of<R: Abort>(rt: &R, alloc: Global, name: &[u8], len: usize) -> Result<Command, CommandFault> {
+fn set_of<R: Abort>(
+    rt: &R,
+    alloc: Global,
+    name: &[u8],
+    len: usize,
+) -> Result<Command, CommandFault> {
     let value = vec![in alloc; b'v'; len].expect(rt, "memory");
     asked_by(rt, alloc, &[b"SET", name, &value])
 }
@@ -94,7 +99,12 @@ fn set_of<R: Abort>(rt: &R, alloc: Global, name: &[u8], len: usize) -> Result<Co
 #[test]
 fn long_values(rt: HostRuntime) {
     let alloc = rt.alloc();
-    assert!(rt; matches!(set_of(&rt, alloc, b"photo", 16_777_216), Ok(Command::Set { .. })));
+    assert!(rt;
+        matches!(
+            set_of(&rt, alloc, b"photo", 16_777_216),
+            Ok(Command::Set { .. })
+        )
+    );
     assert!(rt; set_of(&rt, alloc, b"photo", 16_777_217) == Err(CommandFault::ValueTooLong));
     let long: &[u8] = &[b'n'; 256];
     assert!(rt; set_of(&rt, alloc, long, 16_777_217) == Err(CommandFault::NameTooLong));

@@ -6,7 +6,8 @@ use layout::Layout;
 #[test]
 fn a_layout_of_four_nodes(rt: HostRuntime) {
     let alloc = rt.alloc();
-    let sent = b"*7\r\n$4\r\nMOVE\r\n$5\r\nphoto\r\n$1\r\n2\r\n$1\r\n7\r\n$1\r\n0\r\n$3\r\n255\r\n$2\r\n10\r\n";
+    let sent =
+        b"*7\r\n$4\r\nMOVE\r\n$5\r\nphoto\r\n$1\r\n2\r\n$1\r\n7\r\n$1\r\n0\r\n$3\r\n255\r\n$2\r\n10\r\n";
     let name = text(&rt, alloc, b"photo");
     let layout = Layout::new(2, &[7, 0, 255, 10]).expect(&rt, "a layout");
     assert!(rt; asked(&rt, alloc, sent) == Ok(Command::Move { name, layout }));

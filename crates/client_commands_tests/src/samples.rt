@@ -14,11 +14,7 @@ fn is_text(string: &[u8], text: &[u8]) -> bool {
 }
 
 /// What these bytes of a client ask.
-pub(crate) fn asked<R: Abort>(
-    rt: &R,
-    alloc: Global,
-    sent: &[u8],
-) -> Result<Command, CommandFault> {
+pub(crate) fn asked<R: Abort>(rt: &R, alloc: Global, sent: &[u8]) -> Result<Command, CommandFault> {
     let frame = read_frame(alloc, &mut &*sent).expect(rt, "no fault");
     read_command(frame.expect(rt, "a frame"))
 }
