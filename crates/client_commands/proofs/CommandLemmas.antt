@@ -1,6 +1,6 @@
 -- A frame asks for the command that is read, and a frame that asks for a command is read as that command.
-use Rattle.std.proofs.Common.{◌≡◌, ◌⊎◌, ℕ, Bool, true, false, cond, eqb, List, [], ◌∷◌, length, get_or, Option, Some, None}
-use Rattle.std.proofs.Common.{Result, Ok, Err, refl, sym, ap, subst, ◌∙◌, inl, inr, arith}
+use Rattle.std.proofs.Common.{◌≡◌, ℕ, cond, eqb, List, [], ◌∷◌, length, get_or, Option, Some, None}
+use Rattle.std.proofs.Common.{Result, Ok, Err, refl, sym, ap, subst, ◌∙◌, inl, inr}
 use Rattle.std.specs.Prelude.{codes, IsTrue, IfOk}
 use Rattle.std.specs.Str.{bytes_eq, str_to_ascii_lowercase}
 use Rattle.std.proofs.lemmas.Bool.{eqb-true}
@@ -16,7 +16,7 @@ use Rattle.client_commands.specs.declared.command.Command.TheVariants as ask
 use Rattle.client_commands.specs.declared.command.CommandName.{CommandName}
 use Rattle.client_commands.specs.declared.command.CommandName.TheVariants as of
 use Rattle.client_commands.specs.declared.fault.CommandFault.{CommandFault}
-use Rattle.client_commands.specs.declared.fault.CommandFault.TheVariants.{UnknownCommand, UnknownSubcommand, WrongCount}
+use Rattle.client_commands.specs.declared.fault.CommandFault.TheVariants.{UnknownSubcommand, WrongCount}
 use Rattle.client_commands.proofs.PartLemmas.{bind_ok, guarded, chosen, ok_is}
 use Rattle.client_commands.proofs.WordLemmas.{named_ok, named_again, small_is}
 use Rattle.client_commands.proofs.ArgumentLemmas.{only_ok, both_ok, name_ok, value_ok, name_again, value_again}
@@ -24,9 +24,6 @@ use Rattle.client_commands.proofs.MoveLemmas.{layout_from_ok, layout_from_again}
 
 abbrev Strings : Type 0
 Strings = List (List ℕ)
-
-abbrev of_command : Command → Found
-of_command c = Ok c
 
 abbrev Read : Type 0
 Read = Result (List ℕ) CommandFault
@@ -100,12 +97,12 @@ client_ok word (what ∷ rest) c w e =
     elim (chosen (is_word what (codes "id")) (counted n 0 ask.ClientId) (after_id what n) c e) [
       | inl h ↦ let k = counted_ok n 0 ask.ClientId c h.1 in subst (Asks (word ∷ what ∷ rest)) k.1 (w, h.0, k.0)
       | inr f ↦ elim (chosen (is_word what (codes "setname")) (counted n 1 ask.DescribeClient) (after_name what n) c f) [
-          | inl h ↦ let k = counted_ok n 1 ask.DescribeClient c h.1 in subst (Asks (word ∷ what ∷ rest)) k.1 (inl (w, h.0, k.0))
-          | inr g ↦
-              let h = guarded (is_word what (codes "setinfo")) (counted n 2 ask.DescribeClient) UnknownSubcommand c g in
-              let k = counted_ok n 2 ask.DescribeClient c h.1 in
-              subst (Asks (word ∷ what ∷ rest)) k.1 (inr (w, h.0, k.0))
-        ]
+        | inl h ↦ let k = counted_ok n 1 ask.DescribeClient c h.1 in subst (Asks (word ∷ what ∷ rest)) k.1 (inl (w, h.0, k.0))
+        | inr g ↦
+            let h = guarded (is_word what (codes "setinfo")) (counted n 2 ask.DescribeClient) UnknownSubcommand c g in
+            let k = counted_ok n 2 ask.DescribeClient c h.1 in
+            subst (Asks (word ∷ what ∷ rest)) k.1 (inr (w, h.0, k.0))
+      ]
     ]
 
 from_ok : (name : CommandName) (word : List ℕ) (args : Strings) (c : Command) → IsTrue (is_word word (name_text name))
@@ -222,37 +219,3 @@ is_found strings (Err fault) e = tt
 
 pub is_only : (strings : Strings) (result : Found) → result ≡ command_at strings → (c : Command) → Asks strings c → result ≡ Ok c
 is_only strings result e c h = e ∙ command_again strings c h
-
--- ---- as the code reads strings
-
-pub nothing_asked : (strings : Strings) → length strings ≡ 0 → Err UnknownCommand ≡ command_at strings
-unfolding command_at
-nothing_asked [] e = refl
-nothing_asked (s ∷ ss) e = absurd (omega arith)
-
-asked_of : (found : Option CommandName) (word : List ℕ) (rest : Strings) → found ≡ named word
-    → command_named found rest ≡ command_at (word ∷ rest)
-unfolding command_at
-asked_of found word rest e = ap (λ (f : Option CommandName). command_named f rest) e
-
-pub asked : (strings rest : Strings) (word : List ℕ) (found : Option CommandName) (result : Found) → strings ≡ word ∷ rest
-    → found ≡ named word → result ≡ command_named found rest → result ≡ command_at strings
-asked strings rest word found result e f g = g ∙ asked_of found word rest f ∙ sym (ap command_at e)
-
-pub no_text : (arguments : Strings) → length arguments ≡ 0 → Ok (ask.Ping None) ≡ ping_from arguments
-unfolding ping_from
-no_text [] e = refl
-no_text (s ∷ ss) e = absurd (omega arith)
-
-pub with_text : (arguments : Strings) (read : Read) → (length arguments ≡ 0 → ⊥) → read ≡ only_argument of.Ping arguments
-    → and_then read (λ (t : List ℕ). Ok (ask.Ping (Some t))) ≡ ping_from arguments
-unfolding ping_from
-with_text [] read some e = absurd (some refl)
-with_text (s ∷ ss) read some e = ap (λ (r : Read). and_then r (λ (t : List ℕ). Ok (ask.Ping (Some t)))) e
-
-pub moved : (arguments rest : Strings) (name : List ℕ) (l : Layout) → arguments ≡ name ∷ rest → Ok l ≡ layout_from arguments
-    → Ok (ask.Move name l) ≡ move_from arguments
-unfolding move_from
-moved arguments rest name l e f =
-    ap (λ (s : Strings). of_command (ask.Move (get_or s 0 []) l)) (sym e)
-    ∙ ap (λ (r : Result Layout CommandFault). and_then r (λ (m : Layout). Ok (ask.Move (get_or arguments 0 []) m))) f

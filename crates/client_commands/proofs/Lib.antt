@@ -5,4 +5,5 @@ pub mod WordLemmas
 pub mod ArgumentLemmas
 pub mod MoveLemmas
 pub mod CommandLemmas
+pub mod TextLemmas
 pub mod AnswerLemmas

@@ -1,10 +1,9 @@
 -- The layout of a MOVE that is read is the one that was written, and what was written is read again.
-use Rattle.std.proofs.Common.{◌≡◌, ℕ, suc, ◌+◌, ◌<◌, ◌≤◌, Bool, true, false, cond, ◌||◌, ltb, eqb, List, [], ◌∷◌, ◌++◌, map, length, get_or}
-use Rattle.std.proofs.Common.{drop, drop-cons, Result, Ok, Err, refl, sym, ap, subst, ◌∙◌, append_assoc, arith}
+use Rattle.std.proofs.Common.{◌≡◌, ℕ, ◌≤◌, Bool, true, false, cond, ◌||◌, ltb, eqb, List, [], ◌∷◌, ◌++◌, map, length, get_or}
+use Rattle.std.proofs.Common.{Result, Ok, Err, refl, ap, subst, ◌∙◌, arith}
 use Rattle.std.specs.Fmt.{decimal}
-use Rattle.std.specs.List.{AllByRecursion}
-use Rattle.std.proofs.lemmas.Bool.{ltb-false, le-ltb, ne_eqb, or_parts, or_from}
-use Rattle.std.proofs.lemmas.List.{length-map, append-nil, drop_all}
+use Rattle.std.proofs.lemmas.Bool.{ltb-false, le-ltb, ne_eqb, or_from}
+use Rattle.std.proofs.lemmas.List.{length-map}
 use Rattle.tag.specs.declared.limits.TheConstants.{LONGEST_NAME, MOST_MEMBERS}
 use Rattle.layout.specs.Layout.{Layout, IsLawful}
 use Rattle.client_commands.specs.Arguments.{and_then}
@@ -44,57 +43,9 @@ numbers_again (n ∷ ns) nodes =
 
 -- ---- as a loop reads numbers
 
-abbrev all_of : List ℕ → Result (List ℕ) CommandFault
-all_of ns = Ok ns
-
 -- what is read of the strings, with these numbers in front
 abbrev pub behind : List ℕ → Result (List ℕ) CommandFault → Result (List ℕ) CommandFault
 behind ns read = and_then read (λ (ms : List ℕ). Ok (ns ++ ms))
-
-behind_more : (ns : List ℕ) (n : ℕ) (read : Result (List ℕ) CommandFault)
-    → behind ns (and_then read (λ (ms : List ℕ). Ok (n ∷ ms))) ≡ behind (ns ++ n ∷ []) read
-behind_more ns n (Ok ms) = ap all_of (sym (append_assoc ns (n ∷ []) ms))
-behind_more ns n (Err fault) = refl
-
-one_more : (ns : List ℕ) (n : ℕ) (string : List ℕ) (strings : Strings) → Ok n ≡ number_from string
-    → behind ns (numbers_from (string ∷ strings)) ≡ behind (ns ++ n ∷ []) (numbers_from strings)
-one_more ns n string strings e =
-    subst (λ (r : Result ℕ CommandFault). behind ns (and_then r (λ (k : ℕ). and_then (numbers_from strings) (λ (ms : List ℕ). Ok (k ∷ ms))))
-    ≡ behind (ns ++ n ∷ []) (numbers_from strings)) e (behind_more ns n (numbers_from strings))
-
-a_fault : (ns : List ℕ) (fault : CommandFault) (string : List ℕ) (strings : Strings) → Err fault ≡ number_from string
-    → behind ns (numbers_from (string ∷ strings)) ≡ Err fault
-a_fault ns fault string strings e =
-    subst (λ (r : Result ℕ CommandFault). behind ns (and_then r (λ (k : ℕ). and_then (numbers_from strings) (λ (ms : List ℕ). Ok (k ∷ ms))))
-    ≡ Err fault) e refl
-
-pub numbers_begin : (strings : Strings) → numbers_from strings ≡ behind [] (numbers_from strings)
-numbers_begin strings = whole (numbers_from strings)
-  where
-    whole : (read : Result (List ℕ) CommandFault) → read ≡ behind [] read
-    whole (Ok ms) = refl
-    whole (Err fault) = refl
-
-pub numbers_go_on : (ns : List ℕ) (n i : ℕ) (strings : Strings) → i < length strings → Ok n ≡ number_from (get_or strings i [])
-    → numbers_from strings ≡ behind ns (numbers_from (drop i strings))
-    → numbers_from strings ≡ behind (ns ++ n ∷ []) (numbers_from (drop (i + 1) strings))
-numbers_go_on ns n i strings lt e so_far =
-    let next : suc i ≡ i + 1 = omega arith in
-    so_far ∙ ap (λ (s : Strings). behind ns (numbers_from s)) (drop-cons strings i [] lt)
-    ∙ one_more ns n (get_or strings i []) (drop (suc i) strings) e
-    ∙ ap (λ (k : ℕ). behind (ns ++ n ∷ []) (numbers_from (drop k strings))) next
-
-pub numbers_stop_at : (ns : List ℕ) (fault : CommandFault) (i : ℕ) (strings : Strings) → i < length strings
-    → Err fault ≡ number_from (get_or strings i []) → numbers_from strings ≡ behind ns (numbers_from (drop i strings))
-    → numbers_from strings ≡ Err fault
-numbers_stop_at ns fault i strings lt e so_far =
-    so_far ∙ ap (λ (s : Strings). behind ns (numbers_from s)) (drop-cons strings i [] lt)
-    ∙ a_fault ns fault (get_or strings i []) (drop (suc i) strings) e
-
-pub numbers_end_at : (ns : List ℕ) (i : ℕ) (strings : Strings) → length strings ≤ i
-    → numbers_from strings ≡ behind ns (numbers_from (drop i strings)) → numbers_from strings ≡ Ok ns
-numbers_end_at ns i strings le so_far =
-    so_far ∙ ap (λ (s : Strings). behind ns (numbers_from s)) (drop_all i strings le) ∙ ap all_of (append-nil ns)
 
 -- ---- layouts
 
@@ -126,9 +77,12 @@ layout_of_ok name k nodes l e =
     let f = guarded (is_lawful found) (Ok found) BadLayout l d.2 in
     let first = number_ok k c.0 c.1 in
     let others = numbers_ok nodes d.0 d.1 in
-    subst (LayoutIs name (k ∷ nodes)) (ok_is found l f.1)
-    (ap (λ (s : List ℕ). s ∷ nodes) first.0 ∙ ap (λ (ss : Strings). decimal c.0 ∷ ss) others.0,
-    ltb-false LONGEST_NAME (length name) b.0, lawful_ok found f.0, others.1)
+    subst (LayoutIs name (k ∷ nodes)) (ok_is found l f.1) (
+      ap (λ (s : List ℕ). s ∷ nodes) first.0 ∙ ap (λ (ss : Strings). decimal c.0 ∷ ss) others.0,
+      ltb-false LONGEST_NAME (length name) b.0,
+      lawful_ok found f.0,
+      others.1,
+    )
 
 -- the arguments are a name and the strings of a layout
 abbrev pub MoveIs : Strings → Layout → Type 0
@@ -142,11 +96,6 @@ layout_from_ok (name ∷ []) l e = absurd cc
 layout_from_ok (name ∷ k ∷ nodes) l e =
     let h = layout_of_ok name k nodes l e in
     (ap (λ (s : Strings). name ∷ s) h.0, h.1, h.2, h.3)
-
-pub layout_from_some : (arguments : Strings) (l : Layout) → layout_from arguments ≡ Ok l → 0 < length arguments
-unfolding layout_from
-layout_from_some [] l e = absurd cc
-layout_from_some (name ∷ more) l e = omega arith
 
 count_again : (n k : ℕ) → 1 ≤ k → k ≤ n → n ≤ MOST_MEMBERS → (eqb n 0 || ltb MOST_MEMBERS n) ≡ false
 count_again n k some enough few = or_from (eqb n 0) (ltb MOST_MEMBERS n) (ne_eqb n 0 (λ e. omega arith)) (le-ltb MOST_MEMBERS n few)

@@ -1,5 +1,5 @@
 -- A number that is read is the number that was written, and what was written is read again.
-use Rattle.std.proofs.Common.{◌≡◌, ℕ, zero, suc, ◌+◌, ◌^◌, ◌<◌, ◌≤◌, Bool, true, false, cond, not, ◌||◌, ltb, leb, eqb, List, [], ◌∷◌}
+use Rattle.std.proofs.Common.{◌≡◌, ℕ, zero, suc, ◌^◌, ◌<◌, ◌≤◌, Bool, true, false, cond, not, ◌||◌, ltb, leb, eqb, List, [], ◌∷◌}
 use Rattle.std.proofs.Common.{length, get_or, Result, Ok, Err, refl, sym, ap, subst, ◌∙◌, arith, rules}
 use Rattle.std.specs.Char.{is_ascii_digit}
 use Rattle.std.specs.Fmt.{decimal}
@@ -68,14 +68,6 @@ Parsed bytes r = OkIff r ((0 < length bytes) × (digits_value 10 bytes < 2 ^ 8))
 
 parsed : {E : Type 0} (bytes : List ℕ) (r : Result ℕ E) → ParsesUnsigned 8 10 bytes r → is_number bytes ≡ true → Parsed bytes r
 parsed bytes r h e = parse_digits numerals 8 bytes r h (number_parts bytes e).digits
-
-pub parsed_ok : {E : Type 0} (bytes : List ℕ) (r : Result ℕ E) (n : ℕ) → ParsesUnsigned 8 10 bytes r → is_number bytes ≡ true
-    → r ≡ Ok n → Ok n ≡ within_a_byte bytes
-parsed_ok {E} bytes r n h e is =
-    let p : ((0 < length bytes) × (digits_value 10 bytes < 2 ^ 8)) × (n ≡ digits_value 10 bytes) =
-    subst (λ (s : Result ℕ E). Parsed bytes s) is (parsed bytes r h e) in
-    let below : digits_value 10 bytes < 256 = p.0.1 in
-    rw (le-ltb 255 (digits_value 10 bytes) (omega arith)) (ap (λ (k : ℕ). Ok k) p.1)
 
 too_great : (n : ℕ) (b : Bool) → (b ≡ false → ⊥) → Err OutOfRange ≡ cond b (Err OutOfRange) (Ok n)
 too_great n true h = refl

@@ -1,12 +1,11 @@
 -- A word names the command whose name it is.
-use Rattle.std.proofs.Common.{◌≡◌, ◌⊎◌, ℕ, Bool, true, false, cond, List, [], ◌∷◌, Option, Some, None, refl, sym, ap, ◌∙◌, inl, inr}
+use Rattle.std.proofs.Common.{◌≡◌, ◌⊎◌, ℕ, Bool, true, false, cond, List, [], ◌∷◌, Option, Some, refl, sym, ap, ◌∙◌, inl, inr}
 use Rattle.std.specs.List.{find}
-use Rattle.std.specs.Prelude.{codes, IsTrue}
+use Rattle.std.specs.Prelude.{IsTrue}
 use Rattle.std.specs.Str.{bytes_eq, str_to_ascii_lowercase}
 use Rattle.std.proofs.lemmas.Slice.Eq.{bytes_eq-Decides}
 use Rattle.client_commands.specs.declared.command.CommandName.{CommandName}
 use Rattle.client_commands.specs.declared.command.CommandName.TheVariants as of
-use Rattle.client_commands.proofs.PartLemmas.{no_success}
 use Rattle.client_commands.specs.Words.{is_word, name_text, all_names, named}
 
 some_is : {X : Type 0} (x y : X) → Some x ≡ Some y → x ≡ y
@@ -53,15 +52,3 @@ small_is word text e = (bytes_eq-Decides (str_to_ascii_lowercase word) (str_to_a
 
 pub named_again : (word : List ℕ) (name : CommandName) → IsTrue (is_word word (name_text name)) → named word ≡ Some name
 named_again word name e = by_small word ∙ ap named_by (small_is word (name_text name) e) ∙ each_name name
-
--- ---- as the code compares words
-
-not_true : (b : Bool) → (b ≡ true → ⊥) → false ≡ b
-not_true true h = absurd (h refl)
-not_true false h = refl
-
-pub same_word : (r : Bool) (word text : List ℕ) → (r ≡ true → str_to_ascii_lowercase word ≡ str_to_ascii_lowercase text)
-    → (str_to_ascii_lowercase word ≡ str_to_ascii_lowercase text → r ≡ true) → r ≡ is_word word text
-same_word true word text to from =
-    sym ((bytes_eq-Decides (str_to_ascii_lowercase word) (str_to_ascii_lowercase text)).1 (to refl))
-same_word false word text to from = not_true (is_word word text) (λ e. no_success (from (small_is word text e)))

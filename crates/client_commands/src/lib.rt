@@ -4,7 +4,7 @@
 pub use answer::{Answer, AnswerError};
 pub use command::{Command, CommandName};
 pub use fault::CommandFault;
-pub use laws::error_texts_are_printable;
+pub use laws::{answers_have_frames, error_texts_are_printable};
 pub use reading::read_command;
 pub use writing::push_answer;
 
