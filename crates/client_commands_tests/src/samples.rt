@@ -37,14 +37,14 @@ pub(crate) fn assert_answer<R: Abort>(
     rt: &R,
     alloc: Global,
     answer: Answer,
-    count: usize,
+    count: u8,
     wanted: &[u8],
 ) {
     let mut strings = Vec::new(alloc);
     let address = text(rt, alloc, b"client 17");
     strings.push(address).expect(rt, "memory");
     push_answer(alloc, &mut strings, answer).expect(rt, "memory");
-    assert!(rt; strings.len() == count + 1);
+    assert!(rt; strings.len() == usize::from(count) + 1);
     assert!(rt; is_text(&strings[0], b"client 17"));
     let mut bytes: Vec<u8> = Vec::new(alloc);
     for string in &strings[1..] {
