@@ -6,7 +6,7 @@ use Rattle.client_commands.specs.Arguments.{checked_name, checked_value, only_ar
 use Rattle.client_commands.specs.Command.{IsName, IsValue}
 use Rattle.client_commands.specs.declared.command.CommandName.{CommandName}
 use Rattle.client_commands.specs.declared.fault.CommandFault.TheVariants.{NameTooLong, ValueTooLong}
-use Rattle.client_commands.proofs.PartLemmas.{guarded_above, ok_is}
+use Rattle.string_parts.proofs.PartLemmas.{guarded_above, ok_is}
 
 abbrev Strings : Type 0
 Strings = List (List ℕ)

@@ -5,7 +5,8 @@ use Rattle.std.specs.Prelude.{codes, IsTrue, IfOk}
 use Rattle.std.specs.Str.{bytes_eq, str_to_ascii_lowercase}
 use Rattle.std.proofs.lemmas.Bool.{eqb-true}
 use Rattle.layout.specs.Layout.{Layout}
-use Rattle.client_commands.specs.Arguments.{and_then, checked_name, checked_value, only_argument, name_and_value}
+use Rattle.string_parts.specs.Parts.{and_then}
+use Rattle.client_commands.specs.Arguments.{checked_name, checked_value, only_argument, name_and_value}
 use Rattle.client_commands.specs.Command.{Says, Begins, SaysOfClient, IsName, IsValue, Asks, layout_strings}
 use Rattle.client_commands.specs.Layouts.{layout_from}
 use Rattle.client_commands.specs.Reading.{Found, get_from, set_from, move_from, ping_from, echo_from, counted, subcommand_from}
@@ -17,7 +18,7 @@ use Rattle.client_commands.specs.declared.command.CommandName.{CommandName}
 use Rattle.client_commands.specs.declared.command.CommandName.TheVariants as of
 use Rattle.client_commands.specs.declared.fault.CommandFault.{CommandFault}
 use Rattle.client_commands.specs.declared.fault.CommandFault.TheVariants.{UnknownSubcommand, WrongCount}
-use Rattle.client_commands.proofs.PartLemmas.{bind_ok, guarded, chosen, ok_is}
+use Rattle.string_parts.proofs.PartLemmas.{bind_ok, guarded, chosen, ok_is}
 use Rattle.client_commands.proofs.WordLemmas.{named_ok, named_again, small_is}
 use Rattle.client_commands.proofs.ArgumentLemmas.{only_ok, both_ok, name_ok, value_ok, name_again, value_again}
 use Rattle.client_commands.proofs.MoveLemmas.{layout_from_ok, layout_from_again}

@@ -1,5 +1,3 @@
-pub mod PartLemmas
-pub mod LayoutLemmas
 pub mod NumberLemmas
 pub mod WordLemmas
 pub mod ArgumentLemmas

@@ -1,20 +1,21 @@
 -- The layout of a MOVE that is read is the one that was written, and what was written is read again.
-use Rattle.std.proofs.Common.{◌≡◌, ℕ, ◌≤◌, Bool, true, false, cond, ◌||◌, ltb, eqb, List, [], ◌∷◌, ◌++◌, map, length, get_or}
+use Rattle.std.proofs.Common.{◌≡◌, ℕ, ◌≤◌, false, cond, ◌||◌, ltb, eqb, List, [], ◌∷◌, ◌++◌, map, length, get_or}
 use Rattle.std.proofs.Common.{Result, Ok, Err, refl, ap, subst, ◌∙◌, arith}
 use Rattle.std.specs.Fmt.{decimal}
 use Rattle.std.proofs.lemmas.Bool.{ltb-false, le-ltb, ne_eqb, or_from}
 use Rattle.std.proofs.lemmas.List.{length-map}
 use Rattle.tag.specs.declared.limits.TheConstants.{LONGEST_NAME, MOST_MEMBERS}
 use Rattle.layout.specs.Layout.{Layout, IsLawful}
-use Rattle.client_commands.specs.Arguments.{and_then}
+use Rattle.string_parts.specs.Parts.{and_then}
 use Rattle.client_commands.specs.Numbers.{number_from}
-use Rattle.client_commands.specs.Layouts.{numbers_from, is_lawful, checked_layout, layout_of, layout_from}
+use Rattle.string_parts.specs.Layouts.{checked_layout}
+use Rattle.client_commands.specs.Layouts.{numbers_from, layout_of, layout_from}
 use Rattle.client_commands.specs.Command.{IsName, AreNodes, layout_strings}
 use Rattle.client_commands.specs.declared.command.CommandName.TheVariants as of
 use Rattle.client_commands.specs.declared.fault.CommandFault.{CommandFault}
 use Rattle.client_commands.specs.declared.fault.CommandFault.TheVariants.{WrongCount, NameTooLong, BadLayout}
-use Rattle.client_commands.proofs.PartLemmas.{bind_ok, guarded, guarded_above, ok_is}
-use Rattle.client_commands.proofs.LayoutLemmas.{lawful_ok, lawful_again}
+use Rattle.string_parts.proofs.PartLemmas.{bind_ok, guarded_above, ok_is}
+use Rattle.string_parts.proofs.LayoutLemmas.{checked_ok, checked_again}
 use Rattle.client_commands.proofs.NumberLemmas.{number_ok, number_again}
 
 abbrev Strings : Type 0
@@ -49,16 +50,6 @@ behind ns read = and_then read (λ (ms : List ℕ). Ok (ns ++ ms))
 
 -- ---- layouts
 
-pub layout_made : (layout made : Layout) → made ≡ layout → IsLawful layout → Ok made ≡ checked_layout layout
-layout_made layout made e lawful = rw (lawful_again layout lawful) (ap (λ (l : Layout). Ok l) e)
-
-refuses : (layout : Layout) (b : Bool) → (b ≡ true → ⊥) → Err BadLayout ≡ cond b (Ok layout) (Err BadLayout)
-refuses layout true no_layout = absurd (no_layout refl)
-refuses layout false no_layout = refl
-
-pub layout_refused : (layout : Layout) → (IsLawful layout → ⊥) → Err BadLayout ≡ checked_layout layout
-layout_refused layout unlawful = refuses layout (is_lawful layout) (λ e. unlawful (lawful_ok layout e))
-
 abbrev LayoutIs : List ℕ → Strings → Layout → Type 0
 LayoutIs name strings layout = (strings ≡ layout_strings layout) × IsName name × IsLawful layout × AreNodes layout.members
 
@@ -66,21 +57,21 @@ layout_of_ok : (name k : List ℕ) (nodes : Strings) (l : Layout) → layout_of 
 unfolding layout_of
 layout_of_ok name k nodes l e =
     let after_k : ℕ → Result Layout CommandFault =
-    λ (n : ℕ). and_then (numbers_from nodes) (λ (ms : List ℕ). checked_layout (record { k = n; members = ms })) in
+    λ (n : ℕ). and_then (numbers_from nodes) (λ (ms : List ℕ). checked_layout BadLayout (record { k = n; members = ms })) in
     let after_name = and_then (number_from k) after_k in
     let a = guarded_above (eqb (length nodes) 0 || ltb MOST_MEMBERS (length nodes)) (WrongCount of.Move)
     (cond (ltb LONGEST_NAME (length name)) (Err NameTooLong) after_name) l e in
     let b = guarded_above (ltb LONGEST_NAME (length name)) NameTooLong after_name l a.1 in
     let c = bind_ok (number_from k) after_k l b.1 in
-    let d = bind_ok (numbers_from nodes) (λ (ms : List ℕ). checked_layout (record { k = c.0; members = ms })) l c.2 in
+    let d = bind_ok (numbers_from nodes) (λ (ms : List ℕ). checked_layout BadLayout (record { k = c.0; members = ms })) l c.2 in
     let found : Layout = record { k = c.0; members = d.0 } in
-    let f = guarded (is_lawful found) (Ok found) BadLayout l d.2 in
+    let f = checked_ok BadLayout found l d.2 in
     let first = number_ok k c.0 c.1 in
     let others = numbers_ok nodes d.0 d.1 in
-    subst (LayoutIs name (k ∷ nodes)) (ok_is found l f.1) (
+    subst (LayoutIs name (k ∷ nodes)) f.0 (
       ap (λ (s : List ℕ). s ∷ nodes) first.0 ∙ ap (λ (ss : Strings). decimal c.0 ∷ ss) others.0,
       ltb-false LONGEST_NAME (length name) b.0,
-      lawful_ok found f.0,
+      f.1,
       others.1,
     )
 
@@ -114,7 +105,7 @@ layout_of_again name k members named lawful nodes =
       le-ltb LONGEST_NAME (length name) named,
       number_again k small,
       numbers_again members nodes,
-      lawful_again (record { k = k; members = members }) lawful,
+      checked_again BadLayout (record { k = k; members = members }) lawful,
     ) refl
 
 pub layout_from_again : (name : List ℕ) (l : Layout) → IsName name → IsLawful l → AreNodes l.members

@@ -8,11 +8,6 @@ use Rattle.client_commands.specs.declared.fault.CommandFault.{CommandFault}
 use Rattle.client_commands.specs.declared.fault.CommandFault.TheVariants.{WrongCount, SyntaxError, NameTooLong}
 use Rattle.client_commands.specs.declared.fault.CommandFault.TheVariants.{ValueTooLong}
 
--- one part after another, up to the first fault
-abbrev pub and_then : {A B : Type 0} → Result A CommandFault → (A → Result B CommandFault) → Result B CommandFault
-and_then (Ok x) next = next x
-and_then (Err fault) next = Err fault
-
 -- this name, unless it is too long
 abbrev pub checked_name : List ℕ → Result (List ℕ) CommandFault
 checked_name name = if nat_lt LONGEST_NAME (length name) then Err NameTooLong else Ok name

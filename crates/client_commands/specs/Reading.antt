@@ -2,7 +2,8 @@
 -- Which command the strings of a frame are, or what the first fault is.
 use Rattle.std.specs.Prelude.{ℕ, List, [], ◌∷◌, length, get_or, Option, Some, None, Result, Ok, Err, ◌==◌, codes}
 use Rattle.std.specs.Prelude.{if◌then◌else◌}
-use Rattle.client_commands.specs.Arguments.{and_then, checked_name, checked_value, only_argument, name_and_value}
+use Rattle.string_parts.specs.Parts.{and_then}
+use Rattle.client_commands.specs.Arguments.{checked_name, checked_value, only_argument, name_and_value}
 use Rattle.client_commands.specs.Layouts.{layout_from}
 use Rattle.client_commands.specs.Words.{is_word, named}
 use Rattle.client_commands.specs.declared.command.Command.{Command}

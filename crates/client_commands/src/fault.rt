@@ -6,7 +6,7 @@ use std::error::Error;
 use std::fmt;
 
 /// Why a frame asks for no command: the first fault in the order of these variants, where faults of numbers come from
-/// left to right.
+/// left to right, byte by byte.
 #[derive(Clone, Copy, Debug, PartialEq, Eq)]
 pub enum CommandFault {
     /// The first string names no command, or there is none.
@@ -23,7 +23,7 @@ pub enum CommandFault {
     ValueTooLong,
     /// In the place of k or of a node there is a byte that is no digit, a leading 0, or nothing.
     BadNumber,
-    /// In the place of k or of a node there is a number above 255.
+    /// In the place of k or of a node the digits so far are those of a number above 255.
     OutOfRange,
     /// k is 0, there are fewer nodes than k, or a node is named twice.
     BadLayout,

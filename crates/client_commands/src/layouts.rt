@@ -4,7 +4,6 @@ ghost use Rattle.tag.specs.declared.limits.TheConstants.{MOST_MEMBERS};
 ghost use Rattle.client_commands.specs.Layouts.{
   Sees,
   numbers_from,
-  checked_layout,
   layout_of,
   layout_from,
 };
@@ -15,6 +14,7 @@ use crate::number::read_number;
 use arrayvec::ArrayVec;
 use bytes::Bytes;
 use layout::Layout;
+use string_parts::checked_layout;
 use tag::{LONGEST_NAME, MOST_MEMBERS};
 
 /// The layout of a `MOVE`, whose arguments are a name, a k and the nodes.
@@ -42,7 +42,7 @@ fn layout_of(name: &[u8], k: &[u8], nodes: &[Bytes]) -> Result<Layout, CommandFa
     }
     let k = read_number(k)?;
     let members = read_numbers(nodes)?;
-    checked_layout(k, &members)
+    checked_layout(k, &members, CommandFault::BadLayout)
 }
 
 // The numbers that the strings write.
@@ -56,14 +56,4 @@ fn read_numbers(strings: &[Bytes]) -> Result<ArrayVec<u8, MOST_MEMBERS>, Command
         numbers.push(number);
     }
     Ok(numbers)
-}
-
-// This layout, unless it is not lawful.
-fn checked_layout(k: u8, members: &[u8]) -> Result<Layout, CommandFault>
-    ensures { result ≡ checked_layout (record { k = k; members = members.now }) }
-{
-    match Layout::new(k, members) {
-        Ok(layout) => Ok(layout),
-        Err(_) => Err(CommandFault::BadLayout),
-    }
 }

@@ -23,7 +23,7 @@ fn a_layout_of_one_node(rt: HostRuntime) {
 }
 
 /// A k and a node, and their fault.
-static NUMBERS: [(&[u8], &[u8], CommandFault); 17] = [
+static NUMBERS: [(&[u8], &[u8], CommandFault); 20] = [
     (b"", b"3", CommandFault::BadNumber),
     (b"-1", b"3", CommandFault::BadNumber),
     (b"+1", b"3", CommandFault::BadNumber),
@@ -39,6 +39,9 @@ static NUMBERS: [(&[u8], &[u8], CommandFault); 17] = [
     (b"1", b"3x", CommandFault::BadNumber),
     (b"1", b"0x3", CommandFault::BadNumber),
     (b"1", b"256", CommandFault::OutOfRange),
+    (b"256x", b"3", CommandFault::OutOfRange),
+    (b"25x6", b"3", CommandFault::BadNumber),
+    (b"0256", b"3", CommandFault::BadNumber),
     (b"0", b"3", CommandFault::BadLayout),
     (b"2", b"3", CommandFault::BadLayout),
 ];

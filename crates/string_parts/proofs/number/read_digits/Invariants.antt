@@ -1,7 +1,7 @@
 -- Reading the digits that are left behind those so far gives the number of all of them.
 use Rattle.std.proofs.Common.{◌≡◌, ◌≤◌, drop}
-use Rattle.node_messages.specs.Numbers.{digits_from}
-use Rattle.node_messages.proofs.number.read_digits.Given as goal
+use Rattle.string_parts.specs.Numbers.{digits_from}
+use Rattle.string_parts.proofs.number.read_digits.Given as goal
 
 abbrev pub invariant-loop-byte : goal.invariant-loop-byte
 invariant-loop-byte l =

@@ -1,6 +1,6 @@
 use Rattle.std.proofs.lemmas.Result.{err_from_is_err_and}
-use Rattle.node_messages.proofs.NumberLemmas.{digits_go_on, digits_stop_at, digits_end_at}
-use Rattle.node_messages.proofs.number.read_digits.Goals as goal
+use Rattle.string_parts.proofs.NumberLemmas.{digits_go_on, digits_stop_at, digits_end_at}
+use Rattle.string_parts.proofs.number.read_digits.Goals as goal
 
 pub returns-in_err-number-clause-exact : goal.returns-in_err-number-clause-exact
 returns-in_err-number-clause-exact c =

@@ -1,11 +1,12 @@
 -- The test of a layout says whether it is lawful.
-use Rattle.std.proofs.Common.{◌≡◌, ℕ, Bool, true, false, not, leb, nat_eq, ◌&&◌, List, [], ◌∷◌, length, arith, refl}
+use Rattle.std.proofs.Common.{◌≡◌, ℕ, Bool, true, false, cond, not, leb, nat_eq, ◌&&◌, List, [], ◌∷◌, length, Ok, Err, arith, refl, ap}
 use Rattle.std.specs.List.{list_any, IsDistinct, AllByRecursion}
 use Rattle.std.proofs.lemmas.Bool.{leb-true, le-leb, and_parts, and_from}
 use Rattle.std.proofs.lemmas.Bool.Decides.{nat_tests}
 use Rattle.tag.specs.declared.limits.TheConstants.{MOST_MEMBERS}
 use Rattle.layout.specs.Layout.{Layout, IsLawful}
-use Rattle.client_commands.specs.Layouts.{are_distinct, is_lawful}
+use Rattle.string_parts.proofs.PartLemmas.{guarded, ok_is}
+use Rattle.string_parts.specs.Layouts.{are_distinct, is_lawful, checked_layout}
 
 apart_ok : (x : ℕ) (xs : List ℕ) → list_any (nat_eq x) xs ≡ false → AllByRecursion (λ y. nat_eq x y ≡ false) xs
 apart_ok x [] none = tt
@@ -52,3 +53,25 @@ lawful_again layout lawful =
     and_from (leb 1 k) _ (le-leb 1 k lawful.some)
     (and_from (leb k n) _ (le-leb k n lawful.enough)
     (and_from (leb n MOST_MEMBERS) _ (le-leb n MOST_MEMBERS lawful.few) (distinct_again layout.members lawful.distinct)))
+
+-- ---- what a check of a layout gives
+
+pub layout_made : {E : Type 0} (fault : E) (layout made : Layout) → made ≡ layout → IsLawful layout
+    → Ok made ≡ checked_layout fault layout
+layout_made fault layout made e lawful = rw (lawful_again layout lawful) (ap (λ (l : Layout). Ok l) e)
+
+refuses : {E : Type 0} (fault : E) (layout : Layout) (b : Bool) → (b ≡ true → ⊥) → Err fault ≡ cond b (Ok layout) (Err fault)
+refuses fault layout true no_layout = absurd (no_layout refl)
+refuses fault layout false no_layout = refl
+
+pub layout_refused : {E : Type 0} (fault : E) (layout : Layout) → (IsLawful layout → ⊥) → Err fault ≡ checked_layout fault layout
+layout_refused fault layout unlawful = refuses fault layout (is_lawful layout) (λ e. unlawful (lawful_ok layout e))
+
+pub checked_ok : {E : Type 0} (fault : E) (layout checked : Layout) → checked_layout fault layout ≡ Ok checked
+    → (layout ≡ checked) × IsLawful layout
+checked_ok fault layout checked e =
+    let g = guarded (is_lawful layout) (Ok layout) fault checked e in
+    (ok_is layout checked g.1, lawful_ok layout g.0)
+
+pub checked_again : {E : Type 0} (fault : E) (layout : Layout) → IsLawful layout → checked_layout fault layout ≡ Ok layout
+checked_again fault layout lawful = rw (lawful_again layout lawful) refl
