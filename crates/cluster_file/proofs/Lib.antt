@@ -1,0 +1,5 @@
+pub mod NumberLemmas
+pub mod LineLemmas
+pub mod NodeLemmas
+pub mod DigestLemmas
+pub mod ValueLemmas
