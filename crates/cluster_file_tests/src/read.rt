@@ -22,12 +22,12 @@ pub(crate) fn read<R: Abort>(rt: &R, alloc: Global, text: &[u8]) -> ClusterFile 
 #[test]
 fn by_hand(rt: HostRuntime) {
     let file = read(&rt, rt.alloc(), BY_HAND);
-    assert_eq!(rt; file.nodes(), &[0, 1, 2, 3, 4, 5]);
+    assert_eq!(rt; file.nodes(), [0, 1, 2, 3, 4, 5].as_slice());
     assert_eq!(rt; file.n(), 4);
     assert_eq!(rt; file.k(), 2);
     assert_eq!(rt; file.delta(), None);
     assert_eq!(rt; file.mover(), 3);
-    assert_eq!(rt; file.later(), &[9, 255]);
+    assert_eq!(rt; file.later(), [9, 255].as_slice());
     assert_eq!(rt; file.ticks(), 50);
 }
 
@@ -36,7 +36,7 @@ fn lines_that_end_with_cr_lf(rt: HostRuntime) {
     let text =
         b"nodes 7\r\nn 1\r\nk 1\r\ndelta 4294967295\r\nmover 7\r\nlater\r\nticks 4294967295\r\n";
     let file = read(&rt, rt.alloc(), text);
-    assert_eq!(rt; file.nodes(), &[7]);
+    assert_eq!(rt; file.nodes(), [7].as_slice());
     assert_eq!(rt; file.delta(), Some(4_294_967_295));
     assert!(rt; file.later().is_empty());
     assert_eq!(rt; file.ticks(), 4_294_967_295);
