@@ -4,7 +4,7 @@ use Rattle.std.specs.Int.{w32, to_be_bytes, from_be_bytes}
 use Rattle.std.proofs.lemmas.Nat.{from_be_bytes-to_be_bytes_4}
 use Rattle.placement.proofs.FirstNodesLemmas.{placed-IsLawful}
 use Rattle.cluster_file.specs.File.{Fixed, placement_of}
-use Rattle.cluster_file.specs.Digest.{delta_bytes, hashed}
+use Rattle.cluster_file.specs.Digest.{delta_bytes}
 use Rattle.cluster_file.specs.Laws.{IsDelta, HashedBytesDiffer, PlacedLayoutsAreLawful}
 
 -- two fronts of one length, before what is behind them
@@ -23,12 +23,15 @@ number_again : (c d : ℕ) → c < 2 ^ 32 → d < 2 ^ 32 → to_be_bytes w32 c �
 number_again c d cs ds e =
     sym (from_be_bytes-to_be_bytes_4 c cs) ∙ ap (from_be_bytes w32) e ∙ from_be_bytes-to_be_bytes_4 d ds
 
+first_bytes : (a b : ℕ) (xs ys : List ℕ) → a ∷ xs ≡ b ∷ ys → a ≡ b
+first_bytes a b xs ys e = cc
+
 -- the bytes of a delta, before what is behind them
 delta_again : (x y : Option ℕ) (xs ys : List ℕ) → IsDelta x → IsDelta y → delta_bytes x ++ xs ≡ delta_bytes y ++ ys
     → (x ≡ y) × (xs ≡ ys)
 delta_again None None xs ys is_x is_y e = let tail : xs ≡ ys = cc in (refl, tail)
-delta_again None (Some d) xs ys is_x is_y e = let clash : 0 ≡ 1 = cc in absurd (omega arith)
-delta_again (Some c) None xs ys is_x is_y e = let clash : 1 ≡ 0 = cc in absurd (omega arith)
+delta_again None (Some d) xs ys is_x is_y e = absurd (omega (arith, first_bytes 0 1 _ _ e))
+delta_again (Some c) None xs ys is_x is_y e = absurd (omega (arith, first_bytes 1 0 _ _ e))
 delta_again (Some c) (Some d) xs ys is_x is_y e =
     let tail : to_be_bytes w32 c ++ xs ≡ to_be_bytes w32 d ++ ys = cc in
     let parts = same_front (to_be_bytes w32 c) (to_be_bytes w32 d) xs ys refl tail in

@@ -1,6 +1,6 @@
 -- The lines of a text as a loop finds them, and a line without its comment.
 use Rattle.std.proofs.Common.{◌≡◌, ◌==◌, ℕ, suc, ◌+◌, ◌<◌, ◌≤◌, Bool, true, false}
-use Rattle.std.proofs.Common.{List, [], ◌∷◌, ◌++◌, length, get_or, take, drop, drop-cons, map}
+use Rattle.std.proofs.Common.{List, [], ◌++◌, length, get_or, take, drop, drop-cons, map}
 use Rattle.std.proofs.Common.{Some, None, refl, sym, ap, ◌∙◌, append_assoc, arith, Bor}
 use Rattle.std.specs.Prelude.{Option, position, nat_lt}
 use Rattle.std.specs.List.{position_or_len}

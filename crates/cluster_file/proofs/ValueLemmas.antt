@@ -1,15 +1,15 @@
 -- What is known of a value that was read.
-use Rattle.std.proofs.Common.{◌≡◌, ◌≤◌, ℕ, ◌-◌, ◌^◌, Bool, true, false, cond, ltb}
-use Rattle.std.proofs.Common.{List, [], ◌∷◌, Result, Ok, Err, refl, ap, subst, ◌∙◌, arith}
+use Rattle.std.proofs.Common.{◌≡◌, ◌≤◌, ℕ, ◌||◌, Bool, true, false, cond, ltb}
+use Rattle.std.proofs.Common.{List, [], ◌∷◌, Result, Ok, Err, refl, ap, subst, arith}
+use Rattle.std.specs.Str.Parse.{digits_value}
 use Rattle.std.proofs.lemmas.Bool.{ltb-false}
 use Rattle.layout.specs.Quorum.{has}
 use Rattle.cluster_file.specs.declared.error.Fault.{Fault}
-use Rattle.cluster_file.specs.declared.error.Fault.TheVariants.{NoNode}
-use Rattle.cluster_file.specs.declared.error.FileFault.{FileFault}
+use Rattle.cluster_file.specs.declared.error.Fault.TheVariants.{NoNode, NotANumber}
 use Rattle.cluster_file.specs.declared.number.Range.{Range}
 use Rattle.cluster_file.specs.Lines.{Word, Line}
-use Rattle.cluster_file.specs.Numbers.{and_then, decimal_from, number_from, mover_from, of_a_byte}
-use Rattle.cluster_file.specs.Reading.{Parsed, placed_at, first_of, without_second, value_of}
+use Rattle.cluster_file.specs.Numbers.{and_then, is_decimal, within, number_from, mover_from, of_a_byte}
+use Rattle.cluster_file.specs.Reading.{placed_at, first_of, without_second, value_of}
 
 -- the value of a part that is no fault
 bind_ok : {E A B : Type 0} (r : Result A E) (f : A → Result B E) (y : B) → and_then r f ≡ Ok y
@@ -25,6 +25,11 @@ passed false x d y e = absurd cc
 not_passed : {A : Type 0} (b : Bool) (d : Fault) (x : Result A Fault) (y : A) → cond b (Err d) x ≡ Ok y → (b ≡ false) × (x ≡ Ok y)
 not_passed true d x y e = absurd cc
 not_passed false d x y e = (refl, e)
+
+neither_is : (a b : Bool) → (a || b) ≡ false → (a ≡ false) × (b ≡ false)
+neither_is false false e = (refl, refl)
+neither_is false true e = absurd cc
+neither_is true b e = absurd cc
 
 abbrev made : {A : Type 0} → A → Result A Fault
 made x = Ok x
@@ -57,14 +62,13 @@ value_ok from line x e =
 in_range : (range : Range) (word : Word) (n : ℕ) → number_from range word ≡ Ok n → (range.least ≤ n) × (n ≤ range.most)
 unfolding number_from
 in_range range word n e =
-    let a = bind_ok (decimal_from (2 ^ 32 - 1) word) (λ m. cond (ltb m range.least) (Err range.outside)
-    (cond (ltb range.most m) (Err range.outside) (Ok m))) n e in
-    let m : ℕ = a.0 in
-    let b = not_passed (ltb m range.least) range.outside (cond (ltb range.most m) (Err range.outside) (Ok m)) n a.2 in
-    let d = not_passed (ltb range.most m) range.outside (Ok m) n b.1 in
-    let same : m ≡ n = ok_is m n d.1 in
-    let low = ltb-false _ _ b.0 in
-    let high = ltb-false _ _ d.0 in
+    let m = digits_value 10 word in
+    let a = passed (is_decimal word) (within range m) NotANumber n e in
+    let b = not_passed (ltb m range.least || ltb range.most m) range.outside (Ok m) n a.1 in
+    let same : m ≡ n = ok_is m n b.1 in
+    let outside = neither_is (ltb m range.least) (ltb range.most m) b.0 in
+    let low = ltb-false _ _ outside.0 in
+    let high = ltb-false _ _ outside.1 in
     (omega arith, omega arith)
 
 pub number_in_range : (range : Range) (line : Line) (n : ℕ) → value_of (number_from range) line ≡ Ok n

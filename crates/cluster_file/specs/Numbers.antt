@@ -1,9 +1,11 @@
 -- The contracts that docs/trusted.md lists do not depend on this file; other contracts and proofs do.
 -- The values that one word writes, from left to right, up to the first fault.
-use Rattle.std.specs.Prelude.{ℕ, ◌+◌, ◌-◌, ◌*◌, ◌^◌, ◌==◌, ◌||◌, List, [], ◌∷◌, length, nat_lt, if◌then◌else◌}
-use Rattle.std.specs.Prelude.{Result, Ok, Err, Option, Some, None, codes}
+use Rattle.std.specs.Prelude.{ℕ, ◌+◌, ◌-◌, ◌^◌, ◌&&◌, ◌||◌, Bool, false, nat_lt, if◌then◌else◌}
+use Rattle.std.specs.Prelude.{List, [], ◌∷◌, length, Result, Ok, Err, Option, Some, None, codes}
+use Rattle.std.specs.List.{list_all}
 use Rattle.std.specs.Char.{is_ascii_digit}
 use Rattle.std.specs.Str.{bytes_eq}
+use Rattle.std.specs.Str.Parse.{digits_value}
 use Rattle.layout.specs.Quorum.{has}
 use Rattle.tag.specs.declared.limits.TheConstants.{MOST_SERVERS}
 use Rattle.cluster_file.specs.declared.error.Fault.{Fault}
@@ -16,34 +18,19 @@ abbrev pub and_then : {E A B : Type 0} → Result A E → (A → Result B E) →
 and_then (Ok x) next = next x
 and_then (Err fault) next = Err fault
 
--- the first digit of a number
-unfoldable pub first_digit : ℕ → Result ℕ Fault
-first_digit byte = if is_ascii_digit byte then Ok (byte - 48) else Err NotANumber
+-- whether a word is decimal digits without a leading zero
+abbrev pub is_decimal : Word → Bool
+is_decimal [] = false
+is_decimal (digit ∷ []) = is_ascii_digit digit
+is_decimal (first ∷ second ∷ rest) = nat_lt 48 first && list_all is_ascii_digit (first ∷ second ∷ rest)
 
--- one more digit behind those of n: the number of all of them, unless n is a leading 0 or the number is above `most`
-unfoldable pub with_digit : ℕ → ℕ → ℕ → Result ℕ Fault
-with_digit most n byte =
-    if is_ascii_digit byte
-    then (if n == 0 then Err NotANumber
-    else (if nat_lt most (10 * n + (byte - 48)) then Err OutOfRange else Ok (10 * n + (byte - 48))))
-    else Err NotANumber
+-- a number that stands in this place, unless it is outside the range
+abbrev pub within : Range → ℕ → Result ℕ Fault
+within range n = if nat_lt n range.least || nat_lt range.most n then Err range.outside else Ok n
 
--- the digits behind those of n: the number of all of them
-unfoldable pub digits_from : ℕ → ℕ → Word → Result ℕ Fault
-digits_from most n [] = Ok n
-digits_from most n (byte ∷ bytes) = and_then (with_digit most n byte) (λ more. digits_from most more bytes)
-
--- the number up to `most` that a word writes
-unfoldable pub decimal_from : ℕ → Word → Result ℕ Fault
-decimal_from most [] = Err NotANumber
-decimal_from most (byte ∷ bytes) = and_then (first_digit byte) (λ n. digits_from most n bytes)
-
--- the number of 32 bits that a word writes, if it is in the range
+-- the number in this range that a word writes
 unfoldable pub number_from : Range → Word → Result ℕ Fault
-number_from range word =
-    and_then (decimal_from (2 ^ 32 - 1) word) (λ n.
-    if nat_lt n range.least then Err range.outside
-    else (if nat_lt range.most n then Err range.outside else Ok n))
+number_from range word = if is_decimal word then within range (digits_value 10 word) else Err NotANumber
 
 -- the numbers that a byte may have
 abbrev pub of_a_byte : Range

@@ -1,6 +1,9 @@
 //! Numbers in decimal digits.
-ghost use Rattle.std.specs.Prelude.{◌≡◌, ◌≤◌, ◌<◌, IfOk};
-ghost use Rattle.cluster_file.specs.Numbers.{decimal_from, digits_from, with_digit, first_digit, number_from};
+ghost use Rattle.std.specs.Prelude.{◌≡◌, ◌≤◌, ◌<◌, ◌^◌, IfOk, IfSome, IfNone, IsTrue, length};
+ghost use Rattle.std.specs.List.{list_all};
+ghost use Rattle.std.specs.Char.{is_ascii_digit};
+ghost use Rattle.std.specs.Str.Parse.{digits_value};
+ghost use Rattle.cluster_file.specs.Numbers.{is_decimal, number_from};
 
 use crate::error::Fault;
 
@@ -19,71 +22,43 @@ pub(crate) fn number_of(word: &[u8], range: Range) -> Result<u32, Fault>
     ensures most { IfOk result (λ number. number ≤ range.most) }
     ensures exact { result ≡ number_from range word.now }
 {
-    let number = read_number(word, u64::from(u32::MAX))?;
-    if number < u64::from(range.least) {
+    if !is_decimal(word) {
+        return Err(Fault::NotANumber);
+    }
+    let Some(number) = value_of(word) else {
         return Err(range.outside);
-    }
-    if u64::from(range.most) < number {
+    };
+    if number < range.least || range.most < number {
         return Err(range.outside);
-    }
-    Ok(number as u32)
-}
-
-// The number up to `most` that a word writes.
-#[tactic(auto, unfolding(crate::specs::Numbers::decimal_from))]
-fn read_number(word: &[u8], most: u64) -> Result<u64, Fault>
-    requires { 9 ≤ most }
-    ensures within { IfOk result (λ number. number ≤ most) }
-    ensures exact { result ≡ decimal_from most word.now }
-{
-    match word {
-        [first, rest @ ..] => {
-            let first = first_digit(*first)?;
-            read_digits(rest, most, first)
-        }
-        [] => Err(Fault::NotANumber),
-    }
-}
-
-// The rest of a number that begins with the digits of `first`.
-fn read_digits(bytes: &[u8], most: u64, first: u64) -> Result<u64, Fault>
-    requires { first ≤ most }
-    ensures within { IfOk result (λ number. number ≤ most) }
-    ensures exact { result ≡ digits_from most first bytes.now }
-{
-    let mut number = first;
-    for byte in bytes {
-        number = with_digit(most, number, *byte)?;
     }
     Ok(number)
 }
 
-#[tactic(auto, unfolding(crate::specs::Numbers::first_digit))]
-fn first_digit(byte: u8) -> Result<u64, Fault>
-    ensures small { IfOk result (λ number. number ≤ 9) }
-    ensures exact { result ≡ first_digit byte }
+// Whether a word is decimal digits without a leading zero.
+fn is_decimal(word: &[u8]) -> bool
+    ensures { result ≡ is_decimal word.now }
 {
-    if !byte.is_ascii_digit() {
-        return Err(Fault::NotANumber);
+    match word {
+        [] => false,
+        [digit] => digit.is_ascii_digit(),
+        [first, _, ..] => *first > b'0' && are_digits(word),
     }
-    Ok(u64::from(byte - b'0'))
 }
 
-// A digit after those of `number`.
-#[tactic(auto, unfolding(crate::specs::Numbers::with_digit))]
-fn with_digit(most: u64, number: u64, byte: u8) -> Result<u64, Fault>
-    ensures within { IfOk result (λ more. more ≤ most) }
-    ensures exact { result ≡ with_digit most number byte }
+fn are_digits(word: &[u8]) -> bool
+    ensures { result ≡ list_all is_ascii_digit word.now }
 {
-    if !byte.is_ascii_digit() {
-        return Err(Fault::NotANumber);
+    word.iter().all(|byte| byte.is_ascii_digit())
+}
+
+// The number that these digits write, unless it has more than 32 bits.
+fn value_of(digits: &[u8]) -> Option<u32>
+    requires { IsTrue (is_decimal digits.now) }
+    ensures some { IfSome result (λ number. number ≡ digits_value 10 digits.now) }
+    ensures none { IfNone result (2 ^ 32 ≤ digits_value 10 digits.now) }
+{
+    match str::from_utf8(digits) {
+        Ok(text) => text.parse::<u32>().ok(),
+        Err(_) => unreachable!(),
     }
-    if number == 0 {
-        return Err(Fault::NotANumber);
-    }
-    let more = 10 * u128::from(number) + u128::from(byte - b'0');
-    if more > u128::from(most) {
-        return Err(Fault::OutOfRange);
-    }
-    Ok(more as u64)
 }

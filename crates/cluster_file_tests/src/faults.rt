@@ -9,7 +9,7 @@ struct Row {
     fault: Fault,
 }
 
-static ROWS: [Row; 27] = [
+static ROWS: [Row; 30] = [
     Row {
         story: "no text",
         text: b"",
@@ -95,6 +95,20 @@ static ROWS: [Row; 27] = [
         fault: Fault::NotANumber,
     },
     Row {
+        story: "two zeros",
+        text: b"nodes 0\nn 00\n",
+        line: 2,
+        word: 2,
+        fault: Fault::NotANumber,
+    },
+    Row {
+        story: "a letter behind more than 32 bits",
+        text: b"nodes 4294967296x\n",
+        line: 1,
+        word: 2,
+        fault: Fault::NotANumber,
+    },
+    Row {
         story: "a node above 255",
         text: b"nodes 255 256\n",
         line: 1,
@@ -132,6 +146,13 @@ static ROWS: [Row; 27] = [
     Row {
         story: "n of zero",
         text: b"nodes 1 2\nn 0\n",
+        line: 2,
+        word: 2,
+        fault: Fault::BadN,
+    },
+    Row {
+        story: "n of 33 bits",
+        text: b"nodes 1 2\nn 4294967296\n",
         line: 2,
         word: 2,
         fault: Fault::BadN,

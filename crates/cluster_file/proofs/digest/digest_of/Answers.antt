@@ -1,5 +1,4 @@
-use Rattle.std.proofs.Common.{◌≡◌, List, [], ◌∷◌, ◌++◌, ℕ, take, ◌∙◌, ap, subst}
-use Rattle.sha2.specs.Hashers.{Holds256}
+use Rattle.std.proofs.Common.{List, [], ◌∷◌, ◌++◌, ℕ, take, ◌∙◌, ap}
 use Rattle.cluster_file.specs.Digest.{delta_bytes, digest_of, hashed}
 use Rattle.cluster_file.specs.Gives.{shown}
 use Rattle.cluster_file.proofs.digest.digest_of.Goals as goal
@@ -11,6 +10,4 @@ returns c =
     let front : List ℕ = fixed.k ∷ fixed.n ∷ fixed.mover ∷ [] in
     let fed = c.update-2.ensures (front ++ delta_bytes fixed.delta)
     (c.hash_delta.ensures front (c.update.ensures [] c.new-hasher.ensures)) in
-    let listed : c.deref.result.now ≡ fixed.nodes.items = c.deref.ensures.0 in
-    let holds = subst (λ (nodes : List ℕ). Holds256 c.update-2.new.self (front ++ delta_bytes fixed.delta ++ nodes)) listed fed in
-    c.first_sixteen.ensures ∙ ap (λ (bytes : List ℕ). take 16 bytes) (c.finalize.ensures (hashed (shown fixed)) holds)
+    c.first_sixteen.ensures ∙ ap (λ (bytes : List ℕ). take 16 bytes) (c.finalize.ensures (hashed (shown fixed)) fed)

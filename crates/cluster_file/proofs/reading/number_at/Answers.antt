@@ -1,5 +1,4 @@
 use Rattle.std.proofs.Common.{sym}
-use Rattle.cluster_file.specs.Gives.{seen}
 use Rattle.cluster_file.proofs.ValueLemmas.{number_in_range}
 use Rattle.cluster_file.proofs.reading.number_at.Goals as goal
 
