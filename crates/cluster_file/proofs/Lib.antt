@@ -3,3 +3,5 @@ pub mod LineLemmas
 pub mod NodeLemmas
 pub mod DigestLemmas
 pub mod ValueLemmas
+pub mod SettingLemmas
+pub mod WrittenLemmas

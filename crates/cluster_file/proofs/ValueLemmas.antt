@@ -12,17 +12,17 @@ use Rattle.cluster_file.specs.Numbers.{and_then, is_decimal, within, number_from
 use Rattle.cluster_file.specs.Reading.{placed_at, first_of, without_second, value_of}
 
 -- the value of a part that is no fault
-bind_ok : {E A B : Type 0} (r : Result A E) (f : A → Result B E) (y : B) → and_then r f ≡ Ok y
+pub bind_ok : {E A B : Type 0} (r : Result A E) (f : A → Result B E) (y : B) → and_then r f ≡ Ok y
     → (x : A) × (r ≡ Ok x) × (f x ≡ Ok y)
 bind_ok (Ok x) f y e = (x, refl, e)
 bind_ok (Err d) f y e = absurd cc
 
 -- a test that gave no fault
-passed : {A : Type 0} (b : Bool) (x : Result A Fault) (d : Fault) (y : A) → cond b x (Err d) ≡ Ok y → (b ≡ true) × (x ≡ Ok y)
+pub passed : {A : Type 0} (b : Bool) (x : Result A Fault) (d : Fault) (y : A) → cond b x (Err d) ≡ Ok y → (b ≡ true) × (x ≡ Ok y)
 passed true x d y e = (refl, e)
 passed false x d y e = absurd cc
 
-not_passed : {A : Type 0} (b : Bool) (d : Fault) (x : Result A Fault) (y : A) → cond b (Err d) x ≡ Ok y → (b ≡ false) × (x ≡ Ok y)
+pub not_passed : {A : Type 0} (b : Bool) (d : Fault) (x : Result A Fault) (y : A) → cond b (Err d) x ≡ Ok y → (b ≡ false) × (x ≡ Ok y)
 not_passed true d x y e = absurd cc
 not_passed false d x y e = (refl, e)
 
@@ -31,14 +31,14 @@ neither_is false false e = (refl, refl)
 neither_is false true e = absurd cc
 neither_is true b e = absurd cc
 
-abbrev made : {A : Type 0} → A → Result A Fault
+abbrev pub made : {A : Type 0} → A → Result A Fault
 made x = Ok x
 
-ok_is : {A : Type 0} (x y : A) → made x ≡ made y → x ≡ y
+pub ok_is : {A : Type 0} (x y : A) → made x ≡ made y → x ≡ y
 ok_is x y e = cc
 
 -- a value that is placed, and one that stands alone
-placed_ok : {A : Type 0} (line word : ℕ) (r : Result A Fault) (x : A) → placed_at line word r ≡ Ok x → r ≡ Ok x
+pub placed_ok : {A : Type 0} (line word : ℕ) (r : Result A Fault) (x : A) → placed_at line word r ≡ Ok x → r ≡ Ok x
 placed_ok line word (Ok y) x e = let same : y ≡ x = cc in ap (λ z. Ok z) same
 placed_ok line word (Err d) x e = absurd cc
 

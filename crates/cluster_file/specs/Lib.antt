@@ -5,4 +5,5 @@ pub mod Numbers
 pub mod Reading
 pub mod Gives
 pub mod Digest
+pub mod Written
 pub mod Laws

@@ -1,4 +1,11 @@
 ghost use Rattle.cluster_file.specs.Laws.{HashedBytesDiffer, PlacedLayoutsAreLawful};
+ghost use Rattle.cluster_file.specs.Written.{ReadFilesAreWritten};
+
+/// A law: the lines of a text that is read as a file are the seven settings in their order, and each of their words
+/// writes what the file has in its place.
+pub fn read_files_are_written()
+    ensures { ReadFilesAreWritten }
+{}
 
 /// A law: where the same bytes are hashed of two files, what is fixed in them is the same.
 pub fn hashed_bytes_differ()
