@@ -5,7 +5,8 @@ use Rattle.std.proofs.lemmas.Nat.{from_be_bytes-to_be_bytes_4}
 use Rattle.placement.proofs.FirstNodesLemmas.{placed-IsLawful}
 use Rattle.cluster_file.specs.File.{Fixed, placement_of}
 use Rattle.cluster_file.specs.Digest.{delta_bytes}
-use Rattle.cluster_file.specs.Laws.{IsDelta, HashedBytesDiffer, PlacedLayoutsAreLawful}
+use Rattle.cluster_file.specs.Written.{IsDelta}
+use Rattle.cluster_file.specs.Laws.{HashedBytesDiffer, PlacedLayoutsAreLawful}
 
 -- two fronts of one length, before what is behind them
 same_front : (f g xs ys : List ℕ) → length f ≡ length g → f ++ xs ≡ g ++ ys → (f ≡ g) × (xs ≡ ys)

@@ -5,3 +5,4 @@ pub mod DigestLemmas
 pub mod ValueLemmas
 pub mod SettingLemmas
 pub mod WrittenLemmas
+pub mod ReadAgainLemmas

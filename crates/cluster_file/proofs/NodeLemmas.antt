@@ -63,7 +63,7 @@ nodes_end_at others listed line i words whole le before =
 
 -- ---- nodes that are apart
 
-neither : (a b : Bool) → a ≡ false → b ≡ false → (a || b) ≡ false
+pub neither : (a b : Bool) → a ≡ false → b ≡ false → (a || b) ≡ false
 neither a b ea eb = rw (ea, eb) refl
 
 -- one more node

@@ -1,5 +1,5 @@
 -- The line of the setting that is due.
-use Rattle.std.proofs.Common.{◌≡◌, ℕ, zero, suc, Bool, true, false, cond, ltb, List, [], ◌∷◌, map, Option, Some, None, Ok, Err}
+use Rattle.std.proofs.Common.{◌≡◌, ℕ, zero, suc, Bool, true, false, cond, ltb, List, [], ◌∷◌, map, Option, Some, None, Ok}
 use Rattle.std.proofs.Common.{refl, sym, ap, ◌∙◌, arith, codes}
 use Rattle.std.specs.Str.{bytes_eq}
 use Rattle.std.proofs.lemmas.Bool.{ltb-false}
@@ -9,7 +9,7 @@ use Rattle.cluster_file.specs.declared.setting.Setting.{Setting}
 use Rattle.cluster_file.specs.declared.setting.Setting.TheVariants as setting
 use Rattle.cluster_file.specs.Lines.{Word, Line}
 use Rattle.cluster_file.specs.Settings.{order_of, word_of, setting_from, order_fault, named_fault, due_fault}
-use Rattle.cluster_file.specs.Reading.{unless_at, setting_at, fault_at}
+use Rattle.cluster_file.specs.Reading.{unless_at, setting_at}
 use Rattle.cluster_file.specs.Written.{said}
 
 abbrev setting_of : Setting → Option Setting

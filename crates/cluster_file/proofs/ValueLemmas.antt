@@ -26,7 +26,7 @@ pub not_passed : {A : Type 0} (b : Bool) (d : Fault) (x : Result A Fault) (y : A
 not_passed true d x y e = absurd cc
 not_passed false d x y e = (refl, e)
 
-neither_is : (a b : Bool) → (a || b) ≡ false → (a ≡ false) × (b ≡ false)
+pub neither_is : (a b : Bool) → (a || b) ≡ false → (a ≡ false) × (b ≡ false)
 neither_is false false e = (refl, refl)
 neither_is false true e = absurd cc
 neither_is true b e = absurd cc

@@ -1,6 +1,6 @@
 -- A text that is read as a file writes it.
 use Rattle.std.proofs.Common.{◌≡◌, ℕ, Bool, true, false, cond, ltb, ◌||◌, List, [], ◌∷◌, ◌++◌, ◌+◌, length, map, Option, Some, None}
-use Rattle.std.proofs.Common.{Result, Ok, Err, refl, sym, ap, subst, ◌∙◌, append_assoc, codes}
+use Rattle.std.proofs.Common.{Result, Ok, refl, sym, ap, subst, ◌∙◌, append_assoc, codes}
 use Rattle.std.specs.Str.{bytes_eq}
 use Rattle.std.specs.Str.Parse.{digits_value}
 use Rattle.std.proofs.lemmas.List.{append-nil}
@@ -16,9 +16,9 @@ use Rattle.cluster_file.specs.Lines.{Word, Line, lines_of, end_of}
 use Rattle.cluster_file.specs.Settings.{word_of}
 use Rattle.cluster_file.specs.Numbers.{and_then, is_decimal, within, number_from, delta_from, mover_from, node_from}
 use Rattle.cluster_file.specs.Numbers.{of_a_byte, of_32_bits}
-use Rattle.cluster_file.specs.Reading.{Parsed, placed_at, first_of, without_second, value_of, value_at, nodes_from, nodes_at, later_at}
+use Rattle.cluster_file.specs.Reading.{placed_at, first_of, without_second, value_of, value_at, nodes_from, nodes_at, later_at}
 use Rattle.cluster_file.specs.Reading.{of_n, of_k, of_ticks, fixed_at, ending, file_at}
-use Rattle.cluster_file.specs.Written.{Writes, WriteEach, WritesDelta, WriteFile, settings_of, said, IsTextOf, ReadFilesAreWritten}
+use Rattle.cluster_file.specs.Written.{Writes, WriteEach, WritesDelta, said, IsTextOf, ReadFilesAreWritten}
 use Rattle.cluster_file.proofs.SettingLemmas.{setting_ok}
 use Rattle.cluster_file.proofs.ValueLemmas.{bind_ok, passed, not_passed, ok_is, placed_ok}
 

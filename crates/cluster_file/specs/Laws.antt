@@ -1,15 +1,11 @@
 -- The contracts that docs/trusted.md lists do not depend on this file; other contracts and proofs do.
 -- What holds of every file.
-use Rattle.std.specs.Prelude.{◌≡◌, ◌<◌, ◌^◌, ℕ, List, Option, Some, None, ⊤}
+use Rattle.std.specs.Prelude.{◌≡◌, ℕ, List}
 use Rattle.layout.specs.Layout.{IsLawful as IsLawfulLayout}
 use Rattle.placement.specs.Placement.{placed}
 use Rattle.cluster_file.specs.File.{Fixed, ClusterFile, IsLawful, placement_of}
+use Rattle.cluster_file.specs.Written.{IsDelta}
 use Rattle.cluster_file.specs.Digest.{hashed}
-
--- a delta is a number of 32 bits, if there is one
-abbrev pub IsDelta : Option ℕ → Type 0
-IsDelta None = ⊤
-IsDelta (Some delta) = delta < 2 ^ 32
 
 -- where the same bytes are hashed of two files, what is fixed in them is the same
 abbrev pub HashedBytesDiffer : Type 0

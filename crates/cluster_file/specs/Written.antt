@@ -1,8 +1,9 @@
 -- The contracts that docs/trusted.md lists do not depend on this file; other contracts and proofs do.
 -- What the text of a file says, without an order in which it is read.
-use Rattle.std.specs.Prelude.{◌≡◌, ℕ, IsTrue, List, [], ◌∷◌, map, Option, Some, None, Ok, codes, ⊤}
+use Rattle.std.specs.Prelude.{◌≡◌, ◌<◌, ◌^◌, ℕ, IsTrue, List, [], ◌∷◌, map, Option, Some, None, Ok, codes, ⊤}
+use Rattle.std.specs.List.{AllByRecursion}
 use Rattle.std.specs.Str.Parse.{digits_value}
-use Rattle.cluster_file.specs.File.{ClusterFile}
+use Rattle.cluster_file.specs.File.{ClusterFile, IsLawful}
 use Rattle.cluster_file.specs.Lines.{Word, Line, lines_of}
 use Rattle.cluster_file.specs.Numbers.{is_decimal}
 use Rattle.cluster_file.specs.Reading.{file_of}
@@ -68,3 +69,20 @@ pub record IsTextOf (text : List ℕ) (file : ClusterFile) : Type 0 where
 -- a text that is read as a file is a text of that file
 abbrev pub ReadFilesAreWritten : Type 0
 ReadFilesAreWritten = (text : List ℕ) (file : ClusterFile) → file_of text ≡ Ok file → IsTextOf text file
+
+-- a delta is a number of 32 bits, if there is one
+abbrev pub IsDelta : Option ℕ → Type 0
+IsDelta None = ⊤
+IsDelta (Some delta) = delta < 2 ^ 32
+
+-- numbers of nodes are bytes, and the other numbers have 32 bits
+pub record AreInRange (file : ClusterFile) : Type 0 where
+  pub nodes : AllByRecursion (λ node. node < 2 ^ 8) file.fixed.nodes
+  pub later : AllByRecursion (λ node. node < 2 ^ 8) file.later
+  pub delta : IsDelta file.fixed.delta
+  pub ticks : file.ticks < 2 ^ 32
+
+-- a text of a lawful file is read as that file
+abbrev pub WrittenFilesAreRead : Type 0
+WrittenFilesAreRead =
+    (text : List ℕ) (file : ClusterFile) → IsTextOf text file → IsLawful file → AreInRange file → file_of text ≡ Ok file

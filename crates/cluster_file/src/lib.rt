@@ -3,7 +3,9 @@
 
 pub use error::{Fault, FileError, FileFault};
 pub use file::{ClusterFile, DIGEST_LENGTH};
-pub use laws::{hashed_bytes_differ, placed_layouts_are_lawful, read_files_are_written};
+pub use laws::{
+    hashed_bytes_differ, placed_layouts_are_lawful, read_files_are_written, written_files_are_read,
+};
 pub use reading::read_cluster_file;
 pub use setting::Setting;
 
