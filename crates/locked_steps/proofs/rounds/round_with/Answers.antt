@@ -14,10 +14,10 @@ pub returns-in-Ok-clause-count : goal.returns-in-Ok-clause-count
 returns-in-Ok-clause-count g c =
     kept_step c.args.cluster.now c.supply_at.new.self c.args.name.now (Step.Supply (pred c.args.call)) refl c.in-Ok.ensures.step
 
-pub returns-in_ok-settle_at-clause-count : goal.returns-in_ok-settle_at-clause-count
-returns-in_ok-settle_at-clause-count g c =
+pub returns-in_ok-settle_at-in-Decoded-clause-count : goal.returns-in_ok-settle_at-in-Decoded-clause-count
+returns-in_ok-settle_at-in-Decoded-clause-count g c =
     kept_step c.args.cluster.now c.settle_at.new.self c.args.name.now (Step.Settle (pred c.args.call) c.in-Decoded.decoded.value) refl
-    c.in_ok-settle_at.ensures.step
+    c.in_ok-settle_at-in-Decoded.ensures.step
 
 pub returns-in-Empty-clause-course : goal.returns-in-Empty-clause-course
 returns-in-Empty-clause-course g c =
@@ -30,7 +30,7 @@ returns-in-Ok-clause-course g c =
     goes_on_step c.args.cluster.now c.supply_at.new.self c.args.name.now (Step.Supply (pred c.args.call)) c.in-Ok.ensures.may
     c.in-Ok.ensures.step
 
-pub returns-in_ok-settle_at-clause-course : goal.returns-in_ok-settle_at-clause-course
-returns-in_ok-settle_at-clause-course g c =
+pub returns-in_ok-settle_at-in-Decoded-clause-course : goal.returns-in_ok-settle_at-in-Decoded-clause-course
+returns-in_ok-settle_at-in-Decoded-clause-course g c =
     goes_on_step c.args.cluster.now c.settle_at.new.self c.args.name.now (Step.Settle (pred c.args.call) c.in-Decoded.decoded.value)
-    c.in_ok-settle_at.ensures.may c.in_ok-settle_at.ensures.step
+    c.in_ok-settle_at-in-Decoded.ensures.may c.in_ok-settle_at-in-Decoded.ensures.step
