@@ -1,4 +1,9 @@
-"""Tries a crate's edits, many at a time: an edit changes a body and no contract, so that functions fail independently."""
+"""Tries a crate's edits, many at a time: an edit changes a body and no contract, so that functions fail independently.
+
+The checks of a large crate begin with what a check of the very same text kept on this machine, if there is such work. As
+with `rt must-fail`, it counts only where the crate without edits is proved over it, and what is not refused over it is
+tried once more from nothing.
+"""
 import os
 import shutil
 import subprocess
@@ -6,8 +11,11 @@ import tempfile
 from dataclasses import dataclass
 
 from edits import edited_texts, read
-from kit import rtlib
+from kit import copy_kept_work, kept_work, rtlib
 from verdicts import Report, Verdict
+
+# The lines of code from which on kept work saves more than the check of the crate without edits takes.
+FEWEST_LINES = 450
 
 
 @dataclass
@@ -117,15 +125,38 @@ class Trial:
         told = next((row for row in report.lines if "error" in row), report.lines[-1])
         return Result(edit, verdict or Verdict.UNJUDGED, told)
 
+    def begin_with_kept_work(self, folder):
+        """Copies kept work of the same text to the folder. Returns whether there is any over which the crate is proved."""
+        self.kept = folder
+        found = kept_work(self.crate) if self.crate.count(rb"\n") >= FEWEST_LINES else []
+        try:
+            for work in found[:1]:
+                copy_kept_work(work, folder)
+                return self.check({}, []).verdict_of_all({}) is Verdict.PASSES
+        except (OSError, shutil.Error):
+            # Another check may replace what this one copies.
+            pass
+        return False
+
+    def try_over_kept(self, edits):
+        """The result of each edit, over what the checks before have kept."""
+        results, alone = [], [it for it in edits if not it.is_inside]
+        for some in batches_of([it for it in edits if it.is_inside]):
+            judged, left = self.try_batch(some) if len(some) > 1 else ([], some)
+            results += judged
+            alone += left
+        return results + [self.try_alone(it) for it in alone]
+
     def try_all(self, edits):
         """The result of each edit, in the order of their names."""
         results = [Result(it, Verdict.UNJUDGED, it.problem) for it in edits if it.problem]
-        good = [it for it in edits if not it.problem]
-        alone = [it for it in good if not it.is_inside]
-        with tempfile.TemporaryDirectory(prefix="wrong-bodies-kept-") as self.kept:
-            for some in batches_of([it for it in good if it.is_inside]):
-                judged, left = self.try_batch(some) if len(some) > 1 else ([], some)
-                results += judged
-                alone += left
-            results += [self.try_alone(it) for it in alone]
+        left = [it for it in edits if not it.problem]
+        with tempfile.TemporaryDirectory(prefix="wrong-bodies-kept-") as room:
+            if self.begin_with_kept_work(f"{room}/work"):
+                refused = [it for it in self.try_over_kept(left) if it.verdict is Verdict.REFUSED]
+                results += refused
+                left = [it for it in left if not any(it is other.edit for other in refused)]
+            self.kept = f"{room}/anew"
+            os.mkdir(self.kept)
+            results += self.try_over_kept(left)
         return sorted(results, key=lambda it: it.edit.name)

@@ -60,6 +60,19 @@ def build_below(crate):
     return not any(below.build_rlib(["--jobs", "1"], anew=False) for below in crate.below())
 
 
+def kept_work(crate):
+    """The folders of what checks of the very same text, in any checkout on this machine, proved and kept. The kit notes
+    where these are from `rattle-kit-13f` on."""
+    places = rt.places_of(crate) if hasattr(rt, "places_of") else []
+    folders = [f"{folder}/out/incremental" for folder, stamp in places if stamp == crate.stamp()]
+    return [it for it in folders if os.path.isdir(it)]
+
+
+def copy_kept_work(folder, to):
+    """Copies a folder of kept work, by links where these can be made: a check replaces such a file, and changes none."""
+    rt.linked(folder, to)
+
+
 def tokens_of(paths):
     """For each file of code or of definitions its tokens, which are never comments: where each begins and ends, and its
     kind. A doc comment that a macro may read is a token too."""

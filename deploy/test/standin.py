@@ -73,10 +73,10 @@ class Connection:
 
 class Node:
     def __init__(self, file, node, folder, options):
-        settings = dict(line.split(None, 1) for line in open(file) if line.strip() and not line.startswith("#"))
-        self.nodes = [int(word) for word in settings["nodes"].split()]
-        self.patience = int(settings["ticks"])
-        self.name, self.number, self.in_one_phase = settings["cluster"].strip(), node, "--reads-in-one-phase" in options
+        lines = [line.partition("#")[0].split() for line in open(file)]
+        settings = {words[0]: [int(word) for word in words[1:] if word != "none"] for words in lines if words}
+        self.nodes, [self.patience] = settings["nodes"] + settings["later"], settings["ticks"]
+        self.number, self.in_one_phase = node, "--reads-in-one-phase" in options
         self.log = Log(folder, "--forgets" in options)
         self.kept, starts = {}, 0
         for entry in self.log.entries:
@@ -204,8 +204,8 @@ class Node:
 
     def info(self):
         stored = sum(len(value) for _, value in self.kept.values())
-        lines = [("program", "stand-in"), ("node", self.number), ("cluster", self.name), ("objects", len(self.kept)),
-                 ("bytes_stored", stored), ("calls_open", len(self.calls)), ("calls_answered", self.answered),
+        lines = [("program", "stand-in"), ("node", self.number), ("objects", len(self.kept)), ("bytes_stored", stored),
+                 ("calls_open", len(self.calls)), ("calls_answered", self.answered),
                  ("bytes_of_the_log", self.log.file.tell())]
         return "".join(f"{key}:{value}\r\n" for key, value in lines).encode()
 

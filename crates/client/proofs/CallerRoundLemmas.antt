@@ -9,7 +9,7 @@ use Rattle.register.specs.Causes.{unless}
 use Rattle.cluster.specs.Cluster.{Cluster}
 use Rattle.locked_steps.specs.Moves.{Moving}
 use Rattle.locked_steps.specs.Orders.{MoveGoesNot, has_pending_move, move_cause_of}
-use Rattle.locked_steps.specs.Rounds.{SeatGoesNot, going_cause, pending_cause, round_cause}
+use Rattle.locked_steps.specs.Rounds.{SeatGoesNot, pending_cause, round_cause}
 use Rattle.locked_steps.specs.Seats.{SeatState, Pending}
 use Rattle.locked_steps.specs.declared.handed_in.HandedIn.{HandedIn}
 use Rattle.client.specs.Refusals.{IsMovingHand, IsMovingRefused, IsPendingHand, IsPendingRefused, IsSeatRefused}

@@ -1,3 +1,2 @@
-pub mod FirstRoundLemmas
 pub mod RefusalCauseLemmas
 pub mod CallerRoundLemmas

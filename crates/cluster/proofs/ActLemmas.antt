@@ -9,7 +9,7 @@ use Rattle.record.specs.Accounts as of
 use Rattle.record.specs.Records.{Object}
 use Rattle.record.specs.Steps.{Step}
 use Rattle.register.specs.Act.{IsActCause, IsCausedBy, act_cause, step_of, takes_memory}
-use Rattle.register.specs.State.{State, made}
+use Rattle.register.specs.State.{State, made, next_id}
 use Rattle.register.specs.declared.act.Act.{Act}
 use Rattle.register.specs.declared.act.Act.TheVariants as act
 use Rattle.cluster.specs.Acts.{IsReady, begun_by}
@@ -45,15 +45,15 @@ pub act_by : {T : Type 0} {cause own : Option Refusal} (answer : Result T Refusa
 act_by answer a same by = subst (λ c. IsActCause a c answer) (sym same) by
 
 -- no server stores more, or less
-pub no_more : (servers : ℕ) (object : Object) (a : Act) → IsReady servers a → (server : ℕ) →
-    of.stored_by object (step_of a) server ≡ 0
-no_more servers object (act.Serve place) ready server = absurd ready
-no_more servers object _ ready server = refl
+pub no_more : (servers number : ℕ) (object : Object) (a : Act) → IsReady servers a → (server : ℕ) →
+    of.stored_by object (step_of number a) server ≡ 0
+no_more servers number object (act.Serve place) ready server = absurd ready
+no_more servers number object _ ready server = refl
 
-pub no_less : (servers : ℕ) (object : Object) (a : Act) → IsReady servers a → (now server : ℕ) →
-    of.freed_by object (step_of a) now server ≡ 0
-no_less servers object (act.Serve place) ready now server = absurd ready
-no_less servers object _ ready now server = refl
+pub no_less : (servers number : ℕ) (object : Object) (a : Act) → IsReady servers a → (now server : ℕ) →
+    of.freed_by object (step_of number a) now server ≡ 0
+no_less servers number object (act.Serve place) ready now server = absurd ready
+no_less servers number object _ ready now server = refl
 
 no_call : {cluster : Cluster} {bytes count : ℕ} → IsKeptCluster cluster bytes count → IsKeptCluster cluster bytes (count + 0)
 no_call {cluster} {bytes} {count} kept = subst (λ n. IsKeptCluster cluster bytes n) (omega arith) kept
@@ -63,11 +63,13 @@ module _ {servers : List Bool} {layouts : List Layout} {counter : ℕ} {entries 
     {place : ℕ} {old : State} where
   kept_at : {bytes count : ℕ} {new : State} → IsKeptCluster (cluster_of servers layouts entries counter) bytes count →
       IsAt entries name place old → (a : Act) → IsReady (length servers) a →
-      new ≡ made (step_of a) (counter + 1) old → counter + 1 ≤ MOST_STEPS →
+      new ≡ made (step_of (next_id old.object) a) (counter + 1) old → counter + 1 ≤ MOST_STEPS →
       IsKeptCluster (cluster_of servers layouts (set_value_at entries place new) (counter + 1)) bytes (count + begun_by a)
-  kept_at kept at act.CallRead ready is few = call_at kept at Step.CallRead is few read_called
-  kept_at kept at (act.CallWrite v) ready is few = call_at kept at (Step.CallWrite v) is few (write_called v)
-  kept_at kept at (act.CallMove l) ready is few = move_at kept at l is few (move_moved l) ready
+  kept_at kept at act.CallRead ready is few = call_at kept at (Step.CallRead (next_id old.object)) is few (read_called (next_id old.object))
+  kept_at kept at (act.CallWrite v) ready is few =
+      call_at kept at (Step.CallWrite (next_id old.object) v) is few (write_called (next_id old.object) v)
+  kept_at kept at (act.CallMove l) ready is few =
+      move_at kept at (next_id old.object) l is few (move_moved (next_id old.object) l) ready
   kept_at kept at (act.Advance n) ready is few = no_call (quiet_at kept at (Step.Advance (pred n)) is few (advance_quiet (pred n)))
   kept_at kept at (act.Again n) ready is few = no_call (quiet_at kept at (Step.Again (pred n)) is few (again_quiet (pred n)))
   kept_at kept at (act.Supply n coded) ready is few = no_call (quiet_at kept at (Step.Supply (pred n)) is few (supply_quiet (pred n)))
@@ -82,7 +84,7 @@ module _ {servers : List Bool} {layouts : List Layout} {counter : ℕ} {entries 
 
   pub act_at : {bytes count begun : ℕ} {new : State} → IsKeptCluster (cluster_of servers layouts entries counter) bytes count →
       IsAt entries name place old → (a : Act) → IsReady (length servers) a →
-      new ≡ made (step_of a) (counter + 1) old → act_cause a (counter + 1) old.object ≡ None → begun ≡ begun_by a →
+      new ≡ made (step_of (next_id old.object) a) (counter + 1) old → act_cause a (counter + 1) old.object ≡ None → begun ≡ begun_by a →
       IsKeptCluster (cluster_of servers layouts (set_value_at entries place new) (counter + 1)) bytes (count + begun)
   act_at {bytes} {count} {begun} {new} kept at a ready is none all =
       subst (λ n. IsKeptCluster (cluster_of servers layouts (set_value_at entries place new) (counter + 1)) bytes (count + n)) (sym all)

@@ -1,10 +1,11 @@
 -- A step of the object that a look-up found: the cluster once it is written back, what the cluster keeps, and the cause of a refusal.
-use Rattle.std.proofs.Common.{◌≡◌, ℕ, suc, ◌+◌, ◌≤◌, ◌<◌, ◌⊎◌, inl, inr, false, Bool}
-use Rattle.std.proofs.Common.{List, length, Option, Some, None, is_some, sym, ap, subst, ◌∙◌, arith, add-one}
+use Rattle.std.proofs.Common.{◌≡◌, ℕ, suc, ◌+◌, ◌≤◌, ◌<◌, false, Bool}
+use Rattle.std.proofs.Common.{List, length, Option, Some, is_some, Result, Ok, Err, OnErr, IsErrAnd, sym, ap, subst, ◌∙◌, arith, add-one}
 use Rattle.std.specs.Map.{lookup}
+use Rattle.tag.specs.Refusal.{IsExactlyByCause}
 use Rattle.tag.specs.declared.limits.TheConstants.{MOST_BYTES, MOST_STEPS}
 use Rattle.tag.specs.declared.refusal.Refusal.{Refusal}
-use Rattle.tag.specs.declared.refusal.Refusal.TheVariants.{NoObject, NoMemory}
+use Rattle.tag.specs.declared.refusal.Refusal.TheVariants.{NoObject}
 use Rattle.indexmap.specs.IndexMap.{set_value_at}
 use Rattle.layout.specs.Layout.{Layout}
 use Rattle.encoder.specs.Fragment.{fragment}
@@ -12,9 +13,9 @@ use Rattle.record.specs.Records.{Object}
 use Rattle.record.specs.Steps.{Step}
 use Rattle.record.specs.Steps as of
 use Rattle.register.specs.Position.{all_bytes}
-use Rattle.register.specs.State.{State, made}
+use Rattle.register.specs.State.{State, made, next_id}
 use Rattle.cluster.specs.Causes.{next, if_object, object_cause}
-use Rattle.cluster.specs.Cluster.{Cluster, if_some, if_named}
+use Rattle.cluster.specs.Cluster.{Cluster, next_call_id, if_some, if_named, next_id_in}
 use Rattle.cluster.specs.Kept.{HasMembersBelow, IsKeptCluster}
 use Rattle.cluster.specs.Steps.{stepped}
 use Rattle.cluster.proofs.LookupLemmas.{Entry, objects_of, is_name, IsAt, named_none, named_at, changed_at, same_at}
@@ -88,13 +89,13 @@ module _ {servers : List Bool} {layouts : List Layout} {counter : ℕ} {entries 
 
   pub move_at : {bytes count : ℕ} {new : State} →
       IsKeptCluster (cluster_of servers layouts entries counter) bytes count → IsAt entries name place old →
-      (layout : Layout) → new ≡ made (Step.CallMove layout) (counter + 1) old → counter + 1 ≤ MOST_STEPS →
-      ((object : Object) (now : ℕ) → IsMoved object layout (of.stepped fragment (Step.CallMove layout) now object)) →
+      (id : ℕ) (layout : Layout) → new ≡ made (Step.CallMove id layout) (counter + 1) old → counter + 1 ≤ MOST_STEPS →
+      ((object : Object) (now : ℕ) → IsMoved object layout (of.stepped fragment (Step.CallMove id layout) now object)) →
       HasMembersBelow (length servers) layout →
       IsKeptCluster (cluster_of servers layouts (set_value_at entries place new) (counter + 1)) bytes (count + 1)
-  move_at {bytes} {count} kept at layout is few moved below =
-      subst (λ k. IsKeptCluster k bytes (count + 1)) (sym (step_at at (Step.CallMove layout) is))
-      (move_kept _ bytes count name (Step.CallMove layout) old kept (named_at at) (few_is counter few) layout below
+  move_at {bytes} {count} kept at id layout is few moved below =
+      subst (λ k. IsKeptCluster k bytes (count + 1)) (sym (step_at at (Step.CallMove id layout) is))
+      (move_kept _ bytes count name (Step.CallMove id layout) old kept (named_at at) (few_is counter few) layout below
       (moved old.object (suc counter)))
 
   pub serve_at : {bytes count : ℕ} {new : State} → IsKeptCluster (cluster_of servers layouts entries counter) bytes count →
@@ -114,6 +115,11 @@ module _ {servers : List Bool} {layouts : List Layout} {counter : ℕ} {entries 
       (read : Object → Option X) → if_named now name read ≡ read old.object
   read_at same at read = ap (λ (k : Cluster). if_named k name read) (sym same) ∙ ap (λ o. if_some o read) (named_at at)
 
+  -- the id of its next call
+  pub next_id_at : {now : Cluster} → cluster_of servers layouts entries counter ≡ now → IsAt entries name place old →
+      next_call_id now name ≡ next_id old.object
+  next_id_at same at = ap (λ (k : Cluster). next_call_id k name) (sym same) ∙ ap next_id_in (named_at at)
+
   -- a cause that does not know the step, and one that does
   pub own_cause_at : {now : Cluster} → cluster_of servers layouts entries counter ≡ now → IsAt entries name place old →
       (cause : Object → Option Refusal) → object_cause now name cause ≡ cause old.object
@@ -123,8 +129,13 @@ module _ {servers : List Bool} {layouts : List Layout} {counter : ℕ} {entries 
       (cause : ℕ → Object → Option Refusal) → object_cause now name (cause (next now)) ≡ cause (counter + 1) old.object
   cause_at {now} same at cause = own_cause_at same at (cause (next now)) ∙ ap (λ n. cause n old.object) (next_is same)
 
--- the refusal of an object's step is the cluster's
-pub refused_by : {a b : Option Refusal} {r : Refusal} → a ≡ b → (b ≡ Some r) ⊎ ((b ≡ None) × (r ≡ NoMemory)) →
-    (a ≡ Some r) ⊎ ((a ≡ None) × (r ≡ NoMemory))
-refused_by e (inl some) = inl (e ∙ some)
-refused_by e (inr none) = inr (e ∙ none.0, none.1)
+-- a refusal that is handed on is by its cause
+pub exactly_refused : {T : Type 0} {cause : Option Refusal} (r : Result T Refusal) (refusal : Refusal) → IsErrAnd r (λ e. e ≡ refusal)
+    → cause ≡ Some refusal → IsExactlyByCause cause r
+exactly_refused (Ok x) refusal refused by = absurd refused
+exactly_refused (Err e) refusal refused by = by ∙ ap Some (sym refused)
+
+-- what a refusal leaves, where it is handed on
+pub on_err : {T E : Type 0} {P : Type 0} (r : Result T E) → P → OnErr r P
+on_err (Ok x) p = tt
+on_err (Err e) p = p

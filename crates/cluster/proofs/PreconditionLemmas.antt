@@ -9,18 +9,18 @@ use Rattle.mail.specs.declared.message.Message.{Message}
 use Rattle.mail.specs.declared.message.Body.{Body}
 use Rattle.mail.specs.declared.message.Body.TheVariants as body
 use Rattle.record.specs.Preconditions.{MayStep}
-use Rattle.record.specs.Records.{Object, no_layout}
+use Rattle.record.specs.Records.{IsNewId, Object, no_layout}
 use Rattle.record.specs.Steps.{Step}
 use Rattle.register.specs.Act.{HasLawfulValues, act_cause, step_of}
 use Rattle.register.specs.Kept.{has_open_move}
 use Rattle.register.specs.Retiring.{retire_cause}
-use Rattle.register.specs.State.{State}
+use Rattle.register.specs.State.{State, next_id}
 use Rattle.register.specs.declared.act.Act.{Act}
 use Rattle.register.proofs.ListLemmas.{all_found, found_or, same_some}
 use Rattle.register.proofs.NewMoveLemmas.{none_open}
 use Rattle.register.proofs.PreconditionLemmas.{not_true, passed, some_message}
 use Rattle.cluster.specs.Causes.{if_layout, if_object, moving_cause, next, object_cause, served_cause, serving_cause}
-use Rattle.cluster.specs.Cluster.{Cluster, Named, layout_of, named}
+use Rattle.cluster.specs.Cluster.{Cluster, Named, next_call_id, layout_of, named, next_id_in}
 use Rattle.cluster.specs.Preconditions.{MayMake}
 use Rattle.cluster.proofs.LookupLemmas.{Entry, IsAt, named_at}
 use Rattle.cluster.proofs.ObjectStepLemmas.{cluster_of}
@@ -34,7 +34,9 @@ may_at {name = name} {old = old} same at step may =
 
 -- an act of the object, or its retiring, that no cause refuses may be made
 pub record IsAllowing (state : State) : Type 0 where
-  pub acts : (a : Act) (now : ℕ) → HasLawfulValues a → act_cause a now state.object ≡ None → MayStep fragment state.object (step_of a)
+  pub acts : (a : Act) (now : ℕ) → HasLawfulValues a → act_cause a now state.object ≡ None
+      → MayStep fragment state.object (step_of (next_id state.object) a)
+  pub next : IsNewId state.object (next_id state.object)
   pub retire : (position now : ℕ) → retire_cause now state.object position ≡ None → MayStep fragment state.object Step.Retire
 
 -- where nothing refuses, there is an object of this name
@@ -60,11 +62,15 @@ some_layout (Some layout) cause none = (layout, refl)
 
 module _ (cluster : Cluster) (name : List ℕ) where
   pub allowed_act : AllByRecursion (λ o. IsAllowing o.state) cluster.objects → (a : Act) → HasLawfulValues a
-      → object_cause cluster name (act_cause a (next cluster)) ≡ None → MayMake cluster name (step_of a)
+      → object_cause cluster name (act_cause a (next cluster)) ≡ None → MayMake cluster name (step_of (next_call_id cluster name) a)
   allowed_act all a lawful none =
       let found = some_object (named cluster.objects name) _ none in
-      let held = held_named IsAllowing cluster.objects name found.0 all found.1 in
-      (found.0, found.1, held.acts a (next cluster) lawful found.2)
+      let held = held_named IsAllowing cluster.objects name found.0 all found.1 in (
+        found.0,
+        found.1,
+        subst (λ n. MayStep fragment found.0.object (step_of n a)) (sym (ap next_id_in found.1))
+            (held.acts a (next cluster) lawful found.2),
+      )
 
   pub allowed_retire : AllByRecursion (λ o. IsAllowing o.state) cluster.objects → (position : ℕ)
       → object_cause cluster name (λ object. retire_cause (next cluster) object position) ≡ None → MayMake cluster name Step.Retire
@@ -73,21 +79,28 @@ module _ (cluster : Cluster) (name : List ℕ) where
       let held = held_named IsAllowing cluster.objects name found.0 all found.1 in
       (found.0, found.1, held.retire position (next cluster) found.2)
 
-  may_move : AllByRecursion IsLawful cluster.layouts → (id : ℕ) (object : Object) → moving_cause cluster id object ≡ None
-      → MayStep fragment object (Step.CallMove (layout_of cluster id))
-  may_move lawful id object none =
+  may_move : AllByRecursion IsLawful cluster.layouts → (id number : ℕ) (object : Object) → IsNewId object number
+      → moving_cause cluster id object ≡ None → MayStep fragment object (Step.CallMove number (layout_of cluster id))
+  may_move lawful id number object is_new none =
       let open_none = passed (not (has_open_move object.calls)) _ _ none in
       let there = some_layout (slice_get cluster.layouts id) _ open_none.1 in (
+        is_new,
         subst IsLawful (sym (found_or cluster.layouts id there.0 no_layout there.1))
             (all_found IsLawful cluster.layouts id there.0 lawful there.1),
         none_open object (not_true (has_open_move object.calls) open_none.0),
       )
 
-  pub allowed_move : AllByRecursion IsLawful cluster.layouts → (id : ℕ) → object_cause cluster name (moving_cause cluster id) ≡ None
-      → MayMake cluster name (Step.CallMove (layout_of cluster id))
-  allowed_move lawful id none =
+  pub allowed_move : AllByRecursion (λ o. IsAllowing o.state) cluster.objects → AllByRecursion IsLawful cluster.layouts → (id : ℕ)
+      → object_cause cluster name (moving_cause cluster id) ≡ None
+      → MayMake cluster name (Step.CallMove (next_call_id cluster name) (layout_of cluster id))
+  allowed_move all lawful id none =
       let found = some_object (named cluster.objects name) _ none in
-      (found.0, found.1, may_move lawful id found.0.object found.2)
+      let held = held_named IsAllowing cluster.objects name found.0 all found.1 in (
+        found.0,
+        found.1,
+        subst (λ n. MayStep fragment found.0.object (Step.CallMove n (layout_of cluster id))) (sym (ap next_id_in found.1))
+            (may_move lawful id (next_id found.0.object) found.0.object held.next found.2),
+      )
 
   may_serve : (place : ℕ) (object : Object) (message : Message) (it : Body) → slice_get object.mail place ≡ Some message
       → message.body ≡ it → served_cause cluster object message it ≡ None → MayStep fragment object (Step.Serve place)

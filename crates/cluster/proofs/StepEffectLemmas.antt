@@ -1,6 +1,6 @@
 -- What each step leaves of an object's parts: of its layouts, of the bytes of its banks, and how many calls it has.
 use Rattle.std.proofs.Common.{◌≡◌, ℕ, zero, suc, get_or, Bool, true, false, if◌then◌else◌, is_some, List, [], ◌∷◌}
-use Rattle.std.proofs.Common.{◌++◌, length, slice_get, slice_set, Option, Some, None, pred, refl, ap, ◌∙◌}
+use Rattle.std.proofs.Common.{◌++◌, length, slice_get, slice_set, Option, Some, None, refl, ap, ◌∙◌}
 use Rattle.layout.specs.Layout.{Layout}
 use Rattle.encoder.specs.Fragment.{fragment}
 use Rattle.bank.specs.Bank.{Bank}
@@ -11,7 +11,7 @@ use Rattle.mail.specs.declared.message.Body.{Body}
 use Rattle.mail.specs.declared.message.Body.TheVariants as body
 use Rattle.phase.specs.Phase.{Phase}
 use Rattle.record.specs.Legal.{due_of}
-use Rattle.record.specs.Records.{Call, Object, base_of}
+use Rattle.record.specs.Records.{Call, Object, base_of, index_by_id}
 use Rattle.record.specs.Wants.{current_phase}
 use Rattle.record.specs.Steps.{Step, stepped, on_call, on_message, begun_object, advanced_object}
 use Rattle.record.specs.Steps.{asked_again, supplied_by, taken_calls, taken_by, served_by, opened_banks}
@@ -109,13 +109,18 @@ answer_quiet index object now =
 taken_length : (calls : List Call) (message : Message) (now : ℕ) (found : Option Call) →
     length (taken_calls calls message now found) ≡ length calls
 taken_length calls message now None = refl
-taken_length calls message now (Some call) = length_set calls (pred message.call) _
+taken_length calls message now (Some call) = length_set calls (index_by_id calls message.call) _
 
 taken_quiet : (object : Object) (place : ℕ) (message : Message) (it : Body) (now : ℕ) →
     IsQuiet object (taken_by object place message it now)
 taken_quiet object place message (body.Request asked) now = unchanged object
 taken_quiet object place message (body.Reply kind made) now =
-    record { layouts = refl; banks = refl; calls = taken_length object.calls message now (slice_get object.calls (pred message.call)) }
+    record {
+      layouts = refl;
+      banks = refl;
+      calls = taken_length object.calls message now
+          (slice_get object.calls (index_by_id object.calls message.call));
+    }
 
 pub take_quiet : (place : ℕ) (object : Object) (now : ℕ) → IsQuiet object (stepped fragment (Step.Take place) now object)
 take_quiet place object now =
@@ -134,11 +139,12 @@ one_more : (calls : List Call) (index : ℕ) (fresh begun : Call) →
     length (slice_set (calls ++ fresh ∷ []) index begun) ≡ suc (length calls)
 one_more calls index fresh begun = length_set (calls ++ fresh ∷ []) index begun ∙ length_push calls fresh
 
-pub read_called : (object : Object) (now : ℕ) → IsCalled object (stepped fragment Step.CallRead now object)
-read_called object now = record { layouts = refl; banks = refl; calls = one_more object.calls (length object.calls) _ _ }
+pub read_called : (id : ℕ) (object : Object) (now : ℕ) → IsCalled object (stepped fragment (Step.CallRead id) now object)
+read_called id object now = record { layouts = refl; banks = refl; calls = one_more object.calls (length object.calls) _ _ }
 
-pub write_called : (value : List ℕ) (object : Object) (now : ℕ) → IsCalled object (stepped fragment (Step.CallWrite value) now object)
-write_called value object now = record { layouts = refl; banks = refl; calls = one_more object.calls (length object.calls) _ _ }
+pub write_called : (id : ℕ) (value : List ℕ) (object : Object) (now : ℕ)
+    → IsCalled object (stepped fragment (Step.CallWrite id value) now object)
+write_called id value object now = record { layouts = refl; banks = refl; calls = one_more object.calls (length object.calls) _ _ }
 
 pub opened_length : (members : List ℕ) (member : ℕ) (delta : Option ℕ) (now : ℕ)
     → length (opened_banks members member delta now) ≡ length members
@@ -152,9 +158,9 @@ banked_pushed [] (b ∷ banks) layout more banked same = absurd banked
 banked_pushed (l ∷ layouts) [] layout more banked same = absurd banked
 banked_pushed (l ∷ layouts) (b ∷ banks) layout more banked same = (banked.0, banked_pushed layouts banks layout more banked.1 same)
 
-pub move_moved : (layout : Layout) (object : Object) (now : ℕ) →
-    IsMoved object layout (stepped fragment (Step.CallMove layout) now object)
-move_moved layout object now = record {
+pub move_moved : (id : ℕ) (layout : Layout) (object : Object) (now : ℕ) →
+    IsMoved object layout (stepped fragment (Step.CallMove id layout) now object)
+move_moved id layout object now = record {
   layouts = refl;
   banks = bytes_push object.banks (opened_banks layout.members 0 object.delta now) (opened_banks_bytes layout.members 0 object.delta now);
   banked = λ all. banked_pushed object.layouts object.banks layout (opened_banks layout.members 0 object.delta now) all

@@ -5,7 +5,7 @@ use Rattle.std.specs.Coded.{Coded, code_by, coded×, coded_list, coded_ℕ, code
 use Rattle.layout.specs.Layout.{Layout}
 use Rattle.mail.specs.declared.message.Message.{Message}
 use Rattle.record.specs.Records.{Object, layout_at, no_layout}
-use Rattle.register.specs.State.{State}
+use Rattle.register.specs.State.{State, next_id}
 
 -- an object with its name, which is a list of bytes
 pub record Named : Type 0 where
@@ -58,6 +58,15 @@ if_some (Some state) read = read state.object
 -- what is read of the object of this name; none where no object has it
 abbrev pub if_named : {X : Type 0} → Cluster → (name : List ℕ) → (Object → Option X) → Option X
 if_named cluster name read = if_some (named cluster.objects name) read
+
+-- the id of the next call of an object, which is its number; 0 where there is no object
+abbrev pub next_id_in : Option State → ℕ
+next_id_in None = 0
+next_id_in (Some state) = next_id state.object
+
+-- the id of the next call of the object of this name; 0 where no object has it
+abbrev pub next_call_id : Cluster → (name : List ℕ) → ℕ
+next_call_id cluster name = next_id_in (named cluster.objects name)
 
 -- the layout of this number; the layout without members where there is none
 abbrev pub layout_of : Cluster → (id : ℕ) → Layout

@@ -3,7 +3,7 @@ use Rattle.std.specs.Prelude.{ℕ, suc, Bool, List, [], ◌∷◌, ◌++◌, Opt
 use Rattle.layout.specs.Layout.{Layout}
 use Rattle.record.specs.Steps.{Step, opened_object}
 use Rattle.register.specs.State.{made}
-use Rattle.cluster.specs.Cluster.{Cluster, changed, layout_of}
+use Rattle.cluster.specs.Cluster.{Cluster, next_call_id, changed, layout_of}
 
 -- the cluster after a step of the object of this name
 abbrev pub stepped : Cluster → (name : List ℕ) → Step → Cluster
@@ -36,7 +36,7 @@ with_server cluster server up =
 
 -- the cluster after a move of the object of this name to the layout of this number begins
 abbrev pub moved : Cluster → (name : List ℕ) → (id : ℕ) → Cluster
-moved cluster name id = stepped cluster name (Step.CallMove (layout_of cluster id))
+moved cluster name id = stepped cluster name (Step.CallMove (next_call_id cluster name) (layout_of cluster id))
 
 -- the cluster after an object of this name is created with the layout of this number and this `delta`
 abbrev pub created : Cluster → (name : List ℕ) → (id : ℕ) → (delta : Option ℕ) → Cluster

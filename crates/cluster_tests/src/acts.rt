@@ -10,7 +10,7 @@ use std::process::Abort;
 use tag::{Refusal, Stamp};
 
 // More turns than any call here takes.
-pub(crate) const TURNS: u64 = 100_000;
+pub(crate) const ENOUGH_TURNS: u64 = 100_000;
 
 // An object alone, made by step 1.
 pub(crate) fn object(rt: &impl Abort, alloc: Global, k: u8, members: &[u8]) -> Register {
@@ -49,7 +49,7 @@ pub(crate) fn write<C: Chooser>(
     chooser: &mut C,
 ) -> Receipt {
     let value = Bytes::from_static(text);
-    driver::write(alloc, cluster, name, value, chooser, TURNS).expect(rt, "a write")
+    driver::write(alloc, cluster, name, value, chooser, ENOUGH_TURNS).expect(rt, "a write")
 }
 
 // A whole read, by its messages as they are chosen.
@@ -60,7 +60,7 @@ pub(crate) fn read<C: Chooser>(
     name: &str,
     chooser: &mut C,
 ) -> Receipt {
-    driver::read(alloc, cluster, name, chooser, TURNS).expect(rt, "a read")
+    driver::read(alloc, cluster, name, chooser, ENOUGH_TURNS).expect(rt, "a read")
 }
 
 // Compares the steps of a call and of its answer.

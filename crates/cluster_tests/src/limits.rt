@@ -1,5 +1,5 @@
 //! An object and clusters up to their limits, from both sides: the last that is taken, and one more.
-use crate::acts::{TURNS, object, one_object, read_at};
+use crate::acts::{ENOUGH_TURNS, object, one_object, read_at};
 use bytes::Bytes;
 use cluster::Cluster;
 use driver::{First, NotAnswered};
@@ -11,7 +11,7 @@ use tag::{MOST_LAYOUTS, MOST_OBJECTS, MOST_POSITIONS, Refusal, Stamp};
 
 // What is done to a cluster of one server.
 #[derive(Clone, Copy)]
-enum Deed {
+enum Action {
     // One more layout, of this server.
     AddLayout,
     // One more object, of layout 0.
@@ -52,12 +52,12 @@ fn answered(outcome: Result<Receipt, NotAnswered>) -> Result<(), Refusal> {
 
 fn write(alloc: Global, cluster: &mut Cluster, len: usize) -> Result<(), Refusal> {
     let value = Bytes::from_vec(vec![in alloc; 7; len]?)?;
-    answered(driver::write(alloc, cluster, "a", value, &mut First, TURNS))
+    answered(driver::write(alloc, cluster, "a", value, &mut First, ENOUGH_TURNS))
 }
 
 // It is refused as BadPieces where it gives another number of bytes.
 fn read(alloc: Global, cluster: &mut Cluster, len: usize) -> Result<(), Refusal> {
-    match driver::read(alloc, cluster, "a", &mut First, TURNS) {
+    match driver::read(alloc, cluster, "a", &mut First, ENOUGH_TURNS) {
         Ok(receipt) => expect_len(&receipt, len),
         other => answered(other),
     }
@@ -71,7 +71,7 @@ fn expect_len(receipt: &Receipt, len: usize) -> Result<(), Refusal> {
 }
 
 fn move_on(alloc: Global, cluster: &mut Cluster) -> Result<(), Refusal> {
-    answered(driver::move_to(alloc, cluster, "a", 0, &mut First, TURNS))
+    answered(driver::move_to(alloc, cluster, "a", 0, &mut First, ENOUGH_TURNS))
 }
 
 fn call_read(cluster: &mut Cluster) -> Result<(), Refusal> {
@@ -79,16 +79,16 @@ fn call_read(cluster: &mut Cluster) -> Result<(), Refusal> {
     Ok(())
 }
 
-fn carry_out(alloc: Global, cluster: &mut Cluster, deed: Deed) -> Result<(), Refusal> {
-    match deed {
-        Deed::AddLayout => add_layout(cluster),
-        Deed::Create => create(alloc, cluster),
-        Deed::Write(len) => write(alloc, cluster, len),
-        Deed::Move => move_on(alloc, cluster),
-        Deed::Read(len) => read(alloc, cluster, len),
-        Deed::CallRead => call_read(cluster),
-        Deed::Repeat => cluster.repeat("a", 0),
-        Deed::Lose(place) => cluster.lose("a", place),
+fn carry_out(alloc: Global, cluster: &mut Cluster, action: Action) -> Result<(), Refusal> {
+    match action {
+        Action::AddLayout => add_layout(cluster),
+        Action::Create => create(alloc, cluster),
+        Action::Write(len) => write(alloc, cluster, len),
+        Action::Move => move_on(alloc, cluster),
+        Action::Read(len) => read(alloc, cluster, len),
+        Action::CallRead => call_read(cluster),
+        Action::Repeat => cluster.repeat("a", 0),
+        Action::Lose(place) => cluster.lose("a", place),
     }
 }
 
@@ -97,11 +97,11 @@ fn play(
     rt: &impl Abort,
     alloc: Global,
     cluster: &mut Cluster,
-    deeds: &[(Deed, usize, Option<Refusal>)],
+    actions: &[(Action, usize, Option<Refusal>)],
 ) {
-    for (deed, count, expected) in deeds {
+    for (action, count, expected) in actions {
         for _ in 0..*count {
-            let met = carry_out(alloc, cluster, *deed).err();
+            let met = carry_out(alloc, cluster, *action).err();
             assert!(rt; met == *expected);
         }
     }
@@ -117,9 +117,9 @@ fn one_server(rt: &impl Abort, alloc: Global) -> Cluster {
     one_object(rt, alloc, 1, 1, &[0])
 }
 
-const LAYOUTS: &[(Deed, usize, Option<Refusal>)] = &[
-    (Deed::AddLayout, MOST_LAYOUTS - 1, None),
-    (Deed::AddLayout, 1, Some(Refusal::Full)),
+const LAYOUTS: &[(Action, usize, Option<Refusal>)] = &[
+    (Action::AddLayout, MOST_LAYOUTS - 1, None),
+    (Action::AddLayout, 1, Some(Refusal::Full)),
 ];
 
 #[test]
@@ -129,9 +129,9 @@ fn is_full_of_layouts(rt: HostRuntime) {
     assert_counts(&rt, &cluster, 0, 1025, 0);
 }
 
-const OBJECTS: &[(Deed, usize, Option<Refusal>)] = &[
-    (Deed::Create, MOST_OBJECTS - 1, None),
-    (Deed::Create, 1, Some(Refusal::Full)),
+const OBJECTS: &[(Action, usize, Option<Refusal>)] = &[
+    (Action::Create, MOST_OBJECTS - 1, None),
+    (Action::Create, 1, Some(Refusal::Full)),
 ];
 
 #[test]
@@ -141,9 +141,9 @@ fn is_full_of_objects(rt: HostRuntime) {
     assert_counts(&rt, &cluster, 0, 65_537, 0);
 }
 
-const POSITIONS: &[(Deed, usize, Option<Refusal>)] = &[
-    (Deed::Move, MOST_POSITIONS - 1, None),
-    (Deed::Move, 1, Some(Refusal::Full)),
+const POSITIONS: &[(Action, usize, Option<Refusal>)] = &[
+    (Action::Move, MOST_POSITIONS - 1, None),
+    (Action::Move, 1, Some(Refusal::Full)),
 ];
 
 #[test]
@@ -152,14 +152,14 @@ fn is_full_of_positions(rt: HostRuntime) {
     play(&rt, rt.alloc(), &mut cluster, POSITIONS);
 }
 
-const MESSAGES: &[(Deed, usize, Option<Refusal>)] = &[
-    (Deed::CallRead, 1, None),
-    (Deed::Repeat, 1_048_575, None),
-    (Deed::Repeat, 1, Some(Refusal::Full)),
-    (Deed::CallRead, 1, Some(Refusal::Full)),
-    (Deed::Lose(1_048_575), 1, None),
-    (Deed::CallRead, 1, None),
-    (Deed::Repeat, 1, Some(Refusal::Full)),
+const MESSAGES: &[(Action, usize, Option<Refusal>)] = &[
+    (Action::CallRead, 1, None),
+    (Action::Repeat, 1_048_575, None),
+    (Action::Repeat, 1, Some(Refusal::Full)),
+    (Action::CallRead, 1, Some(Refusal::Full)),
+    (Action::Lose(1_048_575), 1, None),
+    (Action::CallRead, 1, None),
+    (Action::Repeat, 1, Some(Refusal::Full)),
 ];
 
 #[test]
@@ -169,15 +169,15 @@ fn the_message_1_048_576(rt: HostRuntime) {
     assert!(rt; cluster.calls() == 2);
 }
 
-const TOO_LONG: &[(Deed, usize, Option<Refusal>)] = &[(
-    Deed::Write(16_777_217),
+const TOO_LONG: &[(Action, usize, Option<Refusal>)] = &[(
+    Action::Write(16_777_217),
     1,
     Some(Refusal::TooLong),
 )];
 
-const LONGEST: &[(Deed, usize, Option<Refusal>)] = &[
-    (Deed::Write(16_777_216), 1, None),
-    (Deed::Read(16_777_216), 1, None),
+const LONGEST: &[(Action, usize, Option<Refusal>)] = &[
+    (Action::Write(16_777_216), 1, None),
+    (Action::Read(16_777_216), 1, None),
 ];
 
 #[test]

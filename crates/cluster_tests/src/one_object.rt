@@ -1,5 +1,5 @@
 use crate::acts::{assert_value, object};
-use acts::{Deed, deliver, go_on, play};
+use acts::{Action, deliver, go_on, play};
 use register::Register;
 use std::alloc::Global;
 use std::process::Abort;
@@ -14,29 +14,32 @@ fn four_servers(rt: &impl Abort, alloc: Global) -> Register {
     object(rt, alloc, 2, &[0, 1, 2, 3])
 }
 
-const IN_ORDER: &[(Deed, Option<Refusal>)] = &[
-    (Deed::Serve, Some(Refusal::NoMessage)),
-    (Deed::Take, Some(Refusal::NoMessage)),
-    (Deed::Lose, Some(Refusal::NoMessage)),
-    (Deed::Repeat, Some(Refusal::NoMessage)),
-    (Deed::Advance(0), Some(Refusal::NoCall)),
-    (Deed::WriteZeros(LONGEST_VALUE + 1), Some(Refusal::TooLong)),
-    (Deed::Turn(1), Some(Refusal::NoCall)),
-    (Deed::Post(1), Some(Refusal::NoCall)),
-    (Deed::Supply(1, 2, 4, HELLO), Some(Refusal::NoCall)),
-    (Deed::Settle(1, HELLO, 0), Some(Refusal::NoCall)),
-    (Deed::Answer(1), Some(Refusal::NoCall)),
-    (Deed::Write(HELLO), None),
-    (Deed::Take, Some(Refusal::NotNow)),
-    (Deed::Advance(1), Some(Refusal::NotNow)),
-    (Deed::Supply(1, 2, 4, b"hellO"), Some(Refusal::NotNow)),
-    (Deed::Settle(1, b"hellO", 0), Some(Refusal::NotNow)),
-    (Deed::Answer(1), Some(Refusal::NotNow)),
-    (Deed::Move(3, &[0, 1, 2, 3, 4]), None),
-    (Deed::Move(1, &[0]), Some(Refusal::MovePending)),
-    (Deed::Serve, None),
-    (Deed::Serve, Some(Refusal::NotNow)),
-    (Deed::Take, None),
+const IN_ORDER: &[(Action, Option<Refusal>)] = &[
+    (Action::Serve, Some(Refusal::NoMessage)),
+    (Action::Take, Some(Refusal::NoMessage)),
+    (Action::Lose, Some(Refusal::NoMessage)),
+    (Action::Repeat, Some(Refusal::NoMessage)),
+    (Action::Advance(0), Some(Refusal::NoCall)),
+    (
+        Action::WriteZeros(LONGEST_VALUE + 1),
+        Some(Refusal::TooLong),
+    ),
+    (Action::Turn(1), Some(Refusal::NoCall)),
+    (Action::Post(1), Some(Refusal::NoCall)),
+    (Action::Supply(1, 2, 4, HELLO), Some(Refusal::NoCall)),
+    (Action::Settle(1, HELLO, 0), Some(Refusal::NoCall)),
+    (Action::Answer(1), Some(Refusal::NoCall)),
+    (Action::Write(HELLO), None),
+    (Action::Take, Some(Refusal::NotNow)),
+    (Action::Advance(1), Some(Refusal::NotNow)),
+    (Action::Supply(1, 2, 4, b"hellO"), Some(Refusal::NotNow)),
+    (Action::Settle(1, b"hellO", 0), Some(Refusal::NotNow)),
+    (Action::Answer(1), Some(Refusal::NotNow)),
+    (Action::Move(3, &[0, 1, 2, 3, 4]), None),
+    (Action::Move(1, &[0]), Some(Refusal::MovePending)),
+    (Action::Serve, None),
+    (Action::Serve, Some(Refusal::NotNow)),
+    (Action::Take, None),
 ];
 
 #[test]
@@ -45,20 +48,20 @@ fn refuses_in_order(rt: HostRuntime) {
     play(&rt, rt.alloc(), &mut object, IN_ORDER);
 }
 
-const OPEN_WRITE_AND_MOVE: &[(Deed, Option<Refusal>)] = &[
-    (Deed::Write(HELLO), None),
-    (Deed::Move(3, &[0, 1, 2, 3, 4]), None),
+const OPEN_WRITE_AND_MOVE: &[(Action, Option<Refusal>)] = &[
+    (Action::Write(HELLO), None),
+    (Action::Move(3, &[0, 1, 2, 3, 4]), None),
 ];
 
-const OTHER_PIECES: &[(Deed, Option<Refusal>)] = &[
-    (Deed::Advance(1), Some(Refusal::NotNow)),
-    (Deed::Post(1), Some(Refusal::NotNow)),
-    (Deed::Supply(1, 2, 4, b"hellO"), Some(Refusal::WrongCode)),
-    (Deed::Supply(1, 1, 4, HELLO), Some(Refusal::WrongCode)),
-    (Deed::Supply(1, 2, 5, HELLO), Some(Refusal::WrongCode)),
-    (Deed::Supply(1, 3, 5, HELLO), Some(Refusal::WrongCode)),
-    (Deed::Supply(1, 2, 4, HELLO), None),
-    (Deed::Post(1), Some(Refusal::NotNow)),
+const OTHER_PIECES: &[(Action, Option<Refusal>)] = &[
+    (Action::Advance(1), Some(Refusal::NotNow)),
+    (Action::Post(1), Some(Refusal::NotNow)),
+    (Action::Supply(1, 2, 4, b"hellO"), Some(Refusal::WrongCode)),
+    (Action::Supply(1, 1, 4, HELLO), Some(Refusal::WrongCode)),
+    (Action::Supply(1, 2, 5, HELLO), Some(Refusal::WrongCode)),
+    (Action::Supply(1, 3, 5, HELLO), Some(Refusal::WrongCode)),
+    (Action::Supply(1, 2, 4, HELLO), None),
+    (Action::Post(1), Some(Refusal::NotNow)),
 ];
 
 /// The next position has a fifth member, there is no third position, and the write has its tag.
@@ -100,22 +103,22 @@ fn shows_nothing_of_no_call(rt: HostRuntime) {
     }
 }
 
-const SETTLES: &[(Deed, Option<Refusal>)] = &[
-    (Deed::Advance(2), Some(Refusal::NotNow)),
-    (Deed::Settle(2, b"hellO", 0), Some(Refusal::WrongCode)),
+const SETTLES: &[(Action, Option<Refusal>)] = &[
+    (Action::Advance(2), Some(Refusal::NotNow)),
+    (Action::Settle(2, b"hellO", 0), Some(Refusal::WrongCode)),
     // The reply of member 3 came when the quorum was there.
-    (Deed::Settle(2, HELLO, 2), Some(Refusal::WrongCode)),
+    (Action::Settle(2, HELLO, 2), Some(Refusal::WrongCode)),
     // Pieces made elsewhere that equal those that were fetched.
-    (Deed::Settle(2, HELLO, 1), None),
-    (Deed::Settle(2, HELLO, 1), Some(Refusal::NotNow)),
+    (Action::Settle(2, HELLO, 1), None),
+    (Action::Settle(2, HELLO, 1), Some(Refusal::NotNow)),
 ];
 
 /// A write up to its answer, and the read behind it up to its fetch.
 fn fetched(rt: &impl Abort, alloc: Global) -> Register {
     let mut object = four_servers(rt, alloc);
-    play(rt, alloc, &mut object, &[(Deed::Write(HELLO), None)]);
+    play(rt, alloc, &mut object, &[(Action::Write(HELLO), None)]);
     go_on(rt, alloc, &mut object, 1, 5);
-    play(rt, alloc, &mut object, &[(Deed::Read, None)]);
+    play(rt, alloc, &mut object, &[(Action::Read, None)]);
     go_on(rt, alloc, &mut object, 2, 2);
     deliver(rt, alloc, &mut object);
     object

@@ -1,5 +1,5 @@
 -- Words behind a command, as the code finds them.
-use Rattle.std.proofs.Common.{◌≡◌, ◌∙◌, ◌<◌, ◌≤◌, ◌-◌, ℕ, List, [], ◌∷◌, length, map, refl, ap, sym, subst, arith, Bor, codes}
+use Rattle.std.proofs.Common.{◌≡◌, ◌∙◌, ◌<◌, ◌≤◌, ◌-◌, List, [], ◌∷◌, length, map, refl, ap, sym, subst, arith, Bor, codes}
 use Rattle.std.specs.Prelude.{Result, get_or, drop, take}
 use Rattle.std.proofs.lemmas.List.{length-drop, take_all}
 use Rattle.coding_commands.specs.declared.request.CodingRequest.{CodingRequest}

@@ -5,9 +5,9 @@ use Rattle.std.specs.List.{join_with_byte, range_with_len}
 use Rattle.std.proofs.lemmas.List.{map-append}
 use Rattle.std.proofs.lemmas.List.FromFn.{map-range_with_len_more}
 use Rattle.piece.specs.declared.piece.Piece.{Piece}
-use Rattle.encoder.specs.Fragment.{piece_of}
+use Rattle.encoder.specs.Fragment.{piece_at_point}
 use Rattle.encoder.specs.Coded.{Coding}
-use Rattle.coding_commands.specs.Fragments.{fragments_text, piece_text, pieces_of}
+use Rattle.coding_commands.specs.Fragments.{fragments_text, piece_text, fragments_of_value}
 
 -- one more list after one or more
 pub join_with_byte-snoc : (c : ℕ) (x : List ℕ) (xs : List (List ℕ)) (y : List ℕ)
@@ -17,14 +17,14 @@ join_with_byte-snoc c x (z ∷ xs) y =
     ap (λ t. x ++ (c ∷ t)) (join_with_byte-snoc c z xs y) ∙ sym (append_assoc x (c ∷ join_with_byte c (z ∷ xs)) (c ∷ y))
 
 -- the texts of the first pieces, and of one more
-texts-more : (c : Coding) (i : ℕ) → map piece_text (pieces_of (record c { n = i + 1 }))
-    ≡ map piece_text (pieces_of (record c { n = i })) ++ piece_text (piece_of c.value c.k i) ∷ []
+texts-more : (c : Coding) (i : ℕ) → map piece_text (fragments_of_value (record c { n = i + 1 }))
+    ≡ map piece_text (fragments_of_value (record c { n = i })) ++ piece_text (piece_at_point c.value c.k i) ∷ []
 texts-more c i =
-    ap (map piece_text) (map-range_with_len_more (piece_of c.value c.k) 0 i i (omega arith))
-    ∙ map-append piece_text (map (piece_of c.value c.k) (range_with_len 0 i)) (piece_of c.value c.k i ∷ [])
+    ap (map piece_text) (map-range_with_len_more (piece_at_point c.value c.k) 0 i i (omega arith))
+    ∙ map-append piece_text (map (piece_at_point c.value c.k) (range_with_len 0 i)) (piece_at_point c.value c.k i ∷ [])
 
 -- one more piece, after what parts it from those before it: nothing for the first, and else a space
-pub fragments_text-more : (c : Coding) (i : ℕ) (separator : List ℕ) (p : Piece) → p ≡ piece_of c.value c.k i
+pub fragments_text-more : (c : Coding) (i : ℕ) (separator : List ℕ) (p : Piece) → p ≡ piece_at_point c.value c.k i
     → (i ≡ 0 → separator ≡ []) → (0 < i → separator ≡ 32 ∷ [])
     → fragments_text (record c { n = i + 1 }) ≡ fragments_text (record c { n = i }) ++ (separator ++ piece_text p)
 fragments_text-more c zero separator p is first more =

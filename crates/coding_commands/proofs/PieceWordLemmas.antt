@@ -5,7 +5,6 @@ use Rattle.std.proofs.lemmas.List.{take_more, map-append}
 use Rattle.std.specs.Prelude.{Result, Ok, Err, IsErrAnd, MatchResult}
 use Rattle.tag.specs.declared.refusal.Refusal.TheVariants.{NoMemory}
 use Rattle.words.specs.Hexadecimal.{IsHexadecimal}
-use Rattle.words.specs.Number.{IsNumber}
 use Rattle.piece.specs.declared.piece.Piece.{Piece}
 use Rattle.coding_commands.specs.declared.request.CodingRequest.{CodingRequest}
 use Rattle.coding_commands.specs.declared.request.CodingRequest.TheVariants as of

@@ -22,11 +22,11 @@ IsPrinted output old new status = ((status ≡ 0) × Appends old new (output_tex
 
 -- the line of the request's answer is written or lost; or the request is refused, by its cause or for want of memory,
 -- with status 1 and nothing written
-abbrev pub Answers : CodingRequest → Contents → Contents → ℕ → Type 0
-Answers request old new status = ((output : Output) × IsAnswer request output × IsPrinted output old new status)
+abbrev pub AnswersRequest : CodingRequest → Contents → Contents → ℕ → Type 0
+AnswersRequest request old new status = ((output : Output) × IsAnswer request output × IsPrinted output old new status)
     ⊎ ((refusal : Refusal) × ((refusal ≡ NoMemory) ⊎ IsRefusedFor request refusal) × (status ≡ 1) × Keeps old new)
 
 -- the words spell a request, and it is answered; or they spell none, the status says why, and nothing is written
 abbrev pub EndsBy : List Word → Contents → Contents → ℕ → Type 0
-EndsBy words old new status = ((request : CodingRequest) × Spells words request × Answers request old new status)
+EndsBy words old new status = ((request : CodingRequest) × Spells words request × AnswersRequest request old new status)
     ⊎ ((fault : Fault) × IsFaultOf words fault × (status ≡ exit_status_of fault) × Keeps old new)

@@ -5,7 +5,7 @@ ghost use Rattle.tag.specs.declared.refusal.Refusal.{Refusal};
 ghost use Rattle.tag.specs.declared.refusal.Refusal.TheVariants.{NoMemory};
 ghost use Rattle.coding_commands.specs.Answer.{IsAnswer, IsRefusedFor};
 ghost use Rattle.coding_commands.specs.Output.{output_text};
-ghost use Rattle.coding_commands.specs.Program.{Answers, EndsBy, IsPrinted};
+ghost use Rattle.coding_commands.specs.Program.{AnswersRequest, EndsBy, IsPrinted};
 ghost use Rattle.coding_commands.specs.declared.request.CodingRequest.TheVariants as request;
 ghost use Rattle.coding_commands.specs.declared.fault.Fault.TheVariants.{OutputLost, Refused};
 
@@ -41,7 +41,7 @@ pub fn answer_request<O: Write, E: Write>(
     out: &mut O,
     err: &mut E,
 ) -> u8
-    ensures { Answers request (O.contents out.old) (O.contents out.new) result }
+    ensures { AnswersRequest request (O.contents out.old) (O.contents out.new) result }
 {
     match request {
         CodingRequest::Fragments { k, n, value } => {

@@ -1,22 +1,27 @@
-ghost use Rattle.std.specs.Prelude.{◌≡◌, [], ◌∷◌, ◌++◌};
+ghost use Rattle.std.specs.Prelude.{◌≡◌, ◌<◌, [], ◌∷◌, ◌++◌, codes};
 ghost use Rattle.tag.specs.Refusal.{number_of, refusal_text};
 ghost use Rattle.tag.specs.declared.refusal.Refusal.{Refusal};
-ghost use Rattle.coding_exports.specs.Text.{text_of};
+ghost use Rattle.coding_exports.specs.declared.answer.TheConstants.{BAD_BUFFER};
 
 /// Gives the text of an answer, which ends with a zero byte and lasts as long as the program: of a refusal its number
 /// and its name.
 #[unsafe(no_mangle)]
 pub extern "C" fn coding_text(answer: u8, text: &mut &'static [u8])
-    ensures text { text.new.now ≡ text_of answer }
+    ensures done { answer ≡ 0 → text.new.now ≡ codes "0 Done" ++ 0 ∷ [] }
     ensures refusal { (r : Refusal) → answer ≡ number_of r → text.new.now ≡ refusal_text r ++ 0 ∷ [] }
+    ensures bad_buffer { answer ≡ BAD_BUFFER → text.new.now ≡ codes "18 BadBuffer" ++ 0 ∷ [] }
+    ensures unknown { BAD_BUFFER < answer → text.new.now ≡ codes "Unknown" ++ 0 ∷ [] }
 {
     *text = answer_text(answer);
 }
 
-/// The text of the answer.
-#[tactic(auto, unfolding(crate::specs::Text::text_of))]
+// The text of the answer. The texts of refusals are literals, since each has to end with a zero byte and to last as
+// long as the program.
 fn answer_text(answer: u8) -> &'static [u8]
-    ensures { result.now ≡ text_of answer }
+    ensures done { answer ≡ 0 → result.now ≡ codes "0 Done" ++ 0 ∷ [] }
+    ensures refusal { (r : Refusal) → answer ≡ number_of r → result.now ≡ refusal_text r ++ 0 ∷ [] }
+    ensures bad_buffer { answer ≡ BAD_BUFFER → result.now ≡ codes "18 BadBuffer" ++ 0 ∷ [] }
+    ensures unknown { BAD_BUFFER < answer → result.now ≡ codes "Unknown" ++ 0 ∷ [] }
 {
     match answer {
         0 => b"0 Done\0",

@@ -6,7 +6,7 @@ use Rattle.crossbeam_queue.specs.Passes.{view, IsPassOf}
 use Rattle.tag.specs.declared.limits.TheConstants.{LONGEST_VALUE}
 use Rattle.tag.specs.declared.refusal.Refusal.{Refusal}
 use Rattle.tag.specs.declared.refusal.Refusal.TheVariants.{NoMemory}
-use Rattle.encoder.specs.Fragment.{piece_of}
+use Rattle.encoder.specs.Fragment.{piece_at_point}
 use Rattle.piece.specs.declared.piece.Piece.{Piece}
 use Rattle.coding_pool.specs.declared.worker.CodingJob.{CodingJob}
 use Rattle.coding_pool.specs.declared.worker.Worker.{Worker}
@@ -29,7 +29,7 @@ pub record IsErrand (errand : CodingJob) : Type 0 where
 pub record IsWorker (errand : CodingJob) (w : Worker) : Type 0 where
   pub pass : IsPassOf errand.jobs.now w.pass
   pub popped : (view w.pass).popped ≡ map point_of w.pieces.items
-  pub made : All (λ p. p ≡ piece_of errand.value.now errand.k p.point) w.pieces.items
+  pub made : All (λ p. p ≡ piece_at_point errand.value.now errand.k p.point) w.pieces.items
 
 -- a worker of the errand that has one part, and pushed no job
 pub record IsHand (errand : CodingJob) (w : Worker) : Type 0 where

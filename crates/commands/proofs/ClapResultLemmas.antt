@@ -44,14 +44,6 @@ length-marked_words (name ∷ rest) = omega arith
 some_is : {T : Type 0} {x y : T} → Some x ≡ Some y → y ≡ x
 some_is e = cc
 
--- an error of `clap` as a fault
-pub fault_from_clap : (kinds : Kinds) (error : Error) (fault : Fault) → HasKind kinds error
-    → (kind_of error ≡ OutOfMemory → fault ≡ Refused NoMemory)
-    → (fault ≡ Refused NoMemory) ⊎ (fault ≡ Usage) → (fault ≡ Refused NoMemory) ⊎ ((fault ≡ Usage) × (kinds ≢ []))
-fault_from_clap kinds error fault (inl none_left) memory either = inl (memory none_left)
-fault_from_clap kinds error fault (inr among) memory (inl none_left) = inl none_left
-fault_from_clap kinds error fault (inr among) memory (inr usage) = inr (usage, λ none. subst (IsAmong (kind_of error)) none among)
-
 -- the fault of words that `clap` did not read
 pub IsFaultOf-unread : (words seen : List Word) (e : Fault) → seen ≡ marked_words words → length seen ≤ usize_max
     → (e ≡ Refused NoMemory) ⊎ ((e ≡ Usage) × (fault_of cas_form seen ≢ [])) → IsFaultOf words e

@@ -1,12 +1,11 @@
 -- Requests and faults of the command line.
 use Rattle.std.proofs.Common.{◌≡◌, ◌∙◌, ℕ, List, [], ◌∷◌, get_or, refl, ap, sym, arith, subst, inl, inr, codes}
-use Rattle.std.specs.Prelude.{Result, Ok, Err}
 use Rattle.words.specs.Number.{IsNumber}
 use Rattle.soak.specs.declared.plan.Plan.{Plan}
 use Rattle.coding_commands.specs.Request.{Word}
-use Rattle.coding_commands.specs.Request.{HasForm as HasCodingForm, IsFaultOf as IsCodingFault, Spells as SpellsCoding}
+use Rattle.coding_commands.specs.Request.{HasForm as HasCodingForm, Spells as SpellsCoding}
 use Rattle.coding_commands.specs.declared.fault.Fault.{Fault}
-use Rattle.coding_commands.specs.declared.fault.Fault.TheVariants.{NotText, Usage, BadArgument, Refused, OutputLost}
+use Rattle.coding_commands.specs.declared.fault.Fault.TheVariants.{BadArgument}
 use Rattle.coding_commands.specs.declared.request.CodingRequest.{CodingRequest}
 use Rattle.coding_commands.specs.declared.request.CodingRequest.TheVariants as coding
 use Rattle.commands.specs.declared.request.Request.{Request}
@@ -18,31 +17,12 @@ pub HasForm-spelled : (words : List Word) (r : CodingRequest) → SpellsCoding w
 HasForm-spelled words (coding.Fragments k n value) s = inl (s.0, s.1, s.2, s.3)
 HasForm-spelled words (coding.Decode k len pieces) s = inr (s.0, s.1, s.2, s.3)
 
--- words of that form are no script to run, and no soak
-not_run : (words : List Word) (file : Word) → HasCodingForm words → words ≡ codes "run" ∷ file ∷ [] → ⊥
-not_run words file (inl (a, b, c, e)) is =
-    let clash : ◌≡◌ {A = ℕ} 114 102 = ap (λ (ws : List Word). get_or (get_or ws 0 []) 0 0) (sym is ∙ e) in absurd (omega arith)
-not_run words file (inr (a, b, rest, e)) is =
-    let clash : ◌≡◌ {A = ℕ} 114 100 = ap (λ (ws : List Word). get_or (get_or ws 0 []) 0 0) (sym is ∙ e) in absurd (omega arith)
-
+-- words of that form are no soak
 not_soak : (words : List Word) (a b c d : Word) → HasCodingForm words → words ≡ codes "soak" ∷ a ∷ b ∷ c ∷ d ∷ [] → ⊥
 not_soak words a b c d (inl (p, q, r, e)) is =
     let clash : ◌≡◌ {A = ℕ} 115 102 = ap (λ (ws : List Word). get_or (get_or ws 0 []) 0 0) (sym is ∙ e) in absurd (omega arith)
 not_soak words a b c d (inr (p, q, rest, e)) is =
     let clash : ◌≡◌ {A = ℕ} 115 100 = ap (λ (ws : List Word). get_or (get_or ws 0 []) 0 0) (sym is ∙ e) in absurd (omega arith)
-
--- a fault of words of that form
-pub IsFaultOf-coding : (words : List Word) (e : Fault) → HasCodingForm words → IsCodingFault words e → IsFaultOf words e
-IsFaultOf-coding words Usage form fault = absurd (fault form)
-IsFaultOf-coding words BadArgument form fault = (inl form, none)
-  where
-    none : (r : Request) → ¬ (Spells words r)
-    none (of.Coding request) s = fault.1 request s
-    none (of.Run file) s = not_run words _ form s
-    none (of.Soak plan) s = not_soak words s.0 s.1 s.2 s.3 form s.4
-IsFaultOf-coding words (Refused refusal) form fault = fault
-IsFaultOf-coding words NotText form fault = absurd fault
-IsFaultOf-coding words OutputLost form fault = absurd fault
 
 -- words of `soak` that write no numbers
 pub no_numbers : (a b c d : Word)

@@ -11,7 +11,7 @@ use Rattle.soak.specs.Summary.{exit_status_of as status_of_summary}
 use Rattle.soak.specs.declared.plan.Plan.{Plan}
 use Rattle.soak.specs.declared.summary.Summary.{Summary}
 use Rattle.coding_commands.specs.Fault.{exit_status_of}
-use Rattle.coding_commands.specs.Program.{Answers, Contents}
+use Rattle.coding_commands.specs.Program.{AnswersRequest, Contents}
 use Rattle.coding_commands.specs.Request.{Word}
 use Rattle.coding_commands.specs.Request.{Spells as SpellsCoding}
 use Rattle.coding_commands.specs.declared.fault.Fault.{Fault}
@@ -43,7 +43,7 @@ Soaks plan old new status =
 -- of the soak
 abbrev pub EndsBy : List Word → Contents → Contents → ℕ → Type 0
 EndsBy words old new status =
-    ((asked : CodingRequest) × SpellsCoding words asked × Answers asked old new status)
+    ((asked : CodingRequest) × SpellsCoding words asked × AnswersRequest asked old new status)
     ⊎ ((fault : Fault) × IsFaultOf words fault × (status ≡ exit_status_of fault) × Keeps old new)
     ⊎ ((file : Word) × (words ≡ codes "run" ∷ file ∷ []) × RunsFile old new status)
     ⊎ ((plan : Plan) × Spells words (request.Soak plan) × Soaks plan old new status)

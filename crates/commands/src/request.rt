@@ -77,10 +77,7 @@ pub(crate) fn soak_request(
 fn coding(read: Result<CodingRequest, Fault>) -> Result<Request, Fault>
     ensures { (words : List Word) → HasCodingForm words → ParsesToCoding words read → ParsesTo words result }
 {
-    match read {
-        Ok(request) => Ok(Request::Coding { request }),
-        Err(fault) => Err(fault),
-    }
+    Ok(Request::Coding { request: read? })
 }
 
 fn number(word: &str) -> Result<u64, Fault>

@@ -4,7 +4,7 @@ use Rattle.std.proofs.lemmas.List.{length-map}
 use Rattle.std.proofs.lemmas.List.Elements.{All-map}
 use Rattle.tag.specs.declared.limits.TheConstants.{LONGEST_VALUE, MOST_MEMBERS}
 use Rattle.gf256.specs.Polynomial.{AreBytes, AreDistinct}
-use Rattle.encoder.specs.Fragment.{fragment, piece_of}
+use Rattle.encoder.specs.Fragment.{fragment, piece_at_point}
 use Rattle.piece.specs.declared.piece.Piece.{Piece}
 use Rattle.encoder.proofs.ColumnLemmas.{AreBytes-fragment}
 use Rattle.decoder.specs.Pieces.{points_of, AreLawful, AreOfBytes, ArePiecesOf, IsInterpolated}
@@ -12,7 +12,7 @@ use Rattle.decoder.proofs.ValuePrefixLemmas.{value-blocks_of, AreLawful-pieces_o
 
 -- the pieces of a value at these points
 abbrev pub pieces_at : List ℕ → ℕ → List ℕ → List Piece
-pieces_at value k points = map (λ x. piece_of value k x) points
+pieces_at value k points = map (λ x. piece_at_point value k x) points
 
 points-pieces_at : (value : List ℕ) (k : ℕ) (points : List ℕ) → points_of (pieces_at value k points) ≡ points
 points-pieces_at value k [] = refl
@@ -31,15 +31,15 @@ module _ (k : ℕ) (points v w : List ℕ) (some : 1 ≤ k) (most : k ≤ MOST_M
     most = most;
     longest = longest;
     bytes = first;
-    count = length-map points (λ x. piece_of v k x) ∙ count;
+    count = length-map points (λ x. piece_at_point v k x) ∙ count;
     distinct = subst AreDistinct (sym (points-pieces_at v k points)) distinct;
-    pieces_of = All-map (λ p. p ≡ piece_of v k p.point) (λ x. piece_of v k x) points (λ i d hi. refl);
+    pieces_of = All-map (λ p. p ≡ piece_at_point v k p.point) (λ x. piece_at_point v k x) points (λ i d hi. refl);
   }
 
   of_bytes : AreOfBytes pieces
   of_bytes = record {
     points = subst AreBytes (sym (points-pieces_at v k points)) bytes;
-    fragments = All-map (λ p. AreBytes p.bytes) (λ x. piece_of v k x) points
+    fragments = All-map (λ p. AreBytes p.bytes) (λ x. piece_at_point v k x) points
         (λ i d hi. AreBytes-fragment v k (get_or points i d) first (bytes i d hi));
   }
 
@@ -50,7 +50,7 @@ module _ (k : ℕ) (points v w : List ℕ) (some : 1 ≤ k) (most : k ≤ MOST_M
   of_second = record {
     bytes = second;
     value_len = sym lens;
-    fragments = All-map (λ p. fragment w k p.point ≡ p.bytes) (λ x. piece_of v k x) points (λ i d hi. sym (same i d hi));
+    fragments = All-map (λ p. fragment w k p.point ≡ p.bytes) (λ x. piece_at_point v k x) points (λ i d hi. sym (same i d hi));
   }
 
   pub determined : v ≡ w

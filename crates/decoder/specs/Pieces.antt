@@ -2,7 +2,7 @@
 use Rattle.std.specs.Prelude.{◌≡◌, ℕ, ◌≤◌, List, length, map, All}
 use Rattle.tag.specs.declared.limits.TheConstants.{MOST_MEMBERS, LONGEST_VALUE}
 use Rattle.gf256.specs.Polynomial.{AreBytes, AreDistinct}
-use Rattle.encoder.specs.Fragment.{fragment, fragment_len, piece_of}
+use Rattle.encoder.specs.Fragment.{fragment, fragment_len, piece_at_point}
 use Rattle.piece.specs.declared.piece.Piece.{Piece}
 
 -- the point of each piece
@@ -48,4 +48,4 @@ pub record ArePiecesOf (value : List ℕ) (k : ℕ) (pieces : List Piece) : Type
   pub bytes : AreBytes value
   pub count : length pieces ≡ k
   pub distinct : AreDistinct (points_of pieces)
-  pub pieces_of : All (λ p. p ≡ piece_of value k p.point) pieces
+  pub pieces_of : All (λ p. p ≡ piece_at_point value k p.point) pieces

@@ -3,7 +3,7 @@ use Rattle.std.proofs.Common.{◌≡◌, ℕ, zero, suc, ◌+◌, ◌<◌, ◌�
 use Rattle.std.proofs.Common.{None, slice_get, refl, sym, ap, ◌∙◌, arith, add-one}
 use Rattle.mail.specs.declared.message.Message.{Message}
 use Rattle.register.proofs.ListLemmas.{found, same_some}
-use Rattle.driver.specs.Choices.{places}
+use Rattle.driver.specs.Choices.{places_passing}
 
 drop_at : {X : Type 0} (xs : List X) (i : ℕ) (x : X) → slice_get xs i ≡ Some x → drop i xs ≡ x ∷ drop (suc i) xs
 drop_at [] i x e = absurd (cc)
@@ -22,31 +22,32 @@ drop_few [] (suc i) = omega arith
 drop_few (x ∷ xs) zero = omega arith
 drop_few (x ∷ xs) (suc i) = let rest = drop_few xs i in omega (arith, rest)
 
-places_few : (test : Message → Bool) (place : ℕ) (messages : List Message) → length (places test place messages) ≤ length messages
+places_few : (test : Message → Bool) (place : ℕ) (messages : List Message) → length (places_passing test place messages) ≤ length messages
 places_few test place [] = omega arith
 places_few test place (message ∷ messages) = go (test message) (places_few test (suc place) messages)
   where
-    go : (b : Bool) → length (places test (suc place) messages) ≤ length messages
-        → length (cond b (place ∷ places test (suc place) messages) (places test (suc place) messages)) ≤ suc (length messages)
+    go : (b : Bool) → length (places_passing test (suc place) messages) ≤ length messages
+        → length (cond b (place ∷ places_passing test (suc place) messages) (places_passing test (suc place) messages))
+        ≤ suc (length messages)
     go true few = omega (arith, few)
     go false few = omega (arith, few)
 
 module _ (test : Message → Bool) (mail : List Message) (place : ℕ) where
   abbrev pub from : List ℕ
-  from = places test place (drop place mail)
+  from = places_passing test place (drop place mail)
 
   abbrev pub later : List ℕ
-  later = places test (suc place) (drop (suc place) mail)
+  later = places_passing test (suc place) (drop (suc place) mail)
 
   -- the message at the place, and those behind it
   pub from_is : (b : Bool) → place < length mail → ((message : Message) → slice_get mail place ≡ Some message → b ≡ test message)
       → from ≡ cond b (place ∷ later) later
   from_is b within told =
       let m = found mail place within in
-      ap (places test place) (drop_at mail place m.0 m.1) ∙ ap (λ b. cond b (place ∷ later) later) (sym (told m.0 m.1))
+      ap (places_passing test place) (drop_at mail place m.0 m.1) ∙ ap (λ b. cond b (place ∷ later) later) (sym (told m.0 m.1))
 
   pub from_end : length mail ≤ place → from ≡ []
-  from_end past = ap (places test place) (drop_end mail place past)
+  from_end past = ap (places_passing test place) (drop_end mail place past)
 
 -- what is known of the message at a place of the mail that is seen
 pub told_of : (test : Message → Bool) (mail seen : List Message) (place : ℕ) (m : Message) (b : Bool) → seen ≡ mail
@@ -56,7 +57,7 @@ told_of test mail seen place m b same at is message there =
 
 -- all of them are no more than the messages
 pub choices_few : (test : Message → Bool) (mail : List Message) (from : ℕ)
-    → length (places test from (drop from mail)) ≤ length mail
+    → length (places_passing test from (drop from mail)) ≤ length mail
 choices_few test mail from =
     let few = places_few test from (drop from mail) in
     let less = drop_few mail from in
@@ -66,7 +67,7 @@ module _ (test : Message → Bool) (mail : List Message) (place : ℕ) (b : Bool
     (told : (message : Message) → slice_get mail place ≡ Some message → b ≡ test message) where
   -- one more is counted where the message passes
   pub counted : (count total : ℕ) → b ≡ true → count + length (from test mail place) ≡ total
-      → count + 1 + length (places test (place + 1) (drop (place + 1) mail)) ≡ total
+      → count + 1 + length (places_passing test (place + 1) (drop (place + 1) mail)) ≡ total
   counted count total passes so_far =
       let e = so_length passes in
       let n = add-one-of place in
@@ -78,16 +79,17 @@ module _ (test : Message → Bool) (mail : List Message) (place : ℕ) (b : Bool
           ∙ ap (λ b. length (cond b (place ∷ later test mail place) (later test mail place))) passes
 
       add-one-of : (place : ℕ)
-          → length (places test (place + 1) (drop (place + 1) mail)) ≡ length (places test (suc place) (drop (suc place) mail))
-      add-one-of place = ap (λ n. length (places test n (drop n mail))) (add-one place)
+          → length (places_passing test (place + 1) (drop (place + 1) mail))
+          ≡ length (places_passing test (suc place) (drop (suc place) mail))
+      add-one-of place = ap (λ n. length (places_passing test n (drop n mail))) (add-one place)
 
   pub uncounted : (count total : ℕ) → b ≡ false → count + length (from test mail place) ≡ total
-      → count + length (places test (place + 1) (drop (place + 1) mail)) ≡ total
+      → count + length (places_passing test (place + 1) (drop (place + 1) mail)) ≡ total
   uncounted count total passes so_far =
       let e : length (from test mail place) ≡ length (later test mail place) =
       ap length (from_is test mail place b within told)
       ∙ ap (λ b. length (cond b (place ∷ later test mail place) (later test mail place))) passes in
-      let n = ap (λ n. length (places test n (drop n mail))) (add-one place) in
+      let n = ap (λ n. length (places_passing test n (drop n mail))) (add-one place) in
       omega (arith, so_far, e, n)
 
   pub few : (count total : ℕ) → b ≡ true → count + length (from test mail place) ≡ total → total ≤ length mail → count < length mail
@@ -105,18 +107,18 @@ module _ (test : Message → Bool) (mail : List Message) (place : ℕ) (b : Bool
       ∙ sym (ap (λ xs. slice_get xs left) (from_is test mail place b within told)) ∙ so_far
 
   pub passed : (left : ℕ) (answer : Option ℕ) → b ≡ true → (left ≡ 0 → ⊥) → slice_get (from test mail place) left ≡ answer
-      → slice_get (places test (place + 1) (drop (place + 1) mail)) (left - 1) ≡ answer
+      → slice_get (places_passing test (place + 1) (drop (place + 1) mail)) (left - 1) ≡ answer
   passed zero answer passes some so_far = absurd (some refl)
   passed (suc left) answer passes some so_far =
-      ap (λ n. slice_get (places test n (drop n mail)) (suc left - 1)) (add-one place)
+      ap (λ n. slice_get (places_passing test n (drop n mail)) (suc left - 1)) (add-one place)
       ∙ ap (λ n. slice_get (later test mail place) n) (let less : suc left - 1 ≡ left = omega arith in less)
       ∙ sym (ap (λ b. slice_get (cond b (place ∷ later test mail place) (later test mail place)) (suc left)) passes)
       ∙ sym (ap (λ xs. slice_get xs (suc left)) (from_is test mail place b within told)) ∙ so_far
 
   pub skipped : (left : ℕ) (answer : Option ℕ) → b ≡ false → slice_get (from test mail place) left ≡ answer
-      → slice_get (places test (place + 1) (drop (place + 1) mail)) left ≡ answer
+      → slice_get (places_passing test (place + 1) (drop (place + 1) mail)) left ≡ answer
   skipped left answer passes so_far =
-      ap (λ n. slice_get (places test n (drop n mail)) left) (add-one place)
+      ap (λ n. slice_get (places_passing test n (drop n mail)) left) (add-one place)
       ∙ sym (ap (λ b. slice_get (cond b (place ∷ later test mail place) (later test mail place)) left) passes)
       ∙ sym (ap (λ xs. slice_get xs left) (from_is test mail place b within told)) ∙ so_far
 

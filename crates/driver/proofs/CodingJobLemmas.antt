@@ -13,7 +13,7 @@ use Rattle.record.specs.Steps.{Step}
 use Rattle.record.specs.declared.stage.Want.TheVariants as want
 use Rattle.register.specs.Causes.{supply_cause, supplying_cause, settle_cause, value_cause}
 use Rattle.register.specs.State.{State}
-use Rattle.register.specs.View.{want_at, coding_at, pieces_at}
+use Rattle.register.specs.View.{want_at, coding_at, fetched_pieces}
 use Rattle.cluster.specs.Cluster.{Cluster, named, if_named}
 use Rattle.cluster.specs.Causes.{next, if_object, object_cause}
 use Rattle.cluster.specs.Preconditions.{MayMake}
@@ -44,13 +44,13 @@ module _ (cluster : Cluster) (name : List ℕ) (call : ℕ) where
   pub to_decode : (state : State) (k len : ℕ) (pieces : List Piece) → named cluster.objects name ≡ Some state
       → IsSound fragment state.object state.last
       → wanted cluster name call ≡ Some (want.Settle k len) → suc cluster.counter ≤ MOST_STEPS
-      → if_named cluster name (λ object. Some (pieces_at object call)) ≡ Some pieces → IsToDecode cluster name call k len pieces
+      → if_named cluster name (λ object. Some (fetched_pieces object call)) ≡ Some pieces → IsToDecode cluster name call k len pieces
   to_decode state k len pieces there sound wants within taken =
       let here : want_at state.object call ≡ Some (want.Settle k len) =
       sym (read_there cluster name state (λ object. want_at object call) there) ∙ wants in
       let given = pieces_are state.object state.last call k len sound here in
-      let same : pieces_at state.object call ≡ pieces =
-      some_same _ _ (sym (read_there cluster name state (λ object. Some (pieces_at object call)) there) ∙ taken) in
+      let same : fetched_pieces state.object call ≡ pieces =
+      some_same _ _ (sym (read_there cluster name state (λ object. Some (fetched_pieces object call)) there) ∙ taken) in
       record {
         wants = wants;
         taken = taken;
@@ -77,7 +77,8 @@ module _ (cluster : Cluster) (name : List ℕ) (call : ℕ) where
       (λ object. settling_cause (next cluster) object call)
       (λ state there. settle_is state.object call k len (next cluster) decoded
       (sym (read_there cluster name state (λ object. want_at object call) there) ∙ is.wants)
-      same_k (same_pieces ∙ some_same _ _ (sym is.taken ∙ read_there cluster name state (λ object. Some (pieces_at object call)) there)))
+      same_k (same_pieces
+      ∙ some_same _ _ (sym is.taken ∙ read_there cluster name state (λ object. Some (fetched_pieces object call)) there)))
 
   -- the value that the pieces give was settled, or the settle was refused
   pub settled_own : {T : Type 0} (r : Result T Refusal) (k len : ℕ) (pieces : List Piece) (value : List ℕ) (new : Cluster)
@@ -100,14 +101,15 @@ module _ (cluster : Cluster) (name : List ℕ) (call : ℕ) where
   -- the pieces give a value
   pub given_there : (old : State) (k len : ℕ) → named cluster.objects name ≡ Some old → IsSound fragment old.object old.last
       → wanted cluster name call ≡ Some (want.Settle k len) → (state : State) → named cluster.objects name ≡ Some state
-      → (value : List ℕ) × IsInterpolated k len (pieces_at state.object call) value
+      → (value : List ℕ) × IsInterpolated k len (fetched_pieces state.object call) value
   given_there old k len there sound wants state at =
       let here : want_at old.object call ≡ Some (want.Settle k len) =
       sym (read_there cluster name old (λ object. want_at object call) there) ∙ wants in
       let given = pieces_are old.object old.last call k len sound here in
-      let value = IsInterpolated-pieces_of given.0 k len (pieces_at old.object call) given.1 given.2 in (
+      let value = IsInterpolated-pieces_of given.0 k len (fetched_pieces old.object call) given.1 given.2 in (
         given.0,
-        subst (λ (s : State). IsInterpolated k len (pieces_at s.object call) given.0) (one_state cluster name old state there at) value,
+        subst (λ (s : State). IsInterpolated k len (fetched_pieces s.object call) given.0)
+            (one_state cluster name old state there at) value,
       )
 
   -- a value that is refused, though no limit refuses its supply, is refused for want of memory

@@ -8,7 +8,7 @@ use Rattle.std.proofs.lemmas.List.Elements.{All-from_recursion}
 use Rattle.std.proofs.lemmas.Map.Made.{AllPairs-from_IsDistinct}
 use Rattle.tag.specs.declared.tag.Tag.{Tag}
 use Rattle.layout.specs.Layout.{Layout, IsLawful}
-use Rattle.encoder.specs.Fragment.{fragment, piece_of}
+use Rattle.encoder.specs.Fragment.{fragment, piece_at_point}
 use Rattle.piece.specs.declared.piece.Piece.{Piece}
 use Rattle.decoder.specs.Pieces.{ArePiecesOf, points_of}
 use Rattle.bank.specs.declared.kind.Kind.{Kind}
@@ -31,7 +31,7 @@ use Rattle.soundness.proofs.Values.ReadValueLemmas.{journal_unique}
 use Rattle.soundness.proofs.Sound.WantCaseLemmas.{Unsettled, last_at}
 use Rattle.soundness.proofs.Sound.WantPreconditionLemmas.{unsettled_of}
 use Rattle.register.specs.Coding.{piece_by, pieces_below, least_of}
-use Rattle.register.specs.View.{want_at, pieces_at, pieces_of}
+use Rattle.register.specs.View.{want_at, fetched_pieces, pieces_of}
 use Rattle.driver.proofs.PieceCountLemmas.{count_below}
 use Rattle.driver.proofs.WantLemmas.{place_of_call, wants_at}
 use Rattle.driver.proofs.ReplyPieceLemmas.{Brought, IsOf, all_take, take_length, all_below, first_reply}
@@ -164,8 +164,8 @@ module _ (object : Object) (last index : ℕ) (call : Call) (sound : IsSound fra
         (apart_take layout.k (pieces_below u.phase.replies (length layout.members))
         (apart_below value layout.k u.phase.replies (length layout.members) brought)));
     pieces_of =
-        All-from_recursion (λ p. p ≡ piece_of value layout.k p.point) ps
-        (all_weaker _ (λ p. p ≡ piece_of value layout.k p.point) ps (λ p is. is.0) all_of);
+        All-from_recursion (λ p. p ≡ piece_at_point value layout.k p.point) ps
+        (all_weaker _ (λ p. p ≡ piece_at_point value layout.k p.point) ps (λ p is. is.0) all_of);
   }
 
   pub len_of : value_len u.phase.replies ≡ length value
@@ -173,7 +173,7 @@ module _ (object : Object) (last index : ℕ) (call : Call) (sound : IsSound fra
 
 -- the pieces of a fetch are k pieces of one value
 pub pieces_are : (object : Object) (last number k len : ℕ) → IsSound fragment object last → want_at object number ≡ Some (want.Settle k len)
-    → (value : List ℕ) × (length value ≡ len) × ArePiecesOf value k (pieces_at object number)
+    → (value : List ℕ) × (length value ≡ len) × ArePiecesOf value k (fetched_pieces object number)
 pieces_are object last number k len sound wanted =
     let w = wants_at object number (want.Settle k len) wanted in
     let at = place_of_call object number w.call w.at in
@@ -181,7 +181,7 @@ pieces_are object last number k len sound wanted =
     let parts =
     settle_parts k len (layout_at object u.phase.position).k (value_len u.phase.replies)
     (sym w.wants ∙ settles_is object (pred number) w.call u) in
-    let read : pieces_at object number ≡ ps object last (pred number) w.call sound at u =
+    let read : fetched_pieces object number ≡ ps object last (pred number) w.call sound at u =
     ap (pieces_of object) w.at ∙ ap (least_of object) u.current in (
       value object last (pred number) w.call sound at u,
       sym (parts.1 ∙ len_of object last (pred number) w.call sound at u),

@@ -7,7 +7,7 @@ use Rattle.std.proofs.lemmas.Bool.{eqb-true}
 use Rattle.piece.specs.declared.piece.Piece.{Piece}
 use Rattle.decoder.specs.Pieces.{points_of}
 use Rattle.phase.specs.declared.phase.Taken.{Taken}
-use Rattle.register.specs.Coding.{piece_by, listed, pieces_below}
+use Rattle.register.specs.Coding.{piece_by, piece_list, pieces_below}
 use Rattle.driver.proofs.ReplyPieceLemmas.{Brought, IsOf, by_member, all_both, all_take, all_below}
 
 -- no two points are the same
@@ -44,7 +44,7 @@ pub apart_below : (value : List ℕ) (k : ℕ) (replies : List Taken) (n : ℕ) 
 apart_below value k replies zero all = tt
 apart_below value k replies (suc n) all = go (apart_below value k replies n all) (piece_by replies n) refl
   where
-    go : AreApart (pieces_below replies n) → (o : Option Piece) → piece_by replies n ≡ o → AreApart (pieces_below replies n ++ listed o)
+    go : AreApart (pieces_below replies n) → (o : Option Piece) → piece_by replies n ≡ o → AreApart (pieces_below replies n ++ piece_list o)
     go apart None e = none_more (pieces_below replies n) apart
     go apart (Some piece) e =
         apart_push value k n (pieces_below replies n) piece (all_below value k replies n all)

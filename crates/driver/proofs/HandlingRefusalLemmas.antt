@@ -18,7 +18,7 @@ use Rattle.register.specs.View.{want_at}
 use Rattle.cluster.specs.Cluster.{Cluster, named}
 use Rattle.cluster.specs.Accounts.{banks_all}
 use Rattle.cluster.specs.Causes.{next, object_cause, can_handle}
-use Rattle.driver.specs.Choices.{Picks, places, is_choice, choices, handling, handled_cause, handling_cause}
+use Rattle.driver.specs.Choices.{Picks, places_passing, is_choice, choices, handling, handled_cause, handling_cause}
 use Rattle.driver.specs.Driver.{wanted, turn_cause, next_step_cause, IsRefused}
 use Rattle.driver.proofs.NamedObjectLemmas.{read_there, cause_there}
 use Rattle.driver.proofs.LimitRefusalLemmas.{OnlyFull, full_or, same_full}
@@ -32,16 +32,16 @@ pub record Passes (test : Message → Bool) (base place : ℕ) (messages : List 
   pub passes : test message ≡ true
 
 pub passes_of : (test : Message → Bool) (base : ℕ) (messages : List Message) (i place : ℕ)
-    → slice_get (places test base messages) i ≡ Some place → Passes test base place messages
+    → slice_get (places_passing test base messages) i ≡ Some place → Passes test base place messages
 passes_of test base [] i place e = absurd (cc)
 passes_of test base (m ∷ messages) i place e = go (λ i e. passes_of test (suc base) messages i place e) (test m) refl i e
   where
     later : Passes test (suc base) place messages → Passes test base place (m ∷ messages)
     later p = record { off = suc p.off; is = (let is = p.is in omega (arith, is)); message = p.message; at = p.at; passes = p.passes }
 
-    go : ((i : ℕ) → slice_get (places test (suc base) messages) i ≡ Some place → Passes test (suc base) place messages) → (b : Bool)
+    go : ((i : ℕ) → slice_get (places_passing test (suc base) messages) i ≡ Some place → Passes test (suc base) place messages) → (b : Bool)
         → test m ≡ b → (i : ℕ)
-        → slice_get (cond b (base ∷ places test (suc base) messages) (places test (suc base) messages)) i ≡ Some place
+        → slice_get (cond b (base ∷ places_passing test (suc base) messages) (places_passing test (suc base) messages)) i ≡ Some place
         → Passes test base place (m ∷ messages)
     go rest true is zero e =
         record { off = 0; is = (let same : base ≡ place = cc in omega (arith, same)); message = m; at = refl; passes = is }
@@ -51,9 +51,9 @@ passes_of test base (m ∷ messages) i place e = go (λ i e. passes_of test (suc
 -- a place that is picked is one of the mail
 pub picked_within : {C : Type 0} (chooses : C → ℕ → ℕ → C → Type 0) (test : Message → Bool) (mail : List Message) (before after : C)
     (place : ℕ)
-    → Picks chooses (places test 0 mail) before after place → place < length mail
+    → Picks chooses (places_passing test 0 mail) before after place → place < length mail
 picked_within chooses test mail before after place picks =
-    let p = passes_of test 0 mail (picks.0 % length (places test 0 mail)) place picks.2 in
+    let p = passes_of test 0 mail (picks.0 % length (places_passing test 0 mail)) place picks.2 in
     let is = p.is in
     let within = found_within mail p.off p.message p.at in
     omega arith

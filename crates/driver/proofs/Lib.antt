@@ -16,5 +16,4 @@ pub mod AskAgainRefusalLemmas
 pub mod TurnLemmas
 pub mod WholeCallLemmas
 pub mod OtherCallMessageLemmas
-pub mod AfterCallStepLemmas
 pub mod ObjectIndexLemmas

@@ -10,7 +10,7 @@ use Rattle.mail.specs.declared.message.Message.{Message}
 use Rattle.mail.specs.declared.message.Body.{Body}
 use Rattle.mail.specs.declared.message.Body.TheVariants as body
 use Rattle.phase.specs.Phase.{Phase, lacks_pieces}
-use Rattle.record.specs.Records.{Call, Object, layout_at}
+use Rattle.record.specs.Records.{Call, Object, index_by_id, layout_at}
 use Rattle.record.specs.Legal.{due_of}
 use Rattle.record.specs.Steps.{Step, stepped, on_call, on_message, begun_object, supplied_by, asked_again, advanced_object, served_by}
 use Rattle.record.specs.Steps.{taken_by, taken_calls}
@@ -90,14 +90,15 @@ module _ (object : Object) (index now : ℕ) (call : Call) (there : slice_get ob
   served_kept place message (body.Request asked) = record { new = call; at = there; same = refl }
   served_kept place message (body.Reply kind made) = unmoved
 
-  calls_kept : (message : Message) (o : Option Call) → slice_get object.calls (pred message.call) ≡ o
+  calls_kept : (message : Message) (o : Option Call) → slice_get object.calls (index_by_id object.calls message.call) ≡ o
       → IsKeptIn (taken_calls object.calls message now o) index call
   calls_kept message None e = record { new = call; at = there; same = refl }
-  calls_kept message (Some a) e = set_keeps object.calls (pred message.call) index a _ call e refl there
+  calls_kept message (Some a) e = set_keeps object.calls (index_by_id object.calls message.call) index a _ call e refl there
 
   taken_kept : (place : ℕ) (message : Message) (b : Body) → IsKeptCall (taken_by object place message b now) index call
   taken_kept place message (body.Request asked) = unmoved
-  taken_kept place message (body.Reply kind made) = from_calls _ (calls_kept message (slice_get object.calls (pred message.call)) refl)
+  taken_kept place message (body.Reply kind made) = from_calls _
+      (calls_kept message (slice_get object.calls (index_by_id object.calls message.call)) refl)
 
   on_call_kept : (i : ℕ) (change : Call → Object) → ((a : Call) → slice_get object.calls i ≡ Some a → IsKeptCall (change a) index call)
       → (o : Option Call) → slice_get object.calls i ≡ o → IsKeptCall (on_call object o change) index call
@@ -122,9 +123,9 @@ module _ (object : Object) (index now : ℕ) (call : Call) (there : slice_get ob
       on_call_kept i _ (λ a at. from_calls _ (set_keeps object.calls i index a _ call at refl there)) (slice_get object.calls i) refl
   kept (Step.Serve place) carry = on_message_kept _ (λ m. served_kept place m m.body) (slice_get object.mail place)
   kept (Step.Take place) carry = on_message_kept _ (λ m. taken_kept place m m.body) (slice_get object.mail place)
-  kept Step.CallRead carry = absurd carry
-  kept (Step.CallWrite value) carry = absurd carry
-  kept (Step.CallMove layout) carry = absurd carry
+  kept (Step.CallRead id) carry = absurd carry
+  kept (Step.CallWrite id value) carry = absurd carry
+  kept (Step.CallMove id layout) carry = absurd carry
   kept (Step.AnswerCall i) carry = absurd carry
   kept (Step.Lose place) carry = absurd carry
   kept (Step.Repeat place) carry = absurd carry

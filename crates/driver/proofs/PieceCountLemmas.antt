@@ -5,7 +5,7 @@ use Rattle.std.specs.List.{AllByRecursion, IsDistinct}
 use Rattle.std.proofs.lemmas.Bool.{eqb-true, eq-eqb}
 use Rattle.piece.specs.declared.piece.Piece.{Piece}
 use Rattle.phase.specs.declared.phase.Taken.{Taken}
-use Rattle.register.specs.Coding.{piece_by, listed, pieces_below}
+use Rattle.register.specs.Coding.{piece_by, piece_list, pieces_below}
 use Rattle.register.proofs.RoomLemmas.{length_append}
 
 -- a list without repeats, and without n
@@ -71,7 +71,7 @@ without n brought test some (x ∷ xs) below all distinct =
         without_head n brought test x xs (some (subst (λ m. test m ≡ true) same all.0)) same below all distinct
     go false e w = without_later n brought test x xs (apart_below n x below.0 e) all.0 distinct w
 
-some_listed : (o : Option Piece) → is_some o ≡ true → 1 ≤ length (listed o)
+some_listed : (o : Option Piece) → is_some o ≡ true → 1 ≤ length (piece_list o)
 some_listed None e = absurd (cc)
 some_listed (Some piece) e = omega arith
 
@@ -82,9 +82,9 @@ pub count_below : (replies : List Taken) (n : ℕ) (xs : List ℕ) → AllByRecu
 count_below replies zero [] below all distinct = omega arith
 count_below replies zero (x ∷ xs) below all distinct = absurd (let less = below.0 in omega (arith, less))
 count_below replies (suc n) xs below all distinct =
-    let brought : ℕ = length (listed (piece_by replies n)) in
+    let brought : ℕ = length (piece_list (piece_by replies n)) in
     let w = without n brought (λ x. is_some (piece_by replies x)) (some_listed (piece_by replies n)) xs below all distinct in
     let few = w.few in
     let rest = count_below replies n w.rest w.below w.pass w.distinct in
-    let sum = length_append (pieces_below replies n) (listed (piece_by replies n)) in
+    let sum = length_append (pieces_below replies n) (piece_list (piece_by replies n)) in
     omega (arith, few, rest, sum)

@@ -5,7 +5,7 @@ use Rattle.std.proofs.Common.{arith}
 use Rattle.std.specs.List.{AllByRecursion, IsDistinct}
 use Rattle.std.proofs.lemmas.Bool.{eqb-true, eq-eqb}
 use Rattle.tag.specs.declared.tag.Tag.{Tag}
-use Rattle.encoder.specs.Fragment.{fragment, piece_of}
+use Rattle.encoder.specs.Fragment.{fragment, piece_at_point}
 use Rattle.piece.specs.declared.piece.Piece.{Piece}
 use Rattle.bank.specs.declared.kind.Kind.TheVariants.{Fetch}
 use Rattle.bank.specs.declared.reply.Answer.{Answer}
@@ -17,35 +17,35 @@ use Rattle.record.specs.Fragments.{IsValue, IfCoded, answer_piece, answer_tag}
 use Rattle.record.specs.Journals.{IsJournaled}
 use Rattle.soundness.specs.Sound.{IsSound}
 use Rattle.record.specs.Wants.{value_len, len_or}
-use Rattle.register.specs.Coding.{piece_by, listed, pieces_below}
+use Rattle.register.specs.Coding.{piece_by, piece_list, pieces_below}
 
 -- a reply that brought a piece brought the member's piece of the value
 abbrev pub Brought : (value : List ℕ) → (k : ℕ) → Taken → Type 0
-Brought value k t = (piece : Piece) → answer_piece t.reply.answer ≡ Some piece → piece ≡ piece_of value k t.member
+Brought value k t = (piece : Piece) → answer_piece t.reply.answer ≡ Some piece → piece ≡ piece_at_point value k t.member
 
 -- a piece is the value's at its point, which is below n
 abbrev pub IsOf : (value : List ℕ) → (k n : ℕ) → Piece → Type 0
-IsOf value k n piece = (piece ≡ piece_of value k piece.point) × (piece.point < n)
+IsOf value k n piece = (piece ≡ piece_at_point value k piece.point) × (piece.point < n)
 
 pub by_member : (value : List ℕ) (k : ℕ) (replies : List Taken) (member : ℕ) (piece : Piece) → AllByRecursion (Brought value k) replies
     → piece_by replies member ≡ Some piece
-    → piece ≡ piece_of value k member
+    → piece ≡ piece_at_point value k member
 by_member value k [] member piece all e = absurd (cc)
 by_member value k (t ∷ replies) member piece all e = go (by_member value k replies member piece all.1) (t.member == member) refl
   where
-    go : (piece_by replies member ≡ Some piece → piece ≡ piece_of value k member) → (b : Bool) → (t.member == member) ≡ b
-        → piece ≡ piece_of value k member
+    go : (piece_by replies member ≡ Some piece → piece ≡ piece_at_point value k member) → (b : Bool) → (t.member == member) ≡ b
+        → piece ≡ piece_at_point value k member
     go rest true same =
         all.0 piece (sym (ap (λ b. cond b (answer_piece t.reply.answer) (piece_by replies member)) same) ∙ e)
-        ∙ ap (piece_of value k) (eqb-true t.member member same)
+        ∙ ap (piece_at_point value k) (eqb-true t.member member same)
     go rest false apart = rest (sym (ap (λ b. cond b (answer_piece t.reply.answer) (piece_by replies member)) apart) ∙ e)
 
-is_of : (value : List ℕ) (k member : ℕ) (piece : Piece) → piece ≡ piece_of value k member → IsOf value k (suc member) piece
+is_of : (value : List ℕ) (k member : ℕ) (piece : Piece) → piece ≡ piece_at_point value k member → IsOf value k (suc member) piece
 is_of value k member piece e =
     let point : piece.point ≡ member = ap (λ (p : Piece). p.point) e in
-    (e ∙ ap (piece_of value k) (sym point), omega (arith, point))
+    (e ∙ ap (piece_at_point value k) (sym point), omega (arith, point))
 
-all_listed : (P : Piece → Type 0) (o : Option Piece) → ((piece : Piece) → o ≡ Some piece → P piece) → AllByRecursion P (listed o)
+all_listed : (P : Piece → Type 0) (o : Option Piece) → ((piece : Piece) → o ≡ Some piece → P piece) → AllByRecursion P (piece_list o)
 all_listed P None each = tt
 all_listed P (Some piece) each = (each piece refl, tt)
 
@@ -71,7 +71,7 @@ pub all_below : (value : List ℕ) (k : ℕ) (replies : List Taken) (n : ℕ) �
     → AllByRecursion (IsOf value k n) (pieces_below replies n)
 all_below value k replies zero all = tt
 all_below value k replies (suc n) all =
-    all_both (IsOf value k (suc n)) (pieces_below replies n) (listed (piece_by replies n))
+    all_both (IsOf value k (suc n)) (pieces_below replies n) (piece_list (piece_by replies n))
     (all_wider value k n (pieces_below replies n) (all_below value k replies n all))
     (all_listed (IsOf value k (suc n)) (piece_by replies n) (λ piece e. is_of value k n piece (by_member value k replies n piece all e)))
 
@@ -119,7 +119,7 @@ pub brought_of : (object : Object) (position : ℕ) (tag : Tag) (value : List �
 brought_of object position tag value t unique coded piece e = go t.reply.answer e coded
   where
     go : (a : Answer) → answer_piece a ≡ Some piece → IfCoded fragment object position t.member (answer_tag (Fetch tag) a) (answer_piece a)
-        → piece ≡ piece_of value (layout_at object position).k t.member
+        → piece ≡ piece_at_point value (layout_at object position).k t.member
     go answer.Done e coded = absurd (cc)
     go (answer.Pointer status) e coded = absurd (cc)
     go (answer.Greatest t) e coded = absurd (cc)

@@ -17,9 +17,9 @@ use Rattle.soundness.proofs.Sound.WantCaseLemmas.{Unsettled}
 use Rattle.soundness.proofs.Sound.WantPreconditionLemmas.{unsettled_of}
 use Rattle.register.specs.Causes.{if_call, if_step, unless, if_settle, is_decoded_in}
 use Rattle.register.specs.Causes.{settle_cause}
-use Rattle.register.specs.Coding.{same_piece, has_piece, is_recorded, piece_by, listed}
+use Rattle.register.specs.Coding.{same_piece, has_same_piece, is_recorded, piece_by, piece_list}
 use Rattle.register.specs.Coding.{pieces_below, least_of}
-use Rattle.register.specs.View.{want_at, pieces_at, pieces_of}
+use Rattle.register.specs.View.{want_at, fetched_pieces, pieces_of}
 use Rattle.register.proofs.RoomLemmas.{step_within}
 use Rattle.driver.specs.Coding.{settling_cause}
 use Rattle.driver.proofs.WantLemmas.{WantsAt, wants_at}
@@ -40,11 +40,11 @@ recorded (t ∷ replies) member p e = go (recorded replies member p) (t.member =
     go : (piece_by replies member ≡ Some p → is_recorded replies p ≡ true) → (b : Bool) → (t.member == member) ≡ b
         → is_recorded (t ∷ replies) p ≡ true
     go rest true is =
-        ap (λ o. has_piece p o || is_recorded replies p)
+        ap (λ o. has_same_piece p o || is_recorded replies p)
         (sym (ap (λ b. cond b (answer_piece t.reply.answer) (piece_by replies member)) is) ∙ e)
         ∙ ap (λ b. b || is_recorded replies p) (same_self p)
     go rest false is =
-        or_right (has_piece p (answer_piece t.reply.answer)) (is_recorded replies p)
+        or_right (has_same_piece p (answer_piece t.reply.answer)) (is_recorded replies p)
         (rest (sym (ap (λ b. cond b (answer_piece t.reply.answer) (piece_by replies member)) is) ∙ e))
 
 all_both : (test : Piece → Bool) (xs ys : List Piece) → list_all test xs ≡ true → list_all test ys ≡ true → list_all test (xs ++ ys) ≡ true
@@ -67,14 +67,14 @@ all_take test (suc k) (x ∷ xs) a = go (all_take test k xs) (test x) a
     go rest true a = rest a
     go rest false a = absurd (cc)
 
-all_listed : (test : Piece → Bool) (o : Option Piece) → ((p : Piece) → o ≡ Some p → test p ≡ true) → list_all test (listed o) ≡ true
+all_listed : (test : Piece → Bool) (o : Option Piece) → ((p : Piece) → o ≡ Some p → test p ≡ true) → list_all test (piece_list o) ≡ true
 all_listed test None each = refl
 all_listed test (Some p) each = ap (λ b. b && true) (each p refl)
 
 all_recorded : (replies : List Taken) (n : ℕ) → list_all (is_recorded replies) (pieces_below replies n) ≡ true
 all_recorded replies zero = refl
 all_recorded replies (suc n) =
-    all_both (is_recorded replies) (pieces_below replies n) (listed (piece_by replies n)) (all_recorded replies n)
+    all_both (is_recorded replies) (pieces_below replies n) (piece_list (piece_by replies n)) (all_recorded replies n)
     (all_listed (is_recorded replies) (piece_by replies n) (λ p e. recorded replies n p e))
 
 both_true : (a b : Bool) → a ≡ true → b ≡ true → (a && b) ≡ true
@@ -83,7 +83,7 @@ both_true false b p q = absurd (cc)
 
 pub settle_is : (object : Object) (number k len now : ℕ) (decoded : Decoding) → want_at object number ≡ Some (want.Settle k len)
     → decoded.k ≡ k
-    → decoded.pieces ≡ pieces_at object number → settle_cause now object number decoded ≡ settling_cause now object number
+    → decoded.pieces ≡ fetched_pieces object number → settle_cause now object number decoded ≡ settling_cause now object number
 settle_is object number k len now decoded e same_k same_pieces =
     ap (λ o. if_call o (λ call. if_settle (want_of object (pred number) call)
     (unless (is_decoded_in object (current_phase call.phases) decoded) WrongCode (if_step now None)))) w.at

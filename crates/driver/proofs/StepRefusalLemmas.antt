@@ -12,7 +12,7 @@ use Rattle.record.specs.declared.stage.Want.{Want}
 use Rattle.record.specs.declared.stage.Want.TheVariants as want
 use Rattle.register.specs.Causes.{advance_cause, again_cause, answer_cause, supplying_cause}
 use Rattle.register.specs.State.{State}
-use Rattle.register.specs.View.{want_at, coding_at, pieces_at}
+use Rattle.register.specs.View.{want_at, coding_at, fetched_pieces}
 use Rattle.cluster.specs.Cluster.{Cluster, named, if_named}
 use Rattle.cluster.specs.Causes.{next, object_cause}
 use Rattle.driver.specs.Coding.{settling_cause}
@@ -92,7 +92,7 @@ module _ {C : Type 0} (chooses : C → ℕ → ℕ → C → Type 0) (name : Lis
 
   pub settle_refused : (k len : ℕ) (r : Refusal) → wanted cluster name call ≡ Some (want.Settle k len)
       → ((state : State) → named cluster.objects name ≡ Some state → (value : List ℕ)
-      × IsInterpolated k len (pieces_at state.object call) value)
+      × IsInterpolated k len (fetched_pieces state.object call) value)
       → By (object_cause cluster name (λ object. settling_cause (next cluster) object call)) r
       → IsRefused chooses name call cluster again c c r
   settle_refused k len r e give by =

@@ -30,16 +30,6 @@ use Rattle.register.specs.View.{coding_at, coding_of, to_code}
 use Rattle.register.proofs.SentPieceLemmas.{sending_of}
 use Rattle.driver.proofs.WantLemmas.{place_of_call}
 
-some_pair : (a b : Kind × ℕ) → Some a ≡ Some b → a.1 ≡ b.1
-some_pair a b e = go a b e
-  where
-    unwrapped : Option (Kind × ℕ) → ℕ
-    unwrapped None = 0
-    unwrapped (Some p) = p.1
-
-    go : (a b : Kind × ℕ) → Some a ≡ Some b → a.1 ≡ b.1
-    go a b e = ap unwrapped e
-
 due_position : (object : Object) (last index position : ℕ) (call : Call) → IsSound fragment object last
     → slice_get object.calls index ≡ Some call
     → (o : Option (Kind × ℕ)) → due_of object index call ≡ o → option_map (λ (n : Kind × ℕ). n.1) o ≡ Some position

@@ -18,10 +18,10 @@ use Rattle.driver.specs.declared.messages.Handled.{Handled}
 use Rattle.driver.specs.declared.messages.Handled.TheVariants as handled
 
 -- the places of the messages that pass a test, where the first message is at `place`
-abbrev pub places : (Message → Bool) → (place : ℕ) → List Message → List ℕ
-places test place [] = []
-places test place (message ∷ messages) =
-    if test message then place ∷ places test (suc place) messages else places test (suc place) messages
+abbrev pub places_passing : (Message → Bool) → (place : ℕ) → List Message → List ℕ
+places_passing test place [] = []
+places_passing test place (message ∷ messages) =
+    if test message then place ∷ places_passing test (suc place) messages else places_passing test (suc place) messages
 
 -- whether a message belongs to the call and can be handled: it is a reply, or a request to a server that is up
 abbrev pub is_choice : Cluster → (call : ℕ) → Object → Message → Bool
@@ -29,7 +29,7 @@ is_choice cluster call object message = message.call == call && can_handle clust
 
 -- the places of the call's messages that can be handled, in mail order
 abbrev pub choices : Cluster → (call : ℕ) → Object → List ℕ
-choices cluster call object = places (is_choice cluster call object) 0 object.mail
+choices cluster call object = places_passing (is_choice cluster call object) 0 object.mail
 
 -- whether a message passes the filter and can be handled
 abbrev pub passes : Cluster → Object → Filter → Message → Bool
@@ -38,7 +38,7 @@ passes cluster object (filter.Call call) message = is_choice cluster call object
 
 -- the places of those messages, from a place of the mail on, in mail order
 abbrev pub choices_from : Cluster → Object → Filter → (place : ℕ) → List ℕ
-choices_from cluster object filter place = places (passes cluster object filter) place (drop place object.mail)
+choices_from cluster object filter place = places_passing (passes cluster object filter) place (drop place object.mail)
 
 -- this place is the one at index `answer` modulo the count, where `answer` is the number that the chooser returns
 abbrev pub Picks : {C : Type 0} → (C → ℕ → ℕ → C → Type 0) → (candidates : List ℕ) → (before after : C) → (place : ℕ)

@@ -10,7 +10,7 @@ use Rattle.record.specs.Wants.{want_of}
 use Rattle.record.specs.declared.stage.Want.{Want}
 use Rattle.record.specs.declared.stage.Want.TheVariants as want
 use Rattle.register.specs.Causes.{call_at, if_call, if_step, if_settle}
-use Rattle.register.specs.View.{pieces_at}
+use Rattle.register.specs.View.{fetched_pieces}
 
 -- why a call does not settle the value of its own pieces: it wants no settling, it lacks pieces, or the limit of steps
 -- is met
@@ -26,5 +26,6 @@ GiveBack k len pieces = (value : List ℕ) × (length value ≡ len) × ArePiece
 -- the step settles the value that the call's pieces give
 abbrev pub Settles : Object → (number : ℕ) → Step → Want → Type 0
 Settles object number step (want.Settle k len) =
-    (value : List ℕ) × (step ≡ Step.Settle (pred number) value) × IsInterpolated k len (pieces_at object number) value
+    (value : List ℕ) × (step ≡ Step.Settle (pred number) value)
+    × IsInterpolated k len (fetched_pieces object number) value
 Settles object number step _ = ⊥

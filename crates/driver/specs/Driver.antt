@@ -135,7 +135,7 @@ module _ {C : Type 0} (chooses : C → ℕ → ℕ → C → Type 0) (name : Lis
       × IsTurn (asks_again resumed count) middle held new after
 
   -- fewer than `turns` turns are made, and then the one that answers the call with this receipt
-  pub record IsFinished (resumed : Bool) (turns : ℕ) (old : Cluster) (before : C) (new : Cluster) (after : C)
+  pub record FinishesCall (resumed : Bool) (turns : ℕ) (old : Cluster) (before : C) (new : Cluster) (after : C)
       (receipt : Receipt) : Type 0 where
     pub count : ℕ
     pub within : count < turns

@@ -7,7 +7,7 @@ use Rattle.decoder.specs.Pieces.{IsInterpolated}
 use Rattle.record.specs.Steps.{Step}
 use Rattle.record.specs.declared.stage.Want.TheVariants as want
 use Rattle.register.specs.Causes.{supplying_cause}
-use Rattle.register.specs.View.{coding_at, pieces_at}
+use Rattle.register.specs.View.{coding_at, fetched_pieces}
 use Rattle.cluster.specs.Cluster.{Cluster, if_named}
 use Rattle.cluster.specs.Causes.{next, object_cause}
 use Rattle.cluster.specs.Preconditions.{MayMake}
@@ -26,7 +26,7 @@ pub record IsToEncode (cluster : Cluster) (name : List ℕ) (call k n : ℕ) (va
 -- these are the pieces that the call is to decode; some value has them, and nothing refuses the settle
 pub record IsToDecode (cluster : Cluster) (name : List ℕ) (call k len : ℕ) (pieces : List Piece) : Type 0 where
   pub wants : wanted cluster name call ≡ Some (want.Settle k len)
-  pub taken : if_named cluster name (λ object. Some (pieces_at object call)) ≡ Some pieces
+  pub taken : if_named cluster name (λ object. Some (fetched_pieces object call)) ≡ Some pieces
   pub give : GiveBack k len pieces
   pub room : object_cause cluster name (λ object. settling_cause (next cluster) object call) ≡ None
 
@@ -36,7 +36,7 @@ pub record SettlesOwn (old : Cluster) (name : List ℕ) (call : ℕ) (new : Clus
   pub len : ℕ
   pub wants : wanted old name call ≡ Some (want.Settle k len)
   pub pieces : List Piece
-  pub taken : if_named old name (λ object. Some (pieces_at object call)) ≡ Some pieces
+  pub taken : if_named old name (λ object. Some (fetched_pieces object call)) ≡ Some pieces
   pub value : List ℕ
   pub given : IsInterpolated k len pieces value
   pub may : MayMake old name (Step.Settle (pred call) value)
@@ -44,14 +44,15 @@ pub record SettlesOwn (old : Cluster) (name : List ℕ) (call : ℕ) (new : Clus
 
 module _ {C : Type 0} (chooses : C → ℕ → ℕ → C → Type 0) (name : List ℕ) (call : ℕ) where
   -- a round is a turn, or it changes nothing and hands out a value to encode or pieces to decode
-  abbrev pub IsRound : (again : Bool) → (old : Cluster) → (before : C) → (new : Cluster) → (after : C) → Round → Type 0
-  IsRound again old before new after round.Stepped =
+  abbrev pub MakesRound : (again : Bool) → (old : Cluster) → (before : C) → (new : Cluster) → (after : C) → Round
+      → Type 0
+  MakesRound again old before new after round.Stepped =
       IsTurn chooses name call again old before new after × (wanted old name call ≢ Some want.Answer)
-  IsRound again old before new after (round.Encode value k n) =
+  MakesRound again old before new after (round.Encode value k n) =
       (new ≡ old) × (after ≡ before) × IsDue chooses name call old again before before (Step.Supply (pred call))
       × IsToEncode old name call k n value
-  IsRound again old before new after (round.Decode pieces k len) =
+  MakesRound again old before new after (round.Decode pieces k len) =
       (new ≡ old) × (after ≡ before) × IsToDecode old name call k len pieces.items
-  IsRound again old before new after (round.Answered receipt) =
+  MakesRound again old before new after (round.Answered receipt) =
       IsAnswerTurn chooses name call again old before new after receipt
-  IsRound again old before new after round.Late = ⊥
+  MakesRound again old before new after round.Late = ⊥

@@ -7,12 +7,12 @@ use Rattle.record.specs.Steps.{Step}
 use Rattle.register.specs.Causes.{read_cause, write_cause}
 use Rattle.register.specs.declared.receipt.Receipt.{Receipt}
 use Rattle.cluster.specs.Causes.{next, object_cause, moving_cause}
-use Rattle.cluster.specs.Cluster.{Cluster, if_named, layout_of}
+use Rattle.cluster.specs.Cluster.{Cluster, next_call_id, if_named, layout_of}
 use Rattle.cluster.specs.Preconditions.{MayMake}
 use Rattle.cluster.specs.Steps.{stepped}
 use Rattle.driver.specs.declared.whole_call.NotAnswered.{NotAnswered}
 use Rattle.driver.specs.declared.whole_call.NotAnswered.TheVariants as unanswered
-use Rattle.driver.specs.Driver.{IsFinished, IsUnfinished}
+use Rattle.driver.specs.Driver.{FinishesCall, IsUnfinished}
 
 -- the number of the next call of the object of this name
 abbrev pub next_number : Cluster → (name : List ℕ) → Option ℕ
@@ -25,7 +25,7 @@ module _ {C : Type 0} (chooses : C → ℕ → ℕ → C → Type 0) (name : Lis
   abbrev pub IsWholeCall : (cause : Option Refusal) → (step : Step) → Result Receipt NotAnswered → Type 0
   IsWholeCall cause step (Ok receipt) =
       (call : ℕ) × (cause ≡ None) × (next_number old name ≡ Some call) × MayMake old name step
-      × IsFinished chooses name call false turns (stepped old name step) before new after receipt
+      × FinishesCall chooses name call false turns (stepped old name step) before new after receipt
   IsWholeCall cause step (Err (unanswered.Open call refusal)) =
       (cause ≡ None) × (next_number old name ≡ Some call) × MayMake old name step
       × IsUnfinished chooses name call false turns (stepped old name step) before new after refusal
@@ -35,14 +35,17 @@ module _ {C : Type 0} (chooses : C → ℕ → ℕ → C → Type 0) (name : Lis
   -- a whole read has this outcome
   abbrev pub IsWholeRead : Result Receipt NotAnswered → Type 0
   IsWholeRead answer =
-      IsWholeCall (object_cause old name (λ object. read_cause (next old) object)) Step.CallRead answer
+      IsWholeCall (object_cause old name (λ object. read_cause (next old) object))
+      (Step.CallRead (next_call_id old name)) answer
 
   -- a whole write of this value has this outcome
   abbrev pub IsWholeWrite : (value : List ℕ) → Result Receipt NotAnswered → Type 0
   IsWholeWrite value answer =
-      IsWholeCall (object_cause old name (λ object. write_cause value (next old) object)) (Step.CallWrite value) answer
+      IsWholeCall (object_cause old name (λ object. write_cause value (next old) object))
+      (Step.CallWrite (next_call_id old name) value) answer
 
   -- a whole move to the layout of this number has this outcome
   abbrev pub IsWholeMove : (id : ℕ) → Result Receipt NotAnswered → Type 0
   IsWholeMove id answer =
-      IsWholeCall (object_cause old name (moving_cause old id)) (Step.CallMove (layout_of old id)) answer
+      IsWholeCall (object_cause old name (moving_cause old id))
+      (Step.CallMove (next_call_id old name) (layout_of old id)) answer

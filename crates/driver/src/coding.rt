@@ -5,7 +5,7 @@ ghost use Rattle.record.specs.Steps.{Step};
 ghost use Rattle.record.specs.declared.stage.Want.TheVariants as want;
 ghost use Rattle.register.specs.Causes.{supplying_cause};
 ghost use Rattle.register.specs.State.{State};
-ghost use Rattle.register.specs.View.{pieces_at};
+ghost use Rattle.register.specs.View.{fetched_pieces};
 ghost use Rattle.decoder.specs.Pieces.{IsInterpolated};
 ghost use Rattle.cluster.specs.Cluster.{named};
 ghost use Rattle.cluster.specs.Causes.{next, object_cause};
@@ -88,7 +88,7 @@ pub(crate) fn pieces_to_decode(
     requires { wanted cluster.now name.now call ≡ Some (want.Settle k len) }
     ensures pieces { IfOk result (λ ps. IsToDecode cluster.now name.now call k len ps.items) }
     ensures given { (state : State) → named cluster.now.objects name.now ≡ Some state
-        → (value : List ℕ) × IsInterpolated k len (pieces_at state.object call) value }
+        → (value : List ℕ) × IsInterpolated k len (fetched_pieces state.object call) value }
     ensures cause { IsByCause
         (object_cause cluster.now name.now (λ object. settling_cause (next cluster.now) object call)) result }
 {

@@ -1,7 +1,7 @@
 //! The driver of one call, for one thread.
 ghost use Rattle.std.specs.Prelude.{◌≡◌, IfOk, IfErr, OnErr, MatchOption};
 ghost use Rattle.cluster.specs.Places.{IsObjectAt};
-ghost use Rattle.driver.specs.Driver.{asks_again, IsAnswerTurn, IsFinished, IsOpen, IsRefused, IsTurn, IsUnfinished};
+ghost use Rattle.driver.specs.Driver.{asks_again, IsAnswerTurn, FinishesCall, IsOpen, IsRefused, IsTurn, IsUnfinished};
 
 use crate::Chooser;
 use crate::coding::{settle_pieces, supply_value};
@@ -37,7 +37,7 @@ pub fn finish<C: Chooser>(
     turns: u64,
 ) -> Result<Receipt, Refusal>
     ensures finished { IfOk result
-        (λ r. IsFinished C.chooses name.entry.now call resumed turns cluster.old chooser.old cluster.new
+        (λ r. FinishesCall C.chooses name.entry.now call resumed turns cluster.old chooser.old cluster.new
         chooser.new r) }
     ensures refused { IfErr result
         (λ e. IsUnfinished C.chooses name.entry.now call resumed turns cluster.old chooser.old cluster.new chooser.new

@@ -3,7 +3,7 @@ ghost use Rattle.std.specs.Prelude.{◌≡◌, true, Some, IfOk, IfErr, OnErr};
 ghost use Rattle.record.specs.declared.stage.Want.TheVariants as want;
 ghost use Rattle.cluster.specs.Places.{IsObjectAt};
 ghost use Rattle.driver.specs.Driver.{wanted, IsRefused};
-ghost use Rattle.driver.specs.Rounds.{IsRound};
+ghost use Rattle.driver.specs.Rounds.{MakesRound};
 
 use crate::Chooser;
 use crate::coding::{pieces_to_decode, value_to_encode};
@@ -52,7 +52,7 @@ pub fn make_round<C: Chooser>(
 ) -> Result<Round, Refusal>
     requires { wanted cluster.old name.now call ≡ Some want }
     ensures round { IfOk result
-        (λ r. IsRound C.chooses name.entry.now call asks_again cluster.old chooser.old cluster.new chooser.new r) }
+        (λ r. MakesRound C.chooses name.entry.now call asks_again cluster.old chooser.old cluster.new chooser.new r) }
     ensures refused { IfErr result
         (λ e. IsRefused C.chooses name.entry.now call cluster.old asks_again chooser.old chooser.new e) }
     ensures unchanged { OnErr result (cluster.new ≡ cluster.old) }
@@ -74,7 +74,7 @@ pub fn make_round_at<C: Chooser>(
     requires wanted { wanted cluster.old name.now call ≡ Some want }
     requires placed { IsObjectAt cluster.old name.now object }
     ensures round { IfOk result
-        (λ r. IsRound C.chooses name.entry.now call asks_again cluster.old chooser.old cluster.new chooser.new r) }
+        (λ r. MakesRound C.chooses name.entry.now call asks_again cluster.old chooser.old cluster.new chooser.new r) }
     ensures refused { IfErr result
         (λ e. IsRefused C.chooses name.entry.now call cluster.old asks_again chooser.old chooser.new e) }
     ensures unchanged { OnErr result (cluster.new ≡ cluster.old) }
@@ -120,7 +120,7 @@ fn ask_again<C: Chooser>(
 ) -> Result<Round, Refusal>
     requires { wanted cluster.old name.now call ≡ Some want.Replies }
     ensures round { IfOk result
-        (λ r. IsRound C.chooses name.entry.now call true cluster.old chooser.entry.now cluster.new
+        (λ r. MakesRound C.chooses name.entry.now call true cluster.old chooser.entry.now cluster.new
         chooser.entry.now r) }
     ensures refused { IfErr result
         (λ e. IsRefused C.chooses name.entry.now call cluster.old true chooser.entry.now chooser.entry.now e) }

@@ -1,6 +1,6 @@
 //! Whole calls, for one thread: the step that begins a call, and then the driver.
 ghost use Rattle.std.specs.Prelude.{MatchResult, ◌≡◌, false};
-ghost use Rattle.driver.specs.Driver.{IsFinished, IsUnfinished};
+ghost use Rattle.driver.specs.Driver.{FinishesCall, IsUnfinished};
 ghost use Rattle.driver.specs.WholeCalls.{IsWholeRead, IsWholeWrite, IsWholeMove};
 ghost use Rattle.driver.specs.declared.whole_call.NotAnswered.TheVariants as unanswered;
 
@@ -85,8 +85,8 @@ fn finish_begun<C: Chooser>(
     turns: u64,
 ) -> Result<Receipt, NotAnswered>
     ensures { MatchResult result
-        (λ receipt. IsFinished C.chooses name.entry.now call false turns cluster.old chooser.old cluster.new chooser.new
-        receipt)
+        (λ receipt. FinishesCall C.chooses name.entry.now call false turns cluster.old chooser.old cluster.new
+        chooser.new receipt)
         (λ e. (refusal : Refusal) × (e ≡ unanswered.Open call refusal)
         × IsUnfinished C.chooses name.entry.now call false turns cluster.old chooser.old cluster.new chooser.new
         refusal) }

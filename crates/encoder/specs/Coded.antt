@@ -4,7 +4,7 @@ use Rattle.std.specs.Prelude.{Option, Some, None, if◌then◌else◌, ◌||◌,
 use Rattle.tag.specs.declared.limits.TheConstants.{MOST_MEMBERS, LONGEST_VALUE}
 use Rattle.tag.specs.declared.refusal.Refusal.{Refusal}
 use Rattle.tag.specs.declared.refusal.Refusal.TheVariants.{BadLayout, TooLong}
-use Rattle.encoder.specs.Fragment.{piece_of}
+use Rattle.encoder.specs.Fragment.{piece_at_point}
 use Rattle.piece.specs.declared.piece.Piece.{Piece}
 
 -- a value that is coded into n pieces, any k of which determine it: its pieces follow from these
@@ -23,7 +23,7 @@ pub record IsCodable (k n : ℕ) (value : List ℕ) : Type 0 where
 
 -- at each place i stands the value's piece at the point i
 abbrev pub ArePieces : List ℕ → ℕ → List Piece → Type 0
-ArePieces value k pieces = (i : ℕ) → i < length pieces → slice_get pieces i ≡ Some (piece_of value k i)
+ArePieces value k pieces = (i : ℕ) → i < length pieces → slice_get pieces i ≡ Some (piece_at_point value k i)
 
 -- why a value of len bytes is not coded with k and n: first what is
 -- wrong with k and n, then with the length; none where nothing is wrong

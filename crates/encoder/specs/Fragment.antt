@@ -21,5 +21,5 @@ unfoldable pub fragment : List ℕ → ℕ → ℕ → List ℕ
 fragment value k x = map (fragment_byte value k x) (range_with_len 0 (fragment_len k (length value)))
 
 -- the piece at the point x: the fragment there, with the point and the value's length
-abbrev pub piece_of : List ℕ → ℕ → ℕ → Piece
-piece_of value k x = record { point = x; len = length value; bytes = fragment value k x }
+abbrev pub piece_at_point : List ℕ → ℕ → ℕ → Piece
+piece_at_point value k x = record { point = x; len = length value; bytes = fragment value k x }

@@ -1,7 +1,7 @@
 ghost use Rattle.std.specs.Prelude.{◌≡◌, ℕ, ◌+◌, ◌*◌, ◌<◌, ◌≤◌, ◌^◌};
 ghost use Rattle.std.specs.Prelude.{length, take, drop, slice_index, IfOk, IfErr};
 ghost use Rattle.dot_kernel.specs.Dot.{bytes_of};
-ghost use Rattle.encoder.specs.Fragment.{fragment, fragment_len, piece_of};
+ghost use Rattle.encoder.specs.Fragment.{fragment, fragment_len, piece_at_point};
 ghost use Rattle.encoder.specs.Points.{AreBlocksOfValue, AreFragmentRows};
 
 use crate::points::write_points;
@@ -20,7 +20,7 @@ const FEW_BLOCKS: usize = 16;
 pub fn piece(alloc: Global, k: u8, i: u8, value: &[u8]) -> Result<Piece, Refusal>
     requires threshold { 1 ≤ k }
     requires longest { length value.now ≤ LONGEST_VALUE }
-    ensures piece { IfOk result (λ p. p ≡ piece_of value.now k i) }
+    ensures piece { IfOk result (λ p. p ≡ piece_at_point value.now k i) }
     ensures refused { IfErr result (λ r. r ≡ Refusal.NoMemory) }
 {
     Ok(Piece {

@@ -1,6 +1,6 @@
 ghost use Rattle.std.specs.Prelude.{◌≡◌, ◌*◌, ◌<◌, ◌≤◌, length, IfOk, IfErr};
 ghost use Rattle.tag.specs.Refusal.{IsByCause};
-ghost use Rattle.encoder.specs.Fragment.{fragment_len, piece_of};
+ghost use Rattle.encoder.specs.Fragment.{fragment_len, piece_at_point};
 ghost use Rattle.encoder.specs.Points.{AreFragmentRows};
 ghost use Rattle.encoder.specs.Coded.{IsCodable, ArePieces, encode_cause};
 
@@ -61,7 +61,7 @@ impl Coded {
     /// The piece at the point `i`.
     pub fn piece_at(&self, i: u8) -> &Piece
         requires { i < self.now.n }
-        ensures { result.now ≡ piece_of self.now.value self.now.k i }
+        ensures { result.now ≡ piece_at_point self.now.value self.now.k i }
     {
         &self.pieces[i as usize]
     }
@@ -108,7 +108,7 @@ fn piece_in(fragments: &Bytes, k: u8, n: u8, i: u8, value: &[u8]) -> Result<Piec
     requires within { i < n }
     requires len { length fragments.now ≡ n * fragment_len k (length value.now) }
     requires fragments { AreFragmentRows fragments.now n value.now k 0 }
-    ensures { IfOk result (λ p. p ≡ piece_of value.now k i) }
+    ensures { IfOk result (λ p. p ≡ piece_at_point value.now k i) }
 {
     let block_len = value.len().div_ceil(k as usize);
     let start = i as usize * block_len;

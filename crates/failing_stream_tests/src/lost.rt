@@ -12,7 +12,7 @@ use std::time::Clock;
 
 /// What is run.
 #[derive(Clone, Copy)]
-enum Deed {
+enum Action {
     Script(&'static [u8]),
     /// The words of a command line, parted by one space each.
     Words(&'static str),
@@ -22,7 +22,7 @@ enum Deed {
 /// It takes more calls of its writer than `least`, and fewer than `most`.
 #[derive(Clone, Copy)]
 struct Case {
-    deed: Deed,
+    action: Action,
     lines: &'static [u8],
     least: u64,
     most: u64,
@@ -30,7 +30,7 @@ struct Case {
 
 const CASES: [Case; 3] = [
     Case {
-        deed: Deed::Script(
+        action: Action::Script(
             b"servers 1\nlayout 1 0\nobject a 0\nwrite a 41\nmail a\nread a\nhistory a\n",
         ),
         lines: b"ok\n|layout 0\n|ok\n|call 1 answered\n|mail 0\n|call 2 value 41\n|\
@@ -39,7 +39,7 @@ const CASES: [Case; 3] = [
         most: 198,
     },
     Case {
-        deed: Deed::Script(
+        action: Action::Script(
             b"servers 1\nlayout 1 0\n\nobject a 0\n# nothing\nlose a 0\nwrite a 41\nread a\n",
         ),
         lines: b"ok\n|layout 0\n|ok\n|refused 8 NoMessage\n|call 1 answered\n|call 2 value 41\n|",
@@ -47,7 +47,7 @@ const CASES: [Case; 3] = [
         most: 198,
     },
     Case {
-        deed: Deed::Words("fragments 2 3 ."),
+        action: Action::Words("fragments 2 3 ."),
         lines: b"0:. 1:. 2:.\n|",
         least: 1,
         most: 98,
@@ -66,13 +66,13 @@ fn words_of(rt: &impl Abort, alloc: Global, text: &str) -> Vec<String> {
 /// Runs this, and answers the status.
 fn run<R: AllocGlobal + Files + Threads + Wait + Clock + Sync + Abort>(
     rt: &R,
-    deed: Deed,
+    action: Action,
     out: &mut FailingWriter,
     err: &mut Vec<u8>,
 ) -> u8 {
-    match deed {
-        Deed::Script(script) => run_script(rt.alloc(), "a story", &mut &*script, out, err),
-        Deed::Words(text) => {
+    match action {
+        Action::Script(script) => run_script(rt.alloc(), "a story", &mut &*script, out, err),
+        Action::Words(text) => {
             let words = words_of(rt, rt.alloc(), text);
             run_words(rt, words.as_slice(), out, err)
         }
@@ -90,7 +90,7 @@ fn written<R: AllocGlobal + Files + Threads + Wait + Clock + Sync + Abort>(
 ) -> usize {
     let mut out = FailingWriter::new(rt.alloc(), calls, error);
     let mut err = Vec::new(rt.alloc());
-    let status = run(rt, case.deed, &mut out, &mut err);
+    let status = run(rt, case.action, &mut out, &mut err);
     assert_end(rt, case, status, &out.written, &err, said);
     out.written.len()
 }

@@ -1,6 +1,6 @@
 -- The entries of an object whose reads return journaled values are lawful.
-use Rattle.std.proofs.Common.{◌≡◌, ℕ, zero, suc, ◌+◌, List, [], ◌∷◌, Option, Some}
-use Rattle.std.proofs.Common.{None, IsSome, is_some, slice_get, refl, sym, ap, ◌∙◌, subst, arith}
+use Rattle.std.proofs.Common.{◌≡◌, ℕ, suc, List, Option, Some}
+use Rattle.std.proofs.Common.{None, IsSome, is_some, slice_get, refl, sym, ap, ◌∙◌, subst}
 use Rattle.std.specs.Prelude.{option_map}
 use Rattle.std.proofs.lemmas.Option.{same_Some}
 use Rattle.record.specs.declared.call.CallKind.{CallKind}
@@ -8,20 +8,14 @@ use Rattle.record.specs.declared.call.CallKind.TheVariants as kind
 use Rattle.record.specs.declared.call.Entry.{Entry}
 use Rattle.record.specs.Records.{Call, Object}
 use Rattle.atomicity.specs.Atomic.{MayStand}
-use Rattle.record.specs.Journals.{ReadsJournaled, operation_of, entry_value, entry_of, entries_from, entries}
+use Rattle.record.specs.Journals.{ReadsJournaled, operation_of, entry_value, entry_of, entries}
+use Rattle.register.specs.State.{HasNumbersAsIds}
+use Rattle.atomicity.proofs.Sequences.ItemEntryLemmas.{entries-get}
 use Rattle.history.specs.Check.{AreLawfulEntries}
-
-entry_there : (number : ℕ) (calls : List Call) (index : ℕ) →
-    slice_get (entries_from number calls) index ≡ option_map (λ c. entry_of (number + index) c) (slice_get calls index)
-entry_there number [] index = refl
-entry_there number (call ∷ calls) zero = let same : number ≡ number + 0 = omega arith in ap (λ n. Some (entry_of n call)) same
-entry_there number (call ∷ calls) (suc index) =
-    let same : suc number + index ≡ number + suc index = omega arith in
-    entry_there (suc number) calls index ∙ ap (λ n. option_map (λ c. entry_of n c) (slice_get calls index)) same
 
 -- what may stand has a value
 has_value : (object : Object) → ReadsJournaled object → (index : ℕ) (call : Call) → slice_get object.calls index ≡ Some call →
-    MayStand (entry_of (suc index) call) → IsSome (entry_value call.kind call.answered call.settled)
+    MayStand (entry_of call.id call) → IsSome (entry_value call.kind call.answered call.settled)
 has_value object journaled index call at may = go call.kind refl may.0 may.1
   where
     answered_so : (answered : Option ℕ) → call.answered ≡ answered → call.kind ≡ kind.Read → IsSome answered →
@@ -35,17 +29,13 @@ has_value object journaled index call at may = go call.kind refl may.0 may.1
     go (kind.Write value) k no_move reads = refl
     go kind.Move k no_move reads = absurd (no_move refl)
 
-pub lawful_entries : (object : Object) → ReadsJournaled object → AreLawfulEntries (entries object)
-lawful_entries object journaled index entry at = go (slice_get object.calls index) refl (sym there ∙ at)
+pub lawful_entries : (object : Object) → HasNumbersAsIds object → ReadsJournaled object → AreLawfulEntries (entries object)
+lawful_entries object numbered journaled index entry at = go (slice_get object.calls index) refl (sym (entries-get object index) ∙ at)
   where
-    there : slice_get (entries object) index ≡ option_map (λ c. entry_of (suc index) c) (slice_get object.calls index)
-    there =
-        let same : 1 + index ≡ suc index = omega arith in
-        entry_there 1 object.calls index ∙ ap (λ n. option_map (λ c. entry_of n c) (slice_get object.calls index)) same
-
-    go : (o : Option Call) → slice_get object.calls index ≡ o → option_map (λ c. entry_of (suc index) c) o ≡ Some entry →
+    go : (o : Option Call) → slice_get object.calls index ≡ o →
+        option_map (λ (call : Call). entry_of call.id call) o ≡ Some entry →
         (entry.call ≡ suc index) × (MayStand entry → IsSome entry.value)
     go None e made = absurd (cc)
     go (Some call) e made =
-        subst (λ (x : Entry). (x.call ≡ suc index) × (MayStand x → IsSome x.value)) (same_Some (entry_of (suc index) call) entry made)
-        (refl, λ may. has_value object journaled index call e may)
+        subst (λ (x : Entry). (x.call ≡ suc index) × (MayStand x → IsSome x.value)) (same_Some (entry_of call.id call) entry made)
+        (numbered index call e, λ may. has_value object journaled index call e may)

@@ -5,6 +5,7 @@ ghost use Rattle.record.specs.Fragments.{Code, IsCode};
 ghost use Rattle.record.specs.Journals.{entries};
 ghost use Rattle.record.specs.Records.{Object};
 ghost use Rattle.atomicity.specs.Sequence.{IsTagOrder};
+ghost use Rattle.register.specs.State.{HasNumbersAsIds};
 ghost use Rattle.soundness.specs.Sound.{IsSound};
 ghost use Rattle.record.specs.declared.call.TaggedCall.{TaggedCall as Tagged};
 ghost use Rattle.history.specs.Calls.{AreCallsOf, AreInCallOrder};
@@ -17,10 +18,10 @@ pub fn calls_are_in_turn()
         → AreCallsOf object calls → AreInCallOrder calls }
 {}
 
-/// A law: the entries of a sound record are lawful, as `check` demands.
+/// A law: the entries of a sound record are lawful, as `check` demands, where the id of each call is its number.
 pub fn entries_are_lawful()
     ensures { (fragment : Code) (object : Object) (last : ℕ) → IsCode fragment → IsSound fragment object last
-        → AreLawfulEntries (entries object) }
+        → HasNumbersAsIds object → AreLawfulEntries (entries object) }
 {}
 
 /// A law: the order that the tags define for the calls of a sound record is a sequence of its entries, so `check`

@@ -42,6 +42,7 @@ fn tagged_calls(alloc: Global, register: &Register) -> Result<Vec<TaggedCall>, R
     ensures calls { IfOk result (λ calls. AreCallsOf register.now.object calls.items) }
     ensures refused { IfErr result (λ e. e ≡ NoMemory) }
 {
+    register.soundness();
     let entries = register.entries()?;
     Ok(tagged_entries(alloc, register, &entries)?)
 }

@@ -1,6 +1,6 @@
 -- A message that is chosen to be handled, lost or repeated.
 use Rattle.std.proofs.Common.{◌≡◌, ℕ, zero, suc, ◌+◌, ◌%◌, ◌==◌, ◌⊎◌, inl, inr, Bool, true, false, cond, if◌then◌else◌, List, [], ◌∷◌}
-use Rattle.std.proofs.Common.{length, Option, Some, None, slice_get, Result, Ok, Err, OnErr, IsErrAnd, MatchResult, refl, sym, ap, subst}
+use Rattle.std.proofs.Common.{length, Option, Some, None, slice_get, Result, Ok, Err, IsErrAnd, MatchResult, refl, sym, ap, subst}
 use Rattle.std.proofs.Common.{◌∙◌, arith}
 use Rattle.std.specs.Prelude.{option_map}
 use Rattle.std.proofs.lemmas.Bool.{eq-eqb, eqb-true}
@@ -15,7 +15,7 @@ use Rattle.register.specs.State.{State}
 use Rattle.register.proofs.ListLemmas.{same_some}
 use Rattle.cluster.specs.Causes.{next, object_cause}
 use Rattle.cluster.specs.Cluster.{Cluster, named, if_named}
-use Rattle.driver.specs.Choices.{places, Picks, handling, handled_as, handled_result_at, step_of_handled}
+use Rattle.driver.specs.Choices.{places_passing, Picks, handling, handled_as, handled_result_at, step_of_handled}
 use Rattle.locked_steps.specs.Messages.{any_choice, any_choices, IsStirred, IsDisturbed, disturb_cause}
 use Rattle.driver.specs.declared.messages.Handled.{Handled}
 use Rattle.driver.proofs.NamedObjectLemmas.{cause_there, is_there, one_state}
@@ -28,15 +28,16 @@ record IsPlaced (base place : ℕ) (messages : List Message) : Type 0 where
   at : slice_get messages off ≡ Some message
 
 placed_of : (test : Message → Bool) (base : ℕ) (messages : List Message) (i place : ℕ)
-    → slice_get (places test base messages) i ≡ Some place → IsPlaced base place messages
+    → slice_get (places_passing test base messages) i ≡ Some place → IsPlaced base place messages
 placed_of test base [] i place e = absurd (cc)
 placed_of test base (m ∷ messages) i place e = go (λ i e. placed_of test (suc base) messages i place e) (test m) i e
   where
     later : IsPlaced (suc base) place messages → IsPlaced base place (m ∷ messages)
     later p = record { off = suc p.off; is = (let is = p.is in omega (arith, is)); message = p.message; at = p.at }
 
-    go : ((i : ℕ) → slice_get (places test (suc base) messages) i ≡ Some place → IsPlaced (suc base) place messages) → (b : Bool) → (i : ℕ)
-        → slice_get (cond b (base ∷ places test (suc base) messages) (places test (suc base) messages)) i ≡ Some place
+    go : ((i : ℕ) → slice_get (places_passing test (suc base) messages) i ≡ Some place → IsPlaced (suc base) place messages) → (b : Bool)
+        → (i : ℕ)
+        → slice_get (cond b (base ∷ places_passing test (suc base) messages) (places_passing test (suc base) messages)) i ≡ Some place
         → IsPlaced base place (m ∷ messages)
     go rest true zero e = record { off = 0; is = (let same : base ≡ place = cc in omega (arith, same)); message = m; at = refl }
     go rest true (suc i) e = later (rest i e)
@@ -120,7 +121,3 @@ pub err_match : {T : Type 0} (r : Result T Refusal) (e : Refusal) (P : T → Typ
     → MatchResult r P Q
 err_match (Ok x) e P Q is holds = absurd is
 err_match (Err y) e P Q is holds = subst Q (sym is) holds
-
-pub on_err : {T E : Type 0} {P : Type 0} (r : Result T E) → P → OnErr r P
-on_err (Ok x) p = tt
-on_err (Err e) p = p

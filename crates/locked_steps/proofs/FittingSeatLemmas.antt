@@ -19,11 +19,12 @@ use Rattle.cluster.specs.Accounts.{object_sum}
 use Rattle.cluster.specs.Cluster.{Named, Cluster, if_some}
 use Rattle.cluster.specs.Places.{object_at}
 use Rattle.locked_steps.specs.declared.call_record.CallRecord.{CallRecord}
-use Rattle.locked_steps.specs.Calls.{Shown, is_client, client_count, client_calls, entry_at, history, shown_calls, shown_entry, shown_from}
+use Rattle.locked_steps.specs.Calls.{Shown, is_client, client_count, client_calls, entry_of_call, history, shown_calls, shown_entry}
+use Rattle.locked_steps.specs.Calls.{shown_from}
 use Rattle.locked_steps.specs.Calls.{told_in, written_in}
 use Rattle.locked_steps.specs.Seats.{SeatState, records_of, IsRising, IsInOrder, IsAnsweredLater, least_after}
 use Rattle.locked_steps.specs.Closing.{IsWrittenAs, IsToldAs, Matches, Stands, AllStand, all_records, key_of, same_key, are_distinct, Fit}
-use Rattle.locked_steps.specs.Closing.{answer_of, value_of, shown_record, IsAccounted}
+use Rattle.locked_steps.specs.Closing.{answer_of, value_returned, shown_record, IsAccounted}
 use Rattle.locked_steps.proofs.SameElementsLemmas.{AreApart, contains_here, contains_there, same_elements}
 use Rattle.locked_steps.proofs.SeatRecordLemmas.{all_front, all_back}
 
@@ -38,7 +39,7 @@ written_client (Write v) value written h = refl
 written_client Move value written h = absurd h
 
 told_shown : (object : ℕ) (e : Entry) (o : Option Receipt) → IsToldAs object e o → (e.answered ≡ answer_of o)
-    × (told_in e.answered e.value ≡ value_of o)
+    × (told_in e.answered e.value ≡ value_returned o)
 told_shown object e None h = (h, ap (λ (a : Option ℕ). told_in a e.value) h)
 told_shown object e (Some t) h = (h.answered, ap (λ (a : Option ℕ). told_in a e.value) h.answered ∙ sym h.value)
 
@@ -209,7 +210,7 @@ pub in_order : (h : Cluster) (low : ℕ) (rs : List CallRecord) (high : ℕ) →
 in_order h low [] high r a = r
 in_order h low (x ∷ xs) high r a = (
   r.0,
-  told_order x.receipt x.floor x.called r.1 r.2 (stands_called (entry_at h x.object x.call) x a.0),
+  told_order x.receipt x.floor x.called r.1 r.2 (stands_called (entry_of_call h x.object x.call) x a.0),
   in_order h (least_after x.floor x.receipt) xs high r.3 a.1,
 )
 

@@ -1,5 +1,5 @@
 -- How many reads and writes of an object there are after each step.
-use Rattle.std.proofs.Common.{◌≡◌, ℕ, zero, suc, pred, ◌+◌, Bool, true, false, if◌then◌else◌, is_some, List, [], ◌∷◌, ◌++◌, length}
+use Rattle.std.proofs.Common.{◌≡◌, ℕ, zero, suc, ◌+◌, Bool, true, false, if◌then◌else◌, is_some, List, [], ◌∷◌, ◌++◌, length}
 use Rattle.std.proofs.Common.{slice_get, slice_set, Option, Some, None, refl, sym, ap, ◌∙◌, arith}
 use Rattle.encoder.specs.Fragment.{fragment}
 use Rattle.bank.specs.declared.kind.Kind.{Kind}
@@ -8,7 +8,7 @@ use Rattle.mail.specs.declared.message.Body.{Body}
 use Rattle.mail.specs.declared.message.Body.TheVariants as body
 use Rattle.phase.specs.Phase.{Phase}
 use Rattle.record.specs.Legal.{due_of}
-use Rattle.record.specs.Records.{Call, Object}
+use Rattle.record.specs.Records.{Call, Object, index_by_id}
 use Rattle.record.specs.Wants.{current_phase}
 use Rattle.record.specs.Steps.{Step, stepped, on_call, on_message, begun_object, advanced_object, answered_object, asked_again}
 use Rattle.record.specs.Steps.{repeated_object, settled_object, supplied_by, supplied_object, taken_calls, taken_by, served_by}
@@ -78,16 +78,18 @@ supplied_quiet object index call now (Some phase) at = pick (is_some phase.end)
     pick true = begun_quiet object index call (due_of object index call) now at
     pick false = asked_quiet object call (Some phase)
 
-taken_count : (calls : List Call) (message : Message) (now : ℕ) (found : Option Call) → slice_get calls (pred message.call) ≡ found
+taken_count : (calls : List Call) (message : Message) (now : ℕ) (found : Option Call)
+    → slice_get calls (index_by_id calls message.call) ≡ found
     → client_count (taken_calls calls message now found) ≡ client_count calls
 taken_count calls message now None at = refl
-taken_count calls message now (Some call) at = count_set calls (pred message.call) call _ at refl
+taken_count calls message now (Some call) at = count_set calls (index_by_id calls message.call) call _ at refl
 
 taken_quiet : (object : Object) (place : ℕ) (message : Message) (it : Body) (now : ℕ)
     → IsQuiet object (taken_by object place message it now)
 taken_quiet object place message (body.Request asked) now = refl
 taken_quiet object place message (body.Reply kind made) now =
-    taken_count object.calls message now (slice_get object.calls (pred message.call)) refl
+    taken_count object.calls message now
+    (slice_get object.calls (index_by_id object.calls message.call)) refl
 
 served_quiet : (object : Object) (place : ℕ) (message : Message) (it : Body) (now : ℕ)
     → IsQuiet object (served_by object place message it now)
@@ -96,16 +98,16 @@ served_quiet object place message (body.Reply kind made) now = refl
 
 -- how many reads and writes a step begins
 abbrev pub begins : Step → ℕ
-begins Step.CallRead = 1
-begins (Step.CallWrite value) = 1
+begins (Step.CallRead id) = 1
+begins (Step.CallWrite id value) = 1
 begins _ = 0
 
 -- the reads and writes of one object
 pub count_stepped : (step : Step) (now : ℕ) (object : Object)
     → client_count (stepped fragment step now object).calls ≡ client_count object.calls + begins step
-count_stepped Step.CallRead now object = count_begun object.calls _ _
-count_stepped (Step.CallWrite value) now object = count_begun object.calls _ _
-count_stepped (Step.CallMove layout) now object = count_begun object.calls _ _
+count_stepped (Step.CallRead id) now object = count_begun object.calls _ _
+count_stepped (Step.CallWrite id value) now object = count_begun object.calls _ _
+count_stepped (Step.CallMove id layout) now object = count_begun object.calls _ _
 count_stepped (Step.Advance index) now object =
     let same =
     on_call_quiet object index (slice_get object.calls index) (λ call. advanced_object fragment object index call now) refl

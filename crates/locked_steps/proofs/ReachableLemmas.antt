@@ -1,12 +1,12 @@
 -- A cluster has become what one step more, or none, makes of it.
-use Rattle.std.proofs.Common.{◌≡◌, suc, inl, Bool, List, ℕ, subst, sym, Result, Ok, Err, OnOk, OnErr}
+use Rattle.std.proofs.Common.{◌≡◌, suc, inl, Bool, List, ℕ, subst, sym, Result, Ok, Err, IfOk, OnOk, OnErr}
 use Rattle.tag.specs.declared.refusal.Refusal.{Refusal}
 use Rattle.record.specs.Steps.{Step}
 use Rattle.cluster.specs.Cluster.{Cluster}
 use Rattle.cluster.specs.Preconditions.{MayMake}
 use Rattle.cluster.specs.Steps.{stepped}
 use Rattle.driver.specs.Driver.{IsTurn}
-use Rattle.driver.specs.Rounds.{IsRound}
+use Rattle.driver.specs.Rounds.{MakesRound}
 use Rattle.driver.specs.declared.round.Round.{Round}
 use Rattle.driver.specs.declared.round.Round.TheVariants as round
 use Rattle.locked_steps.specs.Course.{IsStep, IsReachable, IsSoundCluster, PreservesReachable}
@@ -35,9 +35,15 @@ module _ {C : Type 0} (chooses : C → ℕ → ℕ → C → Type 0) (name : Lis
   goes_on_turn : IsTurn chooses name call again old before new after → PreservesReachable old new
   goes_on_turn t = goes_on_step old new name t.step t.may t.made
 
-  pub goes_on_round : (r : Round) → IsRound chooses name call again old before new after r → PreservesReachable old new
+  goes_on_round : (r : Round) → MakesRound chooses name call again old before new after r → PreservesReachable old new
   goes_on_round round.Stepped h = goes_on_turn h.0
   goes_on_round (round.Encode value k n) h = goes_on_same old new h.0
   goes_on_round (round.Decode pieces k len) h = goes_on_same old new h.0
   goes_on_round (round.Answered receipt) h = goes_on_turn h.turn
   goes_on_round round.Late h = absurd h
+
+  -- a round that was made or refused
+  pub goes_on_round_both : (answer : Result Round Refusal) → IfOk answer (λ r. MakesRound chooses name call again old before new after r)
+      → OnErr answer (new ≡ old) → PreservesReachable old new
+  goes_on_round_both (Ok r) h same = goes_on_round r h
+  goes_on_round_both (Err e) h same = goes_on_same old new same

@@ -5,7 +5,7 @@ use Rattle.std.specs.Prelude.{Option, is_some}
 use Rattle.std.proofs.lemmas.List.{append-nil}
 use Rattle.register.specs.declared.receipt.Receipt.{Receipt}
 use Rattle.locked_steps.specs.declared.call_record.CallRecord.{CallRecord}
-use Rattle.locked_steps.specs.Seats.{IsRising, IsAnsweredLater, least_after, listed, pending_of}
+use Rattle.locked_steps.specs.Seats.{IsRising, IsAnsweredLater, least_after, pending_list, pending_of}
 
 -- a greater floor
 pub rising_higher : (low : ℕ) (rs : List CallRecord) (high up : ℕ) → IsRising low rs high → high ≤ up → IsRising low rs up
@@ -29,14 +29,14 @@ rising_answered low (x ∷ rs) high up r t h later le =
 
 -- without a pending call all records are those kept
 pub records_alone : (name : List ℕ) (rs : List CallRecord) (pending : Option CallRecord) → is_some pending ≡ false
-    → rs ++ listed (pending_of name pending) ≡ rs
+    → rs ++ pending_list (pending_of name pending) ≡ rs
 records_alone name rs None h = append-nil rs
 records_alone name rs (Some r) h = absurd (cc (h))
 
 -- a seat without a pending call gets one
 pub rising_begun : (name : List ℕ) (rs new : List CallRecord) (pending : Option CallRecord) (floor : ℕ) (r : CallRecord) → new ≡ rs
     → is_some pending ≡ false
-    → IsRising 0 (rs ++ listed (pending_of name pending)) floor → r.floor ≡ floor → floor < r.called → r.receipt ≡ None
+    → IsRising 0 (rs ++ pending_list (pending_of name pending)) floor → r.floor ≡ floor → floor < r.called → r.receipt ≡ None
     → IsRising 0 (new ++ r ∷ []) floor
 rising_begun name rs new pending floor r same none h at later unanswered =
     let kept : IsRising 0 rs floor = subst (λ (l : List CallRecord). IsRising 0 l floor) (records_alone name rs pending none) h in
@@ -44,25 +44,25 @@ rising_begun name rs new pending floor r same none h at later unanswered =
 
 pub length_begun : (name : List ℕ) (rs new : List CallRecord) (pending : Option CallRecord) (r : CallRecord) → new ≡ rs
     → is_some pending ≡ false
-    → length (new ++ r ∷ []) ≡ length (rs ++ listed (pending_of name pending)) + 1
+    → length (new ++ r ∷ []) ≡ length (rs ++ pending_list (pending_of name pending)) + 1
 length_begun name rs new pending r same none =
     omega (arith, length-append new (r ∷ []), ap length same, ap length (records_alone name rs pending none))
 
 -- the pending call of a seat gets its receipt
 pub rising_settled : (name : List ℕ) (rs new : List CallRecord) (pending : Option CallRecord) (floor up : ℕ) (p r : CallRecord)
     (t : Receipt) → pending ≡ Some p
-    → r ≡ record p { receipt = Some t } → new ≡ rs ++ r ∷ [] → IsRising 0 (rs ++ listed (pending_of name pending)) floor
+    → r ≡ record p { receipt = Some t } → new ≡ rs ++ r ∷ [] → IsRising 0 (rs ++ pending_list (pending_of name pending)) floor
     → t.called < t.answered → t.answered ≤ up
     → IsRising 0 new up
 rising_settled name rs new pending floor up p r t is set same h later le =
     let now : IsRising 0 (rs ++ p ∷ []) floor =
-    subst (λ (o : Option CallRecord). IsRising 0 (rs ++ listed (pending_of name o)) floor) is h in
+    subst (λ (o : Option CallRecord). IsRising 0 (rs ++ pending_list (pending_of name o)) floor) is h in
     rw (same, set) (rising_answered 0 rs floor up p t now later le)
 
 pub length_settled : (name : List ℕ) (rs new : List CallRecord) (pending : Option CallRecord) (p r : CallRecord) → pending ≡ Some p
     → new ≡ rs ++ r ∷ []
-    → length new ≡ length (rs ++ listed (pending_of name pending))
+    → length new ≡ length (rs ++ pending_list (pending_of name pending))
 length_settled name rs new pending p r is same =
     ap length same
     ∙ (length-append rs (r ∷ [])
-    ∙ (sym (length-append rs (p ∷ [])) ∙ ap (λ (o : Option CallRecord). length (rs ++ listed (pending_of name o))) (sym is)))
+    ∙ (sym (length-append rs (p ∷ [])) ∙ ap (λ (o : Option CallRecord). length (rs ++ pending_list (pending_of name o))) (sym is)))

@@ -1,6 +1,6 @@
 -- A round of a call begins neither a read nor a write; where it answers, what it tells is the call's value.
 use Rattle.std.proofs.Common.{◌≡◌, ℕ, zero, suc, pred, ◌<◌, ◌≤◌, inr, Bool, true, false, if◌then◌else◌, is_some, List, [], ◌∷◌, Option}
-use Rattle.std.proofs.Common.{Some, None, slice_get, Result, Ok, Err, OnOk, OnErr, refl, sym, ap, subst, ◌∙◌, arith}
+use Rattle.std.proofs.Common.{Some, None, slice_get, Result, Ok, Err, IfOk, OnOk, OnErr, refl, sym, ap, subst, ◌∙◌, arith}
 use Rattle.std.specs.Prelude.{option_map}
 use Rattle.std.specs.List.{AllByRecursion}
 use Rattle.tag.specs.declared.limits.TheConstants.{MOST_STEPS}
@@ -29,7 +29,7 @@ use Rattle.cluster.specs.Steps as of
 use Rattle.locked_steps.specs.Calls.{client_calls}
 use Rattle.driver.specs.Choices.{handling}
 use Rattle.driver.specs.Driver.{wanted, asking, IsWaitingStep, IsNext, IsTurn, IsRefused}
-use Rattle.driver.specs.Rounds.{IsRound}
+use Rattle.driver.specs.Rounds.{MakesRound}
 use Rattle.locked_steps.specs.Rounds.{Goes, Copies, tells}
 use Rattle.driver.specs.declared.round.Round.{Round}
 use Rattle.driver.specs.declared.round.Round.TheVariants as round
@@ -85,12 +85,18 @@ module _ {C : Type 0} (chooses : C → ℕ → ℕ → C → Type 0) (name : Lis
     counted_turn t =
         kept_step old new name t.step (quiet_next old t.due.state.object again before after t.step t.due.want t.due.next) t.made
 
-    pub counted_round : (r : Round) → IsRound chooses name call again old before new after r → client_calls new ≡ client_calls old
+    counted_round : (r : Round) → MakesRound chooses name call again old before new after r → client_calls new ≡ client_calls old
     counted_round round.Stepped h = counted_turn h.0
     counted_round (round.Encode value k n) h = ap client_calls h.0
     counted_round (round.Decode pieces k len) h = ap client_calls h.0
     counted_round (round.Answered receipt) h = counted_turn h.turn
     counted_round round.Late h = absurd h
+
+    -- a round that was made or refused
+    pub counted_round_both : (answer : Result Round Refusal) → IfOk answer (λ r. MakesRound chooses name call again old before new after r)
+        → OnErr answer (new ≡ old) → client_calls new ≡ client_calls old
+    counted_round_both (Ok r) h same = counted_round r h
+    counted_round_both (Err e) h same = ap client_calls same
 
 -- What an answer tells
 

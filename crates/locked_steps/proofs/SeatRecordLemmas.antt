@@ -8,7 +8,7 @@ use Rattle.std.proofs.lemmas.List.Sums.{sum_by-append, sum_by-cons}
 use Rattle.register.specs.declared.receipt.Receipt.{Receipt}
 use Rattle.cluster.specs.Cluster.{Cluster}
 use Rattle.locked_steps.specs.declared.call_record.CallRecord.{CallRecord}
-use Rattle.locked_steps.specs.Seats.{SeatState, Pending, records_of, listed, IsUnanswered}
+use Rattle.locked_steps.specs.Seats.{SeatState, Pending, records_of, pending_list, IsUnanswered}
 use Rattle.locked_steps.specs.Closing.{AllStand, all_records, receipts_of}
 
 pub all_append : {X : Type 0} (P : X → Type 0) (xs ys : List X) → AllByRecursion P xs → AllByRecursion P ys → AllByRecursion P (xs ++ ys)
@@ -51,7 +51,7 @@ length_all_records-push ss s = ap length (all_records-push ss s) ∙ length-appe
 
 -- a pending call has no receipt
 pub receipts_alone : (rs : List CallRecord) (pending : Option Pending) → IsUnanswered pending
-    → receipts_of (rs ++ listed pending) ≡ receipts_of rs
+    → receipts_of (rs ++ pending_list pending) ≡ receipts_of rs
 receipts_alone rs None h = ap receipts_of (append-nil rs)
 receipts_alone rs (Some p) h =
     let one : ℕ = 1 in

@@ -15,10 +15,8 @@ use Rattle.soundness.proofs.Sound.RunSoundLemmas.{step_sound}
 use Rattle.register.specs.Causes.{unless}
 use Rattle.register.specs.State.{State, made}
 use Rattle.register.proofs.ListLemmas.{all_pushed, all_weaker}
-use Rattle.cluster.specs.Atomic.{AreSound}
 use Rattle.cluster.specs.Causes.{create_cause}
 use Rattle.cluster.specs.Cluster.{Named, Cluster, named, layout_of}
-use Rattle.cluster.specs.Kept.{IsKeptCluster, IsPlaced}
 use Rattle.cluster.specs.Preconditions.{MayMake}
 use Rattle.cluster.specs.Steps.{stepped, created}
 use Rattle.cluster.proofs.ChangedObjectLemmas.{all_changed, all_named}
@@ -35,13 +33,6 @@ IsPastAt counter o = o.state.last ≤ counter
 later : (counter : ℕ) (objects : List Named) → AllByRecursion (IsPastAt counter) objects → AllByRecursion (IsPastAt (suc counter)) objects
 later counter objects all =
     all_weaker (IsPastAt counter) (IsPastAt (suc counter)) objects (λ o past. (omega (arith, past))) all
-
--- a cluster that was opened or is kept, and whose records are sound, has no step in the future
-pub sound_kept : (cluster : Cluster) (bytes count : ℕ) → AreSound cluster → IsKeptCluster cluster bytes count → IsSoundCluster cluster
-sound_kept cluster bytes count sound kept = record {
-  records = sound;
-  past = all_weaker (IsPlaced _ cluster.counter) (IsPastAt cluster.counter) cluster.objects (λ o placed. placed.past) kept.objects;
-}
 
 object_keeps : (old : Cluster) (name : List ℕ) (step : Step) → MayMake old name step → IsSoundCluster old
     → IsSoundCluster (stepped old name step)

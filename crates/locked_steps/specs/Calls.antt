@@ -29,8 +29,8 @@ abbrev pub client_calls : Cluster → ℕ
 client_calls cluster = object_sum (λ o. client_count o.state.object.calls) cluster.objects
 
 -- the entry of the call of this number of the object at this index; none where there is no such call
-abbrev pub entry_at : Cluster → (object call : ℕ) → Option Entry
-entry_at cluster object call = if_placed cluster object (λ o. option_map (entry_of call) (call_at o call))
+abbrev pub entry_of_call : Cluster → (object call : ℕ) → Option Entry
+entry_of_call cluster object call = if_placed cluster object (λ o. option_map (entry_of call) (call_at o call))
 
 -- what a client knows of a read or a write; `answered` and `told`, the value returned, are none before the answer
 pub record Shown : Type 0 where

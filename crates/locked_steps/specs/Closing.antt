@@ -9,7 +9,7 @@ use Rattle.record.specs.declared.call.Operation.TheVariants as operation
 use Rattle.register.specs.declared.receipt.Receipt.{Receipt}
 use Rattle.cluster.specs.Cluster.{Cluster}
 use Rattle.locked_steps.specs.declared.call_record.CallRecord.{CallRecord}
-use Rattle.locked_steps.specs.Calls.{Shown, entry_at, history}
+use Rattle.locked_steps.specs.Calls.{Shown, entry_of_call, history}
 use Rattle.locked_steps.specs.Seats.{SeatState, records_of, IsInOrder}
 
 -- the written value of a record is the value of a write's entry, and none for a read
@@ -42,7 +42,7 @@ pub record Matches (e : Entry) (r : CallRecord) : Type 0 where
 
 -- the record's call is in the history, and its entry agrees with the record
 abbrev pub Stands : Cluster → CallRecord → Type 0
-Stands cluster r = MatchOption (entry_at cluster r.object r.call) ⊥ (λ e. Matches e r)
+Stands cluster r = MatchOption (entry_of_call cluster r.object r.call) ⊥ (λ e. Matches e r)
 
 -- each of these records agrees with the history
 abbrev pub AllStand : Cluster → List CallRecord → Type 0
@@ -83,9 +83,9 @@ answer_of None = None
 answer_of (Some t) = Some t.answered
 
 -- the value that was returned; none where there is no receipt
-abbrev pub value_of : Option Receipt → Option (List ℕ)
-value_of None = None
-value_of (Some t) = t.value
+abbrev pub value_returned : Option Receipt → Option (List ℕ)
+value_returned None = None
+value_returned (Some t) = t.value
 
 -- what the record of a call shows
 abbrev pub shown_record : CallRecord → Shown
@@ -96,7 +96,7 @@ shown_record r = record {
   written = r.written;
   called = r.called;
   answered = answer_of r.receipt;
-  told = value_of r.receipt;
+  told = value_returned r.receipt;
 }
 
 -- the reads and writes of the history are the seats' records, each once; each seat's calls are in the records' order

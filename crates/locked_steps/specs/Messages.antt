@@ -12,7 +12,7 @@ use Rattle.register.specs.State.{State}
 use Rattle.cluster.specs.Cluster.{Cluster, named}
 use Rattle.cluster.specs.Causes.{next, object_cause, can_handle}
 use Rattle.cluster.specs.Steps.{stepped}
-use Rattle.driver.specs.Choices.{places, Picks, handling, handling_cause}
+use Rattle.driver.specs.Choices.{places_passing, Picks, handling, handling_cause}
 
 -- whether a message can be handled: it is a reply, or a request to a server that is up
 abbrev pub any_choice : Cluster → Object → Message → Bool
@@ -20,7 +20,7 @@ any_choice cluster object message = can_handle cluster object message message.bo
 
 -- the places of the messages of an object that can be handled, in mail order
 abbrev pub any_choices : Cluster → Object → List ℕ
-any_choices cluster object = places (any_choice cluster object) 0 object.mail
+any_choices cluster object = places_passing (any_choice cluster object) 0 object.mail
 
 module _ {C : Type 0} (chooses : C → ℕ → ℕ → C → Type 0) (name : List ℕ) (old : Cluster) (before : C) where
   -- this place is chosen, and this message waits there

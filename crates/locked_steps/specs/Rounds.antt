@@ -14,7 +14,7 @@ use Rattle.cluster.specs.Causes.{next, object_cause}
 use Rattle.cluster.specs.Steps.{stepped}
 use Rattle.driver.specs.Driver.{IsRefused}
 use Rattle.locked_steps.specs.Moves.{asked_if}
-use Rattle.driver.specs.Rounds.{IsRound}
+use Rattle.driver.specs.Rounds.{MakesRound}
 use Rattle.locked_steps.specs.Seats.{SeatState, Pending, SettlesPending, asked_once, unless_stranger}
 use Rattle.driver.specs.declared.round.Round.{Round}
 use Rattle.driver.specs.declared.round.Round.TheVariants as round
@@ -63,7 +63,7 @@ module _ {C : Type 0} (chooses : C → ℕ → ℕ → C → Type 0) where
   -- a round of a call: one of the driver where nothing is handed in; otherwise the call is supplied or settled
   abbrev pub Goes : (name : List ℕ) → (call : ℕ) → HandedIn → (again : Bool)
       → (old : Cluster) → (before : C) → (new : Cluster) → (after : C) → Round → Type 0
-  Goes name call hand.Empty again old before new after r = IsRound chooses name call again old before new after r
+  Goes name call hand.Empty again old before new after r = MakesRound chooses name call again old before new after r
   Goes name call (hand.Coded coded) again old before new after round.Late =
       IsOvertaken (hand_cause old name call (hand.Coded coded)) old before new after
   Goes name call (hand.Coded coded) again old before new after r =

@@ -40,13 +40,13 @@ pending_of name None = None
 pending_of name (Some r) = Some (record { name = name; kept = r })
 
 -- the record of the pending call as a list, which is empty where none is pending
-abbrev pub listed : Option Pending → List CallRecord
-listed None = []
-listed (Some p) = p.kept ∷ []
+abbrev pub pending_list : Option Pending → List CallRecord
+pending_list None = []
+pending_list (Some p) = p.kept ∷ []
 
 -- all records of a seat, in the order of their calls
 abbrev pub records_of : SeatState → List CallRecord
-records_of s = s.records ++ listed s.pending
+records_of s = s.records ++ pending_list s.pending
 
 -- a pending call has no receipt
 abbrev pub IsUnanswered : Option Pending → Type 0
@@ -92,10 +92,10 @@ abbrev pub written_len : Begin → ℕ
 written_len begin.Read = 0
 written_len (begin.Write value) = length value
 
--- the step that begins such a call
-abbrev pub call_step : Begin → Step
-call_step begin.Read = Step.CallRead
-call_step (begin.Write value) = Step.CallWrite value
+-- the step that begins such a call, with this id
+abbrev pub call_step : (id : ℕ) → Begin → Step
+call_step id begin.Read = Step.CallRead id
+call_step id (begin.Write value) = Step.CallWrite id value
 
 -- how many calls an object has; 0 where there is no object
 abbrev pub call_count : Option State → ℕ
@@ -103,8 +103,8 @@ call_count None = 0
 call_count (Some state) = length state.object.calls
 
 -- the record of a call that begins now
-abbrev pub begun : Cluster → (name : List ℕ) → (floor : ℕ) → Begin → CallRecord
-begun cluster name floor what = record {
+abbrev pub record_begun : Cluster → (name : List ℕ) → (floor : ℕ) → Begin → CallRecord
+record_begun cluster name floor what = record {
   object = place_of cluster.objects name;
   call = suc (call_count (named cluster.objects name));
   kind = operation_of what;
@@ -183,7 +183,7 @@ abbrev pub AddsPending : (first : Cluster) → SeatState → (name : List ℕ) �
 AddsPending first s name what new =
     (cluster : Cluster)
     × (IsStateOf first cluster × (begin_cause cluster s name what ≡ None)
-    × (new ≡ with_pending s name (begun cluster name s.floor what)))
+    × (new ≡ with_pending s name (record_begun cluster name s.floor what)))
 
 -- the seat gets one more record, of a call that begins in some state of the cluster and gets this receipt
 abbrev pub AddsAnswered : (first : Cluster) → SeatState → (name : List ℕ) → Begin → Receipt → SeatState → Type 0

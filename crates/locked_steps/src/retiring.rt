@@ -33,13 +33,9 @@ pub fn retire_in<L: StoreName>(
     ensures kept { OnErr result (admin.new ≡ admin.old) }
 {
     booked.cluster.invariant();
-    match retire(&mut booked.cluster, name, position) {
-        Ok(freed) => {
-            admin.note_order(&booked.cluster);
-            Ok(freed)
-        }
-        Err(refusal) => Err(refusal),
-    }
+    let freed = retire(&mut booked.cluster, name, position)?;
+    admin.note_order(&booked.cluster);
+    Ok(freed)
 }
 
 // The step alone, of the cluster without its book.

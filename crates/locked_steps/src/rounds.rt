@@ -228,20 +228,15 @@ fn round_with<C: Chooser>(
     ensures course { PreservesReachable cluster.old cluster.new }
 {
     match hand {
-        HandedIn::Empty => {
-            match make_round_at(cluster, name, object, call, due, asks_again, chooser) {
-                Ok(round) => Ok(round),
-                Err(refusal) => Err(refusal),
-            }
-        }
+        HandedIn::Empty => { make_round_at(cluster, name, object, call, due, asks_again, chooser) }
         HandedIn::Coded(coded) => match cluster.supply_at(name, object, call, coded) {
             Ok(()) => Ok(Round::Stepped),
             Err(Refusal::NotNow) => Ok(Round::Late),
             Err(refusal) => Err(refusal),
         },
-        HandedIn::Decoded(decoded) => match cluster.settle_at(name, object, call, decoded) {
-            Ok(()) => Ok(Round::Stepped),
-            Err(refusal) => Err(refusal),
-        },
+        HandedIn::Decoded(decoded) => {
+            cluster.settle_at(name, object, call, decoded)?;
+            Ok(Round::Stepped)
+        }
     }
 }

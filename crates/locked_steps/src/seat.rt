@@ -34,7 +34,7 @@ pub struct Seat<L: StoreName> {
 impl<L: StoreName> Model for Seat<L> {
     ghost use Rattle.std.specs.Prelude.{◌≡◌, ◌+◌, ◌≤◌, ◌++◌, length, vec_len, vec_capacity};
     ghost use Rattle.std.specs.String.{string_bytes};
-    ghost use Rattle.locked_steps.specs.Seats.{SeatState, IsRising, IsUnanswered, listed, pending_of};
+    ghost use Rattle.locked_steps.specs.Seats.{SeatState, IsRising, IsUnanswered, pending_list, pending_of};
 
     ghost Value = { SeatState };
 
@@ -47,9 +47,9 @@ impl<L: StoreName> Model for Seat<L> {
     } };
 
     ghost invariant = { λ s. let pending = pending_of (string_bytes s.name) s.pending in
-        (s.share.parts ≡ 1) × (s.share.amount ≡ length (s.records.items ++ listed pending))
-        × IsRising 0 (s.records.items ++ listed pending) s.floor × IsUnanswered pending
-        × (vec_len s.records + length (listed pending) ≤ vec_capacity s.records) };
+        (s.share.parts ≡ 1) × (s.share.amount ≡ length (s.records.items ++ pending_list pending))
+        × IsRising 0 (s.records.items ++ pending_list pending) s.floor × IsUnanswered pending
+        × (vec_len s.records + length (pending_list pending) ≤ vec_capacity s.records) };
 }
 
 impl<L: StoreName> Seat<L> {

@@ -12,15 +12,16 @@ use Rattle.bank.specs.declared.status.Status.{Status}
 use Rattle.node_messages.specs.declared.error.Fault.TheVariants.{BadDigest, NameTooLong, BadLayout, NoMember}
 use Rattle.node_messages.specs.declared.message.TheConstants.{DIGEST_LENGTH}
 use Rattle.node_messages.specs.Message.{IsTag, IsPiece}
-use Rattle.node_messages.specs.Numbers.{and_then, number_from}
+use Rattle.string_parts.specs.Parts.{and_then}
+use Rattle.node_messages.specs.Numbers.{number_from}
 use Rattle.node_messages.specs.Strings.{Strings, layout_string, tag_strings, piece_strings, next_strings}
-use Rattle.node_messages.specs.Reading.{string_at, number_at, tag_at, piece_at, status_at, is_lawful, checked_layout}
+use Rattle.node_messages.specs.Reading.{string_at, number_at, tag_at, piece_at, status_at}
 use Rattle.node_messages.specs.Reading.{layout_from, layout_at}
 use Rattle.node_messages.specs.Reading.{digest_from, digest_at, name_at, member_at, next_at}
 use Rattle.node_messages.specs.Words.{status_word, status_from}
-use Rattle.node_messages.proofs.PartLemmas.{bind_ok, guarded, guarded_above, ok_is}
+use Rattle.string_parts.proofs.PartLemmas.{bind_ok, guarded, guarded_above, ok_is}
 use Rattle.node_messages.proofs.NumberLemmas.{number_ok, number_again}
-use Rattle.node_messages.proofs.LayoutLemmas.{lawful_ok, lawful_again}
+use Rattle.string_parts.proofs.LayoutLemmas.{checked_ok, checked_again}
 use Rattle.node_messages.proofs.WordLemmas.{status_ok, status_again}
 
 -- ---- a string, a number
@@ -115,22 +116,12 @@ unfolding layout_from
 layout_from_ok [] layout e = absurd cc
 layout_from_ok (k ∷ members) layout e =
     let made : Layout = record { k = k; members = members } in
-    let g = guarded (is_lawful made) (Ok made) BadLayout layout e in
-    subst (λ (l : Layout). (k ∷ members ≡ layout_string l) × IsLawful l) (ok_is made layout g.1) (refl, lawful_ok made g.0)
+    let g = checked_ok BadLayout made layout e in
+    subst (λ (l : Layout). (k ∷ members ≡ layout_string l) × IsLawful l) g.0 (refl, g.1)
 
 layout_from_again : (layout : Layout) → IsLawful layout → layout_from (layout_string layout) ≡ Ok layout
 unfolding layout_from
-layout_from_again layout lawful = rw (lawful_again layout lawful) refl
-
-pub layout_made : (layout made : Layout) → made ≡ layout → IsLawful layout → Ok made ≡ checked_layout layout
-layout_made layout made e lawful = rw (lawful_again layout lawful) (ap (λ (l : Layout). Ok l) e)
-
-refuses : (layout : Layout) (b : Bool) → (b ≡ true → ⊥) → Err BadLayout ≡ cond b (Ok layout) (Err BadLayout)
-refuses layout true no_layout = absurd (no_layout refl)
-refuses layout false no_layout = refl
-
-pub layout_refused : (layout : Layout) → (IsLawful layout → ⊥) → Err BadLayout ≡ checked_layout layout
-layout_refused layout unlawful = refuses layout (is_lawful layout) (λ e. unlawful (lawful_ok layout e))
+layout_from_again layout lawful = checked_again BadLayout layout lawful
 
 pub layout_ok : (strings : Strings) (x : Layout × Strings) → layout_at strings ≡ Ok x → (strings ≡ layout_string x.0 ∷ x.1) × IsLawful x.0
 unfolding layout_at

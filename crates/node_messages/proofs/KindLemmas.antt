@@ -1,30 +1,20 @@
 -- A kind and a request that are read are those that were written, and what was written is read again.
-use Rattle.std.proofs.Common.{◌≡◌, ℕ, ◌-◌, ◌^◌, ◌<◌, Bool, true, false, cond, List, ◌∷◌, ◌++◌}
-use Rattle.std.proofs.Common.{Option, Some, None, Result, Ok, refl, sym, ap, subst, ◌∙◌, append_assoc, arith, inl, inr}
-use Rattle.std.specs.Prelude.{IfSome, codes}
-use Rattle.std.specs.Fmt.{decimal}
-use Rattle.piece.specs.declared.piece.Piece.{Piece}
+use Rattle.std.proofs.Common.{◌≡◌, ℕ, List, ◌∷◌, ◌++◌}
+use Rattle.std.proofs.Common.{Result, Ok, refl, ap, subst, ◌∙◌, inl, inr}
+use Rattle.std.specs.Prelude.{codes}
 use Rattle.bank.specs.declared.kind.Kind.{Kind}
 use Rattle.bank.specs.declared.kind.Kind.TheVariants as kind
-use Rattle.bank.specs.declared.reply.Answer.{Answer}
-use Rattle.bank.specs.declared.reply.Answer.TheVariants as answer
-use Rattle.bank.specs.declared.reply.Reply.{Reply}
 use Rattle.bank.specs.declared.request.Request.{Request}
 use Rattle.bank.specs.declared.request.Request.TheVariants as request
 use Rattle.bank.specs.Serve.{kind_of}
-use Rattle.mail.specs.declared.message.Body.{Body}
-use Rattle.mail.specs.declared.message.Body.TheVariants as body
 use Rattle.node_messages.specs.declared.error.Fault.{Fault}
-use Rattle.node_messages.specs.Message.{is_answer_to, IsKind, IsRequest, IsAnswer, IsPiece, IsBody}
-use Rattle.node_messages.specs.Numbers.{and_then}
-use Rattle.node_messages.specs.Strings.{Strings, piece_strings, kind_strings, request_rest, held_strings, answer_strings, body_strings}
-use Rattle.node_messages.specs.Reading.{string_at, number_at, tag_at, piece_at, status_at, kind_tagged, kind_from, kind_at}
-use Rattle.node_messages.specs.Reading.{request_at, held_at, answer_at}
-use Rattle.node_messages.specs.Reading.{reply_at, body_from, body_at}
-use Rattle.node_messages.specs.Words.{is_request_from, is_piece_from}
-use Rattle.node_messages.proofs.PartLemmas.{bind_ok, is_word, ok_is}
-use Rattle.node_messages.proofs.WordLemmas.{role_word, role_ok, role_again, piece_word, is_piece_ok, is_piece_again}
-use Rattle.node_messages.proofs.FieldLemmas.{string_ok, string_again, number_at_ok, number_at_again, tag_ok, tag_again}
+use Rattle.node_messages.specs.Message.{IsKind, IsRequest}
+use Rattle.string_parts.specs.Parts.{and_then}
+use Rattle.node_messages.specs.Strings.{Strings, kind_strings, request_rest}
+use Rattle.node_messages.specs.Reading.{string_at, tag_at, piece_at, status_at, kind_tagged, kind_from, kind_at}
+use Rattle.node_messages.specs.Reading.{request_at}
+use Rattle.string_parts.proofs.PartLemmas.{bind_ok, is_word, ok_is}
+use Rattle.node_messages.proofs.FieldLemmas.{string_ok, tag_ok, tag_again}
 use Rattle.node_messages.proofs.FieldLemmas.{piece_ok, piece_again, status_at_ok, status_at_again}
 
 -- ---- kinds

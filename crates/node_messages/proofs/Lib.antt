@@ -1,6 +1,4 @@
-pub mod PartLemmas
 pub mod NumberLemmas
-pub mod LayoutLemmas
 pub mod WordLemmas
 pub mod FieldLemmas
 pub mod KindLemmas

@@ -13,12 +13,12 @@ use Rattle.node_messages.specs.declared.message.NodeMessage.{NodeMessage}
 use Rattle.node_messages.specs.declared.message.TheConstants.{DIGEST_LENGTH}
 use Rattle.node_messages.specs.Laws.{WrittenIsRead, ReadWasWritten, StringsNameOneMessage}
 use Rattle.node_messages.specs.Message.{names_next, IsMessage}
-use Rattle.node_messages.specs.Numbers.{and_then}
+use Rattle.string_parts.specs.Parts.{and_then}
 use Rattle.node_messages.specs.Strings.{Strings, layout_string, body_strings, next_strings, strings_of}
 use Rattle.node_messages.specs.Gives.{Gives}
 use Rattle.node_messages.specs.Reading.{number_at, layout_at, digest_at, name_at, subject_at, member_at, numbers_at, body_at, next_at}
 use Rattle.node_messages.specs.Reading.{made_of, ending, message_at}
-use Rattle.node_messages.proofs.PartLemmas.{bind_ok, ok_is}
+use Rattle.string_parts.proofs.PartLemmas.{bind_ok, ok_is}
 use Rattle.node_messages.proofs.FieldLemmas.{number_at_ok, number_at_again, layout_ok, layout_again, next_ok, next_again}
 use Rattle.node_messages.proofs.FieldLemmas.{digest_ok, digest_again, name_ok, name_again, member_ok, member_again}
 use Rattle.node_messages.proofs.BodyLemmas.{body_ok, body_again}

@@ -1,168 +1,21 @@
 -- A number that is read is the number that was written, and what was written is read again.
-use Rattle.std.proofs.Common.{◌≡◌, ℕ, zero, suc, ◌+◌, ◌-◌, ◌*◌, ◌/◌, ◌%◌, ◌^◌, ◌<◌, ◌≤◌, true, false, cond, ltb, leb, eqb, List, [], ◌∷◌}
-use Rattle.std.proofs.Common.{length, get_or, drop, drop-cons, ◌++◌, Result, Ok, Err, refl, sym, ap, subst, ◌∙◌, append_assoc, arith}
-use Rattle.std.specs.Char.{is_ascii_digit}
+use Rattle.std.proofs.Common.{◌≡◌, ℕ, ◌^◌, ◌<◌, ◌≤◌, List, Result, Ok, Err, ap}
 use Rattle.std.specs.Fmt.{decimal}
-use Rattle.std.proofs.lemmas.Bool.{ltb-false, le-ltb, le-leb, leb-true, eqb-false, ne_eqb, and_parts, and_from}
-use Rattle.std.proofs.lemmas.Fmt.{decimal_digit, decimal_step, decimal_by_steps}
-use Rattle.std.proofs.lemmas.List.{append-nil, drop_all}
-use Rattle.node_messages.specs.declared.error.Fault.{Fault}
-use Rattle.node_messages.specs.declared.error.Fault.TheVariants.{BadNumber, OutOfRange}
-use Rattle.node_messages.specs.Numbers.{first_digit, with_digit, digits_from, number_from}
-use Rattle.node_messages.proofs.PartLemmas.{bind_ok, guarded, guarded_above, ok_is}
+use Rattle.string_parts.specs.Numbers.{number_from as number_up_to}
+use Rattle.string_parts.specs.declared.number.NumberFault.{NumberFault}
+use Rattle.string_parts.specs.declared.number.NumberFault.TheVariants as number
+use Rattle.string_parts.proofs.NumberLemmas.{number_ok as up_to_ok, number_again as up_to_again}
+use Rattle.string_parts.proofs.PartLemmas.{ok_is}
+use Rattle.node_messages.specs.Numbers.{of_a_message, number_from}
 
--- a digit behind those of m, in the value and in the text
-pub record Follows (m byte n : ℕ) : Type 0 where
-  pub some : 0 < m
-  pub low : 48 ≤ byte
-  pub high : byte ≤ 57
-  pub value : n ≡ 10 * m + (byte - 48)
-
-positive : (m : ℕ) → (m ≡ 0 → ⊥) → 0 < m
-positive zero h = absurd (h refl)
-positive (suc m) h = omega arith
-
--- what a digit makes of a number, if it is within the limit
-abbrev within : ℕ → ℕ → Result ℕ Fault
-within most value = cond (ltb most value) (Err OutOfRange) (Ok value)
-
-with_digit_ok : (most m byte n : ℕ) → with_digit most m byte ≡ Ok n → Follows m byte n × (n ≤ most)
-unfolding with_digit
-with_digit_ok most m byte n e =
-    let value = 10 * m + (byte - 48) in
-    let a = guarded (is_ascii_digit byte) (cond (eqb m 0) (Err BadNumber) (within most value)) BadNumber n e in
-    let b = guarded_above (eqb m 0) BadNumber (within most value) n a.1 in
-    let d = guarded_above (ltb most value) OutOfRange (Ok value) n b.1 in
-    let is : 10 * m + (byte - 48) ≡ n = ok_is (10 * m + (byte - 48)) n d.1 in
-    let digit = and_parts _ _ a.0 in
-    let below = ltb-false _ _ d.0 in
-    let other = eqb-false m 0 b.0 in
-    (record { some = positive m other; low = leb-true _ _ digit.0; high = leb-true _ _ digit.1; value = sym is }, omega arith)
-
-is_digit : (byte : ℕ) → 48 ≤ byte → byte ≤ 57 → is_ascii_digit byte ≡ true
-is_digit byte low high = and_from _ _ (le-leb _ _ low) (le-leb _ _ high)
-
-with_digit_again : (most m byte n : ℕ) → Follows m byte n → n ≤ most → with_digit most m byte ≡ Ok n
-unfolding with_digit
-with_digit_again most m byte n f le =
-    let some = f.some in
-    let other : eqb m 0 ≡ false = ne_eqb m 0 (λ e. omega arith) in
-    let below : ltb most (10 * m + (byte - 48)) ≡ false = le-ltb _ _ (omega (arith, f.value)) in
-    rw (is_digit byte f.low f.high, other, below) (ap (λ (k : ℕ). Ok k) (sym f.value))
-
-decimal_more : (m byte n : ℕ) (bytes : List ℕ) → Follows m byte n → n < 2 ^ 64 → decimal m ++ byte ∷ bytes ≡ decimal n ++ bytes
-decimal_more m byte n bytes f lt =
-    let some = f.some in
-    let low = f.low in
-    let high = f.high in
-    let value = f.value in
-    let front : n / 10 ≡ m = omega arith in
-    let last : 48 + n % 10 ≡ byte = omega arith in
-    let step : decimal n ≡ decimal m ++ byte ∷ [] = decimal_step n (omega arith) lt
-    ∙ ap (λ (k : ℕ). decimal k ++ (48 + n % 10) ∷ []) front
-    ∙ ap (λ (k : ℕ). decimal m ++ k ∷ []) last in
-    sym (ap (λ (ds : List ℕ). ds ++ bytes) step ∙ append_assoc (decimal m) (byte ∷ []) bytes)
-
--- ---- what is read was written
-
-digits_ok : (most : ℕ) (bytes : List ℕ) (m n : ℕ) → most < 2 ^ 64 → m ≤ most → digits_from most m bytes ≡ Ok n
-    → (decimal m ++ bytes ≡ decimal n) × (n ≤ most)
-unfolding digits_from
-digits_ok most [] m n lt le e =
-    subst (λ (k : ℕ). (decimal m ++ [] ≡ decimal k) × (k ≤ most)) (ok_is m n e) (append-nil (decimal m), le)
-digits_ok most (byte ∷ bytes) m n lt le e =
-    let a = bind_ok (with_digit most m byte) (λ (more : ℕ). digits_from most more bytes) n e in
-    let f = with_digit_ok most m byte a.0 a.1 in
-    let rest = digits_ok most bytes a.0 n lt f.1 a.2 in
-    (decimal_more m byte a.0 bytes f.0 (omega (arith, f.1)) ∙ rest.0, rest.1)
-
--- a first digit is the number that it writes
-first_ok : (byte first : ℕ) → first_digit byte ≡ Ok first → (decimal first ≡ byte ∷ []) × (first ≤ 9)
-unfolding first_digit
-first_ok byte first e =
-    let digit = guarded (is_ascii_digit byte) (Ok (byte - 48)) BadNumber first e in
-    let range = and_parts (leb 48 byte) (leb byte 57) digit.0 in
-    let low : 48 ≤ byte = leb-true 48 byte range.0 in
-    let high : byte ≤ 57 = leb-true byte 57 range.1 in
-    let value : byte - 48 ≡ first = ok_is (byte - 48) first digit.1 in
-    let back : 48 + first ≡ byte = omega arith in
-    (decimal_digit first (omega arith) ∙ ap (λ (b : ℕ). b ∷ []) back, omega arith)
+read : (r : Result ℕ NumberFault) (n : ℕ) → of_a_message r ≡ Ok n → r ≡ Ok n
+read (Ok m) n e = ap (λ (k : ℕ). Ok k) (ok_is m n e)
+read (Err number.BadNumber) n e = absurd cc
+read (Err number.OutOfRange) n e = absurd cc
 
 pub number_ok : (most : ℕ) (bytes : List ℕ) (n : ℕ) → 9 ≤ most → most < 2 ^ 64 → number_from most bytes ≡ Ok n
     → (bytes ≡ decimal n) × (n ≤ most)
-unfolding number_from
-number_ok most [] n nine lt e = absurd cc
-number_ok most (byte ∷ bytes) n nine lt e =
-    let a = bind_ok (first_digit byte) (λ (first : ℕ). digits_from most first bytes) n e in
-    let digit = first_ok byte a.0 a.1 in
-    let small = digit.1 in
-    let rest = digits_ok most bytes a.0 n lt (omega arith) a.2 in
-    (sym (ap (λ (ds : List ℕ). ds ++ bytes) digit.0) ∙ rest.0, rest.1)
-
--- ---- what was written is read
-
-abbrev Starts : ℕ → ℕ → List ℕ → Type 0
-Starts most n ds = n ≤ most → (tail : List ℕ) → number_from most (ds ++ tail) ≡ digits_from most n tail
-
-start_one : (most n : ℕ) → n < 10 → Starts most n ((48 + n) ∷ [])
-unfolding number_from first_digit
-start_one most n lt le tail =
-    let value : 48 + n - 48 ≡ n = omega arith in
-    rw (is_digit (48 + n) (omega arith) (omega arith), value) refl
-
-digits_step : (most m byte n : ℕ) (tail : List ℕ) → Follows m byte n → n ≤ most
-    → digits_from most m (byte ∷ tail) ≡ digits_from most n tail
-unfolding digits_from
-digits_step most m byte n tail f le = rw (with_digit_again most m byte n f le) refl
-
-start_more : (most n : ℕ) (ds : List ℕ) → 10 ≤ n → Starts most (n / 10) ds → Starts most n (ds ++ (48 + n % 10) ∷ [])
-start_more most n ds ge before le tail =
-    let f : Follows (n / 10) (48 + n % 10) n = record { some = omega arith; low = omega arith; high = omega arith; value = omega arith } in
-    ap (number_from most) (append_assoc ds ((48 + n % 10) ∷ []) tail)
-    ∙ before (omega arith) ((48 + n % 10) ∷ tail)
-    ∙ digits_step most (n / 10) (48 + n % 10) n tail f le
+number_ok most bytes n nine lt e = up_to_ok most bytes n nine lt (read (number_up_to most bytes) n e)
 
 pub number_again : (most n : ℕ) → n ≤ most → most < 2 ^ 64 → number_from most (decimal n) ≡ Ok n
-unfolding digits_from
-number_again most n le lt =
-    ap (number_from most) (sym (append-nil (decimal n)))
-    ∙ decimal_by_steps (Starts most) (start_one most) (start_more most) n (omega arith) le []
-
--- ---- as a loop reads digits
-
-digits_go : (most n byte more : ℕ) (rest : List ℕ) → with_digit most n byte ≡ Ok more
-    → digits_from most n (byte ∷ rest) ≡ digits_from most more rest
-unfolding digits_from
-digits_go most n byte more rest e = rw e refl
-
-digits_stop : (most n byte : ℕ) (fault : Fault) (rest : List ℕ) → with_digit most n byte ≡ Err fault
-    → digits_from most n (byte ∷ rest) ≡ Err fault
-unfolding digits_from
-digits_stop most n byte fault rest e = rw e refl
-
-digits_end : (most n : ℕ) → digits_from most n [] ≡ Ok n
-unfolding digits_from
-digits_end most n = refl
-
-pub digits_go_on : (most first n more i : ℕ) (bytes : List ℕ) → i < length bytes → Ok more ≡ with_digit most n (get_or bytes i 0)
-    → digits_from most n (drop i bytes) ≡ digits_from most first bytes
-    → digits_from most more (drop (i + 1) bytes) ≡ digits_from most first bytes
-digits_go_on most first n more i bytes lt e so_far =
-    let next : suc i ≡ i + 1 = omega arith in
-    sym (ap (digits_from most n) (drop-cons bytes i 0 lt)
-    ∙ digits_go most n (get_or bytes i 0) more (drop (suc i) bytes) (sym e)
-    ∙ ap (λ (k : ℕ). digits_from most more (drop k bytes)) next)
-    ∙ so_far
-
-pub digits_stop_at : (most first n i : ℕ) (fault : Fault) (bytes : List ℕ) → i < length bytes
-    → Err fault ≡ with_digit most n (get_or bytes i 0)
-    → digits_from most n (drop i bytes) ≡ digits_from most first bytes → Err fault ≡ digits_from most first bytes
-digits_stop_at most first n i fault bytes lt e so_far =
-    sym (ap (digits_from most n) (drop-cons bytes i 0 lt)
-    ∙ digits_stop most n (get_or bytes i 0) fault (drop (suc i) bytes) (sym e))
-    ∙ so_far
-
-pub digits_end_at : (most first n i : ℕ) (bytes : List ℕ) → length bytes ≤ i
-    → digits_from most n (drop i bytes) ≡ digits_from most first bytes → Ok n ≡ digits_from most first bytes
-digits_end_at most first n i bytes le so_far =
-    sym (ap (digits_from most n) (drop_all i bytes le) ∙ digits_end most n) ∙ so_far
+number_again most n le lt = ap of_a_message (up_to_again most n le lt)

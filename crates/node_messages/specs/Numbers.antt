@@ -1,33 +1,18 @@
 -- The contracts that docs/trusted.md lists do not depend on this file; other contracts and proofs do.
--- Reading a number from the bytes of a whole string, from left to right, up to the first fault.
-use Rattle.std.specs.Prelude.{ℕ, ◌+◌, ◌-◌, ◌*◌, ◌==◌, List, [], ◌∷◌, Result, Ok, Err, nat_lt, if◌then◌else◌}
-use Rattle.std.specs.Char.{is_ascii_digit}
+-- Numbers in decimal digits, with the faults of a message.
+use Rattle.std.specs.Prelude.{ℕ, List, Result, Ok, Err}
+use Rattle.string_parts.specs.Numbers.{number_from as number_up_to}
+use Rattle.string_parts.specs.declared.number.NumberFault.{NumberFault}
+use Rattle.string_parts.specs.declared.number.NumberFault.TheVariants as number
 use Rattle.node_messages.specs.declared.error.Fault.{Fault}
 use Rattle.node_messages.specs.declared.error.Fault.TheVariants.{BadNumber, OutOfRange}
 
--- one part after another, up to the first fault
-abbrev pub and_then : {A B : Type 0} → Result A Fault → (A → Result B Fault) → Result B Fault
-and_then (Ok x) next = next x
-and_then (Err e) next = Err e
-
--- the first digit of a number
-unfoldable pub first_digit : ℕ → Result ℕ Fault
-first_digit byte = if is_ascii_digit byte then Ok (byte - 48) else Err BadNumber
-
--- one more digit behind those of n: the number of all of them, unless n is a leading 0 or the number is above `most`
-unfoldable pub with_digit : ℕ → ℕ → ℕ → Result ℕ Fault
-with_digit most n byte =
-    if is_ascii_digit byte
-    then (if n == 0 then Err BadNumber
-    else (if nat_lt most (10 * n + (byte - 48)) then Err OutOfRange else Ok (10 * n + (byte - 48))))
-    else Err BadNumber
-
--- the digits behind those of n: the number of all of them
-unfoldable pub digits_from : ℕ → ℕ → List ℕ → Result ℕ Fault
-digits_from most n [] = Ok n
-digits_from most n (byte ∷ bytes) = and_then (with_digit most n byte) (λ more. digits_from most more bytes)
+-- a number, or its fault as one of a message
+abbrev pub of_a_message : Result ℕ NumberFault → Result ℕ Fault
+of_a_message (Ok n) = Ok n
+of_a_message (Err number.BadNumber) = Err BadNumber
+of_a_message (Err number.OutOfRange) = Err OutOfRange
 
 -- the number up to `most` that a whole string writes
-unfoldable pub number_from : ℕ → List ℕ → Result ℕ Fault
-number_from most [] = Err BadNumber
-number_from most (byte ∷ bytes) = and_then (first_digit byte) (λ n. digits_from most n bytes)
+abbrev pub number_from : ℕ → List ℕ → Result ℕ Fault
+number_from most bytes = of_a_message (number_up_to most bytes)

@@ -1,10 +1,9 @@
 -- The contracts that docs/trusted.md lists do not depend on this file; other contracts and proofs do.
 -- Reading a message from the strings of a frame, from left to right, up to the first fault.
-use Rattle.std.specs.Prelude.{◌≡◌, ◌==◌, ◌^◌, ◌-◌, ℕ, List, [], ◌∷◌, length, Option, Some, None, Bool, true, false}
-use Rattle.std.specs.Prelude.{Result, Ok, Err, nat_lt, nat_le, nat_eq, ◌&&◌, not, if◌then◌else◌, codes}
-use Rattle.std.specs.List.{list_any}
+use Rattle.std.specs.Prelude.{◌==◌, ◌^◌, ◌-◌, ℕ, List, [], ◌∷◌, length, Option, Some, None, Bool, true, false}
+use Rattle.std.specs.Prelude.{Result, Ok, Err, nat_lt, if◌then◌else◌, codes}
 use Rattle.std.specs.Str.{bytes_eq}
-use Rattle.tag.specs.declared.limits.TheConstants.{LONGEST_NAME, MOST_MEMBERS}
+use Rattle.tag.specs.declared.limits.TheConstants.{LONGEST_NAME}
 use Rattle.tag.specs.declared.tag.Tag.{Tag}
 use Rattle.piece.specs.declared.piece.Piece.{Piece}
 use Rattle.layout.specs.Layout.{Layout}
@@ -18,6 +17,8 @@ use Rattle.bank.specs.declared.request.Request.TheVariants as request
 use Rattle.bank.specs.declared.status.Status.{Status}
 use Rattle.mail.specs.declared.message.Body.{Body}
 use Rattle.mail.specs.declared.message.Body.TheVariants as body
+use Rattle.string_parts.specs.Layouts.{checked_layout}
+use Rattle.string_parts.specs.Parts.{and_then}
 use Rattle.node_messages.specs.declared.error.Fault.{Fault}
 use Rattle.node_messages.specs.declared.error.Fault.TheVariants.{WrongCount, BadDigest, NameTooLong, BadLayout}
 use Rattle.node_messages.specs.declared.error.Fault.TheVariants.{NoMember, UnknownWord}
@@ -26,7 +27,7 @@ use Rattle.node_messages.specs.declared.fields.Numbers.{Numbers}
 use Rattle.node_messages.specs.declared.message.NodeMessage.{NodeMessage}
 use Rattle.node_messages.specs.declared.message.TheConstants.{DIGEST_LENGTH}
 use Rattle.node_messages.specs.Message.{names_next}
-use Rattle.node_messages.specs.Numbers.{and_then, number_from}
+use Rattle.node_messages.specs.Numbers.{number_from}
 use Rattle.node_messages.specs.Strings.{Strings}
 use Rattle.node_messages.specs.Words.{status_from, is_request_from, is_piece_from}
 
@@ -68,24 +69,10 @@ status_at strings =
     and_then (status_from word.0) (λ status.
     Ok (status, word.1)))
 
--- whether no member is named twice
-abbrev pub are_distinct : List ℕ → Bool
-are_distinct [] = true
-are_distinct (member ∷ others) = not (list_any (nat_eq member) others) && are_distinct others
-
--- whether a layout is lawful: 1 ≤ k ≤ n ≤ MOST_MEMBERS, and no member is named twice
-abbrev pub is_lawful : Layout → Bool
-is_lawful layout = nat_le 1 layout.k && (nat_le layout.k (length layout.members)
-    && (nat_le (length layout.members) MOST_MEMBERS && are_distinct layout.members))
-
--- this layout, unless it is not lawful
-abbrev pub checked_layout : Layout → Result Layout Fault
-checked_layout layout = if is_lawful layout then Ok layout else Err BadLayout
-
 -- the layout that a string writes
 unfoldable pub layout_from : List ℕ → Result Layout Fault
 layout_from [] = Err BadLayout
-layout_from (k ∷ members) = checked_layout (record { k = k; members = members })
+layout_from (k ∷ members) = checked_layout BadLayout (record { k = k; members = members })
 
 -- a layout
 unfoldable pub layout_at : Strings → Parsed Layout

@@ -9,7 +9,7 @@ use Rattle.node_messages.specs.declared.error.Fault.TheVariants.{NameTooLong, No
 use Rattle.node_messages.specs.declared.error.Fault.TheVariants.{PieceTooLong}
 use Rattle.node_messages.specs.declared.message.NodeMessage.{NodeMessage}
 use Rattle.node_messages.specs.Message.{names_next, is_fitting}
-use Rattle.node_messages.specs.Numbers.{and_then}
+use Rattle.string_parts.specs.Parts.{and_then}
 use Rattle.node_messages.specs.Strings.{Strings, strings_of}
 
 -- whether two answers to a question are the same

@@ -7,7 +7,6 @@ ghost use Rattle.node_messages.specs.Reading.{
   tag_at,
   piece_at,
   status_at,
-  checked_layout,
   layout_from,
   layout_at,
   digest_from,
@@ -26,6 +25,7 @@ use bank::Status;
 use bytes::Bytes;
 use layout::Layout;
 use piece::Piece;
+use string_parts::checked_layout;
 use tag::{CallId, LONGEST_NAME, Tag};
 
 /// What a message is about.
@@ -123,22 +123,12 @@ pub(crate) fn status_of(strings: &[Bytes]) -> Result<(Status, &[Bytes]), Message
     Ok((status, rest))
 }
 
-// This layout, unless it is not lawful.
-fn checked_layout(k: u8, members: &[u8]) -> Result<Layout, Fault>
-    ensures { result ≡ checked_layout (record { k = k; members = members.now }) }
-{
-    match Layout::new(k, members) {
-        Ok(layout) => Ok(layout),
-        Err(_) => Err(Fault::BadLayout),
-    }
-}
-
 #[tactic(auto, unfolding(crate::specs::Reading::layout_from))]
 fn read_layout(string: &[u8]) -> Result<Layout, Fault>
     ensures { result ≡ layout_from string.now }
 {
     match string {
-        [k, members @ ..] => checked_layout(*k, members),
+        [k, members @ ..] => checked_layout(*k, members, Fault::BadLayout),
         [] => Err(Fault::BadLayout),
     }
 }

@@ -18,7 +18,7 @@ use Rattle.cluster.specs.Causes.{can_handle, handled_at}
 use Rattle.driver.specs.declared.messages.Handled.{Handled}
 use Rattle.driver.specs.declared.messages.Handled.TheVariants as handled
 use Rattle.driver.specs.declared.choices.Filter.TheVariants as filter
-use Rattle.driver.specs.Choices.{step_of_handled, places, choices_from, handled_result_at as handling_at}
+use Rattle.driver.specs.Choices.{step_of_handled, places_passing, choices_from, handled_result_at as handling_at}
 use Rattle.driver.proofs.NamedObjectLemmas.{read_there, is_there, named_changed}
 use Rattle.player.specs.Deliver.{can_handle_at, Delivers, IsFirst, NoneBefore, HasNoneToHandle}
 use Rattle.player.specs.Deliver.Delivers.{then_handles}
@@ -193,7 +193,7 @@ module _ (cluster : Cluster) (name : List ℕ) (state : State) (there : named cl
       go (inr same) = subst (λ n. can_handle_at cluster name n ≡ Some false) same here
 
   found_in : (ms : List Message) (from : ℕ) (answer : Option ℕ) → drop from state.object.mail ≡ ms
-      → NoneBefore cluster name from → answer ≡ slice_get (places able from ms) 0 → IsFound answer
+      → NoneBefore cluster name from → answer ≡ slice_get (places_passing able from ms) 0 → IsFound answer
   found_in [] from answer rest none is =
       subst IsFound (sym is) (idle cluster name state from there (drop_none state.object.mail from rest) none)
   found_in (m ∷ ms) from answer rest none is =
@@ -201,9 +201,9 @@ module _ (cluster : Cluster) (name : List ℕ) (state : State) (there : named cl
       go at.0 (λ none is. found_in ms (suc from) answer at.1 none is) (able m) refl is
     where
       go : slice_get state.object.mail from ≡ Some m
-          → (NoneBefore cluster name (suc from) → answer ≡ slice_get (places able (suc from) ms) 0 → IsFound answer)
+          → (NoneBefore cluster name (suc from) → answer ≡ slice_get (places_passing able (suc from) ms) 0 → IsFound answer)
           → (b : Bool) → able m ≡ b
-          → answer ≡ slice_get (cond b (from ∷ places able (suc from) ms) (places able (suc from) ms)) 0 → IsFound answer
+          → answer ≡ slice_get (cond b (from ∷ places_passing able (suc from) ms) (places_passing able (suc from) ms)) 0 → IsFound answer
       go at later true passes is =
           subst IsFound (sym is) (record { here = able_at from m true at passes; none_before = none })
       go at later false passes is = later (none_next from (able_at from m false at passes) none) is

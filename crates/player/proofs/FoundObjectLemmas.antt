@@ -1,6 +1,6 @@
 -- What is read of an object that is there.
 use Rattle.std.proofs.Common.{◌≡◌, ◌⊎◌, ℕ, ◌<◌, ◌≤◌, zero, suc, List, [], ◌∷◌, get_or, length}
-use Rattle.std.proofs.Common.{Option, Some, None, refl, ap, inl, inr, arith}
+use Rattle.std.proofs.Common.{Some, None, refl, ap, inl, inr, arith}
 use Rattle.std.specs.Prelude.{slice_get}
 use Rattle.std.specs.List.{AllByRecursion}
 use Rattle.std.proofs.lemmas.Option.{slice_get_cases, slice_get_past}

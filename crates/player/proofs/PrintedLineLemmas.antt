@@ -7,10 +7,10 @@ use Rattle.cluster.specs.Cluster.{if_some}
 use Rattle.std.specs.Io.KnownBytes.{Appends}
 use Rattle.player.specs.declared.player.Stop.{Stop}
 use Rattle.player.specs.declared.player.Stop.TheVariants as stop
-use Rattle.player.specs.Play.{Contents, Prints}
+use Rattle.player.specs.Play.{Written, Prints}
 
 -- this text was printed, or lost, where it is one that may be printed
-pub prints_as : (old new : Contents) (Is : List ℕ → Type 0) (Bad : Type 0) (r : Result Unit Stop) (text : List ℕ) → Is text
+pub prints_as : (old new : Written) (Is : List ℕ → Type 0) (Bad : Type 0) (r : Result Unit Stop) (text : List ℕ) → Is text
     → Prints old new (λ t. t ≡ text) ⊥ r → Prints old new Is Bad r
 prints_as old new Is Bad (Ok x) text is printed = (text, is, subst (Appends old new) printed.1 printed.2)
 prints_as old new Is Bad (Err stop.Bad) text is printed = absurd printed.0

@@ -10,7 +10,7 @@ use Rattle.std.proofs.KnownBytes.{Appends-nil, Appends-trans, Appends-kept}
 use Rattle.cluster.specs.Cluster.{Cluster}
 use Rattle.player.specs.declared.run.End.{End}
 use Rattle.player.specs.declared.run.End.TheVariants as end
-use Rattle.player.specs.Play.{Contents}
+use Rattle.player.specs.Play.{Written}
 use Rattle.player.specs.Script.{PlaysLines, IsPlayedTo, IsPlayedFrom, LosesLine}
 use Rattle.player.specs.Script.{LosesOutput, EndsLine, EndsAt}
 use Rattle.player.specs.Script.PlaysLines.{none, then_plays}
@@ -18,12 +18,12 @@ use Rattle.player.specs.Script.PlaysLines.{none, then_plays}
 -- The lines of a script
 
 -- so many lines are played, and their text printed
-pub record IsPlayedSoFar (all : List (List ℕ)) (count : ℕ) (state : Option Cluster) (old new : Contents) : Type 0 where
+pub record IsPlayedSoFar (all : List (List ℕ)) (count : ℕ) (state : Option Cluster) (old new : Written) : Type 0 where
   pub text : List ℕ
   pub played : PlaysLines (take count all) state text
   pub printed : Appends old new text
 
-pub nothing_played : (all : List (List ℕ)) (old : Contents) → IsPlayedSoFar all 0 None old old
+pub nothing_played : (all : List (List ℕ)) (old : Written) → IsPlayedSoFar all 0 None old old
 nothing_played all old = record { text = []; played = none; printed = Appends-nil old }
 
 take_one : {X : Type 0} (xs : List X) (i : ℕ) (x : X) → slice_get xs i ≡ Some x → take (suc i) xs ≡ take i xs ++ x ∷ []
@@ -45,7 +45,7 @@ module _ (all : List (List ℕ)) (count : ℕ) (words : List ℕ) (at : slice_ge
   more : suc count ≡ count + 1
   more = omega arith
 
-  pub one_more : (state after : Option Cluster) (old middle new : Contents) → IsPlayedSoFar all count state old middle →
+  pub one_more : (state after : Option Cluster) (old middle new : Written) → IsPlayedSoFar all count state old middle →
       IsPlayedFrom state words after middle new → IsPlayedSoFar all (count + 1) after old new
   one_more state after old middle new so_far from = record {
     text = so_far.text ++ from.0;
@@ -75,7 +75,7 @@ module _ (all : List (List ℕ)) (count : ℕ) (words : List ℕ) (at : slice_ge
     carried_out = lost.4;
   }
 
-  pub last_line : (script : List ℕ) (state : Option Cluster) (old middle new : Contents) (why : End) → all ≡ lines script →
+  pub last_line : (script : List ℕ) (state : Option Cluster) (old middle new : Written) (why : End) → all ≡ lines script →
       IsPlayedSoFar all count state old middle → EndsLine (count + 1) state words middle new why → EndsAt script old new why
   last_line script state old middle new end.Unread is so_far ends = ends
   last_line script state old middle new end.NoRoom is so_far ends = ends

@@ -3,7 +3,7 @@ use Rattle.std.proofs.Common.{◌≡◌, ℕ, List, subst, Option, Result, Ok, E
 use Rattle.tag.specs.declared.refusal.Refusal.{Refusal}
 use Rattle.register.specs.declared.receipt.Receipt.{Receipt}
 use Rattle.record.specs.Steps.{Step}
-use Rattle.cluster.specs.Cluster.{Cluster, layout_of}
+use Rattle.cluster.specs.Cluster.{Cluster, next_call_id, layout_of}
 use Rattle.cluster.specs.Causes.{object_cause, moving_cause}
 use Rattle.cluster.specs.Steps.{moved, stepped}
 use Rattle.driver.specs.declared.chooser.First.{First}
@@ -33,5 +33,6 @@ pub told_move : (name : List ℕ) (turns : ℕ) (old : Cluster) (before : First)
     IsWholeRun old (moved old name number) (object_cause old name (moving_cause old number)) name turns new report
 told_move name turns old before new after id number answer report same is tells =
     subst (λ n. IsWholeRun old (moved old name n) (object_cause old name (moving_cause old n)) name turns new report) same
-    (told name turns old before new after (object_cause old name (moving_cause old id)) (Step.CallMove (layout_of old id)) answer report
+    (told name turns old before new after (object_cause old name (moving_cause old id))
+    (Step.CallMove (next_call_id old name) (layout_of old id)) answer report
     is tells)

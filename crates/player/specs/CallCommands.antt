@@ -4,7 +4,7 @@ use Rattle.std.specs.Prelude.{ℕ, suc, pred, List, length, Option, Some, option
 use Rattle.record.specs.Steps.{Step}
 use Rattle.register.specs.Causes.{read_cause, write_cause, advance_cause, again_cause, post_cause, answer_cause}
 use Rattle.register.specs.View.{receipt_at}
-use Rattle.cluster.specs.Cluster.{Cluster, if_named, place_of}
+use Rattle.cluster.specs.Cluster.{Cluster, next_call_id, if_named, place_of}
 use Rattle.cluster.specs.Steps.{stepped, moved}
 use Rattle.cluster.specs.Causes.{next, object_cause, moving_cause}
 use Rattle.player.specs.declared.report.Report.{Report}
@@ -20,13 +20,14 @@ next_call cluster name = option_map called (if_named cluster name (λ object. So
 -- the command begins a read
 abbrev pub CallsRead : Cluster → (name : List ℕ) → Cluster → Report → Type 0
 CallsRead old name new report =
-    IsGrowth old (stepped old name Step.CallRead) (object_cause old name (λ object. read_cause (next old) object))
+    IsGrowth old (stepped old name (Step.CallRead (next_call_id old name)))
+    (object_cause old name (λ object. read_cause (next old) object))
     (next_call old name) new report
 
 -- the command begins a write of this value
 abbrev pub CallsWrite : Cluster → (name value : List ℕ) → Cluster → Report → Type 0
 CallsWrite old name value new report =
-    IsGrowth old (stepped old name (Step.CallWrite value))
+    IsGrowth old (stepped old name (Step.CallWrite (next_call_id old name) value))
     (object_cause old name (λ object. write_cause value (next old) object))
     (next_call old name) new report
 

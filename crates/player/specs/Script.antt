@@ -12,7 +12,7 @@ use Rattle.script.specs.Line.{IsLine, IsErrorOfLine}
 use Rattle.cluster.specs.Cluster.{Cluster}
 use Rattle.player.specs.declared.run.End.{End}
 use Rattle.player.specs.declared.run.End.TheVariants.{Unread, NoRoom, NoMemory, BadLine, OutputLost}
-use Rattle.player.specs.Play.{Contents, Plays, IsBadAt}
+use Rattle.player.specs.Play.{Written, Plays, IsBadAt}
 
 -- a line is skipped and changes nothing, or it spells a command, which is played and prints this text
 abbrev pub PlaysLine : Option Cluster → (line : List ℕ) → Option Cluster → (text : List ℕ) → Type 0
@@ -39,11 +39,11 @@ pub record IsPlayedTo (all front : List (List ℕ)) (line : List ℕ) (state : O
   pub played : PlaysLines front state text
 
 -- the script is all that the reader gives, where that is known
-abbrev pub IsScriptOf : (remaining : Contents) → (script : List ℕ) → Type 0
+abbrev pub IsScriptOf : (remaining : Written) → (script : List ℕ) → Type 0
 IsScriptOf remaining script = IfSome remaining (λ known. script ≡ known)
 
 -- the lines before a bad one are played and their text printed; the bad line has this number
-pub record StopsAt (script : List ℕ) (old new : Contents) (number : ℕ) : Type 0 where
+pub record StopsAt (script : List ℕ) (old new : Written) (number : ℕ) : Type 0 where
   pub front : List (List ℕ)
   pub words : List ℕ
   pub state : Option Cluster
@@ -67,7 +67,7 @@ pub record LosesOutput (script : List ℕ) : Type 0 where
   pub carried_out : Plays state command after more
 
 -- the lines before one are played and their text printed, and memory is refused for that line
-pub record LacksMemory (script : List ℕ) (old new : Contents) : Type 0 where
+pub record LacksMemory (script : List ℕ) (old new : Written) : Type 0 where
   pub front : List (List ℕ)
   pub words : List ℕ
   pub state : Option Cluster
@@ -82,11 +82,11 @@ LosesLine state words = (command : Command) × (after : Option Cluster) × (more
     × IsLine words (line.Command command) × Plays state command after more
 
 -- playing this line leads from the old cluster to the new one, and its text is printed
-abbrev pub IsPlayedFrom : Option Cluster → (line : List ℕ) → Option Cluster → (before after : Contents) → Type 0
+abbrev pub IsPlayedFrom : Option Cluster → (line : List ℕ) → Option Cluster → (before after : Written) → Type 0
 IsPlayedFrom old words new before after = (text : List ℕ) × PlaysLine old words new text × Appends before after text
 
 -- why the run ends at the line of this number, and what was done
-abbrev pub EndsLine : (number : ℕ) → Option Cluster → (line : List ℕ) → (before after : Contents) → End → Type 0
+abbrev pub EndsLine : (number : ℕ) → Option Cluster → (line : List ℕ) → (before after : Written) → End → Type 0
 EndsLine number state words before after Unread = ⊥
 EndsLine number state words before after NoRoom = ⊥
 EndsLine number state words before after NoMemory =
@@ -95,12 +95,12 @@ EndsLine number state words before after (BadLine at) = (at ≡ number) × IsBad
 EndsLine number state words before after OutputLost = LosesLine state words
 
 -- all lines of a script are played, and their text is printed
-abbrev pub IsPlayedThrough : (script : List ℕ) → (old new : Contents) → Type 0
+abbrev pub IsPlayedThrough : (script : List ℕ) → (old new : Written) → Type 0
 IsPlayedThrough script old new =
     (state : Option Cluster) × (text : List ℕ) × PlaysLines (lines script) state text × Appends old new text
 
 -- why the run of a script ends early at one of its lines, and what was done
-abbrev pub EndsAt : (script : List ℕ) → (old new : Contents) → End → Type 0
+abbrev pub EndsAt : (script : List ℕ) → (old new : Written) → End → Type 0
 EndsAt script old new Unread = ⊥
 EndsAt script old new NoRoom = ⊥
 EndsAt script old new NoMemory = LacksMemory script old new ⊎ LosesOutput script
@@ -114,7 +114,7 @@ IsUnread _ = ⊥
 
 -- why a run ends early, and what was done: a script that is not read, or for which there is no room, is not played;
 -- otherwise the run ends at one of its lines
-abbrev pub EndsBy : (remaining old new : Contents) → End → Type 0
+abbrev pub EndsBy : (remaining old new : Written) → End → Type 0
 EndsBy remaining old new Unread = Keeps old new
 EndsBy remaining old new NoRoom = Keeps old new
 EndsBy remaining old new NoMemory =
@@ -124,7 +124,7 @@ EndsBy remaining old new (BadLine number) =
 EndsBy remaining old new OutputLost = (script : List ℕ) × IsScriptOf remaining script × LosesOutput script
 
 -- the whole script that the reader gives is played, and its text is printed
-pub record PlaysScript (remaining old new : Contents) : Type 0 where
+pub record PlaysScript (remaining old new : Written) : Type 0 where
   pub script : List ℕ
   pub read : IsScriptOf remaining script
   pub state : Option Cluster
@@ -141,7 +141,7 @@ exit_status_of (BadLine number) = 2
 exit_status_of OutputLost = 1
 
 -- the exit status, and what was done: 0 where the whole script is played, and otherwise that of the early end
-abbrev pub Runs : (remaining old new : Contents) → (status : ℕ) → Type 0
+abbrev pub Runs : (remaining old new : Written) → (status : ℕ) → Type 0
 Runs remaining old new status =
     ((status ≡ 0) × PlaysScript remaining old new)
     ⊎ ((end : End) × (status ≡ exit_status_of end) × EndsBy remaining old new end)

@@ -8,9 +8,9 @@ use Rattle.register.specs.Causes.{number_cause, read_cause, write_cause}
 use Rattle.printing.specs.declared.outcome.Outcome.{Outcome}
 use Rattle.printing.specs.declared.outcome.Outcome.TheVariants as outcome
 use Rattle.driver.specs.declared.chooser.First.{First}
-use Rattle.driver.specs.Driver.{IsFinished, IsUnfinished}
+use Rattle.driver.specs.Driver.{FinishesCall, IsUnfinished}
 use Rattle.driver.specs.WholeCalls.{next_number}
-use Rattle.cluster.specs.Cluster.{Cluster}
+use Rattle.cluster.specs.Cluster.{Cluster, next_call_id}
 use Rattle.cluster.specs.Steps.{stepped, moved}
 use Rattle.cluster.specs.Causes.{next, object_cause, moving_cause}
 use Rattle.player.specs.declared.report.Report.{Report}
@@ -34,7 +34,8 @@ LeavesOpen name call resumed turns begun new _ = ⊥
 abbrev pub ContinuesCall : (name : List ℕ) → (call : ℕ) → (resumed : Bool) → (turns : ℕ) →
     (begun new : Cluster) → Report → Type 0
 ContinuesCall name call resumed turns begun new (of.Answered receipt) =
-    (before : First) × (after : First) × IsFinished chooses_first name call resumed turns begun before new after receipt
+    (before : First) × (after : First)
+    × FinishesCall chooses_first name call resumed turns begun before new after receipt
 ContinuesCall name call resumed turns begun new (of.Did outcome) = LeavesOpen name call resumed turns begun new outcome
 
 -- the call begins, in the cluster `begun`, and the driver continues it; or the first step is refused
@@ -48,13 +49,13 @@ IsWholeRun old begun cause name turns new report =
 -- the command makes a whole read
 abbrev pub Reads : Cluster → (name : List ℕ) → (turns : ℕ) → Cluster → Report → Type 0
 Reads old name turns new report =
-    IsWholeRun old (stepped old name Step.CallRead)
+    IsWholeRun old (stepped old name (Step.CallRead (next_call_id old name)))
     (object_cause old name (λ object. read_cause (next old) object)) name turns new report
 
 -- the command makes a whole write of this value
 abbrev pub WritesValue : Cluster → (name value : List ℕ) → (turns : ℕ) → Cluster → Report → Type 0
 WritesValue old name value turns new report =
-    IsWholeRun old (stepped old name (Step.CallWrite value))
+    IsWholeRun old (stepped old name (Step.CallWrite (next_call_id old name) value))
     (object_cause old name (λ object. write_cause value (next old) object))
     name turns new report
 

@@ -2,7 +2,7 @@
 ghost use Rattle.std.specs.Prelude.{◌≡◌, ◌≢◌, ℕ, List, Some, OnOk, IfErr};
 ghost use Rattle.std.specs.Io.KnownBytes.{Keeps};
 ghost use Rattle.player.specs.declared.player.Stop.TheVariants.{Bad};
-ghost use Rattle.player.specs.Play.{Prints, IsPlayed, IsBad, Plays, IsBadAt, MayChange, Changes};
+ghost use Rattle.player.specs.Play.{Prints, IsPlayed, IsBad, Plays, IsBadAt, Changes};
 ghost use Rattle.player.specs.Shown.{refusal_line, line_of};
 
 use crate::report::Report;
@@ -10,7 +10,7 @@ use crate::whole_calls::{move_to, read, resume, write};
 use crate::{call_commands, cluster_commands, mail_commands, shown};
 use cluster::Cluster;
 use printing::Outcome;
-use script::Command;
+use script::{Change, Command};
 use std::alloc::Global;
 use std::fmt::Display;
 use std::io;
@@ -60,6 +60,7 @@ fn carry_out<W: Write>(
 {
     match command {
         Command::Servers { count: _ } => Err(Stop::Bad),
+        Command::Change(asked) => print_line(out, change(alloc, cluster, asked)),
         Command::Show { name, call } => shown::call(cluster, name, call, out),
         Command::Mail { name } => shown::mail(cluster, name, out),
         Command::Bank {
@@ -71,51 +72,48 @@ fn carry_out<W: Write>(
         Command::History { name } => shown::history(cluster, name, out),
         Command::Sequence { name } => shown::sequence_of(alloc, cluster, name, out),
         Command::Check { name, calls } => shown::check_of(cluster, name, &calls, out),
-        command => print_line(out, change(alloc, cluster, command)),
     }
 }
 
 // Carries out a command that may change the cluster.
-fn change(alloc: Global, cluster: &mut Cluster, command: Command) -> Report
-    requires { MayChange command }
-    ensures { Changes cluster.old command.entry cluster.new result }
+fn change(alloc: Global, cluster: &mut Cluster, asked: Change) -> Report
+    ensures { Changes cluster.old asked.entry cluster.new result }
 {
-    match command {
-        Command::Layout { k, members } => cluster_commands::layout(cluster, k, &members),
-        Command::Object {
+    match asked {
+        Change::Layout { k, members } => cluster_commands::layout(cluster, k, &members),
+        Change::Object {
             name,
             layout,
             delta,
         } => cluster_commands::object(cluster, name, layout, delta),
-        Command::Retire { name, position } => cluster_commands::retire(cluster, name, position),
-        Command::Down { server } => cluster_commands::server(cluster, server, false),
-        Command::Up { server } => cluster_commands::server(cluster, server, true),
-        Command::CallRead { name } => call_commands::call_read(cluster, name),
-        Command::CallWrite { name, value } => call_commands::call_write(cluster, name, value),
-        Command::CallMove { name, layout } => call_commands::call_move(cluster, name, layout),
-        Command::Advance { name, call } => call_commands::advance(cluster, name, call),
-        Command::Supply { name, call } => call_commands::supply(alloc, cluster, name, call),
-        Command::SupplyAs { name, call, value } => call_commands::supply_as(
+        Change::Retire { name, position } => cluster_commands::retire(cluster, name, position),
+        Change::Down { server } => cluster_commands::server(cluster, server, false),
+        Change::Up { server } => cluster_commands::server(cluster, server, true),
+        Change::CallRead { name } => call_commands::call_read(cluster, name),
+        Change::CallWrite { name, value } => call_commands::call_write(cluster, name, value),
+        Change::CallMove { name, layout } => call_commands::call_move(cluster, name, layout),
+        Change::Advance { name, call } => call_commands::advance(cluster, name, call),
+        Change::Supply { name, call } => call_commands::supply(alloc, cluster, name, call),
+        Change::SupplyAs { name, call, value } => call_commands::supply_as(
             alloc, cluster, name, call, value,
         ),
-        Command::Settle { name, call } => call_commands::settle(alloc, cluster, name, call),
-        Command::Post { name, call } => call_commands::post(cluster, name, call),
-        Command::Again { name, call } => call_commands::again(cluster, name, call),
-        Command::Answer { name, call } => call_commands::answer(cluster, name, call),
-        Command::Serve { name, place } => mail_commands::serve(cluster, name, place),
-        Command::Take { name, place } => mail_commands::take(cluster, name, place),
-        Command::Lose { name, place } => mail_commands::lose(cluster, name, place),
-        Command::Repeat { name, place } => mail_commands::repeat(cluster, name, place),
-        Command::Deliver { name } => mail_commands::deliver(cluster, name),
-        Command::Read { name, turns } => read(alloc, cluster, name, turns),
-        Command::Write { name, value, turns } => write(alloc, cluster, name, value, turns),
-        Command::Move {
+        Change::Settle { name, call } => call_commands::settle(alloc, cluster, name, call),
+        Change::Post { name, call } => call_commands::post(cluster, name, call),
+        Change::Again { name, call } => call_commands::again(cluster, name, call),
+        Change::Answer { name, call } => call_commands::answer(cluster, name, call),
+        Change::Serve { name, place } => mail_commands::serve(cluster, name, place),
+        Change::Take { name, place } => mail_commands::take(cluster, name, place),
+        Change::Lose { name, place } => mail_commands::lose(cluster, name, place),
+        Change::Repeat { name, place } => mail_commands::repeat(cluster, name, place),
+        Change::Deliver { name } => mail_commands::deliver(cluster, name),
+        Change::Read { name, turns } => read(alloc, cluster, name, turns),
+        Change::Write { name, value, turns } => write(alloc, cluster, name, value, turns),
+        Change::Move {
             name,
             layout,
             turns,
         } => move_to(alloc, cluster, name, layout, turns),
-        Command::Resume { name, call, turns } => resume(alloc, cluster, name, call, turns),
-        _ => unreachable!(),
+        Change::Resume { name, call, turns } => resume(alloc, cluster, name, call, turns),
     }
 }
 

@@ -6,9 +6,9 @@ use std::process::Abort;
 use std::sync::atomic::{AtomicUsize, Ordering};
 use std::thread;
 
-/// What the gate was told of one job.
+/// How often one job was entered and left.
 #[derive(Drop)]
-struct Told {
+struct JobCounts {
     entered: AtomicUsize,
     left: AtomicUsize,
 }
@@ -16,7 +16,7 @@ struct Told {
 /// Counts for each job how often it was entered and left, and what no worker may do.
 #[derive(Drop)]
 pub(crate) struct Log {
-    jobs: Vec<Told>,
+    jobs: Vec<JobCounts>,
     inside: AtomicUsize,
     most_inside: AtomicUsize,
     // Jobs that were left before they were entered, and such as do not exist.
@@ -31,22 +31,22 @@ fn has_counted(rt: &impl Abort, count: &AtomicUsize, expected: usize) {
     assert_eq!(rt; count.load(Ordering::SeqCst), expected);
 }
 
-fn nothing_told(rt: &impl Abort, alloc: Global, jobs: u8) -> Vec<Told> {
-    let mut told = Vec::new(alloc);
+fn no_counts(rt: &impl Abort, alloc: Global, jobs: u8) -> Vec<JobCounts> {
+    let mut counts = Vec::new(alloc);
     for _ in 0..jobs {
-        let job = Told {
+        let job = JobCounts {
             entered: none_yet(),
             left: none_yet(),
         };
-        told.push(job).expect(rt, "memory for a job");
+        counts.push(job).expect(rt, "memory for a job");
     }
-    told
+    counts
 }
 
 impl Log {
     pub(crate) fn new(rt: &impl Abort, alloc: Global, jobs: u8) -> Log {
         Log {
-            jobs: nothing_told(rt, alloc, jobs),
+            jobs: no_counts(rt, alloc, jobs),
             inside: none_yet(),
             most_inside: none_yet(),
             strays: none_yet(),
@@ -80,20 +80,20 @@ impl Log {
 
 impl Gate for Log {
     fn enter(&self, job: usize) {
-        let Some(told) = self.jobs.get(job) else {
+        let Some(counts) = self.jobs.get(job) else {
             return self.stray();
         };
-        told.entered.fetch_add(1, Ordering::SeqCst);
+        counts.entered.fetch_add(1, Ordering::SeqCst);
         self.note_inside(self.inside.fetch_add(1, Ordering::SeqCst).wrapping_add(1));
         thread::yield_now();
     }
 
     fn leave(&self, job: usize) {
-        let Some(told) = self.jobs.get(job) else {
+        let Some(counts) = self.jobs.get(job) else {
             return self.stray();
         };
-        let left = told.left.fetch_add(1, Ordering::SeqCst);
-        if told.entered.load(Ordering::SeqCst) <= left {
+        let left = counts.left.fetch_add(1, Ordering::SeqCst);
+        if counts.entered.load(Ordering::SeqCst) <= left {
             self.stray();
         }
         self.inside.fetch_sub(1, Ordering::SeqCst);

@@ -1,5 +1,5 @@
 -- The journal, which gives each tag its value, and the entries of an object's calls.
-use Rattle.std.specs.Prelude.{◌≡◌, ℕ, suc, ◌⊎◌, List, [], ◌∷◌, Option, Some, None, slice_get}
+use Rattle.std.specs.Prelude.{◌≡◌, ℕ, ◌⊎◌, List, [], map, Option, Some, None, slice_get}
 use Rattle.tag.specs.declared.tag.Tag.{Tag}
 use Rattle.tag.specs.Tag.{opening_tag}
 use Rattle.record.specs.declared.call.CallKind.{CallKind}
@@ -75,21 +75,16 @@ entry_value Read answered settled = returned answered settled
 entry_value (Write value) answered settled = Some value
 entry_value Move answered settled = None
 
--- the entry of a call with this number
-abbrev pub entry_of : (number : ℕ) → Call → Entry
-entry_of number call = record {
-  call = number;
+-- the entry of a call with this id
+abbrev pub entry_of : (id : ℕ) → Call → Entry
+entry_of id call = record {
+  call = id;
   kind = operation_of call.kind;
   called = call.called;
   answered = call.answered;
   value = entry_value call.kind call.answered call.settled;
 }
 
--- the entries of calls that are numbered from `number` on
-abbrev pub entries_from : (number : ℕ) → List Call → List Entry
-entries_from number [] = []
-entries_from number (call ∷ calls) = entry_of number call ∷ entries_from (suc number) calls
-
--- the history of the object: one entry for each call, in the order of their numbers
+-- the history of the object: one entry for each call, in the order of their numbers, which names the call by its id
 abbrev pub entries : Object → List Entry
-entries object = entries_from 1 object.calls
+entries object = map (λ call. entry_of call.id call) object.calls

@@ -43,7 +43,7 @@ source_of object index = moves_in (take index object.calls)
 -- the stage of the call at this index
 abbrev pub stage_of : Object → (index : ℕ) → Call → Stage
 stage_of object index call =
-    stage_after call.kind (suc index) (first_stage call.kind (source_of object index)) call.phases
+    stage_after call.kind call.id (first_stage call.kind (source_of object index)) call.phases
 
 -- the phase that is due for the call at this index, with its position; a first reading would begin at the base
 abbrev pub due_of : Object → (index : ℕ) → Call → Option (Kind × ℕ)
@@ -62,11 +62,11 @@ BeginsAt (phase ∷ phases) step = phase.start ≡ step
 
 -- the call's phases are numbered, true and in order; first readings began at the base; any answer came after the last
 pub record IsLegalCall (object : Object) (index : ℕ) (call : Call) : Type 0 where
-  pub numbered : AreNumbered (suc index) 1 call.phases
+  pub numbered : AreNumbered call.id 1 call.phases
   pub begins : BeginsAt call.phases call.called
   pub phases : AllByRecursion (IsTruePhase object) call.phases
-  pub course : IsCourse call.kind (suc index) (first_stage call.kind (source_of object index)) call.phases
-  pub from_base : BeginAtBase (base_at object) call.kind (suc index) (first_stage call.kind (source_of object index))
+  pub course : IsCourse call.kind call.id (first_stage call.kind (source_of object index)) call.phases
+  pub from_base : BeginAtBase (base_at object) call.kind call.id (first_stage call.kind (source_of object index))
       call.phases
   pub answer : (step : ℕ) → call.answered ≡ Some step →
       (due (stage_of object index call) ≡ None) × EndsBefore call.phases step
@@ -124,13 +124,16 @@ BeginInOpen object =
     (index place : ℕ) (call : Call) (phase : Phase) → slice_get object.calls index ≡ Some call →
     slice_get call.phases place ≡ Some phase → AreOpened object phase
 
--- the record is legal: its layouts, its calls in the order of their steps, its moves one at a time, and its banks
+-- the record is legal: its layouts, its calls in the order of their steps and each with an id of its own, its moves one
+-- at a time, and its banks
 pub record IsLegal (object : Object) : Type 0 where
   pub layouts : AllByRecursion IsLawful object.layouts
   pub calls : (index : ℕ) (call : Call) → slice_get object.calls index ≡ Some call →
       IsLegalCall object index call
   pub in_turn : (i j : ℕ) (a b : Call) → slice_get object.calls i ≡ Some a →
       slice_get object.calls j ≡ Some b → i < j → a.called < b.called
+  pub ids : (i j : ℕ) (a b : Call) → slice_get object.calls i ≡ Some a →
+      slice_get object.calls j ≡ Some b → a.id ≡ b.id → i ≡ j
   pub moves : (i j : ℕ) (a b : Call) → slice_get object.calls i ≡ Some a →
       slice_get object.calls j ≡ Some b → i < j → a.kind ≡ Move → b.kind ≡ Move →
       (step : ℕ) × (a.answered ≡ Some step) × (step < b.called)

@@ -11,7 +11,7 @@ use Rattle.mail.specs.declared.message.Body.TheVariants as body
 use Rattle.phase.specs.Phase.{Phase}
 use Rattle.record.specs.declared.call.CallKind.TheVariants.{Move}
 use Rattle.record.specs.declared.stage.Want.TheVariants as want
-use Rattle.record.specs.Records.{Call, Object, base_of}
+use Rattle.record.specs.Records.{Call, Object, IsNewId, base_of}
 use Rattle.record.specs.Legal.{IsMovedOut}
 use Rattle.record.specs.Fragments.{Code, IsValue, HasPieces}
 use Rattle.record.specs.Wants.{Wants, current_phase}
@@ -75,9 +75,9 @@ IsReplyAt object place message =
 
 -- the step may be made, as far as the record says
 abbrev pub MayStep : Code → Object → Step → Type 0
-MayStep fragment object Step.CallRead = Unit {0}
-MayStep fragment object (Step.CallWrite value) = IsValue value
-MayStep fragment object (Step.CallMove layout) = IsLawful layout × NoOpenMove object
+MayStep fragment object (Step.CallRead id) = IsNewId object id
+MayStep fragment object (Step.CallWrite id value) = IsNewId object id × IsValue value
+MayStep fragment object (Step.CallMove id layout) = IsNewId object id × IsLawful layout × NoOpenMove object
 MayStep fragment object (Step.Advance index) = (call : Call) × Wants object index call want.Advance
 MayStep fragment object (Step.Again index) = (call : Call) × Wants object index call want.Again
 MayStep fragment object (Step.Supply index) = MaySupply object index

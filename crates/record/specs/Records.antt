@@ -1,5 +1,6 @@
 -- The record of one object: its layouts and banks by position, its waiting messages, and its calls with their phases.
-use Rattle.std.specs.Prelude.{◌≡◌, ℕ, suc, true, if◌then◌else◌, is_some, List, [], ◌∷◌, Option, None, get_or}
+use Rattle.std.specs.Prelude.{◌≡◌, ◌≢◌, ℕ, suc, ◌==◌, true, if◌then◌else◌, is_some, List, [], ◌∷◌, Option, Some, None}
+use Rattle.std.specs.Prelude.{get_or, slice_get}
 use Rattle.std.specs.FinMap as map
 use Rattle.layout.specs.Layout.{Layout}
 use Rattle.bank.specs.Bank.{Bank}
@@ -9,8 +10,10 @@ use Rattle.mail.specs.declared.message.Message.{Message}
 use Rattle.phase.specs.Phase.{Phase}
 use Rattle.record.specs.declared.call.CallKind.{CallKind}
 
--- a call: its kind, the steps of its call and answer, its settled value, and its phases; its number is its index + 1
+-- a call: the id by which messages, phases and tags name it, its kind, the steps of its call and answer, its settled
+-- value, and its phases; its number is its index + 1
 pub record Call : Type 0 where
+  pub id : ℕ
   pub kind : CallKind
   pub called : ℕ
   pub answered : Option ℕ
@@ -24,6 +27,15 @@ pub record Object : Type 0 where
   pub banks : List (List Bank)
   pub mail : List Message
   pub calls : List Call
+
+-- the index of the first call with this id, or the number of calls where none has it
+abbrev pub index_by_id : List Call → (id : ℕ) → ℕ
+index_by_id [] id = 0
+index_by_id (call ∷ calls) id = if call.id == id then 0 else suc (index_by_id calls id)
+
+-- no call of the object has this id
+abbrev pub IsNewId : Object → (id : ℕ) → Type 0
+IsNewId object id = (index : ℕ) (call : Call) → slice_get object.calls index ≡ Some call → call.id ≢ id
 
 -- a bank that knows nothing, which stands for one that does not exist
 abbrev pub no_bank : Bank

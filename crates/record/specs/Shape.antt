@@ -1,6 +1,6 @@
 -- The contracts that docs/trusted.md lists do not depend on this file; other contracts and proofs do.
 -- The table of stages and the shape of whole calls agree.
-use Rattle.std.specs.Prelude.{◌≡◌, ◌↔◌, ℕ, suc, List, [], ◌∷◌, Some, None, IsSome, slice_get}
+use Rattle.std.specs.Prelude.{◌≡◌, ◌↔◌, ℕ, List, [], ◌∷◌, Some, None, IsSome, slice_get}
 use Rattle.tag.specs.declared.tag.Tag.{Tag}
 use Rattle.phase.specs.Phase.{Phase}
 use Rattle.record.specs.declared.call.CallKind.{CallKind}
@@ -35,8 +35,8 @@ pub record IsAnsweredWhole (object : Object) (index : ℕ) (call : Call) : Type 
   pub tag : Tag
   pub tagged : tag_of object index call ≡ Some tag
   pub in_turn : AreInTurn call.phases
-  pub whole : IsSentence call.kind (suc index) (source_of object index) call.phases tag
-  pub from_base : BeginAtBase (base_at object) call.kind (suc index) (first_stage call.kind (source_of object index))
+  pub whole : IsSentence call.kind call.id (source_of object index) call.phases tag
+  pub from_base : BeginAtBase (base_at object) call.kind call.id (first_stage call.kind (source_of object index))
       call.phases
 
 -- a law: each answered call of a legal record has the phases of a whole call

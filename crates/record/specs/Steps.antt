@@ -18,7 +18,7 @@ use Rattle.mail.specs.Message.{answered}
 use Rattle.phase.specs.Phase.{Phase, begun, after_take}
 use Rattle.record.specs.declared.call.CallKind.{CallKind}
 use Rattle.record.specs.declared.call.CallKind.TheVariants.{Read, Write, Move}
-use Rattle.record.specs.Records.{Call, Object, layout_at, bank_at, base_of}
+use Rattle.record.specs.Records.{Call, Object, index_by_id, layout_at, bank_at, base_of}
 use Rattle.record.specs.Legal.{due_of}
 use Rattle.record.specs.Fragments.{Code}
 use Rattle.record.specs.Wants.{current_phase}
@@ -46,9 +46,9 @@ with_phase object index call kind position now piece =
       calls = slice_set object.calls index
           (record call {
             phases = call.phases
-                ++ new_phase (suc index) number kind position (layout_at object position) now ∷ [];
+                ++ new_phase call.id number kind position (layout_at object position) now ∷ [];
           });
-      mail = object.mail ++ requests (suc index) number kind position (layout_at object position).members 0 piece;
+      mail = object.mail ++ requests call.id number kind position (layout_at object position).members 0 piece;
     }
 
 -- the new banks of the members `member`, `member` + 1 and so on, one for each server
@@ -69,28 +69,28 @@ opened_object layout delta now = record {
 
 -- Calls
 
--- a call that begins at step `now`, before its first phase
-abbrev pub new_call : CallKind → ℕ → Call
-new_call kind now = record { kind = kind; called = now; answered = None; settled = None; phases = [] }
+-- a call with this id that begins at step `now`, before its first phase
+abbrev pub new_call : (id : ℕ) → CallKind → ℕ → Call
+new_call id kind now = record { id = id; kind = kind; called = now; answered = None; settled = None; phases = [] }
 
 -- the record after a read or a write begins, with the first phase of its first reading, at the base
-abbrev pub called_object : Object → CallKind → (now : ℕ) → Object
-called_object object kind now =
+abbrev pub called_object : Object → (id : ℕ) → CallKind → (now : ℕ) → Object
+called_object object id kind now =
     let index = length object.calls in
-    with_phase (record object { calls = object.calls ++ new_call kind now ∷ [] }) index
-    (new_call kind now) Next (base_of object) now empty_piece
+    with_phase (record object { calls = object.calls ++ new_call id kind now ∷ [] }) index
+    (new_call id kind now) Next (base_of object) now empty_piece
 
 -- the record after a move begins: it appends the next position with its banks, and begins the move's first phase
-abbrev pub moving_object : Object → Layout → (now : ℕ) → Object
-moving_object object layout now =
+abbrev pub moving_object : Object → (id : ℕ) → Layout → (now : ℕ) → Object
+moving_object object id layout now =
     let index = length object.calls in
     let last = pred (length object.layouts) in
     with_phase
     (record object {
       layouts = object.layouts ++ layout ∷ [];
       banks = object.banks ++ opened_banks layout.members 0 object.delta now ∷ [];
-      calls = object.calls ++ new_call Move now ∷ [];
-    }) index (new_call Move now) (Spread Pending) last now empty_piece
+      calls = object.calls ++ new_call id Move now ∷ [];
+    }) index (new_call id Move now) (Spread Pending) last now empty_piece
 
 -- the record after the call begins the phase that is due, if there is one
 abbrev pub begun_object : Code → Object → (index : ℕ) → Call → Option (Kind × ℕ) → (now : ℕ) → Object
@@ -136,16 +136,18 @@ taking_phases (phase ∷ next ∷ later) message now = phase ∷ taking_phases (
 abbrev pub taking_call : Message → (now : ℕ) → Call → Call
 taking_call message now call = record call { phases = taking_phases call.phases message now }
 
--- the calls after the one that the message names, if there is one, takes the message
+-- the calls after the one whose id the message names, if there is one, takes the message
 abbrev pub taken_calls : List Call → Message → (now : ℕ) → Option Call → List Call
 taken_calls calls message now None = calls
-taken_calls calls message now (Some call) = slice_set calls (pred message.call) (taking_call message now call)
+taken_calls calls message now (Some call) =
+    slice_set calls (index_by_id calls message.call) (taking_call message now call)
 
--- the record after the call that the message names takes it, and it leaves the mail
+-- the record after the call whose id the message names takes it, and it leaves the mail
 abbrev pub taken_object : Object → (place : ℕ) → Message → (now : ℕ) → Object
 taken_object object place message now =
     record object {
-      calls = taken_calls object.calls message now (slice_get object.calls (pred message.call));
+      calls = taken_calls object.calls message now
+          (slice_get object.calls (index_by_id object.calls message.call));
       mail = remove object.mail place;
     }
 
@@ -191,11 +193,12 @@ retired_object object now =
 
 -- Steps
 
--- the steps of an object; a call is named by its index, and a message by its place in the mail, both from 0
+-- the steps of an object; a call that begins gets an id, and is then named by its index, and a message by its place in
+-- the mail, both from 0
 pub data Step : Type 0 where
-  CallRead : Step
-  CallWrite : List ℕ → Step
-  CallMove : Layout → Step
+  CallRead : (id : ℕ) → Step
+  CallWrite : (id : ℕ) → List ℕ → Step
+  CallMove : (id : ℕ) → Layout → Step
   Advance : (index : ℕ) → Step
   Again : (index : ℕ) → Step
   Supply : (index : ℕ) → Step
@@ -220,9 +223,9 @@ on_message object (Some message) change = change message
 
 -- the record after a step with this number
 abbrev pub stepped : Code → Step → ℕ → Object → Object
-stepped fragment Step.CallRead now object = called_object object Read now
-stepped fragment (Step.CallWrite value) now object = called_object object (Write value) now
-stepped fragment (Step.CallMove layout) now object = moving_object object layout now
+stepped fragment (Step.CallRead id) now object = called_object object id Read now
+stepped fragment (Step.CallWrite id value) now object = called_object object id (Write value) now
+stepped fragment (Step.CallMove id layout) now object = moving_object object id layout now
 stepped fragment (Step.Advance index) now object =
     on_call object (slice_get object.calls index) (λ call. advanced_object fragment object index call now)
 stepped fragment (Step.Again index) now object =

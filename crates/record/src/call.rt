@@ -27,7 +27,7 @@ pub enum Operation {
 /// The entry of a call in the history of its object: what the client saw of the call.
 #[derive(Clone, Debug, PartialEq, Eq, Drop)]
 pub struct Entry {
-    /// The call's number in its object, from 1.
+    /// The id of the call, which no other call of its object has.
     pub call: CallId,
     /// What the call does: it reads, writes or moves.
     pub kind: Operation,
@@ -42,7 +42,7 @@ pub struct Entry {
 /// What the order by tags needs to know of a call.
 #[derive(Clone, Copy, Debug, PartialEq, Eq)]
 pub struct TaggedCall {
-    /// The call's number in its object, from 1.
+    /// The call's number in its object, from 1: its place among the object's calls.
     pub call: CallId,
     /// What the call does: it reads, writes or moves.
     pub kind: Operation,

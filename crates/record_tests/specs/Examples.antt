@@ -28,10 +28,10 @@ other_member = record { k = 1; members = 1 ∷ [] }
 -- a write of the byte 65 and then a read, each of whose messages is served and taken at once
 abbrev pub script : List Step
 script =
-    CallWrite (65 ∷ []) ∷ Serve 0 ∷ Take 0 ∷ Advance 0 ∷ Serve 0 ∷ Take 0
+    CallWrite 1 (65 ∷ []) ∷ Serve 0 ∷ Take 0 ∷ Advance 0 ∷ Serve 0 ∷ Take 0
     ∷ Supply 0 ∷ Serve 0 ∷ Take 0 ∷ Advance 0 ∷ Serve 0 ∷ Take 0
     ∷ Advance 0 ∷ Serve 0 ∷ Take 0 ∷ AnswerCall 0
-    ∷ CallRead ∷ Serve 0 ∷ Take 0 ∷ Advance 1 ∷ Serve 0 ∷ Take 0 ∷ Advance 1 ∷ Serve 0 ∷ Take 0
+    ∷ CallRead 2 ∷ Serve 0 ∷ Take 0 ∷ Advance 1 ∷ Serve 0 ∷ Take 0 ∷ Advance 1 ∷ Serve 0 ∷ Take 0
     ∷ Settle 1 (65 ∷ []) ∷ Advance 1 ∷ Serve 0 ∷ Take 0 ∷ AnswerCall 1 ∷ []
 
 -- the entries of both calls: the write has the steps 3 to 18, and the read has 19 to 32
@@ -44,14 +44,14 @@ script_entries =
 -- a write, a move to the other server, and a read that follows the pointer
 abbrev pub move_script : List Step
 move_script =
-    CallWrite (65 ∷ []) ∷ Serve 0 ∷ Take 0 ∷ Advance 0 ∷ Serve 0 ∷ Take 0
+    CallWrite 1 (65 ∷ []) ∷ Serve 0 ∷ Take 0 ∷ Advance 0 ∷ Serve 0 ∷ Take 0
     ∷ Supply 0 ∷ Serve 0 ∷ Take 0 ∷ Advance 0 ∷ Serve 0 ∷ Take 0
     ∷ Advance 0 ∷ Serve 0 ∷ Take 0 ∷ AnswerCall 0
-    ∷ CallMove other_member ∷ Serve 0 ∷ Take 0 ∷ Advance 1 ∷ Serve 0 ∷ Take 0
+    ∷ CallMove 2 other_member ∷ Serve 0 ∷ Take 0 ∷ Advance 1 ∷ Serve 0 ∷ Take 0
     ∷ Advance 1 ∷ Serve 0 ∷ Take 0 ∷ Settle 1 (65 ∷ [])
     ∷ Supply 1 ∷ Serve 0 ∷ Take 0 ∷ Advance 1 ∷ Serve 0 ∷ Take 0
     ∷ Advance 1 ∷ Serve 0 ∷ Take 0 ∷ AnswerCall 1
-    ∷ CallRead ∷ Serve 0 ∷ Take 0 ∷ Advance 2 ∷ Serve 0 ∷ Take 0
+    ∷ CallRead 3 ∷ Serve 0 ∷ Take 0 ∷ Advance 2 ∷ Serve 0 ∷ Take 0
     ∷ Advance 2 ∷ Serve 0 ∷ Take 0 ∷ Advance 2 ∷ Serve 0 ∷ Take 0
     ∷ Advance 2 ∷ Serve 0 ∷ Take 0 ∷ Settle 2 (65 ∷ [])
     ∷ Advance 2 ∷ Serve 0 ∷ Take 0 ∷ AnswerCall 2 ∷ []
@@ -67,14 +67,14 @@ move_entries =
 -- a write and a move to the other server; then the first position is retired, and a read begins at the second
 abbrev pub retire_script : List Step
 retire_script =
-    CallWrite (65 ∷ []) ∷ Serve 0 ∷ Take 0 ∷ Advance 0 ∷ Serve 0 ∷ Take 0
+    CallWrite 1 (65 ∷ []) ∷ Serve 0 ∷ Take 0 ∷ Advance 0 ∷ Serve 0 ∷ Take 0
     ∷ Supply 0 ∷ Serve 0 ∷ Take 0 ∷ Advance 0 ∷ Serve 0 ∷ Take 0
     ∷ Advance 0 ∷ Serve 0 ∷ Take 0 ∷ AnswerCall 0
-    ∷ CallMove other_member ∷ Serve 0 ∷ Take 0 ∷ Advance 1 ∷ Serve 0 ∷ Take 0
+    ∷ CallMove 2 other_member ∷ Serve 0 ∷ Take 0 ∷ Advance 1 ∷ Serve 0 ∷ Take 0
     ∷ Advance 1 ∷ Serve 0 ∷ Take 0 ∷ Settle 1 (65 ∷ [])
     ∷ Supply 1 ∷ Serve 0 ∷ Take 0 ∷ Advance 1 ∷ Serve 0 ∷ Take 0
     ∷ Advance 1 ∷ Serve 0 ∷ Take 0 ∷ AnswerCall 1 ∷ Retire
-    ∷ CallRead ∷ Serve 0 ∷ Take 0 ∷ Advance 2 ∷ Serve 0 ∷ Take 0 ∷ Advance 2 ∷ Serve 0 ∷ Take 0
+    ∷ CallRead 3 ∷ Serve 0 ∷ Take 0 ∷ Advance 2 ∷ Serve 0 ∷ Take 0 ∷ Advance 2 ∷ Serve 0 ∷ Take 0
     ∷ Settle 2 (65 ∷ []) ∷ Advance 2 ∷ Serve 0 ∷ Take 0 ∷ AnswerCall 2 ∷ []
 
 -- the entries of the three calls: step 39, after the move and before the read, retires the first position
@@ -91,11 +91,12 @@ stale_entries =
     record { call = 1; kind = operation.Write; called = 3; answered = Some 18; value = Some (65 ∷ []) }
     ∷ record { call = 2; kind = operation.Read; called = 19; answered = Some 32; value = Some [] } ∷ []
 
--- a read finds the opening tag, a write of byte 65 is answered, and then the read's fetch lacks pieces, as delta is 0
+-- a read finds the opening tag, a write of byte 65 is answered, and then the read's fetch lacks pieces, as delta is 0;
+-- the read has the id 5, and the write the id 2
 abbrev pub lacking_script : List Step
 lacking_script =
-    CallRead ∷ Serve 0 ∷ Take 0 ∷ Advance 0 ∷ Serve 0 ∷ Take 0
-    ∷ CallWrite (65 ∷ []) ∷ Serve 0 ∷ Take 0 ∷ Advance 1 ∷ Serve 0 ∷ Take 0
+    CallRead 5 ∷ Serve 0 ∷ Take 0 ∷ Advance 0 ∷ Serve 0 ∷ Take 0
+    ∷ CallWrite 2 (65 ∷ []) ∷ Serve 0 ∷ Take 0 ∷ Advance 1 ∷ Serve 0 ∷ Take 0
     ∷ Supply 1 ∷ Serve 0 ∷ Take 0 ∷ Advance 1 ∷ Serve 0 ∷ Take 0
     ∷ Advance 1 ∷ Serve 0 ∷ Take 0 ∷ AnswerCall 1
     ∷ Advance 0 ∷ Serve 0 ∷ Take 0 ∷ []
@@ -109,7 +110,7 @@ anew_script =
 -- the entries of both calls: the read has the steps 3 to 41, and the write has 9 to 24
 abbrev pub anew_entries : List Entry
 anew_entries =
-    record { call = 1; kind = operation.Read; called = 3; answered = Some 41; value = Some (65 ∷ []) }
+    record { call = 5; kind = operation.Read; called = 3; answered = Some 41; value = Some (65 ∷ []) }
     ∷ record { call = 2; kind = operation.Write; called = 9; answered = Some 24; value = Some (65 ∷ []) }
     ∷ []
 

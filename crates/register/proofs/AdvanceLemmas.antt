@@ -182,6 +182,7 @@ module _ {c : Contents} {number index : ℕ} {t : Tracked} {w : Want} (anew : Bo
         ∙ ap (λ o. on_call object o (λ call. advanced_object fragment object index call now)) (at f)
         ∙ ap (λ d. begun_object fragment object index t.call d now) (sym (due_now c f.kept index t f.there) ∙ is_due)
         ∙ with_due_is c index t kind position layout now (sent_pieces fragment object t.call position) placed
+        (f.kept.numbered index t.call (at f))
         ∙ ap (λ ms. record {
           delta = c.delta;
           layouts = layouts_of c.positions;

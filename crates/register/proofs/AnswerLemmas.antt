@@ -151,7 +151,7 @@ module _ {c : Contents} {number index : ℕ} {t : Tracked} (wanted : IsWanting c
   answered_kept : c.last < now → (moving : Bool) → moving ≡ has_open_move (calls_of (set c.calls index new)) →
       IsKept (record c { calls = set c.calls index new; is_moving = moving; last = now })
   answered_kept after moving is =
-      call_kept c index now t new c.mail moving kept wanted.found.there refl (kept.staged index t wanted.found.there)
+      call_kept c index now t new c.mail moving kept wanted.found.there refl refl (kept.staged index t wanted.found.there)
       (all_get (λ (call : Call). length call.phases ≤ MOST_PHASES) object.calls index t.call kept.limits.phases there) is
       (subst (λ (s : State). IsSound fragment s.object now) (answer_is moving)
       (steps_on c now (Step.AnswerCall (pred number)) after kept (t.call, (at_place wanted.found, wanted.wants))))

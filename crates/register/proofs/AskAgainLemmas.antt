@@ -55,7 +55,8 @@ module _ {c : Contents} {number index : ℕ} {t : Tracked} (found : IsFound c nu
   phase_call =
       let last = last_at t.call.phases phase current in
       let numbered = (found.kept.sound.legal.calls index t.call (at found)).numbered in
-      (numbered_at _ 1 t.call.phases last.place phase numbered last.within).0 ∙ found.named
+      (numbered_at _ 1 t.call.phases last.place phase numbered last.within).0
+      ∙ found.kept.numbered index t.call (at found) ∙ found.named
 
 module _ {c : Contents} {number index : ℕ} {t : Tracked} {step : Step} {cause : ℕ → Option Refusal} {coded : Option Coding}
     (a : IsAsking c number index t step cause coded) where

@@ -17,7 +17,7 @@ use Rattle.record.specs.Sending.{requests}
 use Rattle.register.specs.Causes.{unless, move_cause}
 use Rattle.register.specs.Kept.{HasRoomIfFew, IsKept}
 use Rattle.register.specs.Position.{Position}
-use Rattle.register.specs.State.{Contents, State, state_of}
+use Rattle.register.specs.State.{Contents, State, next_id, state_of}
 use Rattle.register.specs.Tracked.{Tracked, with_begun}
 use Rattle.register.proofs.BeginRefusalLemmas.{moved_cause_is, moving_fits, MayMove, may_move}
 use Rattle.register.proofs.FoundCallLemmas.{later}
@@ -29,19 +29,20 @@ pub record IsMoved (c : Contents) (now number from : ℕ) (source : Layout) (cal
   pub kept : IsKept c
   pub last : IsLast c from source
   pub numbered : number ≡ suc (length c.calls)
-  pub is_fresh : call ≡ fresh_move from now
+  pub is_fresh : call ≡ fresh_move number from now
 
 pub moved : {c : Contents} (now : ℕ) {all count : ℕ} {positions : List Position} {here : Position} {source : Layout} {stage : Stage}
     {call : Tracked}
     → IsKept c → all ≡ length c.positions → positions ≡ c.positions → here ≡ get_or positions (all - 1) here → source ≡ here.layout
-    → count ≡ length c.calls → stage ≡ first_stage Move (all - 1) → call ≡ record { call = new_call Move now; stage = stage }
+    → count ≡ length c.calls → stage ≡ first_stage Move (all - 1) → call ≡ record { call = new_call (count + 1) Move now; stage = stage }
     → IsMoved c now (count + 1) (all - 1) source call
-moved {c = c} now {all = all} {here = here} {source = source} kept all_is same read is_layout counted staged made_is = record {
-  kept = kept;
-  last = last_of c all here source kept all_is (subst (λ (ps : List Position). here ≡ get_or ps (all - 1) here) same read) is_layout;
-  numbered = omega (arith, counted);
-  is_fresh = made_is ∙ ap (λ (s : Stage). record { call = new_call Move now; stage = s }) staged;
-}
+moved {c = c} now {all = all} {count = count} {here = here} {source = source} kept all_is same read is_layout counted staged
+    made_is = record {
+      kept = kept;
+      last = last_of c all here source kept all_is (subst (λ (ps : List Position). here ≡ get_or ps (all - 1) here) same read) is_layout;
+      numbered = omega (arith, counted);
+      is_fresh = made_is ∙ ap (λ (s : Stage). record { call = new_call (count + 1) Move now; stage = s }) staged;
+    }
 
 module _ {c : Contents} {now number from : ℕ} {source : Layout} {call : Tracked} (b : IsMoved c now number from source call) where
   abbrev asked : Tracked → List Message
@@ -93,6 +94,7 @@ module _ {c : Contents} {now number from : ℕ} {source : Layout} {call : Tracke
         (moved_kept c now number from source layout b.kept b.last b.numbered (later c view after)
         (subst (λ (p : Position). IsLawful p.layout) next_is lawful) may.none may.few_positions may.call.few)
 
-    pub move_step : state_of made_of ≡ record { object = moving_object (state_of c).object layout now; last = now }
+    pub move_step : state_of made_of
+        ≡ record { object = moving_object (state_of c).object (next_id (state_of c).object) layout now; last = now }
     move_step = ap state_of same ∙ ap (λ x. record { object = x; last = now })
         (sym (moved_is c now number from source layout b.last b.numbered))

@@ -18,7 +18,7 @@ use Rattle.record.specs.Sending.{requests}
 use Rattle.register.specs.Causes.{unless, read_cause}
 use Rattle.register.specs.Kept.{HasRoomIfFew, IsKept}
 use Rattle.register.specs.Position.{Position}
-use Rattle.register.specs.State.{Contents, State, state_of}
+use Rattle.register.specs.State.{Contents, State, next_id, state_of}
 use Rattle.register.specs.Tracked.{Tracked, with_begun}
 use Rattle.register.proofs.BeginRefusalLemmas.{MayCall, may_call}
 use Rattle.register.proofs.ChangedCallLemmas.{layout_is, sound_room}
@@ -33,12 +33,13 @@ pub record IsBegun (c : Contents) (kind : CallKind) (now number : ℕ) (layout :
   pub reads : IsReading kind
   pub placed : layout_at (state_of c).object c.base ≡ layout
   pub numbered : number ≡ suc (length c.calls)
-  pub is_fresh : call ≡ fresh kind now
+  pub is_fresh : call ≡ fresh number kind now
 
 pub begun : {c : Contents} (kind : CallKind) (now : ℕ) {count : ℕ} {here : Position} {layout : Layout} {stage : Stage} {call : Tracked}
     → IsKept c → IsReading kind → here ≡ get_or c.positions c.base here → layout ≡ here.layout → count ≡ length c.calls
-    → stage ≡ first_stage kind 0 → call ≡ record { call = new_call kind now; stage = stage } → IsBegun c kind now (count + 1) layout call
-begun {c = c} kind now {here = here} kept reads read is_layout counted staged made_is = record {
+    → stage ≡ first_stage kind 0 → call ≡ record { call = new_call (count + 1) kind now; stage = stage }
+    → IsBegun c kind now (count + 1) layout call
+begun {c = c} kind now {count = count} {here = here} kept reads read is_layout counted staged made_is = record {
   kept = kept;
   reads = reads;
   placed =
@@ -46,7 +47,7 @@ begun {c = c} kind now {here = here} kept reads read is_layout counted staged ma
       (slice_get_read c.positions (length c.positions) c.base here refl (base_within c kept) read) ∙ sym is_layout;
   numbered = omega (arith, counted);
   is_fresh =
-      made_is ∙ ap (λ (s : Stage). record { call = new_call kind now; stage = s }) (staged ∙ sym (reading_first kind 0 reads));
+      made_is ∙ ap (λ (s : Stage). record { call = new_call (count + 1) kind now; stage = s }) (staged ∙ sym (reading_first kind 0 reads));
 }
 
 module _ {c : Contents} {kind : CallKind} {now number : ℕ} {layout : Layout} {call : Tracked}
@@ -55,7 +56,9 @@ module _ {c : Contents} {kind : CallKind} {now number : ℕ} {layout : Layout} {
   asked u = c.mail ++ requests number (suc (length u.call.phases)) Next c.base layout.members 0 empty_piece
 
   pub begun_may : {s : State} → state_of c ≡ s → read_cause now s.object ≡ None → MayCall c now
-  begun_may view free = may_call c Step.CallRead now (subst (λ (s : State). read_cause now s.object ≡ None) (sym view) free)
+  begun_may view free =
+      may_call c (Step.CallRead (next_id (state_of c).object)) now
+      (subst (λ (s : State). read_cause now s.object ≡ None) (sym view) free)
 
   pub begun_room : {s : State} → state_of c ≡ s → s.last < now → HasRoomIfFew (asked call)
   begun_room view after =
@@ -87,7 +90,7 @@ module _ {c : Contents} {kind : CallKind} {now number : ℕ} {layout : Layout} {
         (called_kept c kind now number layout b.kept b.reads b.placed b.numbered (later c view after) may.few)
 
     pub begun_step : state_of (record c { mail = mail; calls = pushed; last = now })
-        ≡ record { object = called_object (state_of c).object kind now; last = now }
+        ≡ record { object = called_object (state_of c).object (next_id (state_of c).object) kind now; last = now }
     begun_step =
         ap (λ ms. state_of (record c { mail = ms; calls = pushed; last = now })) mail_made
         ∙ ap (λ cs. state_of (record c { mail = reading_mail c number layout; calls = cs; last = now })) calls_made

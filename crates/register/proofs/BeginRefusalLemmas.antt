@@ -15,7 +15,7 @@ use Rattle.record.specs.Steps.{Step, moving_object, stepped}
 use Rattle.register.specs.Causes.{unless, new_call_cause, move_cause}
 use Rattle.register.specs.Kept.{has_open_move, HasRoomIfFew, IsKept}
 use Rattle.register.specs.Position.{Position}
-use Rattle.register.specs.State.{Contents, state_of}
+use Rattle.register.specs.State.{Contents, next_id, state_of}
 use Rattle.register.specs.Tracked.{Tracked}
 use Rattle.register.proofs.ChangedCallLemmas.{sound_room}
 use Rattle.register.proofs.ListLemmas.{length_map}
@@ -30,12 +30,12 @@ pub moved_cause_is : (c : Contents) (now number from : ℕ) (source layout : Lay
     → move_cause layout now (state_of c).object ≡ mail_cause (moving_mail c number from source)
 moved_cause_is c now number from source layout kept none is_last is within few_positions few =
     ap (λ b. unless (not b) MovePending (unless (nat_lt (length (state_of c).object.layouts) MOST_POSITIONS) Full
-    (new_call_cause (Step.CallMove layout) now (state_of c).object))) (sym kept.moving ∙ none)
-    ∙ ap (λ b. unless b Full (new_call_cause (Step.CallMove layout) now (state_of c).object))
+    (new_call_cause (Step.CallMove (next_id (state_of c).object) layout) now (state_of c).object))) (sym kept.moving ∙ none)
+    ∙ ap (λ b. unless b Full (new_call_cause (Step.CallMove (next_id (state_of c).object) layout) now (state_of c).object))
     (is_lt (length (state_of c).object.layouts) MOST_POSITIONS
     (subst (λ n. n < MOST_POSITIONS) (sym (length_map (λ (p : Position). p.layout) c.positions)) few_positions))
     ∙ step_within now _ within
-    ∙ ap (λ b. unless b Full (mail_cause (moving_object (state_of c).object layout now).mail))
+    ∙ ap (λ b. unless b Full (mail_cause (moving_object (state_of c).object (next_id (state_of c).object) layout now).mail))
     (is_lt (length (state_of c).object.calls) MOST_CALLS
     (subst (λ n. n < MOST_CALLS) (sym (length_map (λ (u : Tracked). u.call) c.calls)) few))
     ∙ ap (λ (o : Object). mail_cause o.mail) (moved_is c now number from source layout is_last is)
@@ -102,7 +102,7 @@ pub record MayMove (c : Contents) (now : ℕ) : Type 0 where
 pub may_move : (c : Contents) (now : ℕ) (layout : Layout) → IsKept c → move_cause layout now (state_of c).object ≡ None → MayMove c now
 may_move c now layout kept free =
     let object = (state_of c).object in
-    let begun = new_call_cause (Step.CallMove layout) now object in
+    let begun = new_call_cause (Step.CallMove (next_id object) layout) now object in
     let none = kept_unless (not (has_open_move object.calls)) MovePending
     (unless (nat_lt (length object.layouts) MOST_POSITIONS) Full begun) free in
     let few = kept_unless (nat_lt (length object.layouts) MOST_POSITIONS) Full begun none.1 in
@@ -110,5 +110,5 @@ may_move c now layout kept free =
       none = kept.moving ∙ not_true (has_open_move object.calls) none.0;
       few_positions = subst (λ n. n < MOST_POSITIONS) (length_map (λ (p : Position). p.layout) c.positions)
           (lt_of (length object.layouts) MOST_POSITIONS few.0);
-      call = may_call c (Step.CallMove layout) now few.1;
+      call = may_call c (Step.CallMove (next_id object) layout) now few.1;
     }

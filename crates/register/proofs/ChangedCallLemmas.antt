@@ -128,11 +128,21 @@ with_due c index t kind position layout now piece = record c {
 }
 
 pub with_due_is : (c : Contents) (index : ℕ) (t : Tracked) (kind : Kind) (position : ℕ) (layout : Layout) (now : ℕ) (piece : ℕ → Piece) →
-    layout_at (state_of c).object position ≡ layout →
+    layout_at (state_of c).object position ≡ layout → t.call.id ≡ suc index →
     with_phase (state_of c).object index t.call kind position now piece
     ≡ (state_of (with_due c index t kind position layout now piece)).object
-with_due_is c index t kind position layout now piece same =
-    ap (λ (l : Layout). record {
+with_due_is c index t kind position layout now piece same id =
+    ap (λ n. record {
+      delta = c.delta;
+      layouts = layouts_of c.positions;
+      banks = banks_of c.positions;
+      mail = c.mail ++ requests n (suc (length t.call.phases)) kind position (layout_at (state_of c).object position).members 0 piece;
+      calls = set (calls_of c.calls) index (record t.call {
+        phases = t.call.phases ++ new_phase n (suc (length t.call.phases)) kind position (layout_at (state_of c).object position) now
+            ∷ [];
+      });
+    }) id
+    ∙ ap (λ (l : Layout). record {
       delta = c.delta;
       layouts = layouts_of c.positions;
       banks = banks_of c.positions;
@@ -155,8 +165,8 @@ pub with_due_kept : (c : Contents) (index : ℕ) (t : Tracked) (kind : Kind) (po
     → IsKept (with_due c index t kind position layout now piece)
 with_due_kept c index t kind position layout now piece kept at few sound =
     call_kept c index now t (with_begun t (suc index) kind position layout now)
-    (c.mail ++ requests (suc index) (suc (length t.call.phases)) kind position layout.members 0 piece) c.is_moving kept at refl
-    (ap (λ (s : Stage). begun_at s position) (kept.staged index t at) ∙ sym (stage_push t.call.kind (suc index) t.call.phases
+    (c.mail ++ requests (suc index) (suc (length t.call.phases)) kind position layout.members 0 piece) c.is_moving kept at refl refl
+    (ap (λ (s : Stage). begun_at s position) (kept.staged index t at) ∙ sym (stage_push t.call.kind t.call.id t.call.phases
     (first_stage t.call.kind (source_of (state_of c).object index)) next refl))
     (subst (λ n. n ≤ MOST_PHASES) (sym (length_push t.call.phases next)) (omega (arith, few)))
     (kept.moving ∙ sym (open_moves_set c.calls index t (with_begun t (suc index) kind position layout now) at refl refl)) sound

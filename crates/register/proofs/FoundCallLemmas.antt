@@ -11,6 +11,7 @@ use Rattle.record.specs.declared.stage.Want.TheVariants as want
 use Rattle.tag.specs.declared.limits.TheConstants.{MOST_POSITIONS}
 use Rattle.tag.specs.declared.refusal.Refusal.{Refusal}
 use Rattle.tag.specs.declared.refusal.Refusal.TheVariants.{NotNow}
+use Rattle.record.specs.Journals.{entry_of}
 use Rattle.record.specs.Records.{Call}
 use Rattle.register.specs.Causes.{call_at, if_call, if_settle}
 use Rattle.register.specs.Position.{Position}
@@ -82,6 +83,11 @@ module _ {c : Contents} {number index : ℕ} {t : Tracked} (found : IsFound c nu
 
   pub again : {old : Tracked} → old ≡ get_or c.calls index old → IsFound c number index old
   again read = subst (λ (u : Tracked). IsFound c number index u) (same read) found
+
+  -- its entry, which has its number
+  pub entry_is : option_map (entry_of number) (call_at (state_of c).object number) ≡ Some (entry_of t.call.id t.call)
+  entry_is = ap (option_map (entry_of number)) at_number
+      ∙ ap (λ n. Some (entry_of n t.call)) (sym (found.kept.numbered index t.call at ∙ found.named))
 
   pub caused : (cause : Call → Option Refusal) → if_call (call_at (state_of c).object number) cause ≡ cause t.call
   caused cause = ap (λ o. if_call o cause) at_number

@@ -9,10 +9,10 @@ use Rattle.record.specs.Wants.{current_phase}
 use Rattle.record.specs.declared.stage.Want.{Want}
 use Rattle.record.specs.declared.stage.Want.TheVariants as want
 use Rattle.register.specs.Causes.{pieces_cause, if_settle}
-use Rattle.register.specs.Coding.{piece_by, listed, pieces_below, least_of}
+use Rattle.register.specs.Coding.{piece_by, piece_list, pieces_below, least_of}
 use Rattle.register.specs.State.{Contents, state_of}
 use Rattle.register.specs.Tracked.{Tracked}
-use Rattle.register.specs.View.{pieces_at, pieces_of}
+use Rattle.register.specs.View.{fetched_pieces, pieces_of}
 use Rattle.register.proofs.CallViewLemmas.{truth}
 use Rattle.register.proofs.FoundCallLemmas.{IsWanting, at_number, caused}
 use Rattle.register.proofs.SettleLemmas.{k_is}
@@ -32,10 +32,6 @@ take_full zero xs ys full = refl
 take_full (suc k) [] ys full = absurd (omega (arith, full))
 take_full (suc k) (x ∷ xs) ys full = ap (λ zs. x ∷ zs) (take_full k xs ys (omega (arith, full)))
 
-nil_end : {X : Type 0} (xs : List X) → xs ++ [] ≡ xs
-nil_end [] = refl
-nil_end (x ∷ xs) = ap (λ ys. x ∷ ys) (nil_end xs)
-
 -- one more member
 pub least_pushed : (k member : ℕ) (replies : List Taken) (items : List Piece) (piece : Piece) → items ≡ take k (pieces_below replies member)
     → length items < k
@@ -43,20 +39,14 @@ pub least_pushed : (k member : ℕ) (replies : List Taken) (items : List Piece) 
 least_pushed k member replies items piece is less by =
     ap (λ xs. xs ++ piece ∷ []) is
     ∙ sym (take_push k (pieces_below replies member) piece (subst (λ (xs : List Piece). length xs < k) is less))
-    ∙ ap (λ o. take k (pieces_below replies member ++ listed o)) by
+    ∙ ap (λ o. take k (pieces_below replies member ++ piece_list o)) by
 
 pub least_full : (k member : ℕ) (replies : List Taken) (items : List Piece) → items ≡ take k (pieces_below replies member)
     → k ≤ length items
     → items ≡ take k (pieces_below replies (suc member))
 least_full k member replies items is full =
-    is ∙ sym (take_full k (pieces_below replies member) (listed (piece_by replies member))
+    is ∙ sym (take_full k (pieces_below replies member) (piece_list (piece_by replies member))
     (subst (λ (xs : List Piece). k ≤ length xs) is full))
-
-pub least_none : (k member : ℕ) (replies : List Taken) (items : List Piece) → items ≡ take k (pieces_below replies member)
-    → None ≡ piece_by replies member
-    → items ≡ take k (pieces_below replies (suc member))
-least_none k member replies items is none =
-    is ∙ ap (take k) (sym (nil_end (pieces_below replies member))) ∙ ap (λ o. take k (pieces_below replies member ++ listed o)) none
 
 pub pieces_cause_is : {c : Contents} {number index : ℕ} {t : Tracked} {w : Want} → IsWanting c number index t w
     → pieces_cause (state_of c).object number ≡ if_settle w None
@@ -64,7 +54,8 @@ pieces_cause_is wanted = caused wanted.found _ ∙ ap (λ v. if_settle v None) w
 
 pub pieces_are : {c : Contents} {number index : ℕ} {t : Tracked} {k len : ℕ} {phase : Phase}
     → IsWanting c number index t (want.Settle k len)
-    → current_phase t.call.phases ≡ Some phase → pieces_at (state_of c).object number ≡ take k (pieces_below phase.replies phase.members)
+    → current_phase t.call.phases ≡ Some phase
+    → fetched_pieces (state_of c).object number ≡ take k (pieces_below phase.replies phase.members)
 pieces_are {c = c} {t = t} {k = k} {phase = phase} wanted current =
     ap (pieces_of (state_of c).object) (at_number wanted.found)
     ∙ ap (least_of (state_of c).object) current

@@ -74,10 +74,6 @@ pub set_push : {X : Type 0} (xs : List X) (x y : X) → set (xs ++ x ∷ []) (le
 set_push [] x y = refl
 set_push (z ∷ zs) x y = ap (λ ws. z ∷ ws) (set_push zs x y)
 
-pub found_push : {X : Type 0} (xs : List X) (x : X) → slice_get (xs ++ x ∷ []) (length xs) ≡ Some x
-found_push [] x = refl
-found_push (y ∷ ys) x = found_push ys x
-
 -- what holds of each element
 
 pub all_found : {X : Type 0} (P : X → Type 0) (xs : List X) (i : ℕ) (x : X) → AllByRecursion P xs → slice_get xs i ≡ Some x → P x

@@ -1,5 +1,5 @@
 -- Messages that are lost or repeated.
-use Rattle.std.proofs.Common.{◌≡◌, ℕ, ◌<◌, List, [], ◌∷◌, ◌++◌, length, slice_get, Some, None, sym, ap, subst, ◌∙◌}
+use Rattle.std.proofs.Common.{◌≡◌, ℕ, ◌<◌, List, [], ◌∷◌, ◌++◌, length, slice_get, Some, sym, ap, subst, ◌∙◌}
 use Rattle.std.specs.List.{remove}
 use Rattle.encoder.specs.Fragment.{fragment}
 use Rattle.mail.specs.declared.message.Message.{Message}
@@ -16,9 +16,6 @@ pub losing_keeps : (c : Contents) (place now : ℕ) → c.last < now → IsKept 
     → IsKept (record c { mail = remove c.mail place; last = now })
 losing_keeps c place now after kept within =
     mail_kept c (remove c.mail place) now kept (steps_on c now (Step.Lose place) after kept (found c.mail place within))
-
-pub lose_cause_none : (mail : List Message) (place : ℕ) → place < length mail → if_message (slice_get mail place) (λ message. None) ≡ None
-lose_cause_none mail place within = let there = found mail place within in ap (λ m. if_message m (λ message. None)) there.1
 
 -- what is repeated, by the message that is there
 repeated_is : (mail : List Message) (place : ℕ) (m : Message) → slice_get mail place ≡ Some m → repeated mail place ≡ mail ++ m ∷ []

@@ -1,5 +1,5 @@
 -- Lists that a loop over the members makes.
-use Rattle.std.proofs.Common.{◌≡◌, ◌≢◌, ℕ, zero, suc, ◌+◌, ◌≤◌, ◌==◌, ◌&&◌, ◌||◌, Bool, true, false, cond, List, [], ◌∷◌, ◌++◌, length}
+use Rattle.std.proofs.Common.{◌≡◌, ◌≢◌, ℕ, zero, suc, ◌+◌, ◌==◌, ◌&&◌, ◌||◌, Bool, true, false, cond, List, [], ◌∷◌, ◌++◌, length}
 use Rattle.std.proofs.Common.{drop, slice_get, Option, Some, sym, ap, ◌∙◌, refl, arith}
 use Rattle.std.proofs.lemmas.Bool.{eqb-true}
 use Rattle.piece.specs.declared.piece.Piece.{Piece}
@@ -185,13 +185,6 @@ waits_behind call phase member (suc from) [] others = absurd others
 waits_behind call phase member (suc from) (m ∷ mail) others =
     ap (λ b. b || waits mail call phase member) (not_of call phase member m others.0)
     ∙ waits_behind call phase member from mail others.1
-
-pub waits_end : (mail : List Message) (call phase member place : ℕ) → length mail ≤ place
-    → waits (drop place mail) call phase member ≡ false
-waits_end [] call phase member zero past = refl
-waits_end [] call phase member (suc place) past = refl
-waits_end (x ∷ xs) call phase member zero past = absurd (omega (arith, past))
-waits_end (x ∷ xs) call phase member (suc place) past = waits_end xs call phase member place (omega (arith, past))
 
 -- the same requests, by the numbers that a phase has
 pub same_requests : (mail : List Message) (replies : List Taken) (call : ℕ) (n m : ℕ) (j k : Kind) (p q : ℕ) (servers : List ℕ)

@@ -24,22 +24,22 @@ use Rattle.record.specs.Steps.{Step, new_call, opened_banks, moving_object}
 use Rattle.record.specs.Sending.{requests}
 use Rattle.register.specs.Kept.{is_open_move, has_open_move, IsKept}
 use Rattle.register.specs.Position.{Position, layouts_of, banks_of, all_bytes}
-use Rattle.register.specs.State.{Contents, state_of}
+use Rattle.register.specs.State.{Contents, next_id, state_of}
 use Rattle.register.specs.Tracked.{Tracked, calls_of, with_begun}
 use Rattle.register.proofs.ListLemmas.{found_map, map_push, set_push, length_map, length_push, all_pushed}
-use Rattle.register.proofs.StepInvariantLemmas.{steps_on}
+use Rattle.register.proofs.StepInvariantLemmas.{steps_on, next_is_new}
 use Rattle.register.proofs.ChangedCallLemmas.{any_push, none_any}
 use Rattle.register.proofs.FirstReadingLemmas.{first_push}
 use Rattle.register.proofs.OpenedObjectLemmas.{opened_banks_bytes, bytes_push, opened_unretired}
-use Rattle.register.proofs.NewReadOrWriteLemmas.{moves_push}
+use Rattle.register.proofs.NewReadOrWriteLemmas.{moves_push, numbered_push}
 use Rattle.register.proofs.LastPositionLemmas.{IsLast, pred_is}
 
 -- a move before its first phase, and with it
-abbrev pub fresh_move : (from now : ℕ) → Tracked
-fresh_move from now = record { call = new_call Move now; stage = MoveSpread from }
+abbrev pub fresh_move : (id from now : ℕ) → Tracked
+fresh_move id from now = record { call = new_call id Move now; stage = MoveSpread from }
 
 abbrev pub mover : (number from : ℕ) → Layout → (now : ℕ) → Tracked
-mover number from source now = with_begun (fresh_move from now) number (Spread Pending) from source now
+mover number from source now = with_begun (fresh_move number from now) number (Spread Pending) from source now
 
 abbrev pub next_position : Layout → (delta : Option ℕ) → (now : ℕ) → Position
 next_position layout delta now = record { layout = layout; banks = opened_banks layout.members 0 delta now }
@@ -102,11 +102,12 @@ built c layout now from source number = record {
   layouts = layouts_of c.positions ++ layout ∷ [];
   banks = banks_of c.positions ++ opened_banks layout.members 0 c.delta now ∷ [];
   mail = moving_mail c number from source;
-  calls = set (calls_of c.calls ++ new_call Move now ∷ []) (length (calls_of c.calls)) (mover number from source now).call;
+  calls = set (calls_of c.calls ++ new_call number Move now ∷ []) (length (calls_of c.calls)) (mover number from source now).call;
 }
 
 pub moved_is : (c : Contents) (now number from : ℕ) (source layout : Layout) → IsLast c from source → number ≡ suc (length c.calls) →
-    moving_object (state_of c).object layout now ≡ (state_of (with_moving c number from source layout now)).object
+    moving_object (state_of c).object (next_id (state_of c).object) layout now
+    ≡ (state_of (with_moving c number from source layout now)).object
 moved_is c now number from source layout is_last is =
     ap (λ p. built c layout now p (get_or (layouts_of c.positions ++ layout ∷ []) p no_layout) (suc (length (calls_of c.calls)))) from_is
     ∙ ap (λ l. built c layout now from l (suc (length (calls_of c.calls)))) source_is
@@ -117,7 +118,7 @@ moved_is c now number from source layout is_last is =
       banks = banks_of c.positions ++ opened_banks layout.members 0 c.delta now ∷ [];
       mail = moving_mail c number from source;
       calls = cs;
-    }) (set_push (calls_of c.calls) (new_call Move now) (mover number from source now).call
+    }) (set_push (calls_of c.calls) (new_call number Move now) (mover number from source now).call
     ∙ sym (map_push (λ (u : Tracked). u.call) c.calls (mover number from source now)))
     ∙ ap (λ ls. record {
       delta = c.delta;
@@ -171,7 +172,8 @@ module _ (c : Contents) (now number from : ℕ) (source layout : Layout) (kept :
   pub moved_sound : IsSound fragment (state_of (with_moving c number from source layout now)).object now
   moved_sound =
       subst (λ o. IsSound fragment o now) (moved_is c now number from source layout is_last is)
-      (steps_on c now (Step.CallMove layout) after kept (lawful, no_open c kept none))
+      (steps_on c now (Step.CallMove (next_id (state_of c).object) layout) after kept
+      (next_is_new c kept, lawful, no_open c kept none))
 
   abbrev new : Tracked
   new = mover number from source now
@@ -201,7 +203,7 @@ module _ (c : Contents) (now number from : ℕ) (source layout : Layout) (kept :
   staged : (i : ℕ) (u : Tracked) → (slice_get c.calls i ≡ Some u) ⊎ ((i ≡ length c.calls) × (new ≡ u)) → u.stage ≡ stage_of later i u.call
   staged i u (inl found) =
       let within = slice_get_within c.calls i u found in
-      kept.staged i u found ∙ ap (λ m. stage_after u.call.kind (suc i) (first_stage u.call.kind m) u.call.phases)
+      kept.staged i u found ∙ ap (λ m. stage_after u.call.kind u.call.id (first_stage u.call.kind m) u.call.phases)
       (sym (same_source i (omega (arith, within))))
   staged i u (inr here) = subst (λ (u : Tracked). u.stage ≡ stage_of later i u.call) here.1
       (ap MoveSpread (from_moves i here.0))
@@ -227,6 +229,7 @@ module _ (c : Contents) (now number from : ℕ) (source layout : Layout) (kept :
     based = kept.based ∙ sym (ap retired_first (map_push (λ (p : Position). p.banks) c.positions (next_position layout c.delta now))
         ∙ first_push (banks_of c.positions) (opened_banks layout.members 0 c.delta now)
         (opened_unretired layout.members 0 c.delta now));
+    numbered = λ i call e. numbered_push c number new.call kept.numbered is refl i call (subst (λ cs. slice_get cs i ≡ Some call) pushed e);
     staged = λ i u e. staged i u (get_pushed c.calls new u i e);
     moving = sym (ap has_open_move pushed ∙ any_push is_open_move (calls_of c.calls) new.call ∙ or_true (has_open_move (calls_of c.calls)));
     stored = kept.stored ∙ sym stored_same;

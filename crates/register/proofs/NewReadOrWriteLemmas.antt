@@ -21,10 +21,10 @@ use Rattle.record.specs.Steps.{Step, new_call, called_object}
 use Rattle.record.specs.Sending.{requests}
 use Rattle.register.specs.Kept.{is_open_move, has_open_move, IsKept}
 use Rattle.register.specs.Position.{Position, layouts_of, banks_of}
-use Rattle.register.specs.State.{Contents, state_of}
+use Rattle.register.specs.State.{Contents, HasNumbersAsIds, next_id, state_of}
 use Rattle.register.specs.Tracked.{Tracked, calls_of, with_begun}
 use Rattle.register.proofs.ListLemmas.{map_push, set_push, length_map, length_push, all_pushed}
-use Rattle.register.proofs.StepInvariantLemmas.{steps_on}
+use Rattle.register.proofs.StepInvariantLemmas.{steps_on, next_is_new}
 use Rattle.register.proofs.ChangedCallLemmas.{any_push}
 use Rattle.register.proofs.RoomLemmas.{le_of, is_lt, not_lt, sum_few, step_within, step_past}
 use Rattle.register.specs.Causes.{unless, if_step}
@@ -38,11 +38,11 @@ abbrev pub IsReading : CallKind → Type 0
 IsReading kind = (kind ≡ Read) ⊎ ((value : List ℕ) × (kind ≡ Write value) × IsValue value)
 
 -- a call before its first phase, and with it
-abbrev pub fresh : CallKind → (now : ℕ) → Tracked
-fresh kind now = record { call = new_call kind now; stage = ReadBegin }
+abbrev pub fresh : (id : ℕ) → CallKind → (now : ℕ) → Tracked
+fresh id kind now = record { call = new_call id kind now; stage = ReadBegin }
 
 abbrev pub reading : CallKind → (number base : ℕ) → Layout → (now : ℕ) → Tracked
-reading kind number base layout now = with_begun (fresh kind now) number Next base layout now
+reading kind number base layout now = with_begun (fresh number kind now) number Next base layout now
 
 abbrev pub with_reading : Contents → CallKind → (number : ℕ) → Layout → (now : ℕ) → Contents
 with_reading c kind number layout now = record c {
@@ -58,12 +58,12 @@ built c kind now base layout number = record {
   layouts = layouts_of c.positions;
   banks = banks_of c.positions;
   mail = c.mail ++ requests number 1 Next base layout.members 0 empty_piece;
-  calls = set (calls_of c.calls ++ new_call kind now ∷ []) (length (calls_of c.calls)) (reading kind number base layout now).call;
+  calls = set (calls_of c.calls ++ new_call number kind now ∷ []) (length (calls_of c.calls)) (reading kind number base layout now).call;
 }
 
 pub called_is : (c : Contents) (kind : CallKind) (now number : ℕ) (layout : Layout) → c.base ≡ base_of (state_of c).object
     → layout_at (state_of c).object c.base ≡ layout → number ≡ suc (length c.calls) →
-    called_object (state_of c).object kind now ≡ (state_of (with_reading c kind number layout now)).object
+    called_object (state_of c).object (next_id (state_of c).object) kind now ≡ (state_of (with_reading c kind number layout now)).object
 called_is c kind now number layout based same is =
     ap (λ b. built c kind now b (layout_at (state_of c).object b) (suc (length (calls_of c.calls)))) (sym based)
     ∙ ap (λ (l : Layout). built c kind now c.base l (suc (length (calls_of c.calls)))) same
@@ -74,7 +74,7 @@ called_is c kind now number layout based same is =
       banks = banks_of c.positions;
       mail = c.mail ++ requests number 1 Next c.base layout.members 0 empty_piece;
       calls = cs;
-    }) (set_push (calls_of c.calls) (new_call kind now) (reading kind number c.base layout now).call
+    }) (set_push (calls_of c.calls) (new_call number kind now) (reading kind number c.base layout now).call
     ∙ sym (map_push (λ (u : Tracked). u.call) c.calls (reading kind number c.base layout now)))
 
 -- sources of the calls before one more
@@ -84,6 +84,17 @@ moves_push [] call zero h = refl
 moves_push [] call (suc i) h = absurd (omega arith)
 moves_push (c ∷ calls) call zero h = refl
 moves_push (c ∷ calls) call (suc i) h = ap (λ m. cond (is_move c.kind) (suc m) m) (moves_push calls call i (omega arith))
+
+-- and ids of the calls with one more
+pub numbered_push : (c : Contents) (number : ℕ) (new : Call) → HasNumbersAsIds (state_of c).object → number ≡ suc (length c.calls)
+    → new.id ≡ number → (i : ℕ) (call : Call) → slice_get (calls_of c.calls ++ new ∷ []) i ≡ Some call → call.id ≡ suc i
+numbered_push c number new numbered is id i call e = go (get_pushed (calls_of c.calls) new call i e)
+  where
+    go : (slice_get (calls_of c.calls) i ≡ Some call) ⊎ ((i ≡ length (calls_of c.calls)) × (new ≡ call)) → call.id ≡ suc i
+    go (inl there) = numbered i call there
+    go (inr here) =
+        sym (ap (λ (d : Call). d.id) here.1) ∙ id ∙ is
+        ∙ ap suc (sym (here.0 ∙ length_map (λ (u : Tracked). u.call) c.calls))
 
 pub reading_first : (kind : CallKind) (moves : ℕ) → IsReading kind → ReadBegin ≡ first_stage kind moves
 reading_first kind moves (inl is) = ap (λ k. first_stage k moves) (sym is)
@@ -98,12 +109,15 @@ module _ (c : Contents) (kind : CallKind) (now number : ℕ) (layout : Layout) (
   pub called_sound : IsSound fragment (state_of (with_reading c kind number layout now)).object now
   called_sound = subst (λ o. IsSound fragment o now) (called_is c kind now number layout kept.based same is) (go is_reading)
     where
-      go : IsReading kind → IsSound fragment (called_object (state_of c).object kind now) now
-      go (inl read) = subst (λ k. IsSound fragment (called_object (state_of c).object k now) now) (sym read)
-          (steps_on c now Step.CallRead after kept tt)
+      next : ℕ
+      next = next_id (state_of c).object
+
+      go : IsReading kind → IsSound fragment (called_object (state_of c).object next kind now) now
+      go (inl read) = subst (λ k. IsSound fragment (called_object (state_of c).object next k now) now) (sym read)
+          (steps_on c now (Step.CallRead next) after kept (next_is_new c kept))
       go (inr write) =
-          subst (λ k. IsSound fragment (called_object (state_of c).object k now) now) (sym write.1)
-          (steps_on c now (Step.CallWrite write.0) after kept write.2)
+          subst (λ k. IsSound fragment (called_object (state_of c).object next k now) now) (sym write.1)
+          (steps_on c now (Step.CallWrite next write.0) after kept (next_is_new c kept, write.2))
 
   abbrev new : Tracked
   new = reading kind number c.base layout now
@@ -122,7 +136,7 @@ module _ (c : Contents) (kind : CallKind) (now number : ℕ) (layout : Layout) (
   staged : (i : ℕ) (u : Tracked) → (slice_get c.calls i ≡ Some u) ⊎ ((i ≡ length c.calls) × (new ≡ u)) → u.stage ≡ stage_of later i u.call
   staged i u (inl found) =
       let within = slice_get_within c.calls i u found in
-      kept.staged i u found ∙ ap (λ m. stage_after u.call.kind (suc i) (first_stage u.call.kind m) u.call.phases)
+      kept.staged i u found ∙ ap (λ m. stage_after u.call.kind u.call.id (first_stage u.call.kind m) u.call.phases)
       (sym (same_source i (omega (arith, within))))
   staged i u (inr here) = subst (λ (u : Tracked). u.stage ≡ stage_of later i u.call) here.1
       (ap (λ s. begun_at s c.base) (reading_first kind (source_of later i) is_reading))
@@ -139,6 +153,7 @@ module _ (c : Contents) (kind : CallKind) (now number : ℕ) (layout : Layout) (
       stored = kept.limits.stored;
     };
     based = kept.based;
+    numbered = λ i call e. numbered_push c number new.call kept.numbered is refl i call (subst (λ cs. slice_get cs i ≡ Some call) pushed e);
     staged = λ i u e. staged i u (get_pushed c.calls new u i e);
     moving = kept.moving ∙ sym (ap has_open_move pushed ∙ any_push is_open_move (calls_of c.calls) new.call
         ∙ ap (λ b. has_open_move (calls_of c.calls) || (b && true)) (reading_stays kind is_reading)
@@ -160,7 +175,7 @@ some_position c kept =
 -- why the call is refused
 abbrev pub reading_cause : Object → CallKind → (now : ℕ) → Option Refusal
 reading_cause object kind now = if_step now (unless (nat_lt (length object.calls) MOST_CALLS) Full
-    (mail_cause (called_object object kind now).mail))
+    (mail_cause (called_object object (next_id object) kind now).mail))
 
 -- past the limit of steps
 pub reading_past : (object : Object) (kind : CallKind) (now : ℕ) → MOST_STEPS < now → reading_cause object kind now ≡ Some Full
@@ -172,14 +187,16 @@ reading_mail c number layout = c.mail ++ requests number 1 Next c.base layout.me
 pub many_calls : (c : Contents) (kind : CallKind) (now : ℕ) → now ≤ MOST_STEPS → MOST_CALLS ≤ length c.calls
     → reading_cause (state_of c).object kind now ≡ Some Full
 many_calls c kind now within many =
-    step_within now _ within ∙ ap (λ b. unless b Full (mail_cause (called_object (state_of c).object kind now).mail))
+    step_within now _ within
+    ∙ ap (λ b. unless b Full (mail_cause (called_object (state_of c).object (next_id (state_of c).object) kind now).mail))
     (not_lt (length (calls_of c.calls)) MOST_CALLS (subst (λ n. MOST_CALLS ≤ n) (sym (length_map (λ (u : Tracked). u.call) c.calls)) many))
 
 pub reading_cause_is : (c : Contents) (kind : CallKind) (now number : ℕ) (layout : Layout) → c.base ≡ base_of (state_of c).object
     → layout_at (state_of c).object c.base ≡ layout → number ≡ suc (length c.calls) →
     now ≤ MOST_STEPS → length c.calls < MOST_CALLS → reading_cause (state_of c).object kind now ≡ mail_cause (reading_mail c number layout)
 reading_cause_is c kind now number layout based same is within few =
-    step_within now _ within ∙ ap (λ b. unless b Full (mail_cause (called_object (state_of c).object kind now).mail))
+    step_within now _ within
+    ∙ ap (λ b. unless b Full (mail_cause (called_object (state_of c).object (next_id (state_of c).object) kind now).mail))
     (is_lt (length (calls_of c.calls)) MOST_CALLS (subst (λ n. n < MOST_CALLS) (sym (length_map (λ (u : Tracked). u.call) c.calls)) few))
     ∙ ap (λ (o : Object). mail_cause o.mail) (called_is c kind now number layout based same is)
 

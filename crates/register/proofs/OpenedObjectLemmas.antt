@@ -9,12 +9,9 @@ use Rattle.bank.proofs.BankBytesLemmas.{opened_bytes}
 use Rattle.record.specs.Records.{no_bank}
 use Rattle.record.specs.Steps.{opened_banks}
 use Rattle.soundness.proofs.Sound.OpenedObjectLemmas.{opening_sound}
-use Rattle.register.specs.Position.{Position, banks_bytes, all_bytes}
+use Rattle.register.specs.Position.{banks_bytes, all_bytes}
 use Rattle.register.specs.Kept.{IsKept}
 use Rattle.register.proofs.FragmentCodeLemmas.{fragments_are_code}
-
-pub opened_position : Layout → Option ℕ → ℕ → Position
-opened_position layout delta now = record { layout = layout; banks = opened_banks layout.members 0 delta now }
 
 -- open banks store nothing
 pub opened_banks_bytes : (servers : List ℕ) (member : ℕ) (delta : Option ℕ) (now : ℕ)
@@ -59,6 +56,7 @@ opened_keeps layout delta now lawful = record {
     stored = omega (arith, none);
   };
   based = sym (ap (λ (o : Option ℕ). cond (is_some o) 1 0) (opened_unretired layout.members 0 delta now));
+  numbered = λ index call at. absurd (cc);
   staged = λ index t at. absurd (cc);
   moving = refl;
   stored = sym none;

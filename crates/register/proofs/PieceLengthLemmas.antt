@@ -1,5 +1,5 @@
 -- No piece is longer than a value may be.
-use Rattle.std.proofs.Common.{◌≡◌, ℕ, zero, suc, ◌+◌, ◌*◌, ◌<◌, ◌≤◌, ◌||◌, Bool, true, false, cond, List, [], ◌∷◌, ◌++◌, length, Option}
+use Rattle.std.proofs.Common.{◌≡◌, ℕ, zero, suc, ◌+◌, ◌*◌, ◌<◌, ◌≤◌, List, [], ◌∷◌, length, Option}
 use Rattle.std.proofs.Common.{Some, None, sym, subst, inl, inr, refl, arith}
 use Rattle.std.specs.List.{AllByRecursion}
 use Rattle.std.proofs.lemmas.Grind.{div_ceil_times}
@@ -7,7 +7,6 @@ use Rattle.tag.specs.declared.limits.TheConstants.{LONGEST_VALUE, MOST_BYTES, MO
 use Rattle.tag.specs.declared.tag.Tag.{Tag}
 use Rattle.piece.specs.declared.piece.Piece.{Piece}
 use Rattle.encoder.specs.Fragment.{fragment, fragment_len}
-use Rattle.encoder.specs.Coded.{Coding}
 use Rattle.encoder.proofs.ColumnLemmas.{length-fragment}
 use Rattle.layout.specs.Layout.{Layout, IsLawful}
 use Rattle.bank.specs.Answer.{answer_bytes}
@@ -29,9 +28,6 @@ use Rattle.record.specs.Knowledge.{IsTruePhase}
 use Rattle.record.specs.Fragments.{IsCoded, IfCoded, body_tag, body_piece, answer_tag, answer_piece}
 use Rattle.record.specs.Journals.{IsJournaled}
 use Rattle.soundness.specs.Sound.{IsSound, IsPosted}
-use Rattle.layout.specs.Quorum.{has}
-use Rattle.record.specs.Sending.{request_to, requests, missing, waits}
-use Rattle.register.specs.Coding.{HavePieces, piece_from}
 use Rattle.register.specs.Kept.{HasRoomIfFew}
 use Rattle.register.proofs.ListLemmas.{all_found, found, found_or}
 
@@ -148,10 +144,6 @@ mail_short object step sound = go object.mail sound.mail sound.coded.mail
 
 -- so a mail has room for the pieces of as many short messages as may wait
 
-pub all_append : {X : Type 0} (P : X → Type 0) (xs ys : List X) → AllByRecursion P xs → AllByRecursion P ys → AllByRecursion P (xs ++ ys)
-all_append P [] ys first second = second
-all_append P (x ∷ xs) ys first second = (first.0, all_append P xs ys first.1 second)
-
 pub few_have_room : (messages : List Message) → AllByRecursion (λ m. message_bytes m ≤ LONGEST_VALUE) messages → HasRoomIfFew messages
 few_have_room messages short few = let fit = pieces_fit messages few short in omega (arith, fit)
 
@@ -159,39 +151,3 @@ pub reply_has_room : (object : Object) (step : ℕ) → IsSound fragment object 
     → bytes ≤ LONGEST_VALUE → mail_bytes object.mail + bytes ≤ MOST_BYTES
 reply_has_room object step sound few bytes short = let fit =
     pieces_fit object.mail few (mail_short object step sound) in omega (arith, fit, short)
-
--- the requests of a phase are short
-
-request_short : (k : Kind) (members member : ℕ) (coded : Option Coding) → HavePieces k members coded
-    → ((c : Coding) → coded ≡ Some c → (1 ≤ c.k) × (length c.value ≤ LONGEST_VALUE))
-    → request_bytes (request_to k (piece_from coded member)) ≤ LONGEST_VALUE
-request_short (kind.PreWrite tag) members member None have lawful = absurd have
-request_short (kind.PreWrite tag) members member (Some c) have lawful =
-    let known = lawful c refl in
-    let short = fragment_short c.value c.k member known.0 in
-    omega (arith, short, known.1)
-request_short kind.Next members member coded have lawful = omega arith
-request_short (kind.Spread status) members member coded have lawful = omega arith
-request_short kind.Query members member coded have lawful = omega arith
-request_short (kind.Finalize tag) members member coded have lawful = omega arith
-request_short (kind.Fetch tag) members member coded have lawful = omega arith
-
-pub requests_short : (call phase : ℕ) (k : Kind) (position members : ℕ) (servers : List ℕ) (member : ℕ) (coded : Option Coding)
-    → HavePieces k members coded
-    → ((c : Coding) → coded ≡ Some c → (1 ≤ c.k) × (length c.value ≤ LONGEST_VALUE))
-    → AllByRecursion (λ m. message_bytes m ≤ LONGEST_VALUE) (requests call phase k position servers member (piece_from coded))
-requests_short call phase k position members [] member coded have lawful = tt
-requests_short call phase k position members (s ∷ ss) member coded have lawful =
-    (request_short k members member coded have lawful, requests_short call phase k position members ss (suc member) coded have lawful)
-
-pub missing_short : (mail : List Message) (replied : List ℕ) (messages : List Message)
-    → AllByRecursion (λ m. message_bytes m ≤ LONGEST_VALUE) messages
-    → AllByRecursion (λ m. message_bytes m ≤ LONGEST_VALUE) (missing mail replied messages)
-missing_short mail replied [] short = tt
-missing_short mail replied (m ∷ ms) short = either (has replied m.member || waits mail m.call m.phase m.member)
-    (missing_short mail replied ms short.1)
-  where
-    either : (b : Bool) → AllByRecursion (λ m. message_bytes m ≤ LONGEST_VALUE) (missing mail replied ms)
-        → AllByRecursion (λ m. message_bytes m ≤ LONGEST_VALUE) (cond b (missing mail replied ms) (m ∷ missing mail replied ms))
-    either true rest = rest
-    either false rest = (short.0, rest)

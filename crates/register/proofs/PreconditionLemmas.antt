@@ -21,7 +21,7 @@ use Rattle.register.specs.Causes.{unless, if_call, if_message, if_settle, call_a
 use Rattle.register.specs.Causes.{is_decoded_in, served_cause, supplied_cause, taken_cause}
 use Rattle.register.specs.Coding.{is_decoded_from, pieces_due}
 use Rattle.register.specs.Kept.{IsKept, has_open_move}
-use Rattle.register.specs.State.{Contents, state_of}
+use Rattle.register.specs.State.{Contents, next_id, state_of}
 use Rattle.register.specs.Tracked.{Tracked}
 use Rattle.register.specs.declared.act.Act.{Act}
 use Rattle.register.specs.declared.act.Act.TheVariants as act
@@ -33,6 +33,7 @@ use Rattle.register.proofs.PostLemmas.{plain_phase, no_pre}
 use Rattle.register.proofs.RoomLemmas.{le_of}
 use Rattle.register.proofs.SentPieceLemmas.{takes}
 use Rattle.register.proofs.SettleLemmas.{k_is, may_settle}
+use Rattle.register.proofs.StepInvariantLemmas.{next_is_new}
 
 -- where nothing refuses, the condition holds, and no later cause refuses
 pub passed : (holds : Bool) (refusal : Refusal) (later : Option Refusal) → unless holds refusal later ≡ None
@@ -138,12 +139,19 @@ module _ (c : Contents) (kept : IsKept c) where
       record { call = t.call; takes = takes (record { found = found; due = is }) }
 
   -- an act
-  pub may_act : (now : ℕ) (a : Act) → HasLawfulValues a → act_cause a now object ≡ None → MayStep fragment object (step_of a)
-  may_act now act.CallRead lawful none = tt
-  may_act now (act.CallWrite value) bytes none =
-      (bytes, le_of (length value) LONGEST_VALUE (passed (nat_le (length value) LONGEST_VALUE) _ _ none).0)
-  may_act now (act.CallMove layout) lawful none =
-      (lawful, none_open object (not_true (has_open_move object.calls) (passed (not (has_open_move object.calls)) _ _ none).0))
+  pub may_act : (now : ℕ) (a : Act) → HasLawfulValues a → act_cause a now object ≡ None
+      → MayStep fragment object (step_of (next_id object) a)
+  may_act now act.CallRead lawful none = next_is_new c kept
+  may_act now (act.CallWrite value) bytes none = (
+    next_is_new c kept,
+    (bytes, le_of (length value) LONGEST_VALUE (passed (nat_le (length value) LONGEST_VALUE) _ _ none).0),
+  )
+  may_act now (act.CallMove layout) lawful none = (
+    next_is_new c kept,
+    lawful,
+    none_open object (not_true (has_open_move object.calls)
+        (passed (not (has_open_move object.calls)) _ _ none).0),
+  )
   may_act now (act.Advance number) lawful none =
       let f = free_call number _ none in
       (f.t.call, (at_place f.found, wants_it false (want_of object (pred number) f.t.call) (passed _ _ _ f.free).0))

@@ -20,7 +20,7 @@ use Rattle.record.specs.declared.stage.Want.{Want}
 use Rattle.record.specs.Wants.{current_phase, is_fetch, value_len, want_for, want_after, want_of}
 use Rattle.record.specs.declared.stage.Want.TheVariants as want
 use Rattle.soundness.proofs.Sound.WantCaseLemmas.{Unsettled}
-use Rattle.register.specs.Coding.{is_recorded, has_piece, same_piece}
+use Rattle.register.specs.Coding.{is_recorded, has_same_piece, same_piece}
 
 -- by index, and by recursion
 pub all_by : {X : Type 0} (P : X → Type 0) (xs : List X) → All P xs → AllByRecursion P xs
@@ -51,15 +51,15 @@ pub record IsTaken (replies : List Taken) (piece : Piece) : Type 0 where
   pub within : slice_get replies place ≡ Some reply
   pub brought : answer_piece reply.reply.answer ≡ Some piece
 
-brings : (o : Option Piece) (piece : Piece) → has_piece piece o ≡ true → o ≡ Some piece
+brings : (o : Option Piece) (piece : Piece) → has_same_piece piece o ≡ true → o ≡ Some piece
 brings None piece e = absurd (cc)
 brings (Some other) piece e = ap Some (sym (piece_same piece other e))
 
 pub taken_of : (replies : List Taken) (piece : Piece) → is_recorded replies piece ≡ true → IsTaken replies piece
 taken_of [] piece e = absurd (cc)
-taken_of (t ∷ replies) piece e = go (λ r. taken_of replies piece r) (has_piece piece (answer_piece t.reply.answer)) refl
+taken_of (t ∷ replies) piece e = go (λ r. taken_of replies piece r) (has_same_piece piece (answer_piece t.reply.answer)) refl
   where
-    go : (is_recorded replies piece ≡ true → IsTaken replies piece) → (b : Bool) → has_piece piece (answer_piece t.reply.answer) ≡ b
+    go : (is_recorded replies piece ≡ true → IsTaken replies piece) → (b : Bool) → has_same_piece piece (answer_piece t.reply.answer) ≡ b
         → IsTaken (t ∷ replies) piece
     go rest_of true is = record { place = 0; reply = t; within = refl; brought = brings (answer_piece t.reply.answer) piece is }
     go rest_of false is =

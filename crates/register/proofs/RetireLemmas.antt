@@ -218,6 +218,7 @@ module _ {c : Contents} {now : ℕ} {p new : Position} (r : IsRetiring c now p n
           };
           based = add-one c.base ∙ ap suc r.kept.based
               ∙ sym (ap base_of retiring_is ∙ raised fragment was c.last now after r.kept.sound);
+          numbered = r.kept.numbered;
           staged = r.kept.staged;
           moving = r.kept.moving;
           stored = stored;

@@ -238,6 +238,7 @@ module _ {c : Contents} {place : ℕ} {m : Message} {p : Position} {q : Request}
         stored = subst (λ n. n ≤ MOST_BYTES) stored_is (stored_fits room);
       };
       based = kept.based ∙ sym base_is;
+      numbered = kept.numbered;
       staged = kept.staged;
       moving = kept.moving;
       stored = stored_is;

@@ -128,7 +128,7 @@ module _ {c : Contents} {number index : ℕ} {t : Tracked} (found : IsFound c nu
         → IsKept (record c { calls = set c.calls index new; last = now })
     settle_kept view after may =
         subst (λ (u : Tracked). IsKept (record c { calls = set c.calls index u; last = now })) (sym made_is)
-        (call_kept c index now t (settled_tracked t value) c.mail c.is_moving found.kept found.there refl
+        (call_kept c index now t (settled_tracked t value) c.mail c.is_moving found.kept found.there refl refl
         (found.kept.staged index t found.there)
         (all_found (λ (call : Call). length call.phases ≤ MOST_PHASES) (calls_of c.calls) index t.call found.kept.limits.phases (at found))
         (found.kept.moving ∙ sym (open_moves_set c.calls index t (settled_tracked t value) found.there refl refl))

@@ -67,7 +67,7 @@ pub stage_shown : (fragment : Code) (object : Object) (step : ℕ) → IsSound f
     → slice_get object.calls index ≡ Some call
     → FoundUpTo step (stage_of object index call)
 stage_shown fragment object step sound index call at =
-    stage_up_to step call.kind (suc index) (first_stage call.kind (source_of object index)) call.phases
+    stage_up_to step call.kind call.id (first_stage call.kind (source_of object index)) call.phases
     (phases_shown fragment object step sound index call at)
     (first_up_to step call.kind (source_of object index))
 

@@ -1,13 +1,14 @@
 -- What each step keeps of a register, from the laws of sound records.
 use Rattle.std.proofs.Common.{◌≡◌, ℕ, zero, suc, ◌<◌, ◌≤◌, ◌⊎◌, ◌&&◌, not, is_some, Bool, List, [], ◌∷◌, length, set, take, slice_get}
 use Rattle.std.proofs.Common.{Option, Some, None, IfSome, sym, ap, subst, ◌∙◌, inl, inr, refl, arith}
+use Rattle.std.proofs.lemmas.Option.{slice_get_within}
 use Rattle.std.specs.List.{AllByRecursion}
 use Rattle.tag.specs.declared.limits.TheConstants.{MOST_CALLS, MOST_PHASES, MOST_POSITIONS}
 use Rattle.bank.specs.declared.kind.Kind.{Kind}
 use Rattle.encoder.specs.Fragment.{fragment}
 use Rattle.mail.specs.declared.message.Message.{Message}
 use Rattle.phase.specs.Phase.{Phase}
-use Rattle.record.specs.Records.{Call}
+use Rattle.record.specs.Records.{Call, IsNewId}
 use Rattle.record.specs.declared.stage.Stage.{Stage}
 use Rattle.record.specs.PhaseOrder.{begun_at, due}
 use Rattle.record.specs.Knowledge.{IsTruePhase}
@@ -22,7 +23,7 @@ use Rattle.soundness.proofs.Sound.ChangedCallLemmas.{moves_set}
 use Rattle.soundness.proofs.Sound.RunSoundLemmas.{step_sound}
 use Rattle.register.specs.Position.{Position}
 use Rattle.register.specs.Tracked.{Tracked, calls_of, HasPositionsBelow}
-use Rattle.register.specs.State.{Contents, object_of, state_of, made}
+use Rattle.register.specs.State.{Contents, next_id, object_of, state_of, made}
 use Rattle.register.specs.Kept.{IsKept, AreStaged, is_open_move, has_open_move}
 use Rattle.register.proofs.FragmentCodeLemmas.{fragments_are_code}
 use Rattle.register.proofs.FirstReadingLemmas.{begun_below}
@@ -51,6 +52,7 @@ mail_kept c mail now kept sound = record {
     stored = kept.limits.stored;
   };
   based = kept.based;
+  numbered = kept.numbered;
   staged = kept.staged;
   moving = kept.moving;
   stored = kept.stored;
@@ -70,7 +72,7 @@ staged_set delta layouts mail later calls index t new at same staged stage j u e
 
     moved : (j : ℕ) (u : Call) → stage_of (object_of delta layouts mail calls) j u
         ≡ stage_of (object_of delta layouts later (set calls index new)) j u
-    moved j u = ap (λ m. Rattle.record.specs.PhaseOrder.stage_after u.kind (suc j)
+    moved j u = ap (λ m. Rattle.record.specs.PhaseOrder.stage_after u.kind u.id
         (Rattle.record.specs.Legal.first_stage u.kind m) u.phases) (sym (sources j))
 
     go : ((j ≡ index) × (new ≡ u)) ⊎ (slice_get calls j ≡ Some u)
@@ -80,14 +82,32 @@ staged_set delta layouts mail later calls index t new at same staged stage j u e
         (stage ∙ moved index new.call))
     go (inr there) = staged j u there ∙ moved j u.call
 
+-- a call that is changed and keeps its id
+numbered_set : (calls : List Call) (index : ℕ) (old new : Call) → slice_get calls index ≡ Some old → new.id ≡ old.id
+    → ((i : ℕ) (call : Call) → slice_get calls i ≡ Some call → call.id ≡ suc i)
+    → (i : ℕ) (call : Call) → slice_get (set calls index new) i ≡ Some call → call.id ≡ suc i
+numbered_set calls index old new at same numbered i call e = go (get_set calls index i old new call at e)
+  where
+    go : ((i ≡ index) × (new ≡ call)) ⊎ (slice_get calls i ≡ Some call) → call.id ≡ suc i
+    go (inl here) = sym (ap (λ (d : Call). d.id) here.1) ∙ same ∙ numbered index old at ∙ ap suc (sym here.0)
+    go (inr there) = numbered i call there
+
+-- the id of the next call is new
+pub next_is_new : (c : Contents) → IsKept c → IsNewId (state_of c).object (next_id (state_of c).object)
+next_is_new c kept i call at same =
+    let id = kept.numbered i call at in
+    let within = slice_get_within (state_of c).object.calls i call at in
+    absurd (omega (arith, id, within, same))
+
 -- a step that changes one call, and the mail
 pub call_kept : (c : Contents) (index now : ℕ) (t new : Tracked) (mail : List Message) (is_moving : Bool) → IsKept c
     → slice_get c.calls index ≡ Some t
-    → new.call.kind ≡ t.call.kind → new.stage ≡ stage_of (state_of c).object index new.call → length new.call.phases ≤ MOST_PHASES
+    → new.call.id ≡ t.call.id → new.call.kind ≡ t.call.kind → new.stage ≡ stage_of (state_of c).object index new.call
+    → length new.call.phases ≤ MOST_PHASES
     → is_moving ≡ has_open_move (calls_of (set c.calls index new))
     → IsSound fragment (object_of c.delta c.positions mail (set c.calls index new)) now
     → IsKept (record c { mail = mail; calls = set c.calls index new; is_moving = is_moving; last = now })
-call_kept c index now t new mail is_moving kept at kind stage few moving sound = record {
+call_kept c index now t new mail is_moving kept at id kind stage few moving sound = record {
   sound = sound;
   limits = record {
     positions = kept.limits.positions;
@@ -97,6 +117,8 @@ call_kept c index now t new mail is_moving kept at kind stage few moving sound =
     stored = kept.limits.stored;
   };
   based = kept.based;
+  numbered = λ i call e. numbered_set (calls_of c.calls) index t.call new.call (call_found c.calls index t at) id kept.numbered i call
+      (subst (λ cs. slice_get cs i ≡ Some call) as_set e);
   staged = staged_set c.delta c.positions c.mail mail c.calls index t new at kind kept.staged stage;
   moving = moving;
   stored = kept.stored;

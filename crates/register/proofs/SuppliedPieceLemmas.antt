@@ -8,13 +8,13 @@ use Rattle.tag.specs.declared.refusal.Refusal.{Refusal}
 use Rattle.tag.specs.declared.refusal.Refusal.TheVariants.{WrongCode, Full}
 use Rattle.mail.specs.Mail.{mail_cause}
 use Rattle.encoder.specs.Coded.{Coding}
-use Rattle.encoder.specs.Fragment.{fragment, piece_of}
+use Rattle.encoder.specs.Fragment.{fragment, piece_at_point}
 use Rattle.layout.specs.Layout.{Layout}
 use Rattle.phase.specs.Phase.{Phase}
 use Rattle.record.specs.Records.{Object, layout_at}
 use Rattle.record.specs.Steps.{Step, stepped, on_call, advanced_object}
 use Rattle.record.specs.Sending.{sent_value, value_or_empty, fragment_piece, sent_pieces}
-use Rattle.record.specs.Steps.{begun_object, supplied_by, supplied_object}
+use Rattle.record.specs.Steps.{supplied_by, supplied_object}
 use Rattle.record.specs.Steps as steps
 use Rattle.record.specs.Wants.{current_phase}
 use Rattle.register.specs.Causes.{supply_cause, supplied_cause, supply_room_cause, is_replied, if_step, unless}
@@ -96,7 +96,7 @@ module _ {c : Contents} {number index : ℕ} {t : Tracked} {coded : Coding} {pos
       ap (λ (l : Layout). λ (m : ℕ). fragment_piece fragment l (value_or_empty (sent_value t.call.kind t.call.settled)) m) s.placed
       ∙ ap (λ (v : List ℕ). λ (m : ℕ). fragment_piece fragment layout v m)
       (or_empty (sent_value t.call.kind t.call.settled) value s.sent ∙ sym (same_text coded.value value (sym (both_left _ _ s.right))))
-      ∙ ap (λ (k : ℕ). λ (m : ℕ). piece_of coded.value k m) (sym (eqb-true coded.k layout.k (both_left _ _ (both_right _ _ s.right))))
+      ∙ ap (λ (k : ℕ). λ (m : ℕ). piece_at_point coded.value k m) (sym (eqb-true coded.k layout.k (both_left _ _ (both_right _ _ s.right))))
 
   pub room_is : (now : ℕ) → supply_cause now object number coded ≡ supply_room_cause now object (pred number) t.call
   room_is now =

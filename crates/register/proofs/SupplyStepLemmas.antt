@@ -30,7 +30,7 @@ use Rattle.register.specs.Tracked.{Tracked, calls_of, asked_again}
 use Rattle.register.proofs.BeginPhaseLemmas.{IsBeginning}
 use Rattle.register.proofs.ChangedCallLemmas.{with_due, with_due_is}
 use Rattle.register.proofs.FirstReadingLemmas.{begun_due}
-use Rattle.register.proofs.FoundCallLemmas.{IsFound, same, place, due_kept}
+use Rattle.register.proofs.FoundCallLemmas.{IsFound, at, same, place, due_kept}
 use Rattle.register.proofs.AskAgainLemmas.{IsAsking, phase_members, phase_call}
 use Rattle.register.proofs.SentPieceLemmas.{IsSending, sending_of, takes}
 use Rattle.register.proofs.SuppliedPieceLemmas.{IsSupplied, members_are, pieces_are, room_is, step_is}
@@ -98,7 +98,7 @@ module _ {c : Contents} {number index : ℕ} {t : Tracked} {coded : Coding} {pos
         ∙ ap (λ d. begun_object fragment object index t.call d now)
         (ap (λ i. due_of object i t.call) (place found) ∙ sym (same_due wanted) ∙ due_is)
         ∙ with_due_is c index t kind target layout now (sent_pieces fragment object t.call target)
-        (ap (layout_at object) target_is ∙ s.placed)
+        (ap (layout_at object) target_is ∙ s.placed) (found.kept.numbered index t.call (at found))
         ∙ ap (λ (piece : ℕ → Piece). (state_of (with_due c index t kind target layout now piece)).object)
         (ap (λ p. sent_pieces fragment object t.call p) target_is ∙ pieces_are s))
 

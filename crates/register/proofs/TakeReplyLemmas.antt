@@ -17,6 +17,7 @@ use Rattle.record.specs.Records.{Call, Object}
 use Rattle.record.specs.PhaseOrder.{begun_at}
 use Rattle.record.specs.Legal.{stage_of, first_stage, source_of}
 use Rattle.soundness.specs.Sound.{IsSound, IsPosted}
+use Rattle.record.specs.Records.{index_by_id}
 use Rattle.record.specs.Steps.{Step, on_message, taken_by, taken_calls, taking_call, taking_phases}
 use Rattle.record.specs.Wants.{current_phase}
 use Rattle.transfer.specs.Limits.{IsBelowLimit, HasNextTag}
@@ -24,6 +25,7 @@ use Rattle.register.specs.Tracked.{Tracked, calls_of, taken_tracked, stage_taken
 use Rattle.register.specs.State.{Contents, State, object_of, state_of, made}
 use Rattle.register.specs.Kept.{IsKept}
 use Rattle.register.specs.View.{took_message, took_at}
+use Rattle.soundness.proofs.Sound.CallIdLemmas.{found_by_id}
 use Rattle.register.proofs.ListLemmas.{same_some, found_within, found_of_map, map_set, all_found}
 use Rattle.register.proofs.StepInvariantLemmas.{steps_on, call_found, call_kept, open_moves_set, is_below, few_positions, current_found}
 use Rattle.register.proofs.FirstReadingLemmas.{begun_near}
@@ -41,14 +43,17 @@ pub named : (c : Contents) → IsKept c → (place : ℕ) (message : Message) �
 named c kept place message waits = record {
   t = there.0;
   at = ap (slice_get c.calls) (sym index) ∙ there.1;
-  number = posted.same_call ∙ ap suc index;
+  number = is ∙ ap suc index;
 }
   where
     posted : IsPosted (state_of c).object message
     posted = all_found (IsPosted (state_of c).object) c.mail place message kept.sound.mail waits
 
+    is : message.call ≡ suc posted.index
+    is = posted.same_call ∙ kept.numbered posted.index posted.call posted.at
+
     index : posted.index ≡ message.call - 1
-    index = let same = posted.same_call in omega (arith, same)
+    index = omega (arith, is)
 
     there : (t : Tracked) × (slice_get c.calls posted.index ≡ Some t) × (t.call ≡ posted.call)
     there = found_of_map (λ (t : Tracked). t.call) c.calls posted.index posted.call posted.at
@@ -115,10 +120,16 @@ module _ {c : Contents} {place : ℕ} {m : Message} {t : Tracked} (taken : IsTak
   as_set : calls_of (set c.calls (m.call - 1) (taken_tracked m now t)) ≡ set (calls_of c.calls) (m.call - 1) (taking_call m now t.call)
   as_set = map_set (λ (t : Tracked). t.call) c.calls (m.call - 1) (taken_tracked m now t)
 
+  id_is : m.call ≡ t.call.id
+  id_is = number_is ∙ sym (kept.numbered (m.call - 1) t.call here)
+
+  found_is : index_by_id (calls_of c.calls) m.call ≡ m.call - 1
+  found_is = found_by_id (state_of c).object kept.sound.legal (m.call - 1) t.call m.call id_is here
+
   calls_is : calls_of (set c.calls (m.call - 1) (taken_tracked m now t))
-      ≡ taken_calls (calls_of c.calls) m now (slice_get (calls_of c.calls) (pred m.call))
-  calls_is = as_set ∙ ap (λ i. set (calls_of c.calls) i (taking_call m now t.call)) (sym pred_is)
-      ∙ sym (ap (taken_calls (calls_of c.calls) m now) (ap (slice_get (calls_of c.calls)) pred_is ∙ here))
+      ≡ taken_calls (calls_of c.calls) m now (slice_get (calls_of c.calls) (index_by_id (calls_of c.calls) m.call))
+  calls_is = as_set ∙ ap (λ i. set (calls_of c.calls) i (taking_call m now t.call)) (sym found_is)
+      ∙ sym (ap (taken_calls (calls_of c.calls) m now) (ap (slice_get (calls_of c.calls)) found_is ∙ here))
 
   module _ {kind : Kind} {reply : Reply} (is : m.body ≡ body.Reply kind reply) where
     taking_is : object_of c.delta c.positions (remove c.mail place) (set c.calls (m.call - 1) (taken_tracked m now t))
@@ -130,7 +141,7 @@ module _ {c : Contents} {place : ℕ} {m : Message} {t : Tracked} (taken : IsTak
 
     taking_keeps : c.last < now → IsKept (record c
         { mail = remove c.mail place; calls = set c.calls (m.call - 1) (taken_tracked m now t); last = now })
-    taking_keeps after = call_kept c (m.call - 1) now t (taken_tracked m now t) (remove c.mail place) c.is_moving kept at refl stage
+    taking_keeps after = call_kept c (m.call - 1) now t (taken_tracked m now t) (remove c.mail place) c.is_moving kept at refl refl stage
         (subst (λ n. n ≤ MOST_PHASES) (sym (length_taking t.call.phases m now))
         (all_found (λ (call : Call). length call.phases ≤ MOST_PHASES) (state_of c).object.calls
         (m.call - 1) t.call kept.limits.phases here))
@@ -142,10 +153,10 @@ module _ {c : Contents} {place : ℕ} {m : Message} {t : Tracked} (taken : IsTak
             ap (λ s. stage_taken t.call.kind s (current_phase t.call.phases) m now)
             (kept.staged (m.call - 1) t at ∙ ap
             (λ n. Rattle.record.specs.PhaseOrder.stage_after t.call.kind n
-            (first_stage t.call.kind (source_of (state_of c).object (m.call - 1))) t.call.phases) (sym number_is))
+            (first_stage t.call.kind (source_of (state_of c).object (m.call - 1))) t.call.phases) (sym id_is))
             ∙ stage_taking t.call.kind (first_stage t.call.kind (source_of (state_of c).object (m.call - 1))) t.call.phases m now
             ∙ ap (λ n. Rattle.record.specs.PhaseOrder.stage_after t.call.kind n
-            (first_stage t.call.kind (source_of (state_of c).object (m.call - 1))) (taking_phases t.call.phases m now)) number_is
+            (first_stage t.call.kind (source_of (state_of c).object (m.call - 1))) (taking_phases t.call.phases m now)) id_is
 
     -- what the call and the mail are made
     module _ {mail : List Message} {new : Tracked} (mail_is : mail ≡ remove c.mail place) (new_is : new ≡ taken_tracked m now t) where

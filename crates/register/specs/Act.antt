@@ -17,21 +17,21 @@ use Rattle.register.specs.Causes.{supply_cause, post_cause, settle_cause, answer
 use Rattle.register.specs.Causes.{serve_cause, take_cause, lose_cause, repeat_cause}
 use Rattle.register.specs.View.{receipt_at, took_at}
 
--- the step of the record that an act makes
-abbrev pub step_of : Act → Step
-step_of act.CallRead = Step.CallRead
-step_of (act.CallWrite value) = Step.CallWrite value
-step_of (act.CallMove layout) = Step.CallMove layout
-step_of (act.Advance call) = Step.Advance (pred call)
-step_of (act.Again call) = Step.Again (pred call)
-step_of (act.Supply call coded) = Step.Supply (pred call)
-step_of (act.Post call) = Step.Post (pred call)
-step_of (act.Settle call decoded) = Step.Settle (pred call) decoded.value
-step_of (act.Answer call) = Step.AnswerCall (pred call)
-step_of (act.Serve place) = Step.Serve place
-step_of (act.Take place) = Step.Take place
-step_of (act.Lose place) = Step.Lose place
-step_of (act.Repeat place) = Step.Repeat place
+-- the step of the record that an act makes; a call that begins gets this id
+abbrev pub step_of : (id : ℕ) → Act → Step
+step_of id act.CallRead = Step.CallRead id
+step_of id (act.CallWrite value) = Step.CallWrite id value
+step_of id (act.CallMove layout) = Step.CallMove id layout
+step_of id (act.Advance call) = Step.Advance (pred call)
+step_of id (act.Again call) = Step.Again (pred call)
+step_of id (act.Supply call coded) = Step.Supply (pred call)
+step_of id (act.Post call) = Step.Post (pred call)
+step_of id (act.Settle call decoded) = Step.Settle (pred call) decoded.value
+step_of id (act.Answer call) = Step.AnswerCall (pred call)
+step_of id (act.Serve place) = Step.Serve place
+step_of id (act.Take place) = Step.Take place
+step_of id (act.Lose place) = Step.Lose place
+step_of id (act.Repeat place) = Step.Repeat place
 
 -- the values of an act are as their types make them: the value of a write consists of bytes, the layout of a move is
 -- lawful, and the value of a settle was decoded

@@ -24,6 +24,7 @@ use Rattle.record.specs.Steps.{Step, stepped}
 use Rattle.record.specs.Sending.{sent_value, value_or_empty}
 use Rattle.register.specs.Position.{all_bytes}
 use Rattle.register.specs.Kept.{has_open_move}
+use Rattle.register.specs.State.{next_id}
 use Rattle.register.specs.Coding.{is_pre_write, pieces_due, is_coded_for, is_decoded_from}
 
 -- this refusal unless the condition holds, and else the later cause
@@ -90,18 +91,19 @@ new_call_cause step now object =
 
 -- why a read does not begin
 abbrev pub read_cause : (now : ℕ) → Object → Option Refusal
-read_cause now object = new_call_cause Step.CallRead now object
+read_cause now object = new_call_cause (Step.CallRead (next_id object)) now object
 
 -- why a write of this value does not begin
 abbrev pub write_cause : List ℕ → (now : ℕ) → Object → Option Refusal
 write_cause value now object = unless (nat_le (length value) LONGEST_VALUE) TooLong
-    (new_call_cause (Step.CallWrite value) now object)
+    (new_call_cause (Step.CallWrite (next_id object) value) now object)
 
 -- why a move to this layout does not begin
 abbrev pub move_cause : Layout → (now : ℕ) → Object → Option Refusal
 move_cause layout now object =
     unless (not (has_open_move object.calls)) MovePending
-    (unless (nat_lt (length object.layouts) MOST_POSITIONS) Full (new_call_cause (Step.CallMove layout) now object))
+    (unless (nat_lt (length object.layouts) MOST_POSITIONS) Full
+    (new_call_cause (Step.CallMove (next_id object) layout) now object))
 
 -- Calls that go on
 

@@ -5,7 +5,7 @@ use Rattle.std.specs.Prelude.{◌∷◌, ◌++◌, length, take, Option, Some, N
 use Rattle.std.specs.List.{list_any, list_all}
 use Rattle.std.specs.Cmp.Lexicographic.{pointwise}
 use Rattle.layout.specs.Layout.{Layout}
-use Rattle.encoder.specs.Fragment.{piece_of}
+use Rattle.encoder.specs.Fragment.{piece_at_point}
 use Rattle.encoder.specs.Coded.{Coding}
 use Rattle.piece.specs.declared.piece.Piece.{Piece}
 use Rattle.decoder.specs.Decoded.{Decoding}
@@ -54,20 +54,20 @@ is_coded_for layout value coded = bytes_eq coded.value value &&
 -- the piece of a member: of the encoded value if there is one, and else of the empty value
 abbrev pub piece_from : Option Coding → (member : ℕ) → Piece
 piece_from None member = empty_piece member
-piece_from (Some coded) member = piece_of coded.value coded.k member
+piece_from (Some coded) member = piece_at_point coded.value coded.k member
 
 -- whether two pieces are the same
 abbrev pub same_piece : Piece → Piece → Bool
 same_piece a b = a.point == b.point && (a.len == b.len && bytes_eq a.bytes b.bytes)
 
 -- whether there is a piece, and it is the same as the given one
-abbrev pub has_piece : Piece → Option Piece → Bool
-has_piece piece None = false
-has_piece piece (Some other) = same_piece piece other
+abbrev pub has_same_piece : Piece → Option Piece → Bool
+has_same_piece piece None = false
+has_same_piece piece (Some other) = same_piece piece other
 
 -- whether one of the recorded replies carries this piece
 abbrev pub is_recorded : List Taken → Piece → Bool
-is_recorded replies piece = list_any (λ t. has_piece piece (answer_piece t.reply.answer)) replies
+is_recorded replies piece = list_any (λ t. has_same_piece piece (answer_piece t.reply.answer)) replies
 
 -- whether the value was decoded from k pieces, each carried by one of these replies
 abbrev pub is_decoded_from : (k : ℕ) → List Taken → Decoding → Bool
@@ -79,14 +79,14 @@ piece_by [] member = None
 piece_by (t ∷ replies) member = if t.member == member then answer_piece t.reply.answer else piece_by replies member
 
 -- the piece as a list of one, or the empty list where there is none
-abbrev pub listed : Option Piece → List Piece
-listed None = []
-listed (Some piece) = piece ∷ []
+abbrev pub piece_list : Option Piece → List Piece
+piece_list None = []
+piece_list (Some piece) = piece ∷ []
 
 -- the pieces that the replies of the first `count` members carry, by rising member, which is the point of the piece
 abbrev pub pieces_below : List Taken → (count : ℕ) → List Piece
 pieces_below replies zero = []
-pieces_below replies (suc member) = pieces_below replies member ++ listed (piece_by replies member)
+pieces_below replies (suc member) = pieces_below replies member ++ piece_list (piece_by replies member)
 
 -- of the pieces that the replies of a layout's members carry, the k with the least points
 abbrev pub least_pieces : Layout → List Taken → List Piece

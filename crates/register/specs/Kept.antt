@@ -10,7 +10,7 @@ use Rattle.record.specs.Legal.{is_move, stage_of}
 use Rattle.soundness.specs.Sound.{IsSound}
 use Rattle.register.specs.Position.{all_bytes}
 use Rattle.register.specs.Tracked.{Tracked}
-use Rattle.register.specs.State.{Contents, state_of}
+use Rattle.register.specs.State.{Contents, HasNumbersAsIds, state_of}
 
 -- whether a call is a move that is not answered
 abbrev pub is_open_move : Call → Bool
@@ -37,6 +37,7 @@ pub record IsKept (c : Contents) : Type 0 where
   pub sound : IsSound fragment (state_of c).object c.last
   pub limits : IsWithinLimits (state_of c).object
   pub based : c.base ≡ base_of (state_of c).object
+  pub numbered : HasNumbersAsIds (state_of c).object
   pub staged : AreStaged (state_of c).object c.calls
   pub moving : c.is_moving ≡ has_open_move (state_of c).object.calls
   pub stored : c.stored ≡ all_bytes (state_of c).object.banks

@@ -1,5 +1,5 @@
 -- The state of an object: its record and the number of its last step; and the parts of a `Register`.
-use Rattle.std.specs.Prelude.{ℕ, Bool, List, Option, refl}
+use Rattle.std.specs.Prelude.{◌≡◌, ℕ, suc, Bool, List, length, Option, Some, slice_get, refl}
 use Rattle.std.specs.Coded.{Coded, code_by, coded×, coded_list, coded_ℕ, coded_option}
 use Rattle.layout.specs.Layout.{Layout}
 use Rattle.encoder.specs.Fragment.{fragment}
@@ -32,6 +32,14 @@ state_code layout bank message call =
       };
       last = p.1.1.1.1.1;
     }) (λ _. refl)
+
+-- the id of the call that begins next, which is its number
+abbrev pub next_id : Object → ℕ
+next_id object = suc (length object.calls)
+
+-- the id of each call is its number
+abbrev pub HasNumbersAsIds : Object → Type 0
+HasNumbersAsIds object = (index : ℕ) (call : Call) → slice_get object.calls index ≡ Some call → call.id ≡ suc index
 
 -- the state after a step with the number `now`
 abbrev pub made : Step → (now : ℕ) → State → State

@@ -55,8 +55,8 @@ pieces_of object None = []
 pieces_of object (Some call) = least_of object (current_phase call.phases)
 
 -- the pieces from which the call of this number is to decode its value
-abbrev pub pieces_at : Object → (number : ℕ) → List Piece
-pieces_at object number = pieces_of object (call_at object number)
+abbrev pub fetched_pieces : Object → (number : ℕ) → List Piece
+fetched_pieces object number = pieces_of object (call_at object number)
 
 -- the receipt of a call that is answered at a step
 abbrev pub receipt_of : (place number : ℕ) → (now : ℕ) → Call → Receipt

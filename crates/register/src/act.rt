@@ -3,7 +3,7 @@
 ghost use Rattle.std.specs.Prelude.{◌≡◌, ◌<◌, Some, IfOk, OnOk, OnErr};
 ghost use Rattle.record.specs.Fragments.{AreBytes};
 ghost use Rattle.register.specs.Act.{HasLawfulValues, IsActCause, act_cause, answered_by, step_of};
-ghost use Rattle.register.specs.State.{made};
+ghost use Rattle.register.specs.State.{made, next_id};
 
 use crate::receipt::Receipt;
 use crate::register::Register;
@@ -91,7 +91,7 @@ impl Register {
     /// It is refused as the method of the act's name is.
     pub fn act(&mut self, act: Act, object: u32, now: Stamp) -> Result<Answered, Refusal>
         requires after { self.old.last < now }
-        ensures step { OnOk result (self.new ≡ made (step_of act) now self.old) }
+        ensures step { OnOk result (self.new ≡ made (step_of (next_id self.old.object) act) now self.old) }
         ensures answered { IfOk result (λ a. answered_by act object now self.old.object ≡ Some a) }
         ensures cause { IsActCause act (act_cause act now self.old.object) result }
         ensures unchanged { OnErr result (self.new ≡ self.old) }

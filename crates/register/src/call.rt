@@ -36,6 +36,7 @@ mod views;
 /// A call of an object, with its phases.
 #[derive(Debug, Drop)]
 pub struct Call {
+    id: CallId,
     kind: CallKind,
     called: Stamp,
     answered: Option<Stamp>,
@@ -52,6 +53,7 @@ impl Model for Call {
 
     ghost view = { λ c. record {
       call = record {
+        id = c.id;
         kind = c.kind;
         called = c.called;
         answered = c.answered;
@@ -63,11 +65,12 @@ impl Model for Call {
 }
 
 impl Call {
-    /// A call that begins at a stage, before its first phase. It allocates no memory.
-    pub(crate) fn new(alloc: Global, kind: CallKind, stage: Stage, now: Stamp) -> Call
-        ensures { result ≡ record { call = new_call kind now; stage = stage } }
+    /// A call with this id that begins at a stage, before its first phase. It allocates no memory.
+    pub(crate) fn new(alloc: Global, id: CallId, kind: CallKind, stage: Stage, now: Stamp) -> Call
+        ensures { result ≡ record { call = new_call id kind now; stage = stage } }
     {
         Call {
+            id,
             kind,
             called: now,
             answered: None,

@@ -4,6 +4,8 @@ use Rattle.std.specs.Prelude.{◌≡◌, List, [], ◌∷◌, ⊤, codes, Result
 use Rattle.script.specs.Arguments.{Word, AreNone, AreNumber, AreServers, AreNumberAndMembers, AreName, AreNameAndNumber}
 use Rattle.script.specs.Arguments.{AreNameAndTwoNumbers, AreNameAndNumbers, AreNameAndBytes, AreNameNumberAndBytes}
 use Rattle.script.specs.Arguments.{AreNameAndTurns, AreNameBytesAndTurns, AreNameNumberAndDelta, AreNameNumberAndTurns}
+use Rattle.script.specs.declared.change.Change.{Change}
+use Rattle.script.specs.declared.change.Change.TheVariants as change
 use Rattle.script.specs.declared.command.Command.{Command}
 use Rattle.script.specs.declared.command.Command.TheVariants as of
 use Rattle.script.specs.declared.error.LineError.{LineError}
@@ -14,36 +16,44 @@ abbrev pub Says : Word → (List Word → Type 0) → List Word → Type 0
 Says text Rest [] = ⊥
 Says text Rest (word ∷ words) = (word ≡ text) × Rest words
 
+-- the words spell this command, which may change the cluster
+abbrev pub SpellsChange : List Word → Change → Type 0
+SpellsChange words (change.Layout k members) = Says (codes "layout") (AreNumberAndMembers k members.items) words
+SpellsChange words (change.Object name layout delta) =
+    Says (codes "object") (AreNameNumberAndDelta name.now layout delta) words
+SpellsChange words (change.Retire name position) = Says (codes "retire") (AreNameAndNumber name.now position) words
+SpellsChange words (change.Down server) = Says (codes "down") (AreNumber server) words
+SpellsChange words (change.Up server) = Says (codes "up") (AreNumber server) words
+SpellsChange words (change.CallRead name) = Says (codes "call") (Says (codes "read") (AreName name.now)) words
+SpellsChange words (change.CallWrite name value) =
+    Says (codes "call") (Says (codes "write") (AreNameAndBytes name.now value)) words
+SpellsChange words (change.CallMove name layout) =
+    Says (codes "call") (Says (codes "move") (AreNameAndNumber name.now layout)) words
+SpellsChange words (change.Advance name call) = Says (codes "advance") (AreNameAndNumber name.now call) words
+SpellsChange words (change.Supply name call) = Says (codes "supply") (AreNameAndNumber name.now call) words
+SpellsChange words (change.SupplyAs name call value) =
+    Says (codes "supply-as") (AreNameNumberAndBytes name.now call value) words
+SpellsChange words (change.Settle name call) = Says (codes "settle") (AreNameAndNumber name.now call) words
+SpellsChange words (change.Post name call) = Says (codes "post") (AreNameAndNumber name.now call) words
+SpellsChange words (change.Again name call) = Says (codes "again") (AreNameAndNumber name.now call) words
+SpellsChange words (change.Answer name call) = Says (codes "answer") (AreNameAndNumber name.now call) words
+SpellsChange words (change.Serve name place) = Says (codes "serve") (AreNameAndNumber name.now place) words
+SpellsChange words (change.Take name place) = Says (codes "take") (AreNameAndNumber name.now place) words
+SpellsChange words (change.Lose name place) = Says (codes "lose") (AreNameAndNumber name.now place) words
+SpellsChange words (change.Repeat name place) = Says (codes "repeat") (AreNameAndNumber name.now place) words
+SpellsChange words (change.Deliver name) = Says (codes "deliver") (AreName name.now) words
+SpellsChange words (change.Read name turns) = Says (codes "read") (AreNameAndTurns name.now turns) words
+SpellsChange words (change.Write name value turns) =
+    Says (codes "write") (AreNameBytesAndTurns name.now value turns) words
+SpellsChange words (change.Move name layout turns) =
+    Says (codes "move") (AreNameNumberAndTurns name.now layout turns) words
+SpellsChange words (change.Resume name call turns) =
+    Says (codes "resume") (AreNameNumberAndTurns name.now call turns) words
+
 -- the words spell this command
 abbrev pub Spells : List Word → Command → Type 0
 Spells words (of.Servers count) = Says (codes "servers") (AreServers count) words
-Spells words (of.Layout k members) = Says (codes "layout") (AreNumberAndMembers k members.items) words
-Spells words (of.Object name layout delta) =
-    Says (codes "object") (AreNameNumberAndDelta name.now layout delta) words
-Spells words (of.Retire name position) = Says (codes "retire") (AreNameAndNumber name.now position) words
-Spells words (of.Down server) = Says (codes "down") (AreNumber server) words
-Spells words (of.Up server) = Says (codes "up") (AreNumber server) words
-Spells words (of.CallRead name) = Says (codes "call") (Says (codes "read") (AreName name.now)) words
-Spells words (of.CallWrite name value) =
-    Says (codes "call") (Says (codes "write") (AreNameAndBytes name.now value)) words
-Spells words (of.CallMove name layout) =
-    Says (codes "call") (Says (codes "move") (AreNameAndNumber name.now layout)) words
-Spells words (of.Advance name call) = Says (codes "advance") (AreNameAndNumber name.now call) words
-Spells words (of.Supply name call) = Says (codes "supply") (AreNameAndNumber name.now call) words
-Spells words (of.SupplyAs name call value) = Says (codes "supply-as") (AreNameNumberAndBytes name.now call value) words
-Spells words (of.Settle name call) = Says (codes "settle") (AreNameAndNumber name.now call) words
-Spells words (of.Post name call) = Says (codes "post") (AreNameAndNumber name.now call) words
-Spells words (of.Again name call) = Says (codes "again") (AreNameAndNumber name.now call) words
-Spells words (of.Answer name call) = Says (codes "answer") (AreNameAndNumber name.now call) words
-Spells words (of.Serve name place) = Says (codes "serve") (AreNameAndNumber name.now place) words
-Spells words (of.Take name place) = Says (codes "take") (AreNameAndNumber name.now place) words
-Spells words (of.Lose name place) = Says (codes "lose") (AreNameAndNumber name.now place) words
-Spells words (of.Repeat name place) = Says (codes "repeat") (AreNameAndNumber name.now place) words
-Spells words (of.Deliver name) = Says (codes "deliver") (AreName name.now) words
-Spells words (of.Read name turns) = Says (codes "read") (AreNameAndTurns name.now turns) words
-Spells words (of.Write name value turns) = Says (codes "write") (AreNameBytesAndTurns name.now value turns) words
-Spells words (of.Move name layout turns) = Says (codes "move") (AreNameNumberAndTurns name.now layout turns) words
-Spells words (of.Resume name call turns) = Says (codes "resume") (AreNameNumberAndTurns name.now call turns) words
+Spells words (of.Change asked) = SpellsChange words asked
 Spells words (of.Show name call) = Says (codes "show") (AreNameAndNumber name.now call) words
 Spells words (of.Mail name) = Says (codes "mail") (AreName name.now) words
 Spells words (of.Bank name position member) = Says (codes "bank") (AreNameAndTwoNumbers name.now position member) words

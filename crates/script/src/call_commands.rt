@@ -4,6 +4,7 @@ ghost use Rattle.std.specs.Prelude.{◌∷◌, codes, map};
 ghost use Rattle.script.specs.Command.{ParsesTo};
 
 use crate::arguments::{name_and_bytes, name_and_number, name_number_and_bytes, one_name};
+use crate::change::Change;
 use crate::command::Command;
 use crate::error::LineError;
 use std::alloc::Global;
@@ -27,70 +28,70 @@ fn call_read<'a>(words: &[&'a str]) -> Result<Command<'a>, LineError>
     ensures { ParsesTo (codes "call" ∷ codes "read" ∷ map (λ w. w.now) words.now) result }
 {
     let name = one_name(words)?;
-    Ok(Command::CallRead { name })
+    Ok(Command::Change(Change::CallRead { name }))
 }
 
 fn call_write<'a>(alloc: Global, words: &[&'a str]) -> Result<Command<'a>, LineError>
     ensures { ParsesTo (codes "call" ∷ codes "write" ∷ map (λ w. w.now) words.now) result }
 {
     let (name, value) = name_and_bytes(alloc, words)?;
-    Ok(Command::CallWrite { name, value })
+    Ok(Command::Change(Change::CallWrite { name, value }))
 }
 
 fn call_move<'a>(words: &[&'a str]) -> Result<Command<'a>, LineError>
     ensures { ParsesTo (codes "call" ∷ codes "move" ∷ map (λ w. w.now) words.now) result }
 {
     let (name, layout) = name_and_number(words)?;
-    Ok(Command::CallMove { name, layout })
+    Ok(Command::Change(Change::CallMove { name, layout }))
 }
 
 pub(crate) fn advance<'a>(words: &[&'a str]) -> Result<Command<'a>, LineError>
     ensures { ParsesTo (codes "advance" ∷ map (λ w. w.now) words.now) result }
 {
     let (name, call) = name_and_number(words)?;
-    Ok(Command::Advance { name, call })
+    Ok(Command::Change(Change::Advance { name, call }))
 }
 
 pub(crate) fn supply<'a>(words: &[&'a str]) -> Result<Command<'a>, LineError>
     ensures { ParsesTo (codes "supply" ∷ map (λ w. w.now) words.now) result }
 {
     let (name, call) = name_and_number(words)?;
-    Ok(Command::Supply { name, call })
+    Ok(Command::Change(Change::Supply { name, call }))
 }
 
 pub(crate) fn supply_as<'a>(alloc: Global, words: &[&'a str]) -> Result<Command<'a>, LineError>
     ensures { ParsesTo (codes "supply-as" ∷ map (λ w. w.now) words.now) result }
 {
     let (name, call, value) = name_number_and_bytes(alloc, words)?;
-    Ok(Command::SupplyAs { name, call, value })
+    Ok(Command::Change(Change::SupplyAs { name, call, value }))
 }
 
 pub(crate) fn settle<'a>(words: &[&'a str]) -> Result<Command<'a>, LineError>
     ensures { ParsesTo (codes "settle" ∷ map (λ w. w.now) words.now) result }
 {
     let (name, call) = name_and_number(words)?;
-    Ok(Command::Settle { name, call })
+    Ok(Command::Change(Change::Settle { name, call }))
 }
 
 pub(crate) fn post<'a>(words: &[&'a str]) -> Result<Command<'a>, LineError>
     ensures { ParsesTo (codes "post" ∷ map (λ w. w.now) words.now) result }
 {
     let (name, call) = name_and_number(words)?;
-    Ok(Command::Post { name, call })
+    Ok(Command::Change(Change::Post { name, call }))
 }
 
 pub(crate) fn again<'a>(words: &[&'a str]) -> Result<Command<'a>, LineError>
     ensures { ParsesTo (codes "again" ∷ map (λ w. w.now) words.now) result }
 {
     let (name, call) = name_and_number(words)?;
-    Ok(Command::Again { name, call })
+    Ok(Command::Change(Change::Again { name, call }))
 }
 
 pub(crate) fn answer<'a>(words: &[&'a str]) -> Result<Command<'a>, LineError>
     ensures { ParsesTo (codes "answer" ∷ map (λ w. w.now) words.now) result }
 {
     let (name, call) = name_and_number(words)?;
-    Ok(Command::Answer { name, call })
+    Ok(Command::Change(Change::Answer { name, call }))
 }
 
 pub(crate) fn show<'a>(words: &[&'a str]) -> Result<Command<'a>, LineError>

@@ -5,6 +5,7 @@ ghost use Rattle.script.specs.Command.{ParsesTo};
 use crate::arguments::{
     name_and_number, name_number_and_delta, no_words, number_and_members, one_number, servers_count,
 };
+use crate::change::Change;
 use crate::command::Command;
 use crate::error::LineError;
 use std::alloc::Global;
@@ -20,39 +21,39 @@ pub(crate) fn layout(alloc: Global, words: &[&str]) -> Result<Command<'static>, 
     ensures { ParsesTo (codes "layout" ∷ map (λ w. w.now) words.now) result }
 {
     let (k, members) = number_and_members(alloc, words)?;
-    Ok(Command::Layout { k, members })
+    Ok(Command::Change(Change::Layout { k, members }))
 }
 
 pub(crate) fn object<'a>(words: &[&'a str]) -> Result<Command<'a>, LineError>
     ensures { ParsesTo (codes "object" ∷ map (λ w. w.now) words.now) result }
 {
     let (name, layout, delta) = name_number_and_delta(words)?;
-    Ok(Command::Object {
+    Ok(Command::Change(Change::Object {
         name,
         layout,
         delta,
-    })
+    }))
 }
 
 pub(crate) fn retire<'a>(words: &[&'a str]) -> Result<Command<'a>, LineError>
     ensures { ParsesTo (codes "retire" ∷ map (λ w. w.now) words.now) result }
 {
     let (name, position) = name_and_number(words)?;
-    Ok(Command::Retire { name, position })
+    Ok(Command::Change(Change::Retire { name, position }))
 }
 
 pub(crate) fn down(words: &[&str]) -> Result<Command<'static>, LineError>
     ensures { ParsesTo (codes "down" ∷ map (λ w. w.now) words.now) result }
 {
     let server = one_number(words)?;
-    Ok(Command::Down { server })
+    Ok(Command::Change(Change::Down { server }))
 }
 
 pub(crate) fn up(words: &[&str]) -> Result<Command<'static>, LineError>
     ensures { ParsesTo (codes "up" ∷ map (λ w. w.now) words.now) result }
 {
     let server = one_number(words)?;
-    Ok(Command::Up { server })
+    Ok(Command::Change(Change::Up { server }))
 }
 
 pub(crate) fn account(words: &[&str]) -> Result<Command<'static>, LineError>

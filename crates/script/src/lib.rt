@@ -1,6 +1,7 @@
 //! The language of scripts: lines, their words, and the commands that they spell.
 #![tactic(auto)]
 
+pub use change::Change;
 pub use command::{Command, parse_command};
 pub use error::LineError;
 pub use line::{Line, parse_line};
@@ -8,6 +9,7 @@ pub use lines::split_lines;
 
 mod arguments;
 mod call_commands;
+mod change;
 mod cluster_commands;
 mod command;
 mod error;

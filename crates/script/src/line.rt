@@ -33,10 +33,7 @@ pub fn parse_line(alloc: Global, line: &[u8]) -> Result<Line<'_>, LineError>
         unreachable!();
     };
     let words = split_words(alloc, text)?;
-    match parse_command(alloc, words.as_slice()) {
-        Ok(command) => Ok(Line::Command(command)),
-        Err(error) => Err(error),
-    }
+    Ok(Line::Command(parse_command(alloc, words.as_slice())?))
 }
 
 fn is_skipped(line: &[u8]) -> bool

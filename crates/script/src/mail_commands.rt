@@ -3,6 +3,7 @@ ghost use Rattle.std.specs.Prelude.{◌∷◌, codes, map};
 ghost use Rattle.script.specs.Command.{ParsesTo};
 
 use crate::arguments::{name_and_number, name_and_two_numbers, one_name};
+use crate::change::Change;
 use crate::command::Command;
 use crate::error::LineError;
 
@@ -10,35 +11,35 @@ pub(crate) fn serve<'a>(words: &[&'a str]) -> Result<Command<'a>, LineError>
     ensures { ParsesTo (codes "serve" ∷ map (λ w. w.now) words.now) result }
 {
     let (name, place) = name_and_number(words)?;
-    Ok(Command::Serve { name, place })
+    Ok(Command::Change(Change::Serve { name, place }))
 }
 
 pub(crate) fn take<'a>(words: &[&'a str]) -> Result<Command<'a>, LineError>
     ensures { ParsesTo (codes "take" ∷ map (λ w. w.now) words.now) result }
 {
     let (name, place) = name_and_number(words)?;
-    Ok(Command::Take { name, place })
+    Ok(Command::Change(Change::Take { name, place }))
 }
 
 pub(crate) fn lose<'a>(words: &[&'a str]) -> Result<Command<'a>, LineError>
     ensures { ParsesTo (codes "lose" ∷ map (λ w. w.now) words.now) result }
 {
     let (name, place) = name_and_number(words)?;
-    Ok(Command::Lose { name, place })
+    Ok(Command::Change(Change::Lose { name, place }))
 }
 
 pub(crate) fn repeat<'a>(words: &[&'a str]) -> Result<Command<'a>, LineError>
     ensures { ParsesTo (codes "repeat" ∷ map (λ w. w.now) words.now) result }
 {
     let (name, place) = name_and_number(words)?;
-    Ok(Command::Repeat { name, place })
+    Ok(Command::Change(Change::Repeat { name, place }))
 }
 
 pub(crate) fn deliver<'a>(words: &[&'a str]) -> Result<Command<'a>, LineError>
     ensures { ParsesTo (codes "deliver" ∷ map (λ w. w.now) words.now) result }
 {
     let name = one_name(words)?;
-    Ok(Command::Deliver { name })
+    Ok(Command::Change(Change::Deliver { name }))
 }
 
 pub(crate) fn mail<'a>(words: &[&'a str]) -> Result<Command<'a>, LineError>

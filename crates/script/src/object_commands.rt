@@ -6,6 +6,7 @@ ghost use Rattle.script.specs.Command.{ParsesTo};
 use crate::arguments::{
     name_and_numbers, name_and_turns, name_bytes_and_turns, name_number_and_turns, one_name,
 };
+use crate::change::Change;
 use crate::command::Command;
 use crate::error::LineError;
 use std::alloc::Global;
@@ -14,32 +15,32 @@ pub(crate) fn read<'a>(words: &[&'a str]) -> Result<Command<'a>, LineError>
     ensures { ParsesTo (codes "read" ∷ map (λ w. w.now) words.now) result }
 {
     let (name, turns) = name_and_turns(words)?;
-    Ok(Command::Read { name, turns })
+    Ok(Command::Change(Change::Read { name, turns }))
 }
 
 pub(crate) fn write<'a>(alloc: Global, words: &[&'a str]) -> Result<Command<'a>, LineError>
     ensures { ParsesTo (codes "write" ∷ map (λ w. w.now) words.now) result }
 {
     let (name, value, turns) = name_bytes_and_turns(alloc, words)?;
-    Ok(Command::Write { name, value, turns })
+    Ok(Command::Change(Change::Write { name, value, turns }))
 }
 
 pub(crate) fn move_to<'a>(words: &[&'a str]) -> Result<Command<'a>, LineError>
     ensures { ParsesTo (codes "move" ∷ map (λ w. w.now) words.now) result }
 {
     let (name, layout, turns) = name_number_and_turns(words)?;
-    Ok(Command::Move {
+    Ok(Command::Change(Change::Move {
         name,
         layout,
         turns,
-    })
+    }))
 }
 
 pub(crate) fn resume<'a>(words: &[&'a str]) -> Result<Command<'a>, LineError>
     ensures { ParsesTo (codes "resume" ∷ map (λ w. w.now) words.now) result }
 {
     let (name, call, turns) = name_number_and_turns(words)?;
-    Ok(Command::Resume { name, call, turns })
+    Ok(Command::Change(Change::Resume { name, call, turns }))
 }
 
 pub(crate) fn history<'a>(words: &[&'a str]) -> Result<Command<'a>, LineError>

@@ -12,7 +12,7 @@ use std::alloc::Global;
 use words::{parse_bytes, parse_number};
 
 /// The turns of a whole call where a line does not give them.
-const TURNS: u64 = 100_000;
+const DEFAULT_TURNS: u64 = 100_000;
 
 pub(crate) fn number(word: &str) -> Result<u64, LineError>
     ensures ok { IfOk result (IsNumber word.now) }
@@ -39,7 +39,7 @@ pub(crate) fn turns(words: &[&str]) -> Result<u64, LineError>
         × ((n : ℕ) → ¬ (AreTurns (map (λ w. w.now) words.now) n))) }
 {
     match words {
-        [] => Ok(TURNS),
+        [] => Ok(DEFAULT_TURNS),
         [word] => number(word),
         _ => Err(LineError::Bad),
     }

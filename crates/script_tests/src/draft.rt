@@ -1,5 +1,5 @@
 //! The lines of a row, up to here.
-use crate::row::{Deed, Row, words_of};
+use crate::row::{Action, Row, words_of};
 use crate::run::Run;
 use crate::script_line::add_line;
 use anyhow::{Context, Result, bail, ensure};
@@ -12,8 +12,8 @@ const LONGEST_NAME: usize = 60;
 #[derive(Drop)]
 pub(crate) struct Draft {
     name: Option<String>,
-    deed: Option<Deed>,
-    /// The lines of the deed, as the table writes them.
+    action: Option<Action>,
+    /// The lines of the action, as the table writes them.
     text: String,
     pub(crate) out: Vec<u8>,
     pub(crate) err: Vec<u8>,
@@ -23,7 +23,7 @@ impl Draft {
     pub(crate) fn new(alloc: Global) -> Draft {
         Draft {
             name: None,
-            deed: None,
+            action: None,
             text: String::new(alloc),
             out: Vec::new(alloc),
             err: Vec::new(alloc),
@@ -32,7 +32,7 @@ impl Draft {
 
     /// Whether there is no line.
     pub(crate) fn is_empty(&self) -> bool {
-        self.name.is_none() && self.deed.is_none() && self.out.is_empty() && self.err.is_empty()
+        self.name.is_none() && self.action.is_none() && self.out.is_empty() && self.err.is_empty()
     }
 
     /// Takes the name of a row. A beginning has none.
@@ -54,28 +54,28 @@ impl Draft {
     /// Adds a line of the script.
     pub(crate) fn add_script(&mut self, alloc: Global, text: &str) -> Result<()> {
         writeln!(self.text, "> {text}")?;
-        match self.deed.get_or_insert(Deed::Script(Vec::new(alloc))) {
-            Deed::Script(script) => add_line(script, text),
-            Deed::Words(_) => bail!("a script in a row that is a command line"),
+        match self.action.get_or_insert(Action::Script(Vec::new(alloc))) {
+            Action::Script(script) => add_line(script, text),
+            Action::Words(_) => bail!("a script in a row that is a command line"),
         }
     }
 
     /// Takes the words of a command line.
     pub(crate) fn set_words(&mut self, alloc: Global, text: &str) -> Result<()> {
         ensure!(
-            self.deed.is_none(),
+            self.action.is_none(),
             "a command line in a row that has begun"
         );
         writeln!(self.text, "$ {text}")?;
-        self.deed = Some(Deed::Words(words_of(alloc, text)?));
+        self.action = Some(Action::Words(words_of(alloc, text)?));
         Ok(())
     }
 
     /// The row behind its beginning. It ends at this line, with this status.
     pub(crate) fn finish(self, beginning: &Draft, line: usize, status: u8) -> Result<Row> {
         let name = self.name.context("a row without a name")?;
-        let deed = self.deed.context("a row that does nothing")?;
-        let deed = behind(&beginning.deed, deed)?;
+        let action = self.action.context("a row that does nothing")?;
+        let action = behind(&beginning.action, action)?;
         let out = joined(&beginning.out, &self.out)?;
         let err = joined(&beginning.err, &self.err)?;
         let mut text = beginning.text.clone()?;
@@ -83,17 +83,19 @@ impl Draft {
         Ok(Row {
             name,
             line,
-            deed,
+            action,
             text,
             expected: Run { out, err, status },
         })
     }
 }
 
-fn behind(beginning: &Option<Deed>, deed: Deed) -> Result<Deed> {
-    match (beginning, deed) {
-        (None, deed) => Ok(deed),
-        (Some(Deed::Script(first)), Deed::Script(rest)) => Ok(Deed::Script(joined(first, &rest)?)),
+fn behind(beginning: &Option<Action>, action: Action) -> Result<Action> {
+    match (beginning, action) {
+        (None, action) => Ok(action),
+        (Some(Action::Script(first)), Action::Script(rest)) => Ok(Action::Script(joined(
+            first, &rest,
+        )?)),
         _ => bail!("a command line behind a beginning"),
     }
 }

@@ -37,7 +37,7 @@ fn play_all<R: Files + Print + AllocGlobal + Threads + Wait + Clock + Sync>(
 ) -> Result<usize> {
     let mut differing = 0usize;
     for row in rows {
-        let run = Run::of(rt, &row.deed);
+        let run = Run::of(rt, &row.action);
         if run != row.expected {
             report(rt, row, &run)?;
             differing = differing.saturating_add(1);

@@ -4,7 +4,7 @@ use std::alloc::{AllocError, Global};
 
 /// What a row does.
 #[derive(Drop)]
-pub(crate) enum Deed {
+pub(crate) enum Action {
     /// Plays a script.
     Script(Vec<u8>),
     /// Carries out a command line.
@@ -18,7 +18,7 @@ pub(crate) struct Row {
     pub(crate) name: String,
     /// The number of the row's last line.
     pub(crate) line: usize,
-    pub(crate) deed: Deed,
+    pub(crate) action: Action,
     /// The script or the command line, as the table writes it: with its marks and line ends.
     pub(crate) text: String,
     pub(crate) expected: Run,

@@ -1,5 +1,5 @@
 //! What a run prints.
-use crate::row::Deed;
+use crate::row::Action;
 use commands::run_words;
 use player::run_script;
 use std::fmt;
@@ -20,16 +20,16 @@ impl Run {
     /// Plays the script, or carries out the command line.
     pub(crate) fn of<R: Files + AllocGlobal + Threads + Wait + Clock + Sync>(
         rt: &R,
-        deed: &Deed,
+        action: &Action,
     ) -> Run {
         let mut out = Vec::new(rt.alloc());
         let mut err = Vec::new(rt.alloc());
-        let status = match deed {
-            Deed::Script(script) => {
+        let status = match action {
+            Action::Script(script) => {
                 let mut reader = script.as_slice();
                 run_script(rt.alloc(), "story", &mut reader, &mut out, &mut err)
             }
-            Deed::Words(words) => run_words(rt, words.as_slice(), &mut out, &mut err),
+            Action::Words(words) => run_words(rt, words.as_slice(), &mut out, &mut err),
         };
         Run { out, err, status }
     }

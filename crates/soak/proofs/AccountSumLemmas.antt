@@ -6,6 +6,7 @@ use Rattle.std.proofs.Common.{get_or, take, nat_eq, codes, ◌<◌, ◌^◌}
 use Rattle.std.specs.Prelude.{slice_get, sum_by, IsTrue, ◌↔◌}
 use Rattle.std.proofs.lemmas.Bool.Decides.{nat_tests}
 use Rattle.std.specs.List.{AllByRecursion}
+use Rattle.std.specs.Io.Iter.{u64_saturate}
 use Rattle.tag.specs.declared.limits.TheConstants.{MOST_MEMBERS, MOST_POSITIONS}
 use Rattle.layout.specs.Layout.{Layout, IsLawful}
 use Rattle.bank.specs.Bank.{Bank}
@@ -14,7 +15,7 @@ use Rattle.record.specs.Records.{Object, no_layout}
 use Rattle.record.specs.Accounts as of
 use Rattle.register.specs.State.{State}
 use Rattle.cluster.specs.Cluster.{Cluster, named}
-use Rattle.soak.specs.Audit.{AreAccounted, AreAdded, bytes_at, bytes_if, capped, of_both, of_object}
+use Rattle.soak.specs.Audit.{AreAccounted, AreAdded, bank_bytes_at, bytes_if, of_both, of_object}
 
 -- one more at the end
 pub sum_last : (f : ℕ → ℕ) (from count : ℕ) → member_sum f from (suc count) ≡ member_sum f from count + f (from + count)
@@ -76,13 +77,14 @@ sum_more f count =
     omega (arith, same, last, from_none)
 
 -- sums of capped numbers are capped sums
-pub capped_sum : (a b : ℕ) → capped (capped a + capped b) ≡ capped (a + b)
+pub capped_sum : (a b : ℕ) → u64_saturate (u64_saturate a + u64_saturate b) ≡ u64_saturate (a + b)
 capped_sum a b = grind arith
 
 -- a capped total grows by a capped number
-pub capped_more : (total s x y sum more : ℕ) → total ≡ capped s → x ≡ capped y → sum ≡ capped (total + x) → more ≡ s + y → sum ≡ capped more
+pub capped_more : (total s x y sum more : ℕ) → total ≡ u64_saturate s → x ≡ u64_saturate y → sum ≡ u64_saturate (total + x)
+    → more ≡ s + y → sum ≡ u64_saturate more
 capped_more total s x y sum more is part added grown =
-    added ∙ (ap₂ (λ a b. capped (a + b)) is part ∙ (capped_sum s y ∙ ap capped (sym grown)))
+    added ∙ (ap₂ (λ a b. u64_saturate (a + b)) is part ∙ (capped_sum s y ∙ ap u64_saturate (sym grown)))
 
 -- sums of equal numbers
 pub sum_same : (f g : ℕ → ℕ) → ((i : ℕ) → f i ≡ g i) → (from count : ℕ) → member_sum f from count ≡ member_sum g from count
@@ -98,7 +100,7 @@ few_members (l ∷ ls) lawful (suc p) = few_members ls lawful.1 p
 
 -- what a server stores of an object, position by position and member by member
 pub stored_sum : (object : Object) (server : ℕ) → AllByRecursion IsLawful object.layouts → length object.layouts ≤ MOST_POSITIONS
-    → member_sum (λ p. member_sum (bytes_at object server p) 0 MOST_MEMBERS) 0 MOST_POSITIONS ≡ stored object server
+    → member_sum (λ p. member_sum (bank_bytes_at object server p) 0 MOST_MEMBERS) 0 MOST_POSITIONS ≡ stored object server
 stored_sum object server lawful few =
     sum_same _ _
     (λ p. members_sum server (get_or object.layouts p no_layout).members (get_or object.banks p []) MOST_MEMBERS
@@ -106,7 +108,7 @@ stored_sum object server lawful few =
     ∙ positions_sum server object.layouts object.banks MOST_POSITIONS few
 
 -- a number below the cap is itself
-pub capped_small : (x y : ℕ) → x ≡ y → y < 2 ^ 64 → x ≡ capped y
+pub capped_small : (x y : ℕ) → x ≡ y → y < 2 ^ 64 → x ≡ u64_saturate y
 capped_small x y same small = grind (arith, same, small)
 
 -- one element more of a sum
@@ -120,7 +122,7 @@ sum_at f xs i x at =
     omega (arith, more, same)
 
 -- a capped sum equals a number within the limit of bytes exactly where the sum does
-pub capped_equal : (x y s a : ℕ) → x ≡ capped s → y ≡ a → a ≤ 2 ^ 62 → IsTrue (nat_eq x y) ↔ (a ≡ s)
+pub capped_equal : (x y s a : ℕ) → x ≡ u64_saturate s → y ≡ a → a ≤ 2 ^ 62 → IsTrue (nat_eq x y) ↔ (a ≡ s)
 capped_equal x y s a is at few = ((λ e. grind (arith, nat_tests, is, at, few, e)), λ e. grind (arith, nat_tests, is, at, few, e))
 
 -- what is read of both objects, where they are there

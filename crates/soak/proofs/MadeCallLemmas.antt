@@ -12,11 +12,11 @@ use Rattle.locked_steps.specs.declared.call_record.CallRecord.{CallRecord}
 use Rattle.cluster.specs.Cluster.{Cluster}
 use Rattle.locked_steps.specs.Closing.{all_records, receipts_of}
 use Rattle.locked_steps.specs.Moves.{AdminState}
-use Rattle.locked_steps.specs.Seats.{SeatState, SettlesPending, begun, listed, new_seat, new_seats, records_of, with_pending}
+use Rattle.locked_steps.specs.Seats.{SeatState, SettlesPending, record_begun, pending_list, new_seat, new_seats, records_of, with_pending}
 use Rattle.locked_steps.proofs.SeatRecordLemmas.{all_append, all_back, all_front}
-use Rattle.soak.specs.Call.{object_of}
+use Rattle.soak.specs.Call.{object_called}
 use Rattle.soak.specs.Closed.{IsClosed, IsOfClosed}
-use Rattle.soak.specs.Made.{HasMade, IsUnusedSeat, Makes, MakesAll, MakesMove, MovesAll, begin_of}
+use Rattle.soak.specs.Made.{HasMade, IsUnusedSeat, Makes, MakesAll, MakesMove, MovesAll, call_begun_by}
 use Rattle.soak.specs.Summary.{IsSummaryOf}
 use Rattle.soak.specs.declared.plan.Plan.{Plan}
 use Rattle.soak.specs.declared.summary.Summary.{Summary}
@@ -71,8 +71,8 @@ MakesAll-counts : (first : Cluster) (n number : ℕ) (t : SeatState) → MakesAl
 MakesAll-counts first zero number t is =
     record { receipts = ap (λ (u : SeatState). receipts_of u.records) is; settled = ap (λ (u : SeatState). u.pending) is }
 MakesAll-counts first (suc n) number t (s, before, (receipt, (b, (cluster, (state, none, is)), settles))) =
-    let call = begun cluster (object_of n) s.floor (begin_of s.number n) in
-    let more = settles-counts n number s t receipt call (object_of n) (MakesAll-counts first n number s before)
+    let call = record_begun cluster (object_called n) s.floor (call_begun_by s.number n) in
+    let more = settles-counts n number s t receipt call (object_called n) (MakesAll-counts first n number s before)
     (subst (λ (u : SeatState). SettlesPending u.pending u receipt t) is settles) in
     let next : n + 1 ≡ suc n = omega arith in
     subst (λ k. Counts k t) next more
@@ -80,7 +80,8 @@ MakesAll-counts first (suc n) number t (s, before, (receipt, (b, (cluster, (stat
 HasMade-receipts : (first : Cluster) (n : ℕ) (t : SeatState) → HasMade first n t → receipts_of (records_of t) ≡ n
 HasMade-receipts first n t (number, made) =
     let counts = MakesAll-counts first n number t made in
-    ap (λ (o : Option _). receipts_of (t.records ++ listed o)) counts.settled ∙ ap receipts_of (append-nil t.records) ∙ counts.receipts
+    ap (λ (o : Option _). receipts_of (t.records ++ pending_list o)) counts.settled ∙ ap receipts_of (append-nil t.records)
+    ∙ counts.receipts
 
 -- each seat has so many receipts
 pub all-receipts : (first : Cluster) (n : ℕ) (seats : List SeatState) → AllByRecursion (HasMade first n) seats

@@ -1,6 +1,6 @@
 -- The contracts that docs/trusted.md lists do not depend on this file; other contracts and proofs do.
 -- The accounts of a cluster, added up again from its banks and mail.
-use Rattle.std.specs.Prelude.{◌≡◌, ℕ, ◌+◌, ◌<◌, ◌==◌, ◌-◌, ◌^◌, min, if◌then◌else◌, length, Option, Some, None}
+use Rattle.std.specs.Prelude.{◌≡◌, ℕ, ◌+◌, ◌<◌, ◌==◌, if◌then◌else◌, length, Option, Some, None}
 use Rattle.std.specs.Prelude.{slice_get, codes}
 use Rattle.bank.specs.Bank.{Bank}
 use Rattle.bank.specs.Bytes.{bank_bytes}
@@ -21,13 +21,9 @@ bytes_if server (Some member) None = 0
 bytes_if server (Some member) (Some bank) = if member == server then bank_bytes bank else 0
 
 -- how many bytes this server stores in the bank of this member of this position
-abbrev pub bytes_at : Object → (server position member : ℕ) → ℕ
-bytes_at object server position member =
+abbrev pub bank_bytes_at : Object → (server position member : ℕ) → ℕ
+bank_bytes_at object server position member =
     bytes_if server (slice_get (layout_at object position).members member) (bank_there object position member)
-
--- a number, or the greatest number of 64 bits where it is above that
-abbrev pub capped : ℕ → ℕ
-capped n = min n (2 ^ 64 - 1)
 
 -- the number that is read of an object; 0 where there is no object
 abbrev pub of_object : Option State → (Object → ℕ) → ℕ

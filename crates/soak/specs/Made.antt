@@ -8,17 +8,17 @@ use Rattle.locked_steps.specs.Seats.{SeatState, AddsAnswered, new_seat}
 use Rattle.locked_steps.specs.declared.call_record.Begin.{Begin}
 use Rattle.locked_steps.specs.declared.call_record.Begin.TheVariants as begin
 use Rattle.client.specs.Locked.{Moves}
-use Rattle.soak.specs.Call.{object_of, value_of}
+use Rattle.soak.specs.Call.{object_called, value_written}
 use Rattle.soak.specs.Moves.{layout_after, object_moved}
 
 -- what a client's call of this number does: an even number writes, and an odd one reads
-abbrev pub begin_of : (client call : ℕ) → Begin
-begin_of client call = if (call % 2) == 0 then begin.Write (value_of client call) else begin.Read
+abbrev pub call_begun_by : (client call : ℕ) → Begin
+call_begun_by client call = if (call % 2) == 0 then begin.Write (value_written client call) else begin.Read
 
 -- in a store that was opened with `first`, the seat gets one more record, of the call of this number with a receipt
 abbrev pub Makes : (first : Cluster) → (call : ℕ) → SeatState → SeatState → Type 0
 Makes first call s t =
-    (receipt : Receipt) × AddsAnswered first s (object_of call) (begin_of s.number call) receipt t
+    (receipt : Receipt) × AddsAnswered first s (object_called call) (call_begun_by s.number call) receipt t
 
 -- this many calls are made in a row, the first of which has the number 0
 abbrev pub MakesAll : (first : Cluster) → (count : ℕ) → SeatState → SeatState → Type 0

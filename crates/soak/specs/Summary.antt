@@ -22,15 +22,15 @@ entries_in (Some state) = entries state.object
 abbrev pub entries_of : Cluster → (name : List ℕ) → List Entry
 entries_of cluster name = entries_in (named cluster.objects name)
 
--- whether a call is a move
-abbrev pub is_move : Operation → Bool
-is_move operation.Read = false
-is_move operation.Write = false
-is_move operation.Move = true
+-- whether what a call does is a move
+abbrev pub is_move_operation : Operation → Bool
+is_move_operation operation.Read = false
+is_move_operation operation.Write = false
+is_move_operation operation.Move = true
 
 -- whether an entry belongs to an answered move
 abbrev pub is_answered_move : Entry → Bool
-is_answered_move e = is_move e.kind && is_some e.answered
+is_answered_move e = is_move_operation e.kind && is_some e.answered
 
 -- how many reads and writes of the object of this name are answered
 abbrev pub answered_calls : Cluster → (name : List ℕ) → ℕ

@@ -1,7 +1,8 @@
 //! The accounts of a cluster, added up again from its banks and mail.
 ghost use Rattle.std.specs.Prelude.{◌≡◌, ◌+◌, ◌<◌, ◌≤◌, ◌↔◌, ℕ, length, IfOk, IsTrue};
+ghost use Rattle.std.specs.Io.Iter.{u64_saturate};
 ghost use Rattle.cluster.specs.Accounts as all;
-ghost use Rattle.soak.specs.Audit.{AreAccounted, AreAdded, bytes_at, capped, missing_cause};
+ghost use Rattle.soak.specs.Audit.{AreAccounted, AreAdded, bank_bytes_at, missing_cause};
 ghost use Rattle.tag.specs.Refusal.{IsExactlyByCause};
 ghost use Rattle.record.specs.Accounts.{member_sum, mailed, stored};
 ghost use Rattle.tag.specs.declared.limits.TheConstants.{MOST_MEMBERS};
@@ -68,7 +69,7 @@ fn is_stored(cluster: &Cluster, one: &Register, other: &Register, server: u8) ->
 
 // How many bytes all servers store of two objects, added up again; the greatest number where the sum is above it.
 fn all_anew(servers: u8, one: &Register, other: &Register) -> u64
-    ensures { result ≡ capped (member_sum (λ s. stored one.now.object s + stored other.now.object s) 0 servers) }
+    ensures { result ≡ u64_saturate (member_sum (λ s. stored one.now.object s + stored other.now.object s) 0 servers) }
 {
     let mut total: u64 = 0;
     for server in 0..servers {
@@ -79,14 +80,14 @@ fn all_anew(servers: u8, one: &Register, other: &Register) -> u64
 
 // How many bytes a server stores of two objects, added up again; the greatest number where the sum is above it.
 fn both_anew(one: &Register, other: &Register, server: u8) -> u64
-    ensures { result ≡ capped (stored one.now.object server + stored other.now.object server) }
+    ensures { result ≡ u64_saturate (stored one.now.object server + stored other.now.object server) }
 {
     stored_anew(one, server).saturating_add(stored_anew(other, server))
 }
 
 // How many bytes a server stores of an object, added up again; the greatest number where the sum is above it.
 fn stored_anew(register: &Register, server: u8) -> u64
-    ensures { result ≡ capped (stored register.now.object server) }
+    ensures { result ≡ u64_saturate (stored register.now.object server) }
 {
     register.soundness();
     let mut total: u64 = 0;
@@ -98,7 +99,7 @@ fn stored_anew(register: &Register, server: u8) -> u64
 
 // How many bytes it stores at one position of the object; the greatest number where the sum is above it.
 fn position_anew(register: &Register, server: u8, position: u32) -> u64
-    ensures { result ≡ capped (member_sum (bytes_at register.now.object server position) 0 MOST_MEMBERS) }
+    ensures { result ≡ u64_saturate (member_sum (bank_bytes_at register.now.object server position) 0 MOST_MEMBERS) }
 {
     let mut total: u64 = 0;
     for member in 0..MOST_MEMBERS as u8 {
@@ -109,7 +110,7 @@ fn position_anew(register: &Register, server: u8, position: u32) -> u64
 
 // How many bytes it stores for one member of the position.
 fn member_anew(register: &Register, server: u8, position: u32, member: u8) -> u64
-    ensures { result ≡ capped (bytes_at register.now.object server position member) }
+    ensures { result ≡ u64_saturate (bank_bytes_at register.now.object server position member) }
 {
     if register.server(position, member) != Some(server) {
         return 0;
@@ -122,7 +123,7 @@ fn member_anew(register: &Register, server: u8, position: u32, member: u8) -> u6
 
 // How many bytes wait in the messages of an object, added up again; the greatest number where the sum is above it.
 fn mailed_anew(register: &Register) -> u64
-    ensures { result ≡ capped (mailed register.now.object) }
+    ensures { result ≡ u64_saturate (mailed register.now.object) }
 {
     let mail = register.mail_view();
     let mut total: u64 = 0;

@@ -2,10 +2,10 @@
 ghost use Rattle.std.specs.Prelude.{IfOk, OnOk};
 ghost use Rattle.soak.specs.Made.{HasMade, IsUnusedSeat, Makes};
 
-use crate::call::{object_of, value_of};
+use crate::call::{object_called, value_written};
 use crate::chooser::Congruential;
 use crate::counts::Counts;
-use crate::moves::TURNS;
+use crate::moves::MOST_TURNS;
 use crate::plan::Plan;
 use client::{Seat, Store, StoreName};
 use std::alloc::Global;
@@ -34,7 +34,7 @@ pub(crate) fn make_calls<L: StoreName, R: Threads + Wait + Sync>(
     let mut chooser = Congruential::new(plan.choices, seat.number() as u64);
     for call in 0..plan.calls {
         make_call(rt, alloc, store, &mut seat, call, &mut chooser)?;
-        stir_often(rt, store, object_of(call), &mut chooser)?;
+        stir_often(rt, store, object_called(call), &mut chooser)?;
         counts.add_call();
     }
     Ok(seat)
@@ -51,12 +51,12 @@ fn make_call<L: StoreName, R: Threads + Wait + Sync>(
 ) -> Result<(), Refusal>
     ensures { OnOk result (Makes L.first call seat.old seat.new) }
 {
-    let name = object_of(call);
+    let name = object_called(call);
     if call % 2 == 0 {
-        let value = value_of(alloc, seat.number(), call)?;
-        store.write(rt, seat, name, value, chooser, TURNS)?;
+        let value = value_written(alloc, seat.number(), call)?;
+        store.write(rt, seat, name, value, chooser, MOST_TURNS)?;
     } else {
-        store.read(rt, seat, name, chooser, TURNS)?;
+        store.read(rt, seat, name, chooser, MOST_TURNS)?;
     }
     Ok(())
 }

@@ -3,9 +3,9 @@
 #![tactic(auto)]
 
 pub use audit::are_accounted;
-pub use call::{object_of, value_of};
+pub use call::{object_called, value_written};
 pub use chooser::Congruential;
-pub use load::{Cost, Load, run_load};
+pub use load::{Load, Timing, run_load};
 pub use moves::{layout_after, object_moved};
 pub use plan::Plan;
 pub use progress::Progress;

@@ -2,7 +2,7 @@
 ghost use Rattle.std.specs.Prelude.{◌≡◌, ◌+◌, ◌*◌, ◌≤◌, IfOk};
 ghost use Rattle.tag.specs.declared.limits.TheConstants.{MOST_SEATS};
 
-use crate::moves::TURNS;
+use crate::moves::MOST_TURNS;
 use bytes::Bytes;
 use client::{First, Seat, Store, StoreName};
 use cluster::Cluster;
@@ -34,7 +34,7 @@ pub struct Load {
 
 /// How many calls were made, and how many nanoseconds they took. A time is 0 where its clock could not be read.
 #[derive(Clone, Copy, Debug, PartialEq, Eq)]
-pub struct Cost {
+pub struct Timing {
     /// How many receipts the closed store has.
     pub calls: u64,
     /// The nanoseconds that passed by the monotonic clock.
@@ -44,7 +44,7 @@ pub struct Cost {
 }
 
 /// Opens a store of five servers, any three of which give a value back, without workers, and measures the calls of a
-/// load. It returns a cost only where the closed store has a receipt for each call.
+/// load. It returns a timing only where the closed store has a receipt for each call.
 ///
 /// `Full` above `MOST_SEATS` clients, `NotNow` where there are fewer receipts, `NoMemory` also where a thread cannot be
 /// started, and else the refusal of a call.
@@ -52,17 +52,17 @@ pub fn run_load<R: Threads + Wait + Clock + CpuClock + Sync>(
     rt: &R,
     alloc: Global,
     load: Load,
-) -> Result<Cost, Refusal>
-    ensures { IfOk result (λ cost. cost.calls ≡ load.clients * load.calls) }
+) -> Result<Timing, Refusal>
+    ensures { IfOk result (λ timing. timing.calls ≡ load.clients * load.calls) }
 {
     if load.clients > MOST_SEATS {
         return Err(Refusal::Full);
     }
     let parts = load.clients as u64 + 1;
     let cluster = five_servers(alloc)?;
-    let cost = load_named::<Brand, R>(rt, alloc, Blank::new(parts), cluster, load)?;
+    let timing = load_named::<Brand, R>(rt, alloc, Blank::new(parts), cluster, load)?;
     match (load.clients as u64).checked_mul(load.calls) {
-        Some(all) if all == cost.calls => Ok(cost),
+        Some(all) if all == timing.calls => Ok(timing),
         _ => Err(Refusal::NotNow),
     }
 }
@@ -74,7 +74,7 @@ fn load_named<L: StoreName + Send + Sync, R: Threads + Wait + Clock + CpuClock +
     blank: Blank,
     cluster: Cluster,
     load: Load,
-) -> Result<Cost, Refusal>
+) -> Result<Timing, Refusal>
     requires first { cluster ≡ L.first }
     requires name { blank.name ≡ L.name }
     requires parts { (blank.parts ≡ L.parts) × (blank.parts ≡ L.seats + 1) × (load.clients ≡ L.seats) }
@@ -85,7 +85,7 @@ fn load_named<L: StoreName + Send + Sync, R: Threads + Wait + Clock + CpuClock +
     let seats = call_all(rt, alloc, &store, seats, &value, load)?;
     let (clock_after, processors_after) = times(rt);
     match store.close(seats) {
-        Ok(closed) => Ok(Cost {
+        Ok(closed) => Ok(Timing {
             calls: closed.receipts,
             clock: clock_after.saturating_sub(clock),
             processors: processors_after.saturating_sub(processors),
@@ -187,9 +187,9 @@ fn make_calls<L: StoreName, R: Threads + Wait + Sync>(
 ) -> Result<Seat<L>, Refusal> {
     for call in 0..load.calls {
         if call % 2 == 0 {
-            store.write(rt, &mut seat, NAME, value.clone()?, &mut First, TURNS)?;
+            store.write(rt, &mut seat, NAME, value.clone()?, &mut First, MOST_TURNS)?;
         } else {
-            store.read(rt, &mut seat, NAME, &mut First, TURNS)?;
+            store.read(rt, &mut seat, NAME, &mut First, MOST_TURNS)?;
         }
         for _ in 0..load.late {
             store.stir(rt, NAME, &mut First)?;

@@ -14,7 +14,7 @@ use std::thread::Threads;
 use tag::Refusal;
 
 /// The greatest number of turns of each call and each move.
-pub(crate) const TURNS: u64 = 1_000_000;
+pub(crate) const MOST_TURNS: u64 = 1_000_000;
 
 /// The name of the object that the move of this number moves: `a` and `b` in turn.
 pub fn object_moved(number: u64) -> &'static str
@@ -65,6 +65,6 @@ fn make_move<L: StoreName, R: Threads + Wait + Sync>(
     ensures { OnOk result (MakesMove L.first number admin.old admin.new) }
 {
     let name = object_moved(number);
-    store.move_object(rt, admin, name, layout_after(number), chooser, TURNS)?;
+    store.move_object(rt, admin, name, layout_after(number), chooser, MOST_TURNS)?;
     Ok(())
 }

@@ -1,5 +1,4 @@
 -- What is stored and mailed, step by step.
-pub mod CallStepBytesLemmas
 pub mod MailAfterStepLemmas
 pub mod MailChangeLemmas
 pub mod MessageBytesLemmas

@@ -127,12 +127,6 @@ base_set base kind number (phase ∷ next ∷ phases) stage zero old new begins 
 base_set base kind number (phase ∷ next ∷ phases) stage (suc place) old new begins at last p s =
     (begins.0, base_set base kind number (next ∷ phases) (stage_past kind number stage phase) place old new begins.1 at (omega arith) p s)
 
--- two records that agree in all these bases
-pub base_everywhere : (base other : ℕ → ℕ) → ((step : ℕ) → other step ≡ base step) → (phases : List Phase) →
-    AllByRecursion (λ phase. other phase.start ≡ base phase.start) phases
-base_everywhere base other same [] = tt
-base_everywhere base other same (phase ∷ phases) = (same phase.start, base_everywhere base other same phases)
-
 -- no position is retired from the first that is not
 first_none : (banks : List (List Bank)) → RetiredOf banks 0 ≡ None → retired_first banks ≡ 0
 first_none [] e = refl

@@ -1,5 +1,5 @@
 -- The order of statuses as numbers.
-use Rattle.std.proofs.Common.{◌≡◌, ℕ, ◌≤◌, true, refl, arith, le_refl}
+use Rattle.std.proofs.Common.{◌≡◌, ℕ, ◌≤◌, true, arith, le_refl}
 use Rattle.bank.specs.declared.status.Status.{Status}
 use Rattle.bank.specs.declared.status.Status.TheVariants.{Unset, Pending, Final}
 use Rattle.bank.specs.Knowledge.{status_le}
@@ -19,15 +19,6 @@ status_le-true Pending Final e = omega arith
 status_le-true Final Unset e = absurd (cc)
 status_le-true Final Pending e = absurd (cc)
 status_le-true Final Final e = le_refl 2
-
-pub status_le-from_rank : (s t : Status) → rank s ≤ rank t → status_le s t ≡ true
-status_le-from_rank Unset t h = refl
-status_le-from_rank Pending Unset h = absurd (omega arith)
-status_le-from_rank Pending Pending h = refl
-status_le-from_rank Pending Final h = refl
-status_le-from_rank Final Unset h = absurd (omega arith)
-status_le-from_rank Final Pending h = absurd (omega arith)
-status_le-from_rank Final Final h = refl
 
 pub rank-later_left : (s t : Status) → rank s ≤ rank (later_status s t)
 rank-later_left Unset t = omega arith

@@ -46,7 +46,8 @@ pub record ComesByRequest (object : Object) (step : Step) (now position member :
 -- the step is a move that opens this bank, in which the opening tag is finalized
 pub record ComesByOpening (object : Object) (step : Step) (now position : ℕ) (tag : Tag) (label : Label) : Type 0 where
   pub layout : Layout
-  pub moves : step ≡ Step.CallMove layout
+  pub id : ℕ
+  pub moves : step ≡ Step.CallMove id layout
   pub new : position ≡ length object.layouts
   pub opening : tag ≡ opening_tag
   pub finalized : label ≡ Finalized now

@@ -22,7 +22,7 @@ pub record IsPosted (object : Object) (message : Message) : Type 0 where
   pub index : ℕ
   pub call : Call
   pub at : slice_get object.calls index ≡ Some call
-  pub same_call : message.call ≡ suc index
+  pub same_call : message.call ≡ call.id
   pub place : ℕ
   pub phase : Phase
   pub within : slice_get call.phases place ≡ Some phase

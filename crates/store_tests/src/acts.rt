@@ -8,7 +8,7 @@ use std::thread::Threads;
 use tag::Refusal;
 
 /// More turns than any call here takes.
-pub(crate) const TURNS: u64 = 100_000;
+pub(crate) const ENOUGH_TURNS: u64 = 100_000;
 
 pub(crate) const HELLO: &[u8] = b"hello";
 

@@ -1,6 +1,6 @@
 //! A read whose version is collected before it is fetched, and which begins anew.
 
-use crate::acts::{Answer, HELLO, TURNS, put_seat, read, resume, take_seat, write};
+use crate::acts::{Answer, ENOUGH_TURNS, HELLO, put_seat, read, resume, take_seat, write};
 use crate::ends::{has_value, is_answered, is_refused};
 use crate::scene::{Play, Scene, perform};
 use crate::servers::Servers;
@@ -34,10 +34,10 @@ pub(crate) fn is_collected_and_answered<L: StoreName, R: Threads + Wait + Abort 
 ) -> Answer {
     is_refused(
         rt,
-        resume(rt, store, reader, &mut First, TURNS),
+        resume(rt, store, reader, &mut First, ENOUGH_TURNS),
         Refusal::Collected,
     );
-    resume(rt, store, reader, &mut First, TURNS)
+    resume(rt, store, reader, &mut First, ENOUGH_TURNS)
 }
 
 fn writes<L: StoreName, R: Threads + Wait + Abort + Sync>(
@@ -47,7 +47,10 @@ fn writes<L: StoreName, R: Threads + Wait + Abort + Sync>(
     value: &'static [u8],
 ) {
     let value = Bytes::from_static(value);
-    is_answered(rt, write(rt, store, writer, value, &mut First, TURNS));
+    is_answered(
+        rt,
+        write(rt, store, writer, value, &mut First, ENOUGH_TURNS),
+    );
 }
 
 // While a read is about to fetch the first value another is written. The read is collected, and then it has the other.

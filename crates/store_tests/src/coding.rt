@@ -1,6 +1,6 @@
 //! Values are coded and decoded with the lock free.
 
-use crate::acts::{Answer, HELLO, TURNS, put_seat, read, take_seat};
+use crate::acts::{Answer, ENOUGH_TURNS, HELLO, put_seat, read, take_seat};
 use crate::ends::{has_value, is_refused};
 use crate::scene::{Play, Scene, perform};
 use crate::servers::Servers;
@@ -69,7 +69,7 @@ fn calls<L: StoreName, R: Threads + Wait + Sync>(
     seat: &mut Seat<L>,
     what: Begin,
 ) -> Answer {
-    store.call(rt, gate, seat, "a", what, &mut First, TURNS)
+    store.call(rt, gate, seat, "a", what, &mut First, ENOUGH_TURNS)
 }
 
 // A call that is held at the gate, while another thread handles a message of a call that was left open.

@@ -1,6 +1,6 @@
 //! A write and a read whose messages are all chosen out of their range.
 
-use crate::acts::{HELLO, TURNS, put_seat, read, take_seat, write};
+use crate::acts::{ENOUGH_TURNS, HELLO, put_seat, read, take_seat, write};
 use crate::ends::{has_value, is_answered};
 use crate::scene::{Play, Scene, perform};
 use crate::servers::Servers;
@@ -26,8 +26,15 @@ fn writes_and_reads<L: StoreName, R: Threads + Wait + Abort + Sync>(
     seat: &mut Seat<L>,
 ) {
     let value = Bytes::from_static(HELLO);
-    is_answered(rt, write(rt, store, seat, value, &mut Greatest, TURNS));
-    has_value(rt, read(rt, store, seat, &mut Greatest, TURNS), HELLO);
+    is_answered(
+        rt,
+        write(rt, store, seat, value, &mut Greatest, ENOUGH_TURNS),
+    );
+    has_value(
+        rt,
+        read(rt, store, seat, &mut Greatest, ENOUGH_TURNS),
+        HELLO,
+    );
 }
 
 pub(crate) fn chooses_the_greatest<L: StoreName, R: Threads + Wait + Abort + Sync>(

@@ -37,10 +37,8 @@ fn seats_named<L: StoreName>(
     requires name { blank.name ≡ L.name }
     requires parts { (blank.parts ≡ L.parts) × (blank.parts ≡ L.seats + 1) × (seats ≡ L.seats) }
 {
-    match Store::<L>::open(alloc, blank, cluster, seats, workers) {
-        Ok((_store, seats, _admin)) => Ok(seats.len()),
-        Err(refusal) => Err(refusal),
-    }
+    let (_store, seats, _admin) = Store::<L>::open(alloc, blank, cluster, seats, workers)?;
+    Ok(seats.len())
 }
 
 #[test]

@@ -1,6 +1,6 @@
 //! What the receipt of a move tells.
 
-use crate::acts::{HELLO, TURNS, put_seat, take_seat, write};
+use crate::acts::{ENOUGH_TURNS, HELLO, put_seat, take_seat, write};
 use crate::ends::is_answered;
 use crate::scene::{Play, Scene, perform};
 use crate::servers::Servers;
@@ -20,7 +20,7 @@ fn tells<L: StoreName, R: Threads + Wait + Abort + Sync>(
     store: &Store<L>,
     admin: &mut Admin<L>,
 ) {
-    let told = store.move_object(rt, admin, "a", 1, &mut First, TURNS);
+    let told = store.move_object(rt, admin, "a", 1, &mut First, ENOUGH_TURNS);
     let expected = Receipt {
         object: 1,
         kind: Operation::Move,
@@ -40,7 +40,10 @@ pub(crate) fn tells_of_a_move<L: StoreName, R: Threads + Wait + Abort + Sync>(
 ) {
     let mut seat = take_seat(rt, seats);
     let hello = Bytes::from_static(HELLO);
-    is_answered(rt, write(rt, store, &mut seat, hello, &mut First, TURNS));
+    is_answered(
+        rt,
+        write(rt, store, &mut seat, hello, &mut First, ENOUGH_TURNS),
+    );
     tells(rt, store, admin);
     put_seat(rt, seats, seat);
 }

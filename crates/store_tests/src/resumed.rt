@@ -1,6 +1,6 @@
 //! The administrator's steps, and a move and writes that are resumed.
 
-use crate::acts::{Answer, HELLO, TURNS, put_seat, resume, take_seat, write};
+use crate::acts::{Answer, ENOUGH_TURNS, HELLO, put_seat, resume, take_seat, write};
 use crate::ends::{is_refused, receipt_of};
 use crate::scene::{Play, Scene, perform};
 use crate::servers::Servers;
@@ -58,7 +58,7 @@ fn resumes_move<L: StoreName, R: Threads + Wait + Sync>(
     store: &Store<L>,
     admin: &mut Admin<L>,
 ) -> Answer {
-    store.resume_move(rt, admin, &mut First, TURNS)
+    store.resume_move(rt, admin, &mut First, ENOUGH_TURNS)
 }
 
 fn writes<L: StoreName, R: Threads + Wait + Sync>(
@@ -82,7 +82,7 @@ fn resumes<L: StoreName, R: Threads + Wait + Sync>(
     store: &Store<L>,
     seat: &mut Seat<L>,
 ) -> Answer {
-    resume(rt, store, seat, &mut First, TURNS)
+    resume(rt, store, seat, &mut First, ENOUGH_TURNS)
 }
 
 fn is_call(rt: &impl Abort, answer: Answer, operation: Operation, call: CallId) {
@@ -121,7 +121,7 @@ fn waits_for_a_server<L: StoreName, R: Threads + Wait + Abort + Sync>(
 ) {
     sets_server(rt, store, admin, 2, false);
     sets_server(rt, store, admin, 3, false);
-    is_refused(rt, writes(rt, store, seat, TURNS), Refusal::Stuck);
+    is_refused(rt, writes(rt, store, seat, ENOUGH_TURNS), Refusal::Stuck);
     sets_server(rt, store, admin, 3, true);
     is_call(rt, resumes(rt, store, seat), Operation::Write, 3);
 }

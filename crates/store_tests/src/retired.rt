@@ -1,6 +1,6 @@
 //! Writers and readers of one object, while the administrator moves it and retires what it leaves.
 
-use crate::acts::{Answer, TURNS, put_seat, take_seat};
+use crate::acts::{Answer, ENOUGH_TURNS, put_seat, take_seat};
 use crate::anew::{is_collected_and_answered, reads_up_to_its_fetch};
 use crate::collected::EIGHT;
 use crate::crew::work;
@@ -48,7 +48,7 @@ fn move_on<L: StoreName, R: Threads + Wait + Sync>(
     position: u32,
 ) -> Answer {
     let layout = if position % 2 == 0 { 1 } else { 0 };
-    store.move_object(rt, admin, "a", layout, &mut First, TURNS)
+    store.move_object(rt, admin, "a", layout, &mut First, ENOUGH_TURNS)
 }
 
 // A position is not retired before the move out of it is answered, and is afterwards, once.

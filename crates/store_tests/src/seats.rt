@@ -1,6 +1,6 @@
 //! Seats: what they learn, what they leave open, and what they did not see.
 
-use crate::acts::{Answer, HELLO, TURNS, put_seat, read, resume, take_seat, write};
+use crate::acts::{Answer, ENOUGH_TURNS, HELLO, put_seat, read, resume, take_seat, write};
 use crate::ends::{called_with, is_refused, receipt_of};
 use crate::scene::{Play, Scene, perform};
 use crate::servers::Servers;
@@ -38,7 +38,7 @@ fn reads_behind<L: StoreName, R: Threads + Wait + Sync>(
     learnt: &Receipt,
 ) -> Answer {
     seat.learn(learnt);
-    read(rt, store, seat, &mut First, TURNS)
+    read(rt, store, seat, &mut First, ENOUGH_TURNS)
 }
 
 // A write, or a read once a receipt is learnt.
@@ -50,7 +50,7 @@ fn calls<L: StoreName, R: Threads + Wait + Sync>(
 ) -> Answer {
     match learnt {
         Some(receipt) => reads_behind(rt, store, seat, receipt),
-        None => writes(rt, store, seat, HELLO, TURNS),
+        None => writes(rt, store, seat, HELLO, ENOUGH_TURNS),
     }
 }
 
@@ -118,7 +118,11 @@ fn resumes_nothing<L: StoreName, R: Threads + Wait + Abort + Sync>(
     seat: &mut Seat<L>,
     refusal: Refusal,
 ) {
-    is_refused(rt, resume(rt, store, seat, &mut First, TURNS), refusal);
+    is_refused(
+        rt,
+        resume(rt, store, seat, &mut First, ENOUGH_TURNS),
+        refusal,
+    );
     assert!(rt; !seat.is_pending());
 }
 
@@ -129,9 +133,13 @@ fn leaves_and_writes<L: StoreName, R: Threads + Wait + Abort + Sync>(
     seat: &mut Seat<L>,
 ) -> u64 {
     is_refused(rt, writes(rt, store, seat, LEFT, 3), Refusal::GaveUp);
-    is_refused(rt, writes(rt, store, seat, MADE, TURNS), Refusal::NotNow);
+    is_refused(
+        rt,
+        writes(rt, store, seat, MADE, ENOUGH_TURNS),
+        Refusal::NotNow,
+    );
     seat.abandon();
-    receipt_of(rt, writes(rt, store, seat, MADE, TURNS)).answered
+    receipt_of(rt, writes(rt, store, seat, MADE, ENOUGH_TURNS)).answered
 }
 
 fn written(call: CallId, called: u64, answered: Option<u64>, value: &'static [u8]) -> Entry {
@@ -205,9 +213,17 @@ fn is_a_stranger<L: StoreName, R: Threads + Wait + Abort + Sync>(
     is_refused(rt, read(rt, store, seat, &mut First, 0), Refusal::GaveUp);
     seat.learn(&made_up());
     let stranger = Refusal::Stranger;
-    is_refused(rt, writes(rt, store, seat, LEFT, TURNS), stranger);
-    is_refused(rt, read(rt, store, seat, &mut First, TURNS), stranger);
-    is_refused(rt, resume(rt, store, seat, &mut First, TURNS), stranger);
+    is_refused(rt, writes(rt, store, seat, LEFT, ENOUGH_TURNS), stranger);
+    is_refused(
+        rt,
+        read(rt, store, seat, &mut First, ENOUGH_TURNS),
+        stranger,
+    );
+    is_refused(
+        rt,
+        resume(rt, store, seat, &mut First, ENOUGH_TURNS),
+        stranger,
+    );
 }
 
 // One of the two seats is a stranger, and is not there at the close.

@@ -4,17 +4,18 @@ use Rattle.std.specs.Prelude.{◌≡◌, ◌⊎◌, ℕ, List, Option, None, Res
 use Rattle.std.specs.Io.KnownBytes.{Keeps}
 use Rattle.cluster.specs.Cluster.{Cluster}
 use Rattle.player.specs.declared.run.End.TheVariants.{NoRoom, Unread}
+use Rattle.script.specs.Arguments.{Word}
 use Rattle.trace.specs.declared.fault.Fault.{Fault}
 use Rattle.trace.specs.declared.fault.Fault.TheVariants as fault
 use Rattle.trace.specs.declared.request.Form.{Form}
 use Rattle.trace.specs.Fault.{exit_status_of}
 use Rattle.trace.specs.Played.{IsUnplayed, LeadsTo}
-use Rattle.trace.specs.Request.{ParsesTo, Word, words_asking_for}
+use Rattle.trace.specs.Request.{ParsesTo, words_asking_for}
 use Rattle.trace.specs.Shown.{Shows}
 
 -- the file could not be opened, and nothing is written
-abbrev pub IsUnopened : (old new : Option (List ℕ)) → Result Unit Fault → Type 0
-IsUnopened old new result =
+abbrev pub GivesNoFile : (old new : Option (List ℕ)) → Result Unit Fault → Type 0
+GivesNoFile old new result =
     ((result ≡ Err (fault.Ended NoRoom)) ⊎ (result ≡ Err (fault.Ended Unread))) × Keeps old new
 
 -- playing the script ends early, and nothing is written; or it is played to its end, and the object is shown or not
@@ -27,7 +28,7 @@ Carries given asked name old new result =
 -- the file could not be opened, or it gave some script: no clause can say what a file holds
 abbrev pub ShowsOfFile : Form → (name : Word) → (old new : Option (List ℕ)) → Result Unit Fault → Type 0
 ShowsOfFile asked name old new result =
-    IsUnopened old new result ⊎ ((given : Option (List ℕ)) × Carries given asked name old new result)
+    GivesNoFile old new result ⊎ ((given : Option (List ℕ)) × Carries given asked name old new result)
 
 -- this is the exit status of a result of which `Is` holds
 abbrev pub IsStatusOf : (Result Unit Fault → Type 0) → (status : ℕ) → Type 0

@@ -1,13 +1,10 @@
 -- The contracts that docs/trusted.md lists do not depend on this file; other contracts and proofs do.
 -- What the words of a command line ask for.
-use Rattle.std.specs.Prelude.{◌≡◌, ℕ, List, [], ◌∷◌, Option, Some, None, codes}
+use Rattle.std.specs.Prelude.{◌≡◌, List, [], ◌∷◌, Option, Some, None, codes}
+use Rattle.script.specs.Arguments.{Word}
 use Rattle.trace.specs.declared.request.Form.{Form}
 use Rattle.trace.specs.declared.request.Form.TheVariants as form
 use Rattle.trace.specs.declared.request.Request.{Request}
-
--- the bytes of a word
-abbrev pub Word : Type 0
-Word = List ℕ
 
 -- the words that ask for this form of an object
 abbrev pub words_asking_for : Form → (script name : Word) → List Word

@@ -10,7 +10,7 @@ use crate::fault::Fault;
 use cluster::Cluster;
 use picture::Loss;
 use player::{End, play_line, read_script};
-use script::{Command, Line, parse_line, split_lines};
+use script::{Change, Command, Line, parse_line, split_lines};
 use std::alloc::Global;
 use std::io;
 use std::io::Read;
@@ -48,14 +48,8 @@ fn play_lines(alloc: Global, lines: &[&[u8]], name: &str) -> Result<Played, Faul
     let mut losses = Vec::new(alloc);
     for (index, line) in lines.iter().enumerate() {
         let lost = lost_by(alloc, &cluster, name, line);
-        match play_numbered(alloc, &mut cluster, index + 1, line) {
-            Ok(()) => {}
-            Err(fault) => return Err(fault),
-        }
-        match note(&mut losses, lost) {
-            Ok(()) => {}
-            Err(fault) => return Err(fault),
-        }
+        play_numbered(alloc, &mut cluster, index + 1, line)?;
+        note(&mut losses, lost)?;
     }
     Ok(Played { cluster, losses })
 }
@@ -87,7 +81,9 @@ fn note(losses: &mut Vec<Loss>, lost: Option<Loss>) -> Result<(), Fault>
 // The message of the named object that this line loses, if it loses one.
 fn lost_by(alloc: Global, cluster: &Option<Cluster>, name: &str, line: &[u8]) -> Option<Loss> {
     let cluster = cluster.as_ref()?;
-    let Ok(Line::Command(Command::Lose { name: of, place })) = parse_line(alloc, line) else {
+    let Ok(Line::Command(Command::Change(Change::Lose { name: of, place }))) = parse_line(
+        alloc, line,
+    ) else {
         return None;
     };
     let register = cluster.register(name).ok()?;

@@ -69,8 +69,6 @@ fn show_file<F: Read, O: Write>(
     ensures { Carries (F.remaining file.old) request.entry.form request.entry.name.now (O.contents out.old)
         (O.contents out.new) result }
 {
-    match play_script(alloc, file, request.name) {
-        Ok(played) => show(alloc, &played, request, out),
-        Err(fault) => Err(fault),
-    }
+    let played = play_script(alloc, file, request.name)?;
+    show(alloc, &played, request, out)
 }

@@ -61,20 +61,16 @@ fn show_edn<O: Write>(alloc: Global, register: &Register, out: &mut O) -> Result
     ensures { MatchResult result
         (λ _. ShowsObject Form.Edn register.now (O.contents out.old) (O.contents out.new)) IsLoss }
 {
-    match history_of(alloc, register) {
-        Ok(events) => print(out, EdnLines(&events)),
-        Err(fault) => Err(fault),
-    }
+    let events = history_of(alloc, register)?;
+    print(out, EdnLines(&events))
 }
 
 fn show_json<O: Write>(alloc: Global, register: &Register, out: &mut O) -> Result<(), Fault>
     ensures { MatchResult result
         (λ _. ShowsObject Form.Json register.now (O.contents out.old) (O.contents out.new)) IsLoss }
 {
-    match history_of(alloc, register) {
-        Ok(events) => print(out, JsonLines(&events)),
-        Err(fault) => Err(fault),
-    }
+    let events = history_of(alloc, register)?;
+    print(out, JsonLines(&events))
 }
 
 // The events of the object's calls. Calls that are still open end at the step after the last one.

@@ -1,5 +1,5 @@
 //! Calls of a store by clients in threads, and what they cost.
-use soak::{Cost, Load, run_load};
+use soak::{Load, Timing, run_load};
 use std::env::Env;
 use std::sync::Wait;
 use std::thread::Threads;
@@ -33,10 +33,10 @@ pub(crate) fn measure<R: Threads + Wait + Clock + CpuClock + Sync>(
         let _ = eprintln!(host; "usage: trials [CLIENTS CALLS LENGTH LATE]");
         return 2;
     };
-    let Some(cost) = make_calls(rt, host, load) else {
+    let Some(timing) = make_calls(rt, host, load) else {
         return 1;
     };
-    let _ = eprintln!(host; "{} {}", cost.clock, cost.processors);
+    let _ = eprintln!(host; "{} {}", timing.clock, timing.processors);
     0
 }
 
@@ -45,11 +45,11 @@ fn make_calls<R: Threads + Wait + Clock + CpuClock + Sync>(
     rt: &R,
     host: &HostRuntime,
     load: Load,
-) -> Option<Cost> {
+) -> Option<Timing> {
     match run_load(rt, host.alloc(), load) {
-        Ok(cost) => {
-            println!(host; "calls {}", cost.calls).ok()?;
-            Some(cost)
+        Ok(timing) => {
+            println!(host; "calls {}", timing.calls).ok()?;
+            Some(timing)
         }
         Err(refusal) => {
             let _ = println!(host; "refused {refusal}");

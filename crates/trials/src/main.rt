@@ -5,8 +5,8 @@
 
 mod load;
 mod pool;
+mod printing_gate;
 mod store;
-mod told;
 
 use std::env::{Env, FillError};
 use std::process::ExitCode;

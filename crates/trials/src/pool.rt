@@ -1,5 +1,5 @@
 //! The pieces of one value, made by the caller alone and then by one worker, made again where memory is refused.
-use crate::told::Told;
+use crate::printing_gate::PrintingGate;
 use bytes::Bytes;
 use coding_pool::{Gate, NoGate, encode_all};
 use encoder::Coded;
@@ -16,7 +16,7 @@ const VALUE: &[u8] = b"hello";
 /// Prints the pieces as the caller makes them, and then as one worker does, with what it tells its gate. Answers
 /// whether both were made.
 pub(crate) fn play<R: Threads + Wait + Sync>(rt: &R, host: &HostRuntime) -> bool {
-    insist(rt, host, 0, &NoGate) && insist(rt, host, 1, &Told { host })
+    insist(rt, host, 0, &NoGate) && insist(rt, host, 1, &PrintingGate { host })
 }
 
 /// Prints the four pieces, of which any two give the value back, as so many workers make them. Where that is refused it

@@ -15,7 +15,7 @@ use std::thread::Threads;
 use tag::Refusal;
 
 // More turns than a call here takes.
-const TURNS: u64 = 100_000;
+const ENOUGH_TURNS: u64 = 100_000;
 
 const HELLO: &[u8] = b"hello";
 
@@ -99,11 +99,18 @@ fn begin_or_resume<L: StoreName, R: Threads + Wait + Sync>(
     writes: bool,
 ) -> Result<Receipt, Refusal> {
     if seat.is_pending() {
-        return store.resume(rt, seat, &mut First, TURNS);
+        return store.resume(rt, seat, &mut First, ENOUGH_TURNS);
     }
     if writes {
-        store.write(rt, seat, "a", Bytes::from_static(HELLO), &mut First, TURNS)
+        store.write(
+            rt,
+            seat,
+            "a",
+            Bytes::from_static(HELLO),
+            &mut First,
+            ENOUGH_TURNS,
+        )
     } else {
-        store.read(rt, seat, "a", &mut First, TURNS)
+        store.read(rt, seat, "a", &mut First, ENOUGH_TURNS)
     }
 }

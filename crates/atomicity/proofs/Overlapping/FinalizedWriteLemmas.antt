@@ -129,10 +129,10 @@ module _ (fragment : Code) (object : Object) (last : ℕ) (sound : IsSound fragm
       let c = sound.legal.calls index call at in
       let first = first_stage call.kind (source_of object index) in
       let shown : Tag → Type 0 = ShownBy object phase.start in
-      let there = known_at shown (inl refl) call.kind (suc index) call.phases first plain c.course place phase within
+      let there = known_at shown (inl refl) call.kind call.id call.phases first plain c.course place phase within
       (λ before other less w.
       let ended = ended_earlier object sound.legal.layouts call.kind
-      (suc index) call.phases first c.course c.phases before place other phase
+      call.id call.phases first c.course c.phases before place other phase
       less w within in
       phase_shows object other ended.end phase.start (all_get (IsTruePhase object) call.phases before other c.phases w) ended.ended
       (let b = ended.before in omega arith))

@@ -159,23 +159,23 @@ module _ (object : Object) (base : ℕ → ℕ) (rests : Rests object base) (fro
 -- the tag that a read fetches is the greatest that its queries found since it last began
 pub fetched_since : (object : Object) → IsLegal object → (index place : ℕ) (call : Call) (phase : Phase) (tag : Tag) →
     slice_get object.calls index ≡ Some call → call.kind ≡ Read → slice_get call.phases place ≡ Some phase →
-    phase.kind ≡ Fetch tag → HasTag object Read (suc index) (last_beginning call.called call.phases place) tag
+    phase.kind ≡ Fetch tag → HasTag object Read call.id (last_beginning call.called call.phases place) tag
 fetched_since object legal index place call phase tag at reads within fetch =
-    tag_facts object Read from (suc index) (last_beginning call.called call.phases place) there.now there.stage tag
+    tag_facts object Read from call.id (last_beginning call.called call.phases place) there.now there.stage tag
     (fetch_due there.stage tag phase.position (there.is_due ∙ ap (λ (k : Kind). Some (k, phase.position)) fetch)) refl there.facts
   where
     from : ℕ
     from = source_of object index
 
-    course : IsCourse Read (suc index) ReadBegin call.phases
-    course = subst (λ k. IsCourse k (suc index) (first_stage k from) call.phases) reads (legal.calls index call at).course
+    course : IsCourse Read call.id ReadBegin call.phases
+    course = subst (λ k. IsCourse k call.id (first_stage k from) call.phases) reads (legal.calls index call at).course
 
-    begins : BeginAtBase (base_at object) Read (suc index) ReadBegin call.phases
-    begins = subst (λ k. BeginAtBase (base_at object) k (suc index) (first_stage k from) call.phases) reads
+    begins : BeginAtBase (base_at object) Read call.id ReadBegin call.phases
+    begins = subst (λ k. BeginAtBase (base_at object) k call.id (first_stage k from) call.phases) reads
         (legal.calls index call at).from_base
 
-    there : AtPhase object Read from (suc index) (last_beginning call.called call.phases place) phase
-    there = at_fetch object (base_at object) (legal_rests object legal) from (suc index) legal.layouts phase tag fetch call.phases
+    there : AtPhase object Read from call.id (last_beginning call.called call.phases place) phase
+    there = at_fetch object (base_at object) (legal_rests object legal) from call.id legal.layouts phase tag fetch call.phases
         call.called call.called ReadBegin course begins
         (legal.calls index call at).phases (le_refl call.called) (starts_from call.phases call.called (legal.calls index call at).begins)
-        (first_facts object Read from (suc index) call.called) place within
+        (first_facts object Read from call.id call.called) place within

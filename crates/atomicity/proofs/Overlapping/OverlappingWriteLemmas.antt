@@ -171,7 +171,7 @@ lacking_overlapped fragment object last sound index place end call phase tag lac
     since : ℕ
     since = last_beginning call.called call.phases place
 
-    found : HasTag object Read (suc index) since tag
+    found : HasTag object Read call.id since tag
     found = fetched_since object sound.legal index place call phase tag lacking.at lacking.kind lacking.within lacking.fetch
 
     by_more : (dropped : HasDropped object phase tag) →
@@ -188,7 +188,7 @@ lacking_overlapped fragment object last sound index place end call phase tag lac
         let order = reply.in_order in
         let some = exceeds_some bank.delta (finals_above_at bank tag step)
         more in
-        let all = bank_writes fragment object last sound (suc index) since end tag found bank step (omega arith)
+        let all = bank_writes fragment object last sound call.id since end tag found bank step (omega arith)
         (λ greater final. written fragment object last sound step phase.position member greater step (omega arith) final) in
         record {
           delta = some.0;

@@ -1,5 +1,5 @@
 -- The tags of answered calls stand in the order of the calls.
-use Rattle.std.proofs.Common.{◌≡◌, ℕ, suc, ◌≤◌, false, List, Some, None, refl, sym, subst, ap, arith, slice_get}
+use Rattle.std.proofs.Common.{◌≡◌, ℕ, ◌≤◌, false, List, Some, None, refl, sym, subst, ap, arith, slice_get}
 use Rattle.std.proofs.lemmas.Option.{same_Some}
 use Rattle.tag.specs.declared.tag.Tag.{Tag}
 use Rattle.tag.specs.Tag.{IsBelow}
@@ -84,7 +84,7 @@ answered_facts object legal index call at reads step e =
       end.now,
       end.until step answer.1,
       end.since,
-      finished_facts object call.kind (source_of object index) (suc index) call.called end.now
+      finished_facts object call.kind (source_of object index) call.id call.called end.now
           (stage_of object index call) answer.0 reads end.facts,
     )
 

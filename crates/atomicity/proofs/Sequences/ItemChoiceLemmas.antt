@@ -25,7 +25,7 @@ choose number called entry _ _ _ _ = None
 
 abbrev pub item_of : Object → ℕ → Call → Option Item
 item_of object index call =
-    choose (suc index) call.called (entry_of (suc index) call) call.kind call.answered call.settled (tag_of object index call)
+    choose (suc index) call.called (entry_of call.id call) call.kind call.answered call.settled (tag_of object index call)
 
 abbrev with : Option Item → List Item → List Item
 with None xs = xs
@@ -61,7 +61,7 @@ chosen number called entry Move answered settled tag x e = absurd (cc)
 item_is : (object : Object) (index : ℕ) (call : Call) (x : Item) → slice_get object.calls index ≡ Some call →
     item_of object index call ≡ Some x → IsItem object x
 item_is object index call x at e =
-    let c = chosen (suc index) call.called (entry_of (suc index) call) call.kind call.answered call.settled
+    let c = chosen (suc index) call.called (entry_of call.id call) call.kind call.answered call.settled
     (tag_of object index call) x e in
     record { index = index; call = call; at = at; number = c.0; tagged = c.1; called = c.2; entry = c.3; what = c.4 }
 

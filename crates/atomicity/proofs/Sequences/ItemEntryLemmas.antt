@@ -1,7 +1,7 @@
 -- The items and the entries of the calls.
-use Rattle.std.proofs.Common.{◌≡◌, ℕ, zero, suc, ◌+◌, ◌≤◌, ◌≢◌, false, List, [], ◌∷◌, map}
+use Rattle.std.proofs.Common.{◌≡◌, ℕ, suc, ◌≤◌, ◌≢◌, false, List, [], ◌∷◌, map}
 use Rattle.std.proofs.Common.{Option, Some, None, IsSome, is_some, refl, sym, ap, ◌∙◌, inl, inr, ap₂, arith, slice_get}
-use Rattle.std.proofs.lemmas.Option.{get_or_from_slice_get, unwrap_or-slice_get}
+use Rattle.std.proofs.lemmas.Option.{get_or_from_slice_get, slice_get-map, unwrap_or-slice_get}
 use Rattle.std.specs.List.{AllByRecursion}
 use Rattle.std.specs.Prelude.{option_map, unwrap_or}
 use Rattle.tag.specs.declared.tag.Tag.{Tag}
@@ -11,7 +11,7 @@ use Rattle.record.specs.declared.call.CallKind.TheVariants.{Read, Write, Move}
 use Rattle.record.specs.Legal.{is_move, IsLegal}
 use Rattle.record.specs.declared.call.Entry.{Entry}
 use Rattle.atomicity.specs.Atomic.{no_entry, entry_at, IsAnsweredBefore, MayStand}
-use Rattle.record.specs.Journals.{tag_of, ReadsJournaled, operation_of, entry_of, entries_from, entries}
+use Rattle.record.specs.Journals.{tag_of, ReadsJournaled, operation_of, entry_of, entries}
 use Rattle.record.specs.declared.call.Operation.TheVariants as operation
 use Rattle.atomicity.proofs.Orders.ItemSortLemmas.{numbers, answered_in_order}
 use Rattle.atomicity.proofs.Orders.OrderedItemLemmas.{Item, Before}
@@ -19,26 +19,16 @@ use Rattle.atomicity.proofs.Sequences.AnsweredTagLemmas.{answered_facts}
 use Rattle.atomicity.proofs.Sequences.ItemChoiceLemmas.{choose, item_of}
 use Rattle.atomicity.proofs.Sequences.ObjectItemLemmas.{Does, IsItem, reads_or_writes, no_move, items_respect}
 
--- the entries of items
-pub entries_from-get : (number : ℕ) (calls : List Call) (index : ℕ) →
-    slice_get (entries_from number calls) index ≡ option_map (λ c. entry_of (number + index) c) (slice_get calls index)
-entries_from-get number [] index = refl
-entries_from-get number (call ∷ calls) zero = let same : number ≡ number + 0 = omega arith in ap (λ n. Some (entry_of n call)) same
-entries_from-get number (call ∷ calls) (suc index) =
-    let same : suc number + index ≡ number + suc index = omega arith in
-    entries_from-get (suc number) calls index ∙ ap (λ n. option_map (λ c. entry_of n c) (slice_get calls index)) same
-
-entry_there : (object : Object) (index : ℕ) →
-    slice_get (entries object) index ≡ option_map (λ c. entry_of (suc index) c) (slice_get object.calls index)
-entry_there object index =
-    let same : 1 + index ≡ suc index = omega arith in
-    entries_from-get 1 object.calls index ∙ ap (λ n. option_map (λ c. entry_of n c) (slice_get object.calls index)) same
+-- the entry of each call stands at the call's place
+pub entries-get : (object : Object) (index : ℕ) →
+    slice_get (entries object) index ≡ option_map (λ (c : Call). entry_of c.id c) (slice_get object.calls index)
+entries-get object index = slice_get-map (λ (c : Call). entry_of c.id c) object.calls index
 
 pub entry_here : (object : Object) (x : Item) → IsItem object x → entry_at (entries object) x.number ≡ x.entry
 entry_here object x ix =
     ap (λ n. entry_at (entries object) n) ix.number
-    ∙ get_or_from_slice_get (entries object) ix.index (entry_of (suc ix.index) ix.call) no_entry
-    (entry_there object ix.index ∙ ap (λ o. option_map (λ c. entry_of (suc ix.index) c) o) ix.at)
+    ∙ get_or_from_slice_get (entries object) ix.index (entry_of ix.call.id ix.call) no_entry
+    (entries-get object ix.index ∙ ap (λ o. option_map (λ (c : Call). entry_of c.id c) o) ix.at)
     ∙ sym ix.entry
 
 pub same_entries : (entries : List Entry) (xs : List Item) → AllByRecursion (λ x. entry_at entries x.number ≡ x.entry) xs →
@@ -99,15 +89,15 @@ pub item_exists : (object : Object) → IsLegal object → ReadsJournaled object
     call.kind ≡ kind → is_move kind ≡ false → (x : Item) × (item_of object index call ≡ Some x) × (x.number ≡ suc index)
 item_exists object legal journaled index call at step e Read k reads =
     let j = journaled index call step at k e in (
-      record { number = suc index; tag = j.1; reads = 1; called = call.called; value = j.0; entry = entry_of (suc index) call },
-      choose_read (suc index) call.called (entry_of (suc index) call) call.kind call.answered call.settled
+      record { number = suc index; tag = j.1; reads = 1; called = call.called; value = j.0; entry = entry_of call.id call },
+      choose_read (suc index) call.called (entry_of call.id call) call.kind call.answered call.settled
           (tag_of object index call) step j.0 j.1 k e j.2 j.3,
       refl,
     )
 item_exists object legal journaled index call at step e (Write value) k reads =
     let fin = answered_facts object legal index call at (ap is_move k) step e in (
-      record { number = suc index; tag = fin.3.tag; reads = 0; called = call.called; value = value; entry = entry_of (suc index) call },
-      choose_write (suc index) call.called (entry_of (suc index) call) call.kind call.answered call.settled
+      record { number = suc index; tag = fin.3.tag; reads = 0; called = call.called; value = value; entry = entry_of call.id call },
+      choose_write (suc index) call.called (entry_of call.id call) call.kind call.answered call.settled
           (tag_of object index call) value fin.3.tag k
           fin.3.tagged,
       refl,
@@ -115,10 +105,10 @@ item_exists object legal journaled index call at step e (Write value) k reads =
 item_exists object legal journaled index call at step e Move k reads = absurd (cc)
 
 pub entry_of_call : (object : Object) (index : ℕ) (o : Option Call) → slice_get object.calls index ≡ o →
-    entry_at (entries object) (suc index) ≡ unwrap_or (option_map (λ c. entry_of (suc index) c) o) no_entry
+    entry_at (entries object) (suc index) ≡ unwrap_or (option_map (λ (c : Call). entry_of c.id c) o) no_entry
 entry_of_call object index o e =
     sym (unwrap_or-slice_get (entries object) index no_entry) ∙ ap (λ p. unwrap_or p no_entry)
-    (entry_there object index ∙ ap (λ q. option_map (λ c. entry_of (suc index) c) q) e)
+    (entries-get object index ∙ ap (λ q. option_map (λ (c : Call). entry_of c.id c) q) e)
 
 pub stays : (kind : CallKind) → operation_of kind ≢ operation.Move → is_move kind ≡ false
 stays Read stands = refl

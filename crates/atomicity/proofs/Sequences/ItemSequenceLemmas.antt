@@ -103,11 +103,10 @@ sequence_whole object legal journaled =
             reads = 0;
             called = w.call.called;
             value = r.value;
-            entry = entry_of (suc w.index)
-                w.call;
+            entry = entry_of w.call.id w.call;
           } in
           sequence_has object (Wrote r) w.index w.call x w.at
-          (choose_write (suc w.index) w.call.called (entry_of (suc w.index) w.call) w.call.kind w.call.answered w.call.settled
+          (choose_write (suc w.index) w.call.called (entry_of w.call.id w.call) w.call.kind w.call.answered w.call.settled
           (tag_of object w.index w.call) r.value r.tag w.kind w.tagged)
           (refl, refl, refl);
     }

@@ -1,5 +1,5 @@
 -- The calls that are listed are the items of the object.
-use Rattle.std.proofs.Common.{nat_eq, ◌≡◌, ℕ, suc, ◌⊎◌, true, List, [], ◌∷◌}
+use Rattle.std.proofs.Common.{nat_eq, ◌≡◌, ℕ, ◌⊎◌, true, List, [], ◌∷◌}
 use Rattle.std.proofs.Common.{refl, sym, subst, ap, ◌∙◌, inl, inr, ap₂, eq-eqb, IsTrue}
 use Rattle.std.proofs.lemmas.Bool.{or_left, or_right}
 use Rattle.std.specs.List.{AllByRecursion}
@@ -54,7 +54,7 @@ make_item object journaled number listed = go f.call.kind refl listed.reason
             reads = 1;
             called = f.call.called;
             value = j.0;
-            entry = entry_of (suc f.index) f.call;
+            entry = entry_of f.call.id f.call;
           },
           record {
             index = f.index;
@@ -71,7 +71,7 @@ make_item object journaled number listed = go f.call.kind refl listed.reason
     go Read k (inr unanswered) =
         absurd (let clash : operation.Read ≡ operation.Write = sym (ap operation_of k) ∙ does ∙ unanswered.0 in cc)
     go (Write value) k reason = (
-      record { number = number; tag = listed.tag; reads = 0; called = f.call.called; value = value; entry = entry_of (suc f.index) f.call },
+      record { number = number; tag = listed.tag; reads = 0; called = f.call.called; value = value; entry = entry_of f.call.id f.call },
       record {
         index = f.index;
         call = f.call;

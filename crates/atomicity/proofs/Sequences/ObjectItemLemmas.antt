@@ -30,7 +30,7 @@ pub record IsItem (object : Object) (x : Item) : Type 0 where
   pub number : x.number ≡ suc index
   pub tagged : tag_of object index call ≡ Some x.tag
   pub called : x.called ≡ call.called
-  pub entry : x.entry ≡ entry_of (suc index) call
+  pub entry : x.entry ≡ entry_of call.id call
   pub what : Does x call.kind call.answered call.settled
 
 pub reads_or_writes : (object : Object) (x : Item) → IsItem object x → (x.reads ≡ 0) ⊎ (x.reads ≡ 1)
@@ -74,11 +74,11 @@ items_respect object legal x y ix iy answered =
     let fin = answered_facts object legal ix.index ix.call ix.at (no_move object x ix) answered.0 was in
     let tag_is : fin.3.tag ≡ x.tag = same_Some fin.3.tag x.tag (sym fin.3.tagged ∙ ix.tagged) in
     let end = call_at_end object legal iy.index iy.call iy.at in
-    let has_tag = tag_facts object iy.call.kind (source_of object iy.index) (suc iy.index) iy.call.called end.now
+    let has_tag = tag_facts object iy.call.kind (source_of object iy.index) iy.call.id iy.call.called end.now
     (stage_of object iy.index iy.call) y.tag
     iy.tagged (no_move object y iy) end.facts in
     let called_is : y.entry.called ≡ iy.call.called = ap (λ (e : Entry). e.called) iy.entry in
-    let order = tag_order object legal (suc iy.index) iy.call.called fin.0 fin.3.last x.tag y.tag iy.call.kind fin.3.reached
+    let order = tag_order object legal iy.call.id iy.call.called fin.0 fin.3.last x.tag y.tag iy.call.kind fin.3.reached
     (subst (λ t. Put object fin.0 fin.3.last t) tag_is fin.3.put) (let a = answered.2 in let b = fin.1 in omega arith) has_tag in
     (order.0, λ writes. go order.1 writes iy.what)
   where
@@ -117,27 +117,27 @@ two_numbers object x y ix iy before e =
     not_before_itself x y before tags (kind_clash object x y ix.call iy.call one ix.what iy.what)
     (ix.called ∙ ap (λ (c : Call). c.called) one ∙ sym iy.called)
 
--- a write's tag has its call's number, and is above the opening tag
-pub write_tag : (object : Object) → IsLegal object → (x : Item) → IsItem object x → x.reads ≡ 0 →
-    (x.tag.call ≡ x.number) × IsBelow opening_tag x.tag
+-- a write's tag has its call's id, and is above the opening tag
+pub write_tag : (object : Object) → IsLegal object → (x : Item) → (ix : IsItem object x) → x.reads ≡ 0 →
+    (x.tag.call ≡ ix.call.id) × IsBelow opening_tag x.tag
 write_tag object legal x ix w = go ix.what
   where
-    has_tag : HasTag object ix.call.kind (suc ix.index) ix.call.called x.tag
+    has_tag : HasTag object ix.call.kind ix.call.id ix.call.called x.tag
     has_tag =
         let end = call_at_end object legal ix.index ix.call ix.at in
-        tag_facts object ix.call.kind (source_of object ix.index) (suc ix.index) ix.call.called end.now
+        tag_facts object ix.call.kind (source_of object ix.index) ix.call.id ix.call.called end.now
         (stage_of object ix.index ix.call) x.tag ix.tagged
         (no_move object x ix) end.facts
 
     go : Does x ix.call.kind ix.call.answered ix.call.settled →
-        (x.tag.call ≡ x.number) × IsBelow opening_tag x.tag
+        (x.tag.call ≡ ix.call.id) × IsBelow opening_tag x.tag
     go (inl v) =
         let t : HasTag object (Write x.value)
-        (suc ix.index) ix.call.called x.tag = subst (λ k. HasTag object k (suc ix.index) ix.call.called x.tag) v.1
+        ix.call.id ix.call.called x.tag = subst (λ k. HasTag object k ix.call.id ix.call.called x.tag) v.1
         has_tag in
         let n : x.tag.number ≡ t.0.number + 1 = ap (λ (t : Tag). t.number) t.1 in
-        let c : x.tag.call ≡ suc ix.index = ap (λ (t : Tag). t.call) t.1 in
-        (c ∙ sym ix.number, inl (omega arith))
+        let c : x.tag.call ≡ ix.call.id = ap (λ (t : Tag). t.call) t.1 in
+        (c, inl (omega arith))
     go (inr r) = absurd (let one = r.0 in omega arith)
 
 pub writes_apart : (object : Object) → IsLegal object → (x y : Item) → IsItem object x → IsItem object y →
@@ -145,9 +145,9 @@ pub writes_apart : (object : Object) → IsLegal object → (x y : Item) → IsI
 writes_apart object legal x y ix iy before = λ wx wy.
     let tx = write_tag object legal x ix wx in
     let ty = write_tag object legal y iy wy in
-    let two = two_numbers object x y ix iy before in
-    apart x y before tx.0 ty.0 two
+    apart x y before (λ same.
+    let place : ix.index ≡ iy.index = legal.ids ix.index iy.index ix.call iy.call ix.at iy.at (sym tx.0 ∙ same ∙ ty.0) in
+    two_numbers object x y ix iy before (let a = ix.number in let b = iy.number in omega arith))
   where
-    apart : (x y : Item) → Before x y → x.tag.call ≡ x.number → y.tag.call ≡ y.number →
-        (x.number ≡ y.number → ⊥) → IsBelow x.tag y.tag
-    apart x y before p q two = grind arith
+    apart : (x y : Item) → Before x y → (x.tag.call ≡ y.tag.call → ⊥) → IsBelow x.tag y.tag
+    apart x y before two = grind arith

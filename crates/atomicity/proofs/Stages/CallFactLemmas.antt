@@ -187,21 +187,21 @@ legal_rests object legal step j below =
 -- the facts of a call at each phase and at its end
 pub call_at_phase : (object : Object) → IsLegal object → (index : ℕ) (call : Call) →
     slice_get object.calls index ≡ Some call → (place : ℕ) (phase : Phase) → slice_get call.phases place ≡ Some phase →
-    AtPhase object call.kind (source_of object index) (suc index) call.called phase
+    AtPhase object call.kind (source_of object index) call.id call.called phase
 call_at_phase object legal index call at place phase within =
     let c = legal.calls index call at in
-    at_phase object (base_at object) call.kind (source_of object index) (suc index) call.called legal.layouts
+    at_phase object (base_at object) call.kind (source_of object index) call.id call.called legal.layouts
     (legal_rests object legal) call.phases call.called
     (first_stage call.kind (source_of object index))
     c.course c.from_base c.phases (le_refl call.called) (starts_from call.phases call.called c.begins)
-    (first_facts object call.kind (source_of object index) (suc index) call.called) place phase within
+    (first_facts object call.kind (source_of object index) call.id call.called) place phase within
 
 pub call_at_end : (object : Object) → IsLegal object → (index : ℕ) (call : Call) → slice_get object.calls index ≡ Some call →
-    AtEnd object call.kind (source_of object index) (suc index) call.called (stage_of object index call) call.phases
+    AtEnd object call.kind (source_of object index) call.id call.called (stage_of object index call) call.phases
 call_at_end object legal index call at =
     let c = legal.calls index call at in
-    at_end object (base_at object) call.kind (source_of object index) (suc index) call.called legal.layouts
+    at_end object (base_at object) call.kind (source_of object index) call.id call.called legal.layouts
     (legal_rests object legal) call.phases call.called
     (first_stage call.kind (source_of object index))
     c.course c.from_base c.phases (le_refl call.called) (starts_from call.phases call.called c.begins)
-    (first_facts object call.kind (source_of object index) (suc index) call.called)
+    (first_facts object call.kind (source_of object index) call.id call.called)

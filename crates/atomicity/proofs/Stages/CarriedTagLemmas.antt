@@ -61,7 +61,7 @@ moved_later object position s u h moved = record {
 
 -- what a final pointer that is spread at a stage rests on
 spread_rests : (object : Object) (index : ℕ) (call : Call) (now position : ℕ) (stage : Stage) →
-    slice_get object.calls index ≡ Some call → Facts object call.kind (source_of object index) (suc index) call.called now stage →
+    slice_get object.calls index ≡ Some call → Facts object call.kind (source_of object index) call.id call.called now stage →
     due stage ≡ Some (Spread Final, position) → SeenFinal object position now ⊎ MovedFrom object position now
 spread_rests object index call now position (ReadSpread p finalized status) at facts e =
     let parts = some_pair_parts (Spread status) (Spread Final) p position e in

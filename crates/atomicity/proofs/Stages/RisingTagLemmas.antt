@@ -27,7 +27,7 @@ move_before object legal index call at r is_from =
     let prior = prior_move object legal index call at r is_from in
     let end = call_at_end object legal prior.index prior.call prior.at in
     let answer = (legal.calls prior.index prior.call prior.at).answer prior.answered prior.was in
-    let fin = finished_move object prior.call.kind (source_of object prior.index) (suc prior.index) prior.call.called end.now
+    let fin = finished_move object prior.call.kind (source_of object prior.index) prior.call.id prior.call.called end.now
     (stage_of object prior.index prior.call)
     prior.is_from.0 answer.0 end.facts in
     record {
@@ -75,7 +75,7 @@ left_moved object legal position step left =
     let moved = left.moved in
     let end = call_at_end object legal moved.index moved.call moved.at in
     let answer = (legal.calls moved.index moved.call moved.at).answer left.answered moved.was in
-    let fin = finished_move object moved.call.kind (source_of object moved.index) (suc moved.index) moved.call.called end.now
+    let fin = finished_move object moved.call.kind (source_of object moved.index) moved.call.id moved.call.called end.now
     (stage_of object moved.index moved.call) moved.kind answer.0 end.facts in
     record {
       index = moved.index;
@@ -96,7 +96,7 @@ left_pointed object legal position step left =
     let moved = left.moved in
     let end = call_at_end object legal moved.index moved.call moved.at in
     let answer = (legal.calls moved.index moved.call moved.at).answer left.answered moved.was in
-    let fin = finished_move object moved.call.kind (source_of object moved.index) (suc moved.index) moved.call.called end.now
+    let fin = finished_move object moved.call.kind (source_of object moved.index) moved.call.id moved.call.called end.now
     (stage_of object moved.index moved.call) moved.kind answer.0 end.facts in
     pointed_later object position end.now step (let a = end.until left.answered answer.1 in let b = left.by in omega arith)
     (subst (λ p. Pointed object p end.now) moved.source fin.3)

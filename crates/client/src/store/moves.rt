@@ -106,10 +106,7 @@ impl<L: StoreName> Store<L> {
     ) -> Result<u64, Refusal>
         ensures { Retires L.first admin.old name.now position result admin.new }
     {
-        match retire_in(&mut *self.booked.lock(rt), admin, name, position) {
-            Ok(freed) => Ok(freed),
-            Err(refusal) => Err(refusal),
-        }
+        retire_in(&mut *self.booked.lock(rt), admin, name, position)
     }
 
     /// Moves an object to the layout of this number, in at most `turns` steps beside the one that begins the move.

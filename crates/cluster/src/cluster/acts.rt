@@ -4,7 +4,7 @@ ghost use Rattle.std.specs.Prelude.{◌≡◌, ◌≤◌, length, Some, IfOk, On
 ghost use Rattle.register.specs.Act.{IsActCause, act_cause, answered_by, step_of};
 ghost use Rattle.cluster.specs.Acts.{IsReady, begun_by};
 ghost use Rattle.cluster.specs.Causes.{next, object_cause};
-ghost use Rattle.cluster.specs.Cluster.{if_named, place_of};
+ghost use Rattle.cluster.specs.Cluster.{next_call_id, if_named, place_of};
 ghost use Rattle.cluster.specs.Places.{IsObjectAt};
 ghost use Rattle.cluster.specs.Preconditions.{MayMake};
 ghost use Rattle.cluster.specs.Steps.{stepped};
@@ -18,8 +18,10 @@ impl Cluster {
     // Makes the step that an act asks for, of the object of this name.
     pub(crate) fn act(&mut self, name: &str, act: Act) -> Result<Answered, Refusal>
         requires ready { IsReady (length self.old.servers) act }
-        ensures step { OnOk result (self.new ≡ stepped self.old name.entry.now (step_of act)) }
-        ensures may { OnOk result (MayMake self.old name.entry.now (step_of act)) }
+        ensures step { OnOk result (self.new
+            ≡ stepped self.old name.entry.now (step_of (next_call_id self.old name.entry.now) act)) }
+        ensures may { OnOk result
+            (MayMake self.old name.entry.now (step_of (next_call_id self.old name.entry.now) act)) }
         ensures answered { IfOk result (λ a. if_named self.old name.entry.now
             (answered_by act (place_of self.old.objects name.entry.now) (next self.old)) ≡ Some a) }
         ensures cause { IsActCause act (object_cause self.old name.entry.now (act_cause act (next self.old))) result }
@@ -35,8 +37,10 @@ impl Cluster {
     pub(crate) fn act_at(&mut self, name: &str, object: u32, act: Act) -> Result<Answered, Refusal>
         requires ready { IsReady (length self.old.servers) act }
         requires placed { IsObjectAt self.old name.now object }
-        ensures step { OnOk result (self.new ≡ stepped self.old name.entry.now (step_of act)) }
-        ensures may { OnOk result (MayMake self.old name.entry.now (step_of act)) }
+        ensures step { OnOk result (self.new
+            ≡ stepped self.old name.entry.now (step_of (next_call_id self.old name.entry.now) act)) }
+        ensures may { OnOk result
+            (MayMake self.old name.entry.now (step_of (next_call_id self.old name.entry.now) act)) }
         ensures answered { IfOk result (λ a. if_named self.old name.entry.now
             (answered_by act (place_of self.old.objects name.entry.now) (next self.old)) ≡ Some a) }
         ensures cause { IsActCause act (object_cause self.old name.entry.now (act_cause act (next self.old))) result }

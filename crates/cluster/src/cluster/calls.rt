@@ -5,7 +5,7 @@ ghost use Rattle.tag.specs.Refusal.{IsByCause};
 ghost use Rattle.record.specs.Steps.{Step};
 ghost use Rattle.register.specs.Causes.{read_cause, write_cause, answer_cause};
 ghost use Rattle.register.specs.View.{receipt_at};
-ghost use Rattle.cluster.specs.Cluster.{if_named, layout_of, place_of};
+ghost use Rattle.cluster.specs.Cluster.{next_call_id, if_named, layout_of, place_of};
 ghost use Rattle.cluster.specs.Preconditions.{MayMake};
 ghost use Rattle.cluster.specs.Steps.{stepped, moved};
 ghost use Rattle.cluster.specs.Causes.{next, object_cause, moving_cause};
@@ -22,19 +22,20 @@ impl Cluster {
     /// `NoObject` where no object has this name. `Full` where the counter is at `MOST_STEPS`, the object has
     /// `MOST_CALLS` calls, or the n requests would make more than `MOST_MESSAGES` waiting messages of the object.
     pub fn call_read(&mut self, name: &str) -> Result<CallId, Refusal>
-        ensures step { OnOk result (self.new ≡ stepped self.old name.entry.now (Step.CallRead)) }
-        ensures may { OnOk result (MayMake self.old name.entry.now (Step.CallRead)) }
+        ensures step { OnOk result (self.new
+            ≡ stepped self.old name.entry.now (Step.CallRead (next_call_id self.old name.entry.now))) }
+        ensures may { OnOk result
+            (MayMake self.old name.entry.now (Step.CallRead (next_call_id self.old name.entry.now))) }
         ensures number { IfOk result
             (λ n. if_named self.old name.entry.now (λ object. Some (suc (length object.calls))) ≡ Some n) }
         ensures cause { IsByCause
             (object_cause self.old name.entry.now (λ object. read_cause (next self.old) object)) result }
         ensures unchanged { OnErr result (self.new ≡ self.old) }
     {
-        match self.act(name, Act::CallRead) {
-            Ok(Answered::Call(number)) => Ok(number),
-            Ok(_) => unreachable!(),
-            Err(refusal) => Err(refusal),
-        }
+        let Answered::Call(number) = self.act(name, Act::CallRead)? else {
+            unreachable!();
+        };
+        Ok(number)
     }
 
     /// Begins a write of a value to an object: its first phase sends a request Next to each of the n members of the
@@ -43,19 +44,20 @@ impl Cluster {
     /// `NoObject` where no object has this name, `TooLong` where the value is longer than `LONGEST_VALUE` bytes, and
     /// `Full` as for `call_read`.
     pub fn call_write(&mut self, name: &str, value: Bytes) -> Result<CallId, Refusal>
-        ensures step { OnOk result (self.new ≡ stepped self.old name.entry.now (Step.CallWrite value)) }
-        ensures may { OnOk result (MayMake self.old name.entry.now (Step.CallWrite value)) }
+        ensures step { OnOk result (self.new
+            ≡ stepped self.old name.entry.now (Step.CallWrite (next_call_id self.old name.entry.now) value)) }
+        ensures may { OnOk result
+            (MayMake self.old name.entry.now (Step.CallWrite (next_call_id self.old name.entry.now) value)) }
         ensures number { IfOk result
             (λ n. if_named self.old name.entry.now (λ object. Some (suc (length object.calls))) ≡ Some n) }
         ensures cause { IsByCause
             (object_cause self.old name.entry.now (λ object. write_cause value (next self.old) object)) result }
         ensures unchanged { OnErr result (self.new ≡ self.old) }
     {
-        match self.act(name, Act::CallWrite(value)) {
-            Ok(Answered::Call(number)) => Ok(number),
-            Ok(_) => unreachable!(),
-            Err(refusal) => Err(refusal),
-        }
+        let Answered::Call(number) = self.act(name, Act::CallWrite(value))? else {
+            unreachable!();
+        };
+        Ok(number)
     }
 
     /// Begins a move of an object to a layout. The object's next position exists from this step on, with a bank for
@@ -68,7 +70,8 @@ impl Cluster {
     /// messages of the object.
     pub fn call_move(&mut self, name: &str, id: LayoutId) -> Result<CallId, Refusal>
         ensures step { OnOk result (self.new ≡ moved self.old name.entry.now id) }
-        ensures may { OnOk result (MayMake self.old name.entry.now (Step.CallMove (layout_of self.old id))) }
+        ensures may { OnOk result (MayMake self.old name.entry.now
+            (Step.CallMove (next_call_id self.old name.entry.now) (layout_of self.old id))) }
         ensures number { IfOk result
             (λ n. if_named self.old name.entry.now (λ object. Some (suc (length object.calls))) ≡ Some n) }
         ensures cause { IsByCause (object_cause self.old name.entry.now (moving_cause self.old id)) result }
@@ -84,11 +87,10 @@ impl Cluster {
             return Err(Refusal::BadLayout);
         };
         let layout = layout.clone()?;
-        match self.act(name, Act::CallMove(layout)) {
-            Ok(Answered::Call(number)) => Ok(number),
-            Ok(_) => unreachable!(),
-            Err(refusal) => Err(refusal),
-        }
+        let Answered::Call(number) = self.act(name, Act::CallMove(layout))? else {
+            unreachable!();
+        };
+        Ok(number)
     }
 
     /// Answers the call of this number. The receipt names the object by its place in the order of creation.
@@ -105,10 +107,9 @@ impl Cluster {
             (object_cause self.old name.entry.now (λ object. answer_cause (next self.old) object call)) result }
         ensures unchanged { OnErr result (self.new ≡ self.old) }
     {
-        match self.act(name, Act::Answer(call)) {
-            Ok(Answered::Receipt(receipt)) => Ok(receipt),
-            Ok(_) => unreachable!(),
-            Err(refusal) => Err(refusal),
-        }
+        let Answered::Receipt(receipt) = self.act(name, Act::Answer(call))? else {
+            unreachable!();
+        };
+        Ok(receipt)
     }
 }

@@ -11,7 +11,7 @@ ghost use Rattle.cluster.specs.Accounts.{banks_all, calls};
 ghost use Rattle.cluster.specs.Atomic.{AreAtomic, AreFragments, AreJournaled, AreSound, AreSums, AreWithinLimits};
 ghost use Rattle.cluster.specs.Atomic.{CarryJournaled, HaveEnough, HaveOneValue, KeepFew, LackWhereOvertaken};
 ghost use Rattle.cluster.specs.Causes.{moving_cause, next, object_cause, serving_cause};
-ghost use Rattle.cluster.specs.Cluster.{layout_of};
+ghost use Rattle.cluster.specs.Cluster.{next_call_id, layout_of};
 ghost use Rattle.cluster.specs.Kept.{IsKeptCluster};
 ghost use Rattle.cluster.specs.Preconditions.{MayMake};
 
@@ -84,10 +84,11 @@ impl Cluster {
     /// - `acts` is about every other method that makes a step of an object.
     pub fn allowed_steps_may_be_made(&self)
         ensures acts { (name : List ℕ) (act : Act) → HasLawfulValues act
-            → object_cause self.now name (act_cause act (next self.now)) ≡ None → MayMake self.now name (step_of act) }
+            → object_cause self.now name (act_cause act (next self.now)) ≡ None
+            → MayMake self.now name (step_of (next_call_id self.now name) act) }
 
         ensures moves { (name : List ℕ) (id : ℕ) → object_cause self.now name (moving_cause self.now id) ≡ None
-            → MayMake self.now name (Step.CallMove (layout_of self.now id)) }
+            → MayMake self.now name (Step.CallMove (next_call_id self.now name) (layout_of self.now id)) }
 
         ensures serves { (name : List ℕ) (place : ℕ) → object_cause self.now name (serving_cause self.now place) ≡ None
             → MayMake self.now name (Step.Serve place) }

@@ -50,30 +50,17 @@ impl Cluster {
     {
         let register = &mut self.objects[object as usize];
         register.allowed_steps_may_be_made();
-        let server = match room_to_serve(
-            &self.servers,
-            register,
-            place,
-            self.counter,
-            self.stored,
-        ) {
-            Ok(server) => server,
-            Err(refusal) => return Err(refusal),
-        };
+        let server = room_to_serve(&self.servers, register, place, self.counter, self.stored)?;
         let now = self.counter + 1;
         let before = register.stored_in_all();
         let waited = waiting(register);
-        match register.serve(place, now) {
-            Ok(()) => {
-                let after = register.stored_in_all();
-                self.stored = exchanged(self.stored, before, after);
-                self.loads.replace_part(server, before, after);
-                self.mailed = exchanged(self.mailed, waited, waiting(register));
-                self.counter = now;
-                Ok(())
-            }
-            Err(refusal) => Err(refusal),
-        }
+        register.serve(place, now)?;
+        let after = register.stored_in_all();
+        self.stored = exchanged(self.stored, before, after);
+        self.loads.replace_part(server, before, after);
+        self.mailed = exchanged(self.mailed, waited, waiting(register));
+        self.counter = now;
+        Ok(())
     }
 
     /// The call that the reply at a place names takes the reply. Returns what the call did with it. The message leaves
@@ -90,11 +77,10 @@ impl Cluster {
             (object_cause self.old name.entry.now (λ object. take_cause (next self.old) object place)) result }
         ensures unchanged { OnErr result (self.new ≡ self.old) }
     {
-        match self.act(name, Act::Take(place)) {
-            Ok(Answered::Took(took)) => Ok(took),
-            Ok(_) => unreachable!(),
-            Err(refusal) => Err(refusal),
-        }
+        let Answered::Took(took) = self.act(name, Act::Take(place))? else {
+            unreachable!();
+        };
+        Ok(took)
     }
 
     /// The message at a place is lost. Later ones move down by one place. It allocates no memory.
@@ -108,10 +94,8 @@ impl Cluster {
             (object_cause self.old name.entry.now (λ object. lose_cause (next self.old) object place)) result }
         ensures unchanged { OnErr result (self.new ≡ self.old) }
     {
-        match self.act(name, Act::Lose(place)) {
-            Ok(_) => Ok(()),
-            Err(refusal) => Err(refusal),
-        }
+        self.act(name, Act::Lose(place))?;
+        Ok(())
     }
 
     /// A copy of the message at a place is put at the end of the object's mail.
@@ -125,10 +109,8 @@ impl Cluster {
             (object_cause self.old name.entry.now (λ object. repeat_cause (next self.old) object place)) result }
         ensures unchanged { OnErr result (self.new ≡ self.old) }
     {
-        match self.act(name, Act::Repeat(place)) {
-            Ok(_) => Ok(()),
-            Err(refusal) => Err(refusal),
-        }
+        self.act(name, Act::Repeat(place))?;
+        Ok(())
     }
 
     /// Whether the message at a place is a reply, or a request to a server that is up. It is no step and allocates no

@@ -5,7 +5,7 @@ ghost use Rattle.tag.specs.Refusal.{IsByCause, IsExactlyByCause};
 ghost use Rattle.record.specs.Steps.{Step};
 ghost use Rattle.register.specs.Causes.{number_cause, advance_cause, again_cause, post_cause, value_cause};
 ghost use Rattle.register.specs.Causes.{supply_cause, pieces_cause, settle_cause};
-ghost use Rattle.register.specs.View.{want_at, coding_at, pieces_at};
+ghost use Rattle.register.specs.View.{want_at, coding_at, fetched_pieces};
 ghost use Rattle.cluster.specs.Cluster.{if_named};
 ghost use Rattle.cluster.specs.Preconditions.{MayMake};
 ghost use Rattle.cluster.specs.Steps.{stepped};
@@ -47,10 +47,8 @@ impl Cluster {
             (object_cause self.old name.entry.now (λ object. advance_cause (next self.old) object call)) result }
         ensures unchanged { OnErr result (self.new ≡ self.old) }
     {
-        match self.act(name, Act::Advance(call)) {
-            Ok(_) => Ok(()),
-            Err(refusal) => Err(refusal),
-        }
+        self.act(name, Act::Advance(call))?;
+        Ok(())
     }
 
     /// Restarts the call of this number, whose fetch lacks pieces. A read restarts with a first reading, which begins
@@ -65,10 +63,8 @@ impl Cluster {
             (object_cause self.old name.entry.now (λ object. again_cause (next self.old) object call)) result }
         ensures unchanged { OnErr result (self.new ≡ self.old) }
     {
-        match self.act(name, Act::Again(call)) {
-            Ok(_) => Ok(()),
-            Err(refusal) => Err(refusal),
-        }
+        self.act(name, Act::Again(call))?;
+        Ok(())
     }
 
     /// The value whose pieces the call of this number is to send, with the k and the n of the layout that gets them.
@@ -101,10 +97,8 @@ impl Cluster {
             (object_cause self.old name.entry.now (λ object. supply_cause (next self.old) object call coded)) result }
         ensures unchanged { OnErr result (self.new ≡ self.old) }
     {
-        match self.act(name, Act::Supply(call, coded)) {
-            Ok(_) => Ok(()),
-            Err(refusal) => Err(refusal),
-        }
+        self.act(name, Act::Supply(call, coded))?;
+        Ok(())
     }
 
     /// Resends the requests of the current phase of the call of this number: one to each member that has no recorded
@@ -120,10 +114,8 @@ impl Cluster {
             (object_cause self.old name.entry.now (λ object. post_cause (next self.old) object call)) result }
         ensures unchanged { OnErr result (self.new ≡ self.old) }
     {
-        match self.act(name, Act::Post(call)) {
-            Ok(_) => Ok(()),
-            Err(refusal) => Err(refusal),
-        }
+        self.act(name, Act::Post(call))?;
+        Ok(())
     }
 
     /// The pieces that the call of this number is to decode. Of the pieces that its current phase took, these are the k
@@ -133,7 +125,7 @@ impl Cluster {
     /// wants to settle a value, and `Collected` where its fetch lacks pieces, so that it wants to be restarted.
     pub fn pieces(&self, name: &str, call: CallId) -> Result<Vec<Piece>, Refusal>
         ensures pieces { IfOk result
-            (λ ps. if_named self.now name.now (λ object. Some (pieces_at object call)) ≡ Some ps.items) }
+            (λ ps. if_named self.now name.now (λ object. Some (fetched_pieces object call)) ≡ Some ps.items) }
         ensures cause { IsByCause (object_cause self.now name.now (λ object. pieces_cause object call)) result }
     {
         match self.objects.get(name) {
@@ -155,9 +147,7 @@ impl Cluster {
             (λ object. settle_cause (next self.old) object call decoded)) result }
         ensures unchanged { OnErr result (self.new ≡ self.old) }
     {
-        match self.act(name, Act::Settle(call, decoded)) {
-            Ok(_) => Ok(()),
-            Err(refusal) => Err(refusal),
-        }
+        self.act(name, Act::Settle(call, decoded))?;
+        Ok(())
     }
 }

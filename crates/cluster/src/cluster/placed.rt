@@ -155,11 +155,10 @@ impl Cluster {
             (object_cause self.old name.entry.now (λ object. answer_cause (next self.old) object call)) result }
         ensures unchanged { OnErr result (self.new ≡ self.old) }
     {
-        match self.act_at(name, object, Act::Answer(call)) {
-            Ok(Answered::Receipt(receipt)) => Ok(receipt),
-            Ok(_) => unreachable!(),
-            Err(refusal) => Err(refusal),
-        }
+        let Answered::Receipt(receipt) = self.act_at(name, object, Act::Answer(call))? else {
+            unreachable!();
+        };
+        Ok(receipt)
     }
 
     /// The call that the reply at a place names takes the reply, as by `take`.
@@ -173,10 +172,9 @@ impl Cluster {
             (object_cause self.old name.entry.now (λ object. take_cause (next self.old) object place)) result }
         ensures unchanged { OnErr result (self.new ≡ self.old) }
     {
-        match self.act_at(name, object, Act::Take(place)) {
-            Ok(Answered::Took(took)) => Ok(took),
-            Ok(_) => unreachable!(),
-            Err(refusal) => Err(refusal),
-        }
+        let Answered::Took(took) = self.act_at(name, object, Act::Take(place))? else {
+            unreachable!();
+        };
+        Ok(took)
     }
 }

@@ -38,10 +38,7 @@ impl Cluster {
         let register = &mut self.objects[place];
         register.soundness();
         register.allowed_steps_may_be_made();
-        match register.may_retire(position, now) {
-            Ok(()) => (),
-            Err(refusal) => return Err(refusal),
-        }
+        register.may_retire(position, now)?;
         unload(&mut self.loads, register, self.servers.count());
         match register.retire(position, now) {
             Ok(freed) => {

@@ -13,7 +13,7 @@ use tag::{CallId, Refusal, Stamp};
 
 // What is done to an object, each at a step of its own.
 #[derive(Clone, Copy)]
-pub(crate) enum Deed {
+pub(crate) enum Action {
     Read,
     Write(&'static [u8]),
     // A write of so many zeros.
@@ -94,28 +94,33 @@ fn wanted(alloc: Global, object: &Register, call: CallId) -> Result<Act, Refusal
     }
 }
 
-fn act_of(alloc: Global, object: &Register, deed: Deed) -> Result<Act, Refusal> {
-    match deed {
-        Deed::Read => Ok(Act::CallRead),
-        Deed::Write(text) => Ok(Act::CallWrite(Bytes::from_static(text))),
-        Deed::WriteZeros(len) => write_zeros(alloc, len),
-        Deed::Move(k, members) => move_to(k, members),
-        Deed::Advance(call) => Ok(Act::Advance(call)),
-        Deed::Post(call) => Ok(Act::Post(call)),
-        Deed::Supply(call, k, n, text) => supply(alloc, call, k, n, Bytes::from_static(text)),
-        Deed::Settle(call, text, first) => settle(alloc, call, text, first),
-        Deed::Answer(call) => Ok(Act::Answer(call)),
-        Deed::Serve => Ok(Act::Serve(0)),
-        Deed::Take => Ok(Act::Take(0)),
-        Deed::Lose => Ok(Act::Lose(0)),
-        Deed::Repeat => Ok(Act::Repeat(0)),
-        Deed::Turn(call) => wanted(alloc, object, call),
+fn act_of(alloc: Global, object: &Register, action: Action) -> Result<Act, Refusal> {
+    match action {
+        Action::Read => Ok(Act::CallRead),
+        Action::Write(text) => Ok(Act::CallWrite(Bytes::from_static(text))),
+        Action::WriteZeros(len) => write_zeros(alloc, len),
+        Action::Move(k, members) => move_to(k, members),
+        Action::Advance(call) => Ok(Act::Advance(call)),
+        Action::Post(call) => Ok(Act::Post(call)),
+        Action::Supply(call, k, n, text) => supply(alloc, call, k, n, Bytes::from_static(text)),
+        Action::Settle(call, text, first) => settle(alloc, call, text, first),
+        Action::Answer(call) => Ok(Act::Answer(call)),
+        Action::Serve => Ok(Act::Serve(0)),
+        Action::Take => Ok(Act::Take(0)),
+        Action::Lose => Ok(Act::Lose(0)),
+        Action::Repeat => Ok(Act::Repeat(0)),
+        Action::Turn(call) => wanted(alloc, object, call),
     }
 }
 
 // Does this, as its own step, and answers the refusal that it met.
-fn carry_out(rt: &impl Abort, alloc: Global, object: &mut Register, deed: Deed) -> Option<Refusal> {
-    match act_of(alloc, object, deed) {
+fn carry_out(
+    rt: &impl Abort,
+    alloc: Global,
+    object: &mut Register,
+    action: Action,
+) -> Option<Refusal> {
+    match act_of(alloc, object, action) {
         Ok(act) => take_step(rt, object, act),
         Err(refusal) => Some(refusal),
     }
@@ -138,14 +143,19 @@ fn shown(object: &Register) -> (Stamp, usize, u64, u64) {
 }
 
 // Does this. Where memory is refused nothing has changed, and it is done again.
-fn insist(rt: &impl Abort, alloc: Global, object: &mut Register, deed: Deed) -> Option<Refusal> {
+fn insist(
+    rt: &impl Abort,
+    alloc: Global,
+    object: &mut Register,
+    action: Action,
+) -> Option<Refusal> {
     let before = shown(object);
-    let met = carry_out(rt, alloc, object, deed);
+    let met = carry_out(rt, alloc, object, action);
     if met != Some(Refusal::NoMemory) {
         return met;
     }
     assert_eq!(rt; shown(object), before);
-    carry_out(rt, alloc, object, deed)
+    carry_out(rt, alloc, object, action)
 }
 
 // Does one after another, each with the refusal that is written beside it.
@@ -153,10 +163,10 @@ pub(crate) fn play(
     rt: &impl Abort,
     alloc: Global,
     object: &mut Register,
-    deeds: &[(Deed, Option<Refusal>)],
+    actions: &[(Action, Option<Refusal>)],
 ) {
-    for (deed, expected) in deeds {
-        let met = insist(rt, alloc, object, *deed);
+    for (action, expected) in actions {
+        let met = insist(rt, alloc, object, *action);
         assert_eq!(rt; met, *expected);
     }
 }
@@ -171,7 +181,7 @@ pub(crate) fn deliver(rt: &impl Abort, alloc: Global, object: &mut Register) {
             rt,
             alloc,
             object,
-            &[(Deed::Serve, None), (Deed::Take, None)],
+            &[(Action::Serve, None), (Action::Take, None)],
         );
     }
 }
@@ -186,6 +196,6 @@ pub(crate) fn go_on(
 ) {
     for _ in 0..turns {
         deliver(rt, alloc, object);
-        play(rt, alloc, object, &[(Deed::Turn(call), None)]);
+        play(rt, alloc, object, &[(Action::Turn(call), None)]);
     }
 }

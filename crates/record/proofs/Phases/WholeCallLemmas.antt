@@ -1,5 +1,5 @@
 -- The phases of a finished call have the shape of a whole one, and a call whose phases have that shape is finished.
-use Rattle.std.proofs.Common.{◌≡◌, ◌≢◌, ℕ, suc, ◌≤◌, List, [], ◌∷◌, ◌++◌, length}
+use Rattle.std.proofs.Common.{◌≡◌, ◌≢◌, ℕ, ◌≤◌, List, [], ◌∷◌, ◌++◌, length}
 use Rattle.std.proofs.Common.{Some, is_some, refl, sym, subst, ap, arith, le_refl}
 use Rattle.tag.specs.declared.tag.Tag.{Tag}
 use Rattle.tag.specs.Tag.{opening_tag}
@@ -150,6 +150,6 @@ answered_are_whole object index call step legal at answered =
     let c = legal.calls index call at in
     let none_due = (c.answer step answered).0 in
     let found = last_tag (stage_of object index call) none_due in
-    let whole = (finished_are_whole call.kind (suc index) (source_of object index) call.phases found.0).0
+    let whole = (finished_are_whole call.kind call.id (source_of object index) call.phases found.0).0
     (record { course = c.course; none_due = none_due; tagged = found.1 }) in
     record { tag = found.0; tagged = found.1; in_turn = whole.0; whole = whole.1; from_base = c.from_base }

@@ -1,5 +1,5 @@
 -- A read whose fetch lacks pieces, and that begins anew.
-use Rattle.std.proofs.Common.{◌≡◌, inl, List, [], ◌∷◌, ◌++◌, Some, None, refl, ap, arith, le_refl}
+use Rattle.std.proofs.Common.{◌≡◌, zero, suc, inl, List, [], ◌∷◌, ◌++◌, Some, None, refl, ap, arith, le_refl}
 use Rattle.std.specs.FinMap as finmap
 use Rattle.tag.specs.declared.tag.Tag.{Tag}
 use Rattle.tag.specs.Tag.{opening_tag}
@@ -9,7 +9,7 @@ use Rattle.bank.specs.Serve.{greatest_final}
 use Rattle.bank.specs.declared.kind.Kind.TheVariants.{Query, Fetch}
 use Rattle.bank.specs.declared.reply.Answer.TheVariants as answer
 use Rattle.bank.proofs.EntryOrderLemmas.{Rows}
-use Rattle.record.specs.Records.{Object}
+use Rattle.record.specs.Records.{IsNewId, Object}
 use Rattle.record_tests.specs.Examples.{whole, one_member, anew_entries}
 use Rattle.record.specs.Preconditions.{MaySettle}
 use Rattle.record.specs.Steps.{Step, run, opened_object}
@@ -17,7 +17,7 @@ use Rattle.record.specs.Steps.Step.{CallRead, CallWrite, Advance, Again, Supply,
 use Rattle.record_tests.proofs.Examples.BankRowLemmas.{opened_entries, after_pre_write, pre_written_entries, after_finalize}
 use Rattle.record_tests.proofs.Examples.BankRowLemmas.{finalized_entries}
 use Rattle.record_tests.proofs.Examples.BankRowLemmas.{greatest_from, fetched_from}
-use Rattle.record_tests.proofs.Examples.RunPartLemmas.{letter_fits, one_distinct, also, Goes, Leads, leads_on, goes_on}
+use Rattle.record_tests.proofs.Examples.RunPartLemmas.{letter_fits, one_distinct, none_new, id_or, also, Goes, Leads, leads_on, goes_on}
 use Rattle.record_tests.proofs.Examples.WriteAndReadLemmas.{letter, reply_of}
 
 -- The bank, with delta 0
@@ -76,10 +76,10 @@ second_there = fetched_from asked_bank asked_rows second_tag refl asked_entries
 -- The parts of the run
 
 abbrev to_ask : List Step
-to_ask = CallRead ∷ Serve 0 ∷ Take 0 ∷ Advance 0 ∷ Serve 0 ∷ []
+to_ask = CallRead 5 ∷ Serve 0 ∷ Take 0 ∷ Advance 0 ∷ Serve 0 ∷ []
 
 abbrev to_write : List Step
-to_write = Take 0 ∷ CallWrite (65 ∷ []) ∷ Serve 0 ∷ Take 0 ∷ Advance 1 ∷ Serve 0 ∷ []
+to_write = Take 0 ∷ CallWrite 2 (65 ∷ []) ∷ Serve 0 ∷ Take 0 ∷ Advance 1 ∷ Serve 0 ∷ []
 
 abbrev to_lose : List Step
 to_lose =
@@ -111,7 +111,12 @@ abbrev asked : Object
 asked = run whole to_ask 3 start
 
 abbrev found : Object
-found = record asked { mail = reply_of 1 2 0 Query 7 (answer.Greatest opening_tag) }
+found = record asked { mail = reply_of 5 2 0 Query 7 (answer.Greatest opening_tag) }
+
+-- the only call has the id 5
+asked_new : IsNewId (run whole (Take 0 ∷ []) 8 found) 2
+asked_new zero call at same = absurd (let e : 5 ≡ call.id = ap (λ o. id_or o) at in omega (arith, e, same))
+asked_new (suc index) call at same = absurd (cc)
 
 abbrev write_asked : Object
 write_asked = run whole to_write 8 found
@@ -123,7 +128,7 @@ abbrev lost : Object
 lost = run whole to_lose 14 write_found
 
 abbrev nothing_there : Object
-nothing_there = record lost { mail = reply_of 1 3 0 (Fetch opening_tag) 26 (answer.Piece None) }
+nothing_there = record lost { mail = reply_of 5 3 0 (Fetch opening_tag) 26 (answer.Piece None) }
 
 -- the read's fetch is complete, and lacks pieces
 abbrev pub lacking : Object
@@ -133,32 +138,33 @@ abbrev asked_anew : Object
 asked_anew = run whole to_ask_anew 28 lacking
 
 abbrev found_anew : Object
-found_anew = record asked_anew { mail = reply_of 1 5 0 Query 32 (answer.Greatest second_tag) }
+found_anew = record asked_anew { mail = reply_of 5 5 0 Query 32 (answer.Greatest second_tag) }
 
 abbrev fetched_anew : Object
 fetched_anew = run whole to_fetch_anew 33 found_anew
 
 abbrev letter_there : Object
-letter_there = record fetched_anew { mail = reply_of 1 6 0 (Fetch second_tag) 35 (answer.Piece (Some (letter 0))) }
+letter_there = record fetched_anew { mail = reply_of 5 6 0 (Fetch second_tag) 35 (answer.Piece (Some (letter 0))) }
 
 asks : Leads to_ask 3 start found
 asks = record {
-  gives = ap (λ tag. record asked { mail = reply_of 1 2 0 Query 7 (answer.Greatest tag) }) new_greatest;
+  gives = ap (λ tag. record asked { mail = reply_of 5 2 0 Query 7 (answer.Greatest tag) }) new_greatest;
   may =
-      also tt (also (_, (refl, (_, refl))) (also (_, (refl, (_, _, refl))) (also (_, (refl, refl)) (also (_, (refl, (_, refl))) tt))));
+      also (none_new 5) (also (_, (refl, (_, refl))) (also (_, (refl, (_, _, refl))) (also (_, (refl, refl))
+      (also (_, (refl, (_, refl))) tt))));
 }
 
 writes : Leads to_write 8 found write_found
 writes = record {
   gives = ap (λ tag. record write_asked { mail = reply_of 2 2 0 Query 13 (answer.Greatest tag) }) new_greatest;
   may =
-      also (_, (refl, (_, _, refl))) (also ((omega arith, tt), letter_fits) (also (_, (refl, (_, refl)))
+      also (_, (refl, (_, _, refl))) (also (asked_new, ((omega arith, tt), letter_fits)) (also (_, (refl, (_, refl)))
       (also (_, (refl, (_, _, refl))) (also (_, (refl, refl)) (also (_, (refl, (_, refl))) tt)))));
 }
 
 loses : Leads to_lose 14 write_found nothing_there
 loses = record {
-  gives = ap (λ piece. record lost { mail = reply_of 1 3 0 (Fetch opening_tag) 26 (answer.Piece piece) }) opening_gone;
+  gives = ap (λ piece. record lost { mail = reply_of 5 3 0 (Fetch opening_tag) 26 (answer.Piece piece) }) opening_gone;
   may =
       also (_, (refl, (_, _, refl))) (also record { call = _; takes = inl (_, _, (refl, refl)) } (also (_, (refl, (_, refl)))
       (also (_, (refl, (_, _, refl))) (also (_, (refl, refl)) (also (_, (refl, (_, refl))) (also (_, (refl, (_, _, refl)))
@@ -171,7 +177,7 @@ lacks = record { gives = refl; may = also (_, (refl, (_, _, refl))) tt }
 
 asks_anew : Leads to_ask_anew 28 lacking found_anew
 asks_anew = record {
-  gives = ap (λ tag. record asked_anew { mail = reply_of 1 5 0 Query 32 (answer.Greatest tag) }) asked_greatest;
+  gives = ap (λ tag. record asked_anew { mail = reply_of 5 5 0 Query 32 (answer.Greatest tag) }) asked_greatest;
   may =
       also (_, (refl, refl)) (also (_, (refl, (_, refl))) (also (_, (refl, (_, _, refl))) (also (_, (refl, refl))
       (also (_, (refl, (_, refl))) tt))));
@@ -179,7 +185,7 @@ asks_anew = record {
 
 fetches_anew : Leads to_fetch_anew 33 found_anew letter_there
 fetches_anew = record {
-  gives = ap (λ piece. record fetched_anew { mail = reply_of 1 6 0 (Fetch second_tag) 35 (answer.Piece piece) }) second_there;
+  gives = ap (λ piece. record fetched_anew { mail = reply_of 5 6 0 (Fetch second_tag) 35 (answer.Piece piece) }) second_there;
   may = also (_, (refl, (_, _, refl))) (also (_, (refl, refl)) (also (_, (refl, (_, refl))) tt));
 }
 

@@ -1,25 +1,23 @@
 -- A write, a move to another server, the first position retired, and a read from the second.
-use Rattle.std.proofs.Common.{◌≡◌, ℕ, sym, ◌∙◌, List, [], ◌∷◌, ◌++◌, Some, None, refl, ap, arith, le_refl, inl}
+use Rattle.std.proofs.Common.{◌≡◌, ℕ, zero, suc, sym, ◌∙◌, List, [], ◌∷◌, ◌++◌, Some, None, refl, ap, arith, le_refl}
 use Rattle.bank.specs.declared.kind.Kind.TheVariants.{Query, Fetch}
-use Rattle.record.specs.Records.{Object}
+use Rattle.record.specs.Records.{IsNewId, Object}
 use Rattle.record.specs.Journals.{entries}
 use Rattle.record_tests.specs.Examples.{whole, one_member, retire_entries}
 use Rattle.record.specs.Preconditions.{MaySettle, MayRun}
 use Rattle.record.specs.Steps.{Step, run, opened_object}
-use Rattle.record.specs.Steps.Step.{CallRead, Advance, Supply, Settle, AnswerCall, Serve, Take, Retire}
+use Rattle.record.specs.Steps.Step.{CallRead, Advance, Settle, AnswerCall, Serve, Take, Retire}
 use Rattle.bank.specs.declared.reply.Answer.TheVariants as answer
-use Rattle.record_tests.proofs.Examples.RunPartLemmas.{letter_fits, one_distinct, also, Goes, Leads, goes_on}
+use Rattle.record_tests.proofs.Examples.RunPartLemmas.{letter_fits, one_distinct, id_or, also, Goes, Leads, goes_on}
 use Rattle.record_tests.proofs.Examples.WriteAndReadLemmas.{first_tag, letter, stored_greatest, stored_piece, reply_of, to_query, start}
 use Rattle.record_tests.proofs.Examples.WriteAndReadLemmas.{found}
-use Rattle.record_tests.proofs.Examples.WriteAndReadLemmas.{asks}
+use Rattle.record_tests.proofs.Examples.WriteAndReadLemmas.{asks, to_answer, answered, answers}
 use Rattle.record_tests.proofs.Examples.WriteMoveReadLemmas.{to_move_query, to_move_fetch, move_found, move_letter, moves_ask, moves_fetch}
-use Rattle.record_tests.proofs.Examples.WriteMoveReadLemmas.{moves_settle}
+use Rattle.record_tests.proofs.Examples.WriteMoveReadLemmas.{to_move_answer, moved, move_answers}
 
--- the move puts the value into the new position and is answered; the old one is retired, and the read asks the new one
+-- the old position is retired, and the read asks the new one
 abbrev to_base_query : List Step
-to_base_query =
-    Take 0 ∷ Settle 1 (65 ∷ []) ∷ Supply 1 ∷ Serve 0 ∷ Take 0 ∷ Advance 1 ∷ Serve 0 ∷ Take 0 ∷ Advance 1 ∷ Serve 0
-    ∷ Take 0 ∷ AnswerCall 1 ∷ Retire ∷ CallRead ∷ Serve 0 ∷ Take 0 ∷ Advance 2 ∷ Serve 0 ∷ []
+to_base_query = Retire ∷ CallRead 3 ∷ Serve 0 ∷ Take 0 ∷ Advance 2 ∷ Serve 0 ∷ []
 
 abbrev to_base_fetch : List Step
 to_base_fetch = Take 0 ∷ Advance 2 ∷ Serve 0 ∷ []
@@ -28,10 +26,11 @@ abbrev to_base_end : List Step
 to_base_end = Take 0 ∷ Settle 2 (65 ∷ []) ∷ Advance 2 ∷ Serve 0 ∷ Take 0 ∷ AnswerCall 2 ∷ []
 
 abbrev pub retire_parts : List Step
-retire_parts = to_query ++ (to_move_query ++ (to_move_fetch ++ (to_base_query ++ (to_base_fetch ++ to_base_end))))
+retire_parts =
+    to_query ++ (to_answer ++ (to_move_query ++ (to_move_fetch ++ (to_move_answer ++ (to_base_query ++ (to_base_fetch ++ to_base_end))))))
 
 abbrev base_queried : Object
-base_queried = run whole to_base_query 27 move_letter
+base_queried = run whole to_base_query 39 moved
 
 base_queried-mail : base_queried.mail ≡ reply_of 3 2 1 Query 44 (answer.Greatest first_tag)
 base_queried-mail = ap (λ tag. reply_of 3 2 1 Query 44 (answer.Greatest tag)) (stored_greatest 0 19 30 33)
@@ -57,17 +56,19 @@ base_fetched-is = ap (λ mail. record base_fetched { mail = mail }) base_fetched
 both_none : (a b : ℕ) → a ≡ 0 → b ≡ 0 → a ≡ b
 both_none a b e f = e ∙ sym f
 
-base_asks : Leads to_base_query 27 move_letter base_found
+-- the calls have the ids 1 and 2
+retired_new : IsNewId (run whole (Retire ∷ []) 39 moved) 3
+retired_new zero call at same = absurd (let e : 1 ≡ call.id = ap (λ o. id_or o) at in omega (arith, e, same))
+retired_new (suc zero) call at same = absurd (let e : 2 ≡ call.id = ap (λ o. id_or o) at in omega (arith, e, same))
+retired_new (suc (suc index)) call at same = absurd (cc)
+
+base_asks : Leads to_base_query 39 moved base_found
 base_asks = record {
   gives = base_queried-is;
   may =
-      also (_, (refl, (_, _, refl))) (also moves_settle (also record { call = _; takes = inl (_, _, (refl, refl)) }
-      (also (_, (refl, (_, refl))) (also (_, (refl, (_, _, refl))) (also (_, (refl, refl)) (also (_, (refl, (_, refl)))
-      (also (_, (refl, (_, _, refl))) (also (_, (refl, refl)) (also (_, (refl, (_, refl))) (also (_, (refl, (_, _, refl)))
-      (also (_, (refl, refl))
-      (also (38, record { index = 1; call = _; at = refl; kind = refl; source = both_none _ _ refl refl; was = refl })
-      (also tt (also (_, (refl, (_, refl))) (also (_, (refl, (_, _, refl))) (also (_, (refl, refl))
-      (also (_, (refl, (_, refl))) tt)))))))))))))))));
+      also (38, record { index = 1; call = _; at = refl; kind = refl; source = both_none _ _ refl refl; was = refl })
+      (also retired_new (also (_, (refl, (_, refl))) (also (_, (refl, (_, _, refl))) (also (_, (refl, refl))
+      (also (_, (refl, (_, refl))) tt)))));
 }
 
 base_fetches : Leads to_base_fetch 45 base_found base_letter
@@ -115,13 +116,19 @@ base_ends = record {
 
 base_goes : Goes retire_parts 3 start retire_entries
 base_goes =
-    goes_on to_query (to_move_query ++ (to_move_fetch ++ (to_base_query ++ (to_base_fetch ++ to_base_end)))) 3 8 start found
-    retire_entries refl asks
+    goes_on to_query
+    (to_answer ++ (to_move_query ++ (to_move_fetch ++ (to_move_answer ++ (to_base_query ++ (to_base_fetch ++ to_base_end))))))
+    3 8 start found retire_entries refl asks
+    (goes_on to_answer (to_move_query ++ (to_move_fetch ++ (to_move_answer ++ (to_base_query ++ (to_base_fetch ++ to_base_end))))) 8 19
+    found answered retire_entries refl answers
     (goes_on to_move_query
-    (to_move_fetch ++ (to_base_query ++ (to_base_fetch ++ to_base_end))) 8 24 found move_found retire_entries refl moves_ask
-    (goes_on to_move_fetch (to_base_query ++ (to_base_fetch ++ to_base_end)) 24 27 move_found move_letter retire_entries refl moves_fetch
-    (goes_on to_base_query (to_base_fetch ++ to_base_end) 27 45 move_letter base_found retire_entries refl base_asks
-    (goes_on to_base_fetch to_base_end 45 48 base_found base_letter retire_entries refl base_fetches base_ends))))
+    (to_move_fetch ++ (to_move_answer ++ (to_base_query ++ (to_base_fetch ++ to_base_end)))) 19 24 answered move_found retire_entries refl
+    moves_ask
+    (goes_on to_move_fetch (to_move_answer ++ (to_base_query ++ (to_base_fetch ++ to_base_end))) 24 27 move_found move_letter
+    retire_entries refl moves_fetch
+    (goes_on to_move_answer (to_base_query ++ (to_base_fetch ++ to_base_end)) 27 39 move_letter moved retire_entries refl move_answers
+    (goes_on to_base_query (to_base_fetch ++ to_base_end) 39 45 moved base_found retire_entries refl base_asks
+    (goes_on to_base_fetch to_base_end 45 48 base_found base_letter retire_entries refl base_fetches base_ends))))))
 
 pub base_history : entries (run whole retire_parts 3 (opened_object one_member None 2)) ≡ retire_entries
 base_history = base_goes.gives

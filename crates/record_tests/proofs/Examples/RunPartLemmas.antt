@@ -1,9 +1,9 @@
 -- Runs of steps, a few at a time.
-use Rattle.std.proofs.Common.{◌≡◌, ℕ, nat_eq, suc, ◌+◌, ◌≤◌, List, []}
+use Rattle.std.proofs.Common.{◌≡◌, ◌≢◌, ℕ, nat_eq, suc, ◌+◌, ◌≤◌, List, [], Option, Some, None, slice_get}
 use Rattle.std.proofs.Common.{◌∷◌, ◌++◌, length, refl, sym, subst, ap, ◌∙◌, arith}
 use Rattle.std.specs.List.{AllByRecursion, IsDistinct}
 use Rattle.record.specs.declared.call.Entry.{Entry}
-use Rattle.record.specs.Records.{Object}
+use Rattle.record.specs.Records.{Call, Object}
 use Rattle.record.specs.Journals.{entries}
 use Rattle.record_tests.specs.Examples.{whole}
 use Rattle.tag.specs.declared.limits.TheConstants.{LONGEST_VALUE}
@@ -32,6 +32,16 @@ one_distinct = (tt, tt)
 pub other_distinct : IsDistinct nat_eq (1 ∷ [])
 unfolding IsDistinct
 other_distinct = (tt, tt)
+
+-- Ids of no call
+
+pub none_new : (id index : ℕ) (call : Call) → slice_get [] index ≡ Some call → call.id ≢ id
+none_new id index call at = absurd (cc)
+
+-- the id of a call, if there is one
+abbrev pub id_or : Option Call → ℕ
+id_or None = 0
+id_or (Some call) = call.id
 
 -- Runs in parts: a map does not compute, so a run stops where a bank answers from its rows, and goes on with what that answer is
 

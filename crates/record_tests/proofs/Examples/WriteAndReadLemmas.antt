@@ -1,5 +1,5 @@
 -- A write and a read with one member.
-use Rattle.std.proofs.Common.{◌≡◌, ℕ, inl, List, [], ◌∷◌, ◌++◌, length}
+use Rattle.std.proofs.Common.{◌≡◌, ℕ, zero, suc, inl, List, [], ◌∷◌, ◌++◌, length}
 use Rattle.std.proofs.Common.{Some, None, refl, sym, ap, ◌∙◌, arith, le_refl}
 use Rattle.tag.specs.declared.tag.Tag.{Tag}
 use Rattle.tag.specs.Tag.{tag_cmp, opening_tag}
@@ -15,7 +15,7 @@ use Rattle.bank.specs.declared.kind.Kind.TheVariants.{Query, Fetch}
 use Rattle.bank.specs.declared.kind.Kind.{Kind}
 use Rattle.bank.specs.declared.reply.Answer.{Answer}
 use Rattle.mail.specs.declared.message.Message.{Message}
-use Rattle.record.specs.Records.{Object}
+use Rattle.record.specs.Records.{IsNewId, Object}
 use Rattle.record.specs.Journals.{entries}
 use Rattle.record_tests.specs.Examples.{whole, one_member, script_entries}
 use Rattle.record.specs.Preconditions.{MaySettle, MayRun}
@@ -24,7 +24,7 @@ use Rattle.record.specs.Steps.Step.{CallRead, CallWrite, Advance, Supply, Settle
 use Rattle.std.specs.FinMap as finmap
 use Rattle.bank.specs.declared.reply.Answer.TheVariants as answer
 use Rattle.mail.specs.declared.message.Body.TheVariants as body
-use Rattle.record_tests.proofs.Examples.RunPartLemmas.{letter_fits, one_distinct, also, Goes, Leads, goes_on}
+use Rattle.record_tests.proofs.Examples.RunPartLemmas.{letter_fits, one_distinct, none_new, id_or, also, Goes, Leads, goes_on}
 
 -- What the banks answer
 
@@ -109,12 +109,14 @@ reply_of call phase position kind step said =
 -- A write and a read of one member
 
 abbrev pub to_query : List Step
-to_query = CallWrite (65 ∷ []) ∷ Serve 0 ∷ Take 0 ∷ Advance 0 ∷ Serve 0 ∷ []
+to_query = CallWrite 1 (65 ∷ []) ∷ Serve 0 ∷ Take 0 ∷ Advance 0 ∷ Serve 0 ∷ []
+
+abbrev pub to_answer : List Step
+to_answer =
+    Take 0 ∷ Supply 0 ∷ Serve 0 ∷ Take 0 ∷ Advance 0 ∷ Serve 0 ∷ Take 0 ∷ Advance 0 ∷ Serve 0 ∷ Take 0 ∷ AnswerCall 0 ∷ []
 
 abbrev to_next_query : List Step
-to_next_query =
-    Take 0 ∷ Supply 0 ∷ Serve 0 ∷ Take 0 ∷ Advance 0 ∷ Serve 0 ∷ Take 0 ∷ Advance 0 ∷ Serve 0 ∷ Take 0 ∷ AnswerCall 0
-    ∷ CallRead ∷ Serve 0 ∷ Take 0 ∷ Advance 1 ∷ Serve 0 ∷ []
+to_next_query = CallRead 2 ∷ Serve 0 ∷ Take 0 ∷ Advance 1 ∷ Serve 0 ∷ []
 
 abbrev to_fetch : List Step
 to_fetch = Take 0 ∷ Advance 1 ∷ Serve 0 ∷ []
@@ -123,7 +125,7 @@ abbrev to_end : List Step
 to_end = Take 0 ∷ Settle 1 (65 ∷ []) ∷ Advance 1 ∷ Serve 0 ∷ Take 0 ∷ AnswerCall 1 ∷ []
 
 abbrev pub parts : List Step
-parts = to_query ++ (to_next_query ++ (to_fetch ++ to_end))
+parts = to_query ++ (to_answer ++ (to_next_query ++ (to_fetch ++ to_end)))
 
 abbrev pub start : Object
 start = opened_object one_member None 2
@@ -140,8 +142,16 @@ found = record queried { mail = reply_of 1 2 0 Query 7 (answer.Greatest opening_
 queried-is : queried ≡ found
 queried-is = ap (λ mail. record queried { mail = mail }) queried-mail
 
+abbrev pub answered : Object
+answered = run whole to_answer 8 found
+
+-- the only call has the id 1
+pub answered_new : IsNewId answered 2
+answered_new zero call at same = absurd (let e : 1 ≡ call.id = ap (λ o. id_or o) at in omega (arith, e, same))
+answered_new (suc index) call at same = absurd (cc)
+
 abbrev queried_again : Object
-queried_again = run whole to_next_query 8 found
+queried_again = run whole to_next_query 19 answered
 
 queried_again-mail : queried_again.mail ≡ reply_of 2 2 0 Query 23 (answer.Greatest first_tag)
 queried_again-mail = ap (λ tag. reply_of 2 2 0 Query 23 (answer.Greatest tag)) (stored_greatest 0 2 10 13)
@@ -168,18 +178,26 @@ pub asks : Leads to_query 3 start found
 asks = record {
   gives = queried-is;
   may =
-      also ((omega arith, tt), letter_fits) (also (_, (refl, (_, refl))) (also (_, (refl, (_, _, refl))) (also (_, (refl, refl))
+      also (none_new 1, ((omega arith, tt), letter_fits)) (also (_, (refl, (_, refl)))
+      (also (_, (refl, (_, _, refl))) (also (_, (refl, refl))
       (also (_, (refl, (_, refl))) tt))));
 }
 
-asks_again : Leads to_next_query 8 found found_again
-asks_again = record {
-  gives = queried_again-is;
+pub answers : Leads to_answer 8 found answered
+answers = record {
+  gives = refl;
   may =
       also (_, (refl, (_, _, refl))) (also record { call = _; takes = inl (_, _, (refl, refl)) } (also (_, (refl, (_, refl)))
       (also (_, (refl, (_, _, refl))) (also (_, (refl, refl)) (also (_, (refl, (_, refl))) (also (_, (refl, (_, _, refl)))
-      (also (_, (refl, refl)) (also (_, (refl, (_, refl))) (also (_, (refl, (_, _, refl))) (also (_, (refl, refl)) (also tt
-      (also (_, (refl, (_, refl))) (also (_, (refl, (_, _, refl))) (also (_, (refl, refl)) (also (_, (refl, (_, refl))) tt)))))))))))))));
+      (also (_, (refl, refl)) (also (_, (refl, (_, refl))) (also (_, (refl, (_, _, refl))) (also (_, (refl, refl)) tt))))))))));
+}
+
+asks_again : Leads to_next_query 19 answered found_again
+asks_again = record {
+  gives = queried_again-is;
+  may =
+      also answered_new (also (_, (refl, (_, refl))) (also (_, (refl, (_, _, refl))) (also (_, (refl, refl))
+      (also (_, (refl, (_, refl))) tt))));
 }
 
 fetches : Leads to_fetch 24 found_again fetched_letter
@@ -227,9 +245,10 @@ ends = record {
 
 goes : Goes parts 3 start script_entries
 goes =
-    goes_on to_query (to_next_query ++ (to_fetch ++ to_end)) 3 8 start found script_entries refl asks
-    (goes_on to_next_query (to_fetch ++ to_end) 8 24 found found_again script_entries refl asks_again
-    (goes_on to_fetch to_end 24 27 found_again fetched_letter script_entries refl fetches ends))
+    goes_on to_query (to_answer ++ (to_next_query ++ (to_fetch ++ to_end))) 3 8 start found script_entries refl asks
+    (goes_on to_answer (to_next_query ++ (to_fetch ++ to_end)) 8 19 found answered script_entries refl answers
+    (goes_on to_next_query (to_fetch ++ to_end) 19 24 answered found_again script_entries refl asks_again
+    (goes_on to_fetch to_end 24 27 found_again fetched_letter script_entries refl fetches ends)))
 
 pub history : entries (run whole parts 3 (opened_object one_member None 2)) ≡ script_entries
 history = goes.gives

@@ -1,40 +1,41 @@
 -- A write, a move to another server, and a read.
-use Rattle.std.proofs.Common.{◌≡◌, ℕ, IsSome, zero, false, slice_get, inl, suc, ◌≤◌, true}
-use Rattle.std.proofs.Common.{List, [], ◌∷◌, ◌++◌, Some, None, refl, sym, ap, ◌∙◌, arith, le_refl}
-use Rattle.std.proofs.lemmas.Option.{same_Some}
+use Rattle.std.proofs.Common.{◌≡◌, Bool, Option, zero, false, inl, suc, ◌≤◌, true}
+use Rattle.std.proofs.Common.{List, [], ◌∷◌, ◌++◌, Some, None, refl, ap, ◌∙◌, arith, le_refl}
 use Rattle.layout.specs.Layout.{IsLawful}
 use Rattle.bank.specs.declared.kind.Kind.TheVariants.{Query, Fetch}
-use Rattle.record.specs.Records.{Call, Object}
-use Rattle.record.specs.declared.call.CallKind.TheVariants.{Move}
+use Rattle.record.specs.Records.{Call, IsNewId, Object}
 use Rattle.record.specs.Legal.{is_move}
 use Rattle.record.specs.Journals.{entries}
 use Rattle.record_tests.specs.Examples.{whole, one_member, other_member, move_entries}
-use Rattle.record.specs.Preconditions.{MaySettle, MayRun}
+use Rattle.record.specs.Preconditions.{MaySettle, MayRun, NoOpenMove}
 use Rattle.record.specs.Steps.{Step, run, opened_object}
 use Rattle.record.specs.Steps.Step.{CallRead, CallMove, Advance, Supply, Settle, AnswerCall, Serve, Take}
 use Rattle.bank.specs.declared.reply.Answer.TheVariants as answer
-use Rattle.record_tests.proofs.Examples.RunPartLemmas.{letter_fits, one_distinct, other_distinct, also, Goes, Leads, goes_on}
+use Rattle.record_tests.proofs.Examples.RunPartLemmas.{letter_fits, one_distinct, other_distinct, id_or, also, Goes, Leads}
+use Rattle.record_tests.proofs.Examples.RunPartLemmas.{goes_on}
 use Rattle.record_tests.proofs.Examples.WriteAndReadLemmas.{first_tag, letter, stored_greatest, stored_piece, reply_of, to_query, start}
 use Rattle.record_tests.proofs.Examples.WriteAndReadLemmas.{found}
-use Rattle.record_tests.proofs.Examples.WriteAndReadLemmas.{asks}
+use Rattle.record_tests.proofs.Examples.WriteAndReadLemmas.{asks, to_answer, answered, answered_new, answers}
 
 -- A write, a move to another server, and a read, which follows the pointer to the new position
 
--- the write is answered, and the move begins
+-- the move begins
 abbrev pub to_move_query : List Step
-to_move_query =
-    Take 0 ∷ Supply 0 ∷ Serve 0 ∷ Take 0 ∷ Advance 0 ∷ Serve 0 ∷ Take 0 ∷ Advance 0 ∷ Serve 0 ∷ Take 0 ∷ AnswerCall 0
-    ∷ CallMove other_member ∷ Serve 0 ∷ Take 0 ∷ Advance 1 ∷ Serve 0 ∷ []
+to_move_query = CallMove 2 other_member ∷ Serve 0 ∷ Take 0 ∷ Advance 1 ∷ Serve 0 ∷ []
 
 abbrev pub to_move_fetch : List Step
 to_move_fetch = Take 0 ∷ Advance 1 ∷ Serve 0 ∷ []
 
--- the move puts the value into the new position and is answered; the read finds the final pointer, and asks at the new position
+-- the move puts the value into the new position and is answered
+abbrev pub to_move_answer : List Step
+to_move_answer =
+    Take 0 ∷ Settle 1 (65 ∷ []) ∷ Supply 1 ∷ Serve 0 ∷ Take 0 ∷ Advance 1 ∷ Serve 0 ∷ Take 0 ∷ Advance 1 ∷ Serve 0
+    ∷ Take 0 ∷ AnswerCall 1 ∷ []
+
+-- the read finds the final pointer, and asks at the new position
 abbrev to_read_query : List Step
 to_read_query =
-    Take 0 ∷ Settle 1 (65 ∷ []) ∷ Supply 1 ∷ Serve 0 ∷ Take 0 ∷ Advance 1 ∷ Serve 0 ∷ Take 0 ∷ Advance 1 ∷ Serve 0
-    ∷ Take 0 ∷ AnswerCall 1
-    ∷ CallRead ∷ Serve 0 ∷ Take 0 ∷ Advance 2 ∷ Serve 0 ∷ Take 0 ∷ Advance 2 ∷ Serve 0 ∷ Take 0
+    CallRead 3 ∷ Serve 0 ∷ Take 0 ∷ Advance 2 ∷ Serve 0 ∷ Take 0 ∷ Advance 2 ∷ Serve 0 ∷ Take 0
     ∷ Advance 2 ∷ Serve 0 ∷ []
 
 abbrev to_read_fetch : List Step
@@ -44,10 +45,11 @@ abbrev to_read_end : List Step
 to_read_end = Take 0 ∷ Settle 2 (65 ∷ []) ∷ Advance 2 ∷ Serve 0 ∷ Take 0 ∷ AnswerCall 2 ∷ []
 
 abbrev pub move_parts : List Step
-move_parts = to_query ++ (to_move_query ++ (to_move_fetch ++ (to_read_query ++ (to_read_fetch ++ to_read_end))))
+move_parts =
+    to_query ++ (to_answer ++ (to_move_query ++ (to_move_fetch ++ (to_move_answer ++ (to_read_query ++ (to_read_fetch ++ to_read_end))))))
 
 abbrev pub move_queried : Object
-move_queried = run whole to_move_query 8 found
+move_queried = run whole to_move_query 19 answered
 
 move_queried-mail : move_queried.mail ≡ reply_of 2 2 0 Query 23 (answer.Greatest first_tag)
 move_queried-mail = ap (λ tag. reply_of 2 2 0 Query 23 (answer.Greatest tag)) (stored_greatest 0 2 10 13)
@@ -70,8 +72,17 @@ move_letter = record move_fetched { mail = reply_of 2 3 0 (Fetch first_tag) 26 (
 move_fetched-is : move_fetched ≡ move_letter
 move_fetched-is = ap (λ mail. record move_fetched { mail = mail }) move_fetched-mail
 
+abbrev pub moved : Object
+moved = run whole to_move_answer 27 move_letter
+
+-- the calls have the ids 1 and 2
+moved_new : IsNewId moved 3
+moved_new zero call at same = absurd (let e : 1 ≡ call.id = ap (λ o. id_or o) at in omega (arith, e, same))
+moved_new (suc zero) call at same = absurd (let e : 2 ≡ call.id = ap (λ o. id_or o) at in omega (arith, e, same))
+moved_new (suc (suc index)) call at same = absurd (cc)
+
 abbrev read_queried : Object
-read_queried = run whole to_read_query 27 move_letter
+read_queried = run whole to_read_query 39 moved
 
 read_queried-mail : read_queried.mail ≡ reply_of 3 4 1 Query 49 (answer.Greatest first_tag)
 read_queried-mail = ap (λ tag. reply_of 3 4 1 Query 49 (answer.Greatest tag)) (stored_greatest 0 19 30 33)
@@ -98,23 +109,22 @@ other_lawful : IsLawful other_member
 other_lawful =
     record { some = omega arith; enough = omega arith; few = (let few : 1 ≤ 255 = omega arith in few); distinct = other_distinct }
 
--- no move is open where the only call is none
-no_open : (only : Call) → is_move only.kind ≡ false → (index : ℕ) (call : Call) → slice_get (only ∷ []) index ≡ Some call →
-    call.kind ≡ Move → IsSome call.answered
-no_open only none zero call at is =
-    let same : only ≡ call = same_Some only call at in
-    absurd (let clash : false ≡ true = sym none ∙ ap (λ (c : Call). is_move c.kind) same ∙ ap is_move is in cc)
-no_open only none (suc index) call at is = absurd (cc)
+-- whether there is a call, and it is a move
+abbrev moves : Option Call → Bool
+moves None = false
+moves (Some call) = is_move call.kind
 
-pub moves_ask : Leads to_move_query 8 found move_found
+-- the only call is no move
+no_open : NoOpenMove answered
+no_open zero call at is = absurd (let clash : false ≡ true = ap moves at ∙ ap is_move is in cc)
+no_open (suc index) call at is = absurd (cc)
+
+pub moves_ask : Leads to_move_query 19 answered move_found
 moves_ask = record {
   gives = move_queried-is;
   may =
-      also (_, (refl, (_, _, refl))) (also record { call = _; takes = inl (_, _, (refl, refl)) } (also (_, (refl, (_, refl)))
-      (also (_, (refl, (_, _, refl))) (also (_, (refl, refl)) (also (_, (refl, (_, refl))) (also (_, (refl, (_, _, refl)))
-      (also (_, (refl, refl)) (also (_, (refl, (_, refl))) (also (_, (refl, (_, _, refl))) (also (_, (refl, refl))
-      (also (other_lawful, no_open _ refl) (also (_, (refl, (_, refl))) (also (_, (refl, (_, _, refl))) (also (_, (refl, refl))
-      (also (_, (refl, (_, refl))) tt)))))))))))))));
+      also (answered_new, other_lawful, no_open) (also (_, (refl, (_, refl))) (also (_, (refl, (_, _, refl))) (also (_, (refl, refl))
+      (also (_, (refl, (_, refl))) tt))));
 }
 
 pub moves_fetch : Leads to_move_fetch 24 move_found move_letter
@@ -152,16 +162,23 @@ moves_settle = record {
   is_value = ((omega arith, tt), letter_fits);
 }
 
-reads_ask : Leads to_read_query 27 move_letter read_found
-reads_ask = record {
-  gives = read_queried-is;
+pub move_answers : Leads to_move_answer 27 move_letter moved
+move_answers = record {
+  gives = refl;
   may =
       also (_, (refl, (_, _, refl))) (also moves_settle (also record { call = _; takes = inl (_, _, (refl, refl)) }
       (also (_, (refl, (_, refl))) (also (_, (refl, (_, _, refl))) (also (_, (refl, refl)) (also (_, (refl, (_, refl)))
       (also (_, (refl, (_, _, refl))) (also (_, (refl, refl)) (also (_, (refl, (_, refl))) (also (_, (refl, (_, _, refl)))
-      (also (_, (refl, refl)) (also tt (also (_, (refl, (_, refl))) (also (_, (refl, (_, _, refl))) (also (_, (refl, refl))
+      (also (_, (refl, refl)) tt)))))))))));
+}
+
+reads_ask : Leads to_read_query 39 moved read_found
+reads_ask = record {
+  gives = read_queried-is;
+  may =
+      also moved_new (also (_, (refl, (_, refl))) (also (_, (refl, (_, _, refl))) (also (_, (refl, refl))
       (also (_, (refl, (_, refl))) (also (_, (refl, (_, _, refl))) (also (_, (refl, refl)) (also (_, (refl, (_, refl)))
-      (also (_, (refl, (_, _, refl))) (also (_, (refl, refl)) (also (_, (refl, (_, refl))) tt))))))))))))))))))))));
+      (also (_, (refl, (_, _, refl))) (also (_, (refl, refl)) (also (_, (refl, (_, refl))) tt))))))))));
 }
 
 reads_fetch : Leads to_read_fetch 50 read_found read_letter
@@ -209,13 +226,19 @@ move_ends = record {
 
 move_goes : Goes move_parts 3 start move_entries
 move_goes =
-    goes_on to_query (to_move_query ++ (to_move_fetch ++ (to_read_query ++ (to_read_fetch ++ to_read_end)))) 3 8 start found
-    move_entries refl asks
+    goes_on to_query
+    (to_answer ++ (to_move_query ++ (to_move_fetch ++ (to_move_answer ++ (to_read_query ++ (to_read_fetch ++ to_read_end))))))
+    3 8 start found move_entries refl asks
+    (goes_on to_answer (to_move_query ++ (to_move_fetch ++ (to_move_answer ++ (to_read_query ++ (to_read_fetch ++ to_read_end))))) 8 19
+    found answered move_entries refl answers
     (goes_on to_move_query
-    (to_move_fetch ++ (to_read_query ++ (to_read_fetch ++ to_read_end))) 8 24 found move_found move_entries refl moves_ask
-    (goes_on to_move_fetch (to_read_query ++ (to_read_fetch ++ to_read_end)) 24 27 move_found move_letter move_entries refl moves_fetch
-    (goes_on to_read_query (to_read_fetch ++ to_read_end) 27 50 move_letter read_found move_entries refl reads_ask
-    (goes_on to_read_fetch to_read_end 50 53 read_found read_letter move_entries refl reads_fetch move_ends))))
+    (to_move_fetch ++ (to_move_answer ++ (to_read_query ++ (to_read_fetch ++ to_read_end)))) 19 24 answered move_found move_entries refl
+    moves_ask
+    (goes_on to_move_fetch (to_move_answer ++ (to_read_query ++ (to_read_fetch ++ to_read_end))) 24 27 move_found move_letter
+    move_entries refl moves_fetch
+    (goes_on to_move_answer (to_read_query ++ (to_read_fetch ++ to_read_end)) 27 39 move_letter moved move_entries refl move_answers
+    (goes_on to_read_query (to_read_fetch ++ to_read_end) 39 50 moved read_found move_entries refl reads_ask
+    (goes_on to_read_fetch to_read_end 50 53 read_found read_letter move_entries refl reads_fetch move_ends))))))
 
 pub move_history : entries (run whole move_parts 3 (opened_object one_member None 2)) ≡ move_entries
 move_history = move_goes.gives

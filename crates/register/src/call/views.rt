@@ -10,7 +10,7 @@ use crate::call::Call;
 use bytes::Bytes;
 use phase::Phase;
 use record::{CallKind, Entry, Operation, Stage};
-use tag::{CallId, Refusal, Stamp};
+use tag::{Refusal, Stamp};
 
 impl Call {
     /// The kind of the call, without its value.
@@ -83,14 +83,14 @@ impl Call {
         }
     }
 
-    /// The entry of the call, whose number is given, in the object's history.
-    pub(crate) fn entry(&self, number: CallId) -> Result<Entry, Refusal>
-        ensures entry { IfOk result (λ e. e ≡ entry_of number self.now.call) }
+    /// The entry of the call in the object's history.
+    pub(crate) fn entry(&self) -> Result<Entry, Refusal>
+        ensures entry { IfOk result (λ e. e ≡ entry_of self.now.call.id self.now.call) }
         ensures refused { IfErr result (λ e. e ≡ NoMemory) }
     {
         let value = self.returned(self.answered.is_some())?;
         Ok(Entry {
-            call: number,
+            call: self.id,
             kind: self.operation(),
             called: self.called,
             answered: self.answered,

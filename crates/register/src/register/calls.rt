@@ -10,7 +10,7 @@ ghost use Rattle.record.specs.declared.call.Operation.TheVariants as operations;
 ghost use Rattle.record.specs.Fragments.{AreBytes, IsValue};
 ghost use Rattle.tag.specs.declared.limits.TheConstants.{LONGEST_VALUE, MOST_CALLS};
 ghost use Rattle.record.specs.Steps.{Step, called_object};
-ghost use Rattle.register.specs.State.{made};
+ghost use Rattle.register.specs.State.{made, next_id};
 ghost use Rattle.register.specs.Causes.{unless, if_step, read_cause, write_cause, move_cause, answer_cause};
 ghost use Rattle.register.specs.View.{receipt_at};
 
@@ -34,7 +34,7 @@ impl Register {
     /// than `MOST_MESSAGES` waiting messages.
     pub fn call_read(&mut self, now: Stamp) -> Result<CallId, Refusal>
         requires after { self.old.last < now }
-        ensures step { OnOk result (self.new ≡ made Step.CallRead now self.old) }
+        ensures step { OnOk result (self.new ≡ made (Step.CallRead (next_id self.old.object)) now self.old) }
         ensures number { IfOk result (λ n. n ≡ suc (length self.old.object.calls)) }
         ensures cause { IsByCause (read_cause now self.old.object) result }
         ensures unchanged { OnErr result (self.new ≡ self.old) }
@@ -48,7 +48,7 @@ impl Register {
     /// `TooLong` where the value is longer than `LONGEST_VALUE` bytes, and `Full` as for `call_read`.
     pub fn call_write(&mut self, value: Bytes, now: Stamp) -> Result<CallId, Refusal>
         requires after { self.old.last < now }
-        ensures step { OnOk result (self.new ≡ made (Step.CallWrite value) now self.old) }
+        ensures step { OnOk result (self.new ≡ made (Step.CallWrite (next_id self.old.object) value) now self.old) }
         ensures number { IfOk result (λ n. n ≡ suc (length self.old.object.calls)) }
         ensures cause { IsByCause (write_cause value now self.old.object) result }
         ensures unchanged { OnErr result (self.new ≡ self.old) }
@@ -63,16 +63,17 @@ impl Register {
     fn begin_reading(&mut self, kind: CallKind, now: Stamp) -> Result<CallId, Refusal>
         requires after { self.old.last < now }
         requires kind { (kind ≡ Read) ⊎ ((value : List ℕ) × (kind ≡ Write value) × IsValue value) }
-        ensures step { OnOk result (self.new ≡ record { object = called_object self.old.object kind now; last = now }) }
+        ensures step { OnOk result (self.new
+            ≡ record { object = called_object self.old.object (next_id self.old.object) kind now; last = now }) }
         ensures number { IfOk result (λ n. n ≡ suc (length self.old.object.calls)) }
         ensures cause { IsByCause (if_step now (unless (nat_lt (length self.old.object.calls) MOST_CALLS) Full
-            (mail_cause (called_object self.old.object kind now).mail))) result }
+            (mail_cause (called_object self.old.object (next_id self.old.object) kind now).mail))) result }
         ensures unchanged { OnErr result (self.new ≡ self.old) }
     {
         self.may_call(now)?;
         let stage = first_stage(&kind, 0);
         let number = self.calls.len() as u64 + 1;
-        let mut call = Call::new(*self.calls.allocator(), kind, stage, now);
+        let mut call = Call::new(*self.calls.allocator(), number, kind, stage, now);
         self.calls.reserve(1)?;
         call.begin(
             number,
@@ -97,7 +98,7 @@ impl Register {
     /// messages.
     pub fn call_move(&mut self, layout: Layout, now: Stamp) -> Result<CallId, Refusal>
         requires after { self.old.last < now }
-        ensures step { OnOk result (self.new ≡ made (Step.CallMove layout) now self.old) }
+        ensures step { OnOk result (self.new ≡ made (Step.CallMove (next_id self.old.object) layout) now self.old) }
         ensures number { IfOk result (λ n. n ≡ suc (length self.old.object.calls)) }
         ensures cause { IsByCause (move_cause layout now self.old.object) result }
         ensures unchanged { OnErr result (self.new ≡ self.old) }
@@ -110,6 +111,7 @@ impl Register {
         let number = self.calls.len() as u64 + 1;
         let mut call = Call::new(
             alloc,
+            number,
             CallKind::Move,
             first_stage(&CallKind::Move, position),
             now,
@@ -151,10 +153,7 @@ impl Register {
         if now > MOST_STEPS {
             return Err(Refusal::Full);
         }
-        let value = match self.calls[index].returned(true) {
-            Ok(value) => value,
-            Err(refusal) => return Err(refusal),
-        };
+        let value = self.calls[index].returned(true)?;
         let operation = self.calls[index].operation();
         let called = self.calls[index].called();
         self.calls[index].answer(now);

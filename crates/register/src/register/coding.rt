@@ -12,7 +12,7 @@ ghost use Rattle.tag.specs.declared.limits.TheConstants.{MOST_POSITIONS};
 ghost use Rattle.register.specs.Tracked.{HasPositionsBelow, tracked_want};
 ghost use Rattle.register.specs.Coding.{pieces_position, sending_position};
 ghost use Rattle.register.specs.Causes.{unless, value_cause, supply_cause, supplying_cause, pieces_cause, settle_cause};
-ghost use Rattle.register.specs.View.{coding_at, pieces_at};
+ghost use Rattle.register.specs.View.{coding_at, fetched_pieces};
 
 use crate::call::Call;
 use crate::pieces::{is_coded_for, is_decoded_from, piece_by};
@@ -62,10 +62,7 @@ impl Register {
         ensures coded { (coded : Coding) → (supply_cause now self.now.object call coded ≡ Some WrongCode)
             ⊎ (supply_cause now self.now.object call coded ≡ supplying_cause now self.now.object call) }
     {
-        let index = match index_of(&self.calls, call) {
-            Ok(index) => index,
-            Err(refusal) => return Err(refusal),
-        };
+        let index = index_of(&self.calls, call)?;
         let tracked = &self.calls[index];
         let Some(position) = pieces_position(&self.positions, tracked) else {
             return Err(Refusal::NotNow);
@@ -146,7 +143,7 @@ impl Register {
     /// `NoCall` where there is no call of this number, `NotNow` unless the call wants to settle a value, and
     /// `Collected` where its fetch lacks pieces, so that it wants to be restarted.
     pub fn pieces(&self, call: CallId) -> Result<Vec<Piece>, Refusal>
-        ensures pieces { IfOk result (λ ps. ps.items ≡ pieces_at self.now.object call) }
+        ensures pieces { IfOk result (λ ps. ps.items ≡ fetched_pieces self.now.object call) }
         ensures cause { IsByCause (pieces_cause self.now.object call) result }
     {
         let index = index_of(&self.calls, call)?;
@@ -181,10 +178,7 @@ impl Register {
         ensures cause { IsExactlyByCause (settle_cause now self.old.object call decoded) result }
         ensures unchanged { OnErr result (self.new ≡ self.old) }
     {
-        let index = match index_of(&self.calls, call) {
-            Ok(index) => index,
-            Err(refusal) => return Err(refusal),
-        };
+        let index = index_of(&self.calls, call)?;
         let k = match want_of(&self.positions, &self.calls[index]) {
             Want::Settle { k, len: _ } => k,
             Want::Again => return Err(Refusal::Collected),

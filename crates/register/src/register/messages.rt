@@ -40,10 +40,7 @@ impl Register {
         let member = message.member;
         let position = &mut self.positions[message.position as usize];
         let before = position.bytes(member);
-        let reply = match position.serve(member, request, now) {
-            Ok(reply) => reply,
-            Err(refusal) => return Err(refusal),
-        };
+        let reply = position.serve(member, request, now)?;
         self.stored = self.stored - before + position.bytes(member);
         self.mail.reply_in_place(place, reply);
         self.last = now;
@@ -114,12 +111,8 @@ impl Register {
         if now > MOST_STEPS {
             return Err(Refusal::Full);
         }
-        match self.mail.repeat(place) {
-            Ok(()) => {
-                self.last = now;
-                Ok(())
-            }
-            Err(refusal) => Err(refusal),
-        }
+        self.mail.repeat(place)?;
+        self.last = now;
+        Ok(())
     }
 }

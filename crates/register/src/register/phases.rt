@@ -31,10 +31,8 @@ impl Register {
         ensures want { IfOk result (λ w. want_at self.now.object call ≡ Some w) }
         ensures cause { IsExactlyByCause (number_cause self.now.object call) result }
     {
-        match index_of(&self.calls, call) {
-            Ok(index) => Ok(want_of(&self.positions, &self.calls[index])),
-            Err(refusal) => Err(refusal),
-        }
+        let index = index_of(&self.calls, call)?;
+        Ok(want_of(&self.positions, &self.calls[index]))
     }
 
     /// The call of this number begins the phase that is due, where that phase sends no pieces: a request goes to each
@@ -83,7 +81,7 @@ impl Register {
         let Some((kind, position)) = due(begun_at(self.calls[index].stage(), self.base)) else {
             unreachable!();
         };
-        match self.calls[index].begin(
+        self.calls[index].begin(
             call,
             kind,
             position,
@@ -91,13 +89,9 @@ impl Register {
             None,
             &mut self.mail,
             now,
-        ) {
-            Ok(()) => {
-                self.last = now;
-                Ok(())
-            }
-            Err(refusal) => Err(refusal),
-        }
+        )?;
+        self.last = now;
+        Ok(())
     }
 
     /// Resends the requests of the current phase of the call of this number: one to each member that has no recorded
@@ -122,13 +116,9 @@ impl Register {
         if now > MOST_STEPS {
             return Err(Refusal::Full);
         }
-        match self.calls[index].ask_again(call, None, &mut self.mail) {
-            Ok(()) => {
-                self.last = now;
-                Ok(())
-            }
-            Err(refusal) => Err(refusal),
-        }
+        self.calls[index].ask_again(call, None, &mut self.mail)?;
+        self.last = now;
+        Ok(())
     }
 }
 

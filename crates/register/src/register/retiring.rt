@@ -52,16 +52,12 @@ impl Register {
         ensures cause { IsExactlyByCause (retire_cause now self.old.object position) result }
         ensures unchanged { OnErr result (self.new ≡ self.old) }
     {
-        match self.may_retire(position, now) {
-            Ok(()) => {
-                let freed = self.positions[self.base as usize].retire(now);
-                self.stored -= freed;
-                self.base += 1;
-                self.last = now;
-                Ok(freed)
-            }
-            Err(refusal) => Err(refusal),
-        }
+        self.may_retire(position, now)?;
+        let freed = self.positions[self.base as usize].retire(now);
+        self.stored -= freed;
+        self.base += 1;
+        self.last = now;
+        Ok(freed)
     }
 }
 

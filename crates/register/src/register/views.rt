@@ -39,8 +39,8 @@ impl Register {
         ensures refused { IfErr result (λ e. e ≡ NoMemory) }
     {
         let mut entries = Vec::with_capacity(*self.calls.allocator(), self.calls.len())?;
-        for (index, call) in self.calls.iter().enumerate() {
-            entries.push(call.entry(index as u64 + 1)?)?;
+        for call in &self.calls {
+            entries.push(call.entry()?)?;
         }
         Ok(entries)
     }
@@ -52,11 +52,8 @@ impl Register {
         ensures entry { IfOk result (λ e. option_map (entry_of call) (call_at self.now.object call) ≡ Some e) }
         ensures cause { IsByCause (number_cause self.now.object call) result }
     {
-        let index = match index_of(&self.calls, call) {
-            Ok(index) => index,
-            Err(refusal) => return Err(refusal),
-        };
-        self.calls[index].entry(call)
+        let index = index_of(&self.calls, call)?;
+        self.calls[index].entry()
     }
 
     /// How many bytes of pieces this server stores, over all positions of which it is a member.
@@ -94,10 +91,7 @@ impl Register {
         ensures view { IfOk result (λ v. view_at self.now.object call ≡ Some v) }
         ensures cause { IsExactlyByCause (number_cause self.now.object call) result }
     {
-        let index = match index_of(&self.calls, call) {
-            Ok(index) => index,
-            Err(refusal) => return Err(refusal),
-        };
+        let index = index_of(&self.calls, call)?;
         let tracked = &self.calls[index];
         let Some(phase) = tracked.current() else {
             unreachable!();

@@ -1,6 +1,6 @@
 -- What each step leaves in messages.
-use Rattle.std.proofs.Common.{◌≡◌, ℕ, suc, pred, ◌+◌, ◌≤◌, List, [], ◌∷◌, Option}
-use Rattle.std.proofs.Common.{◌++◌, length, Some, refl, ap, ◌∙◌, arith, slice_get}
+use Rattle.std.proofs.Common.{◌≡◌, ℕ, suc, pred, ◌+◌, [], ◌∷◌, Option}
+use Rattle.std.proofs.Common.{◌++◌, length, Some, ap, ◌∙◌, arith, slice_get}
 use Rattle.tag.specs.declared.tag.Tag.{Tag}
 use Rattle.layout.specs.Layout.{Layout}
 use Rattle.piece.specs.declared.piece.Piece.{Piece}
@@ -13,7 +13,7 @@ use Rattle.bank.specs.declared.request.Request.{Request}
 use Rattle.mail.specs.declared.message.Message.{Message}
 use Rattle.mail.specs.Message.{request_bytes, body_bytes, message_bytes, answered}
 use Rattle.mail.specs.Mail.{mail_bytes}
-use Rattle.phase.specs.Phase.{Phase, members_of}
+use Rattle.phase.specs.Phase.{Phase}
 use Rattle.bank.specs.declared.status.Status.TheVariants.{Pending}
 use Rattle.record.specs.declared.call.CallKind.{CallKind}
 use Rattle.record.specs.declared.call.CallKind.TheVariants.{Move}
@@ -22,12 +22,11 @@ use Rattle.record.specs.Fragments.{Code}
 use Rattle.record.specs.Accounts.{position_bytes, stored, mailed, member_sum}
 use Rattle.record.specs.Sending.{sent_pieces, request_to, requests}
 use Rattle.record.specs.Steps.{new_call, with_phase, opened_banks, opened_object}
-use Rattle.record.specs.Steps.{called_object, moving_object, settled_object, answered_object, handled_object}
-use Rattle.record.specs.Steps.{taken_object, lost_object, repeated_object, asked_again}
+use Rattle.record.specs.Steps.{called_object, moving_object, handled_object}
+use Rattle.record.specs.Steps.{repeated_object, asked_again}
 use Rattle.record.specs.Sending.{missing_requests}
 use Rattle.mail.specs.declared.message.Body.TheVariants as body
-use Rattle.soundness.proofs.Accounting.MessageBytesLemmas.{mail-append, mail-one, mail-set, mail-remove, requests_bytes, none_sum, no_piece}
-use Rattle.soundness.proofs.Accounting.MessageBytesLemmas.{missing-le}
+use Rattle.soundness.proofs.Accounting.MessageBytesLemmas.{mail-append, mail-one, mail-set, requests_bytes, none_sum, no_piece}
 use Rattle.soundness.proofs.Accounting.StoredBytesLemmas.{position-opened}
 
 -- an object that was just opened stores nothing, and nothing waits
@@ -37,9 +36,6 @@ stored-opened layout delta now server = more (position_bytes server layout.membe
   where
     more : (b : ℕ) → b ≡ 0 → b + 0 ≡ 0
     more b e = omega arith
-
-pub mailed-opened : (layout : Layout) (delta : Option ℕ) (now : ℕ) → mailed (opened_object layout delta now) ≡ 0
-mailed-opened layout delta now = refl
 
 -- a request's bytes leave the mail, and its reply's come
 pub mailed-handled : (object : Object) (place : ℕ) (message : Message) (asked : Request) (now : ℕ) →
@@ -59,14 +55,9 @@ pub mailed-with_phase : (object : Object) (index : ℕ) (call : Call) (kind : Ki
     mailed (with_phase object index call kind position now piece)
     ≡ mailed object + member_sum (λ i. request_bytes (request_to kind (piece i))) 0 (length (layout_at object position).members)
 mailed-with_phase object index call kind position now piece =
-    mail-append object.mail (requests (suc index) (suc (length call.phases)) kind position (layout_at object position).members 0 piece)
+    mail-append object.mail (requests call.id (suc (length call.phases)) kind position (layout_at object position).members 0 piece)
     ∙ ap (λ n. mailed object + n)
-    (requests_bytes (suc index) (suc (length call.phases)) kind position (layout_at object position).members 0 piece)
-
-pub mailed-pre_write : (object : Object) (index : ℕ) (call : Call) (tag : Tag) (position now : ℕ) (piece : ℕ → Piece) →
-    mailed (with_phase object index call (PreWrite tag) position now piece)
-    ≡ mailed object + member_sum (λ i. length (piece i).bytes) 0 (length (layout_at object position).members)
-mailed-pre_write object index call tag position now piece = mailed-with_phase object index call (PreWrite tag) position now piece
+    (requests_bytes call.id (suc (length call.phases)) kind position (layout_at object position).members 0 piece)
 
 nothing_more : (a b c : ℕ) → a ≡ b + c → c ≡ 0 → a ≡ b
 nothing_more a b c e none = omega arith
@@ -81,20 +72,20 @@ mailed-plain object index call kind position now piece plain =
     (none_sum (λ i. request_bytes (request_to kind (piece i))) (λ i. no_piece kind plain (piece i)) 0 count)
 
 -- calls add nothing
-pub mailed-called : (object : Object) (kind : CallKind) (now : ℕ) → mailed (called_object object kind now) ≡ mailed object
-mailed-called object kind now =
-    mailed-plain (record object { calls = object.calls ++ new_call kind now ∷ [] }) (length object.calls)
-    (new_call kind now) Next (base_of object) now empty_piece
+pub mailed-called : (object : Object) (id : ℕ) (kind : CallKind) (now : ℕ) → mailed (called_object object id kind now) ≡ mailed object
+mailed-called object id kind now =
+    mailed-plain (record object { calls = object.calls ++ new_call id kind now ∷ [] }) (length object.calls)
+    (new_call id kind now) Next (base_of object) now empty_piece
     (λ tag e. cc)
 
-pub mailed-moving : (object : Object) (layout : Layout) (now : ℕ) → mailed (moving_object object layout now) ≡ mailed object
-mailed-moving object layout now =
+pub mailed-moving : (object : Object) (id : ℕ) (layout : Layout) (now : ℕ) → mailed (moving_object object id layout now) ≡ mailed object
+mailed-moving object id layout now =
     mailed-plain
     (record object {
       layouts = object.layouts ++ layout ∷ [];
       banks = object.banks ++ opened_banks layout.members 0 object.delta now ∷ [];
-      calls = object.calls ++ new_call Move now ∷ [];
-    }) (length object.calls) (new_call Move now) (Spread Pending) (pred (length object.layouts)) now empty_piece (λ tag e. cc)
+      calls = object.calls ++ new_call id Move now ∷ [];
+    }) (length object.calls) (new_call id Move now) (Spread Pending) (pred (length object.layouts)) now empty_piece (λ tag e. cc)
 
 -- requests that go out again are some of a phase's requests
 pub mailed-asked_again : (fragment : Code) (object : Object) (call : Call) (phase : Phase) →
@@ -103,45 +94,7 @@ pub mailed-asked_again : (fragment : Code) (object : Object) (call : Call) (phas
 mailed-asked_again fragment object call phase =
     mail-append object.mail (missing_requests object phase (sent_pieces fragment object call phase.position))
 
-pub missing_requests-le : (object : Object) (phase : Phase) (piece : ℕ → Piece) →
-    mail_bytes (missing_requests object phase piece) ≤ member_sum (λ i. request_bytes (request_to phase.kind (piece i))) 0
-    (length (layout_at object phase.position).members)
-missing_requests-le object phase piece =
-    let all = requests phase.call phase.number phase.kind phase.position (layout_at object phase.position).members 0 piece in
-    let at_most = missing-le object.mail (members_of phase.replies) all in
-    within (mail_bytes (missing_requests object phase piece)) (mail_bytes all)
-    (member_sum (λ i. request_bytes (request_to phase.kind (piece i))) 0 (length (layout_at object phase.position).members))
-    at_most (requests_bytes phase.call phase.number phase.kind phase.position (layout_at object phase.position).members 0 piece)
-  where
-    within : (a b c : ℕ) → a ≤ b → b ≡ c → a ≤ c
-    within a b c h e = omega arith
-
--- a message that is taken or lost leaves the mail, and one that is repeated comes again
-pub mailed-taken : (object : Object) (place : ℕ) (message : Message) (now : ℕ) → slice_get object.mail place ≡ Some message →
-    mailed (taken_object object place message now) + message_bytes message ≡ mailed object
-mailed-taken object place message now at = mail-remove object.mail place message at
-
-pub mailed-lost : (object : Object) (place : ℕ) (message : Message) → slice_get object.mail place ≡ Some message →
-    mailed (lost_object object place) + message_bytes message ≡ mailed object
-mailed-lost object place message at = mail-remove object.mail place message at
-
+-- a message that is repeated comes again
 pub mailed-repeated : (object : Object) (message : Message) →
     mailed (repeated_object object message) ≡ mailed object + message_bytes message
 mailed-repeated object message = mail-append object.mail (message ∷ []) ∙ ap (λ n. mailed object + n) (mail-one message)
-
--- to settle a value, and to answer, changes neither
-pub mailed-settled : (object : Object) (index : ℕ) (call : Call) (value : List ℕ) →
-    mailed (settled_object object index call value) ≡ mailed object
-mailed-settled object index call value = refl
-
-pub mailed-answered : (object : Object) (index : ℕ) (call : Call) (now : ℕ) →
-    mailed (answered_object object index call now) ≡ mailed object
-mailed-answered object index call now = refl
-
-pub stored-settled : (object : Object) (index : ℕ) (call : Call) (value : List ℕ) (server : ℕ) →
-    stored (settled_object object index call value) server ≡ stored object server
-stored-settled object index call value server = refl
-
-pub stored-answered : (object : Object) (index : ℕ) (call : Call) (now server : ℕ) →
-    stored (answered_object object index call now) server ≡ stored object server
-stored-answered object index call now server = refl

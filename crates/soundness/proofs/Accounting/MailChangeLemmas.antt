@@ -22,8 +22,8 @@ use Rattle.record.specs.Steps.{asked_again, supplied_by, supplied_object, Step, 
 use Rattle.record.specs.Wants.{current_phase}
 use Rattle.mail.specs.declared.message.Body.TheVariants as body
 use Rattle.soundness.proofs.Accounting.MailAfterStepLemmas.{mailed-handled, mailed-with_phase, mailed-called, mailed-moving}
-use Rattle.soundness.proofs.Accounting.MailAfterStepLemmas.{mailed-asked_again, mailed-taken, mailed-lost, mailed-repeated}
-use Rattle.soundness.proofs.Accounting.MessageBytesLemmas.{mail-cons}
+use Rattle.soundness.proofs.Accounting.MailAfterStepLemmas.{mailed-asked_again, mailed-repeated}
+use Rattle.soundness.proofs.Accounting.MessageBytesLemmas.{mail-cons, mail-remove}
 
 -- Mail
 
@@ -88,7 +88,7 @@ mailed-taken_by object place message now at (body.Request asked) is = refl
 mailed-taken_by object place message now at (body.Reply kind made) is =
     weighed (mailed (taken_object object place message now)) (message_bytes message) (answer_bytes made.answer)
     (mailed object) (ap body_bytes is)
-    (mailed-taken object place message now at)
+    (mail-remove object.mail place message at)
   where
     weighed : (a b c d : ℕ) → b ≡ c → a + b ≡ d → a + c ≡ d + 0
     weighed a b c d e f = omega arith
@@ -102,12 +102,13 @@ mailed-served_by object place message now at (body.Reply kind made) is = refl
 -- What leaves the mail by a step and what comes make up its change
 pub mailed-stepped : (fragment : Code) (object : Object) (now : ℕ) (s : Step) →
     mailed (stepped fragment s now object) + unmailed_by object s ≡ mailed object + mailed_by fragment object s
-mailed-stepped fragment object now Step.CallRead =
-    same_both (mailed (called_object object Read now)) (mailed object) (mailed-called object Read now)
-mailed-stepped fragment object now (Step.CallWrite value) = same_both (mailed (called_object object (Write value) now)) (mailed object)
-    (mailed-called object (Write value) now)
-mailed-stepped fragment object now (Step.CallMove layout) = same_both (mailed (moving_object object layout now)) (mailed object)
-    (mailed-moving object layout now)
+mailed-stepped fragment object now (Step.CallRead id) =
+    same_both (mailed (called_object object id Read now)) (mailed object) (mailed-called object id Read now)
+mailed-stepped fragment object now (Step.CallWrite id value) =
+    same_both (mailed (called_object object id (Write value) now)) (mailed object)
+    (mailed-called object id (Write value) now)
+mailed-stepped fragment object now (Step.CallMove id layout) = same_both (mailed (moving_object object id layout now)) (mailed object)
+    (mailed-moving object id layout now)
 mailed-stepped fragment object now (Step.Advance index) =
     mailed-on_call object (slice_get object.calls index) (λ call. advanced_object fragment object index call now)
     (λ call. due_bytes fragment object call (due_of object index call))
@@ -148,7 +149,7 @@ mailed-stepped fragment object now (Step.Lose place) = found (slice_get object.m
         mailed (lost_object object place) + some_bytes o message_bytes ≡ mailed object + 0
     found None at = same_both (mailed (lost_object object place)) (mailed object) (mail-remove_none object.mail place at)
     found (Some message) at =
-        more_right (mailed (lost_object object place)) (mailed object) (message_bytes message) (mailed-lost object place message at)
+        more_right (mailed (lost_object object place)) (mailed object) (message_bytes message) (mail-remove object.mail place message at)
 mailed-stepped fragment object now (Step.Repeat place) = found (slice_get object.mail place)
   where
     found : (o : Option Message) →

@@ -1,19 +1,18 @@
 -- The bytes of messages.
-use Rattle.std.proofs.Common.{◌≡◌, ℕ, zero, suc, ◌+◌, ◌≤◌, ◌||◌, Bool, true, false, cond, List}
+use Rattle.std.proofs.Common.{◌≡◌, ℕ, zero, suc, ◌+◌, List}
 use Rattle.std.proofs.Common.{[], ◌∷◌, ◌++◌, length, set, Some, refl, ap, ◌∙◌, arith, slice_get}
 use Rattle.std.proofs.lemmas.List.Sums.{sum_by-cons, sum_by-append}
 use Rattle.std.proofs.lemmas.Option.{same_Some}
 use Rattle.std.specs.List.{remove}
 use Rattle.tag.specs.declared.tag.Tag.{Tag}
-use Rattle.layout.specs.Quorum.{has}
 use Rattle.piece.specs.declared.piece.Piece.{Piece}
 use Rattle.bank.specs.declared.kind.Kind.{Kind}
-use Rattle.bank.specs.declared.kind.Kind.TheVariants.{Next, Spread, Query, PreWrite, Finalize, Fetch}
+use Rattle.bank.specs.declared.kind.Kind.TheVariants.{PreWrite}
 use Rattle.mail.specs.declared.message.Message.{Message}
 use Rattle.mail.specs.Message.{request_bytes, message_bytes}
 use Rattle.mail.specs.Mail.{mail_bytes}
 use Rattle.record.specs.Accounts.{member_sum}
-use Rattle.record.specs.Sending.{request_to, requests, waits, missing}
+use Rattle.record.specs.Sending.{request_to, requests}
 use Rattle.mail.specs.declared.message.Body.TheVariants as body
 
 -- Mail
@@ -67,21 +66,5 @@ none_sum f none member (suc count) = let first = none member in let rest = none_
 -- only a pre-write sends pieces
 pub no_piece : (kind : Kind) → ((tag : Tag) → kind ≡ PreWrite tag → ⊥) → (piece : Piece) →
     request_bytes (request_to kind piece) ≡ 0
-no_piece Next plain piece = refl
-no_piece (Spread status) plain piece = refl
-no_piece Query plain piece = refl
 no_piece (PreWrite tag) plain piece = absurd (plain tag refl)
-no_piece (Finalize tag) plain piece = refl
-no_piece (Fetch tag) plain piece = refl
-
-pub missing-le : (mail : List Message) (replied : List ℕ) (messages : List Message) →
-    mail_bytes (missing mail replied messages) ≤ mail_bytes messages
-missing-le mail replied [] = omega arith
-missing-le mail replied (message ∷ messages) =
-    go (has replied message.member || waits mail message.call message.phase message.member) (missing-le mail replied messages)
-  where
-    go : (b : Bool) → mail_bytes (missing mail replied messages) ≤ mail_bytes messages →
-        mail_bytes (cond b (missing mail replied messages) (message ∷ missing mail replied messages))
-        ≤ mail_bytes (message ∷ messages)
-    go true rest = omega (arith, mail-cons message messages, rest)
-    go false rest = omega (arith, mail-cons message messages, mail-cons message (missing mail replied messages), rest)
+no_piece kind plain piece = refl

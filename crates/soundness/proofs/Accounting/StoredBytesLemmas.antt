@@ -1,24 +1,16 @@
 -- The bytes that a server stores.
 use Rattle.std.proofs.Common.{◌≡◌, ℕ, zero, suc, ◌+◌, ◌<◌, ◌==◌, Bool, true, false, cond, List, []}
-use Rattle.std.proofs.Common.{◌∷◌, ◌++◌, length, set, get_or, Option, Some, None, is_some, refl, sym, ap, ◌∙◌, arith}
+use Rattle.std.proofs.Common.{◌∷◌, ◌++◌, length, set, get_or, Option, refl, sym, ap, ◌∙◌, arith}
 use Rattle.layout.specs.Layout.{Layout}
-use Rattle.piece.specs.declared.piece.Piece.{Piece}
 use Rattle.bank.specs.Bank.{Bank, opened_bank}
 use Rattle.bank.specs.Bytes.{bank_bytes, added_bytes}
 use Rattle.bank.specs.Serve.{served_bank, freed_bytes}
-use Rattle.bank.specs.declared.kind.Kind.{Kind}
 use Rattle.bank.specs.declared.request.Request.{Request}
 use Rattle.bank.proofs.BankBytesLemmas.{served_bytes, opened_bytes}
-use Rattle.mail.specs.declared.message.Message.{Message}
-use Rattle.mail.specs.declared.message.Body.{Body}
-use Rattle.phase.specs.Phase.{Phase}
-use Rattle.record.specs.Records.{Call, Object, layout_at, bank_at, no_bank, no_layout}
-use Rattle.record.specs.Legal.{due_of}
-use Rattle.record.specs.Fragments.{Code}
-use Rattle.record.specs.Accounts.{position_bytes, stored_bytes, stored, server_at, for_server, stored_by_body, freed_by_body}
-use Rattle.record.specs.Steps.{with_bank, with_phase, opened_banks, moving_object, begun_object}
-use Rattle.record.specs.Steps.{advanced_object, handled_object, taken_by, asked_again, supplied_by}
-use Rattle.mail.specs.declared.message.Body.TheVariants as body
+use Rattle.record.specs.Records.{Object, layout_at, bank_at, no_bank, no_layout}
+use Rattle.record.specs.Accounts.{position_bytes, stored_bytes, stored, server_at, for_server}
+use Rattle.record.specs.Steps.{with_bank, opened_banks, moving_object}
+use Rattle.soundness.proofs.Sound.LeftBankLemmas.{SameBanks}
 
 -- Banks
 
@@ -148,49 +140,15 @@ stored-append server (l ∷ layouts) (b ∷ banks) layout row e =
 -- Each step, by the records that it leaves
 
 module _ (object : Object) (server : ℕ) where
-  -- a server handles a request: it stores what the request adds, without what it frees, and the reply waits in its place
-  pub stored-handled : (place : ℕ) (message : Message) (asked : Request) (now : ℕ) → message.position < length object.layouts →
-      message.position < length object.banks → message.member < length (layout_at object message.position).members →
-      message.member < length (get_or object.banks message.position []) →
-      stored (handled_object object place message asked now) server + freed_by_body object message (body.Request asked) now server
-      ≡ stored object server + stored_by_body object message (body.Request asked) server
-  stored-handled place message asked now p b m n = stored-served object message.position message.member asked now server p b m n
-
-  -- the beginning of a phase, and every step on calls and messages alone
-  pub stored-with_phase : (index : ℕ) (call : Call) (kind : Kind) (position now : ℕ) (piece : ℕ → Piece) →
-      stored (with_phase object index call kind position now piece) server ≡ stored object server
-  stored-with_phase index call kind position now piece = refl
-
-  pub stored-begun : (fragment : Code) (index : ℕ) (call : Call) (next : Option (Kind × ℕ)) (now : ℕ) →
-      stored (begun_object fragment object index call next now) server ≡ stored object server
-  stored-begun fragment index call None now = refl
-  stored-begun fragment index call (Some next) now = refl
-
-  pub stored-asked_again : (fragment : Code) (call : Call) (phase : Option Phase) → stored (asked_again fragment object call phase) server
-      ≡ stored object server
-  stored-asked_again fragment call None = refl
-  stored-asked_again fragment call (Some phase) = refl
-
-  pub stored-supplied : (fragment : Code) (index : ℕ) (call : Call) (now : ℕ) (phase : Option Phase) →
-      stored (supplied_by fragment object index call now phase) server ≡ stored object server
-  stored-supplied fragment index call now None = refl
-  stored-supplied fragment index call now (Some phase) = go (is_some phase.end)
-    where
-      go : (b : Bool) →
-          stored (cond b (advanced_object fragment object index call now) (asked_again fragment object call (Some phase))) server
-          ≡ stored object server
-      go true = stored-begun fragment index call (due_of object index call) now
-      go false = refl
-
-  pub stored-taken : (place : ℕ) (message : Message) (b : Body) (now : ℕ) →
-      stored (taken_by object place message b now) server ≡ stored object server
-  stored-taken place message (body.Request asked) now = refl
-  stored-taken place message (body.Reply kind made) now = refl
+  -- where layouts and banks are left as they are
+  pub stored-left : (new : Object) → SameBanks object new → stored new server ≡ stored object server
+  stored-left new same =
+      ap (λ l. stored_bytes server l new.banks) same.0 ∙ ap (λ b. stored_bytes server object.layouts b) same.1
 
   -- a call of a move appends a position, whose banks store nothing
-  pub stored-moving : (layout : Layout) (now : ℕ) → length object.banks ≡ length object.layouts →
-      stored (moving_object object layout now) server ≡ stored object server
-  stored-moving layout now e =
+  pub stored-moving : (id : ℕ) (layout : Layout) (now : ℕ) → length object.banks ≡ length object.layouts →
+      stored (moving_object object id layout now) server ≡ stored object server
+  stored-moving id layout now e =
       stored-append server object.layouts object.banks layout (opened_banks layout.members 0 object.delta now) e
       ∙ more (stored object server) (position_bytes server layout.members (opened_banks layout.members 0 object.delta now))
       (position-opened server layout.members layout.members 0 object.delta now)

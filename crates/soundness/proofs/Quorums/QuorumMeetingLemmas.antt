@@ -21,7 +21,7 @@ use Rattle.soundness.proofs.Quorums.ReplyTruthLemmas.{came_by_later, pointer_lat
 use Rattle.soundness.proofs.Quorums.ReplyTruthLemmas.{true_spread, true_query, true_fin, true_fetch, statuses_below, tags_below}
 use Rattle.soundness.proofs.Quorums.ReplyTruthLemmas.{final_shown}
 use Rattle.soundness.proofs.Quorums.CommonMemberLemmas.{quorums_meet}
-use Rattle.soundness.proofs.ListLemmas.{all_weaker, all_pairs}
+use Rattle.soundness.proofs.ListLemmas.{all_pairs, all_map, all_both}
 use Rattle.soundness.proofs.StatusOrderLemmas.{rank}
 use Rattle.record.proofs.TagOrderLemmas.{IsAtMost, at_most_refl, at_most_trans}
 
@@ -46,17 +46,14 @@ pub stored_later : (object : Object) (position : ℕ) (tag : Tag) (s u : ℕ) �
 stored_later object position tag s u h stored = record {
   members = stored.members;
   quorum = stored.quorum;
-  all = all_weaker (λ i. HasFinalized (bank_at object position i) tag s) (λ i. HasFinalized (bank_at object position i) tag u)
-      (λ i e. came_by_later (finalized_at (bank_at object position i) tag) s u h e) stored.members stored.all;
+  all = all_map (λ i e. came_by_later (finalized_at (bank_at object position i) tag) s u h e) _ stored.all;
 }
 
 pub pointed_later : (object : Object) (position : ℕ) (s u : ℕ) → s ≤ u → Pointed object position s → Pointed object position u
 pointed_later object position s u h pointed = record {
   members = pointed.members;
   quorum = pointed.quorum;
-  all = all_weaker (λ i. 1 ≤ rank (pointer_at (bank_at object position i) s))
-      (λ i. 1 ≤ rank (pointer_at (bank_at object position i) u))
-      (λ i e. le_trans e (pointer_later (bank_at object position i) s u h)) pointed.members pointed.all;
+  all = all_map (λ i e. le_trans e (pointer_later (bank_at object position i) s u h)) _ pointed.all;
 }
 
 rank_final : (status : Status) → 2 ≤ rank status → status ≡ Final
@@ -80,26 +77,20 @@ pub phase_quorum : (object : Object) (phase : Phase) (end : ℕ) → IsTruePhase
 phase_quorum object phase end truth e = record {
   distinct = truth.one_each;
   within = all_members (λ i. i < length (layout_at object phase.position).members) phase.replies
-      (all_weaker (IsTrueReply object phase) (λ reply. reply.member < length (layout_at object phase.position).members)
-      (λ reply r. r.within) phase.replies truth.replies);
+      (all_map (λ reply r. r.within) _ truth.replies);
   enough = rw (length-map phase.replies (λ (reply : Taken). reply.member)) ((truth.complete end e).0);
 }
 
 -- what each true answer says, and lasts, each member of the quorum knew at the end
-phase_knows : (object : Object) (phase : Phase) (end : ℕ) (Known : Bank → ℕ → Type 0) →
+pub phase_knows : (object : Object) (phase : Phase) (end : ℕ) (Known : Bank → ℕ → Type 0) →
     ((bank : Bank) (s u : ℕ) → s ≤ u → Known bank s → Known bank u) →
     ((bank : Bank) (made : ℕ) (answer : Answer) → IsTrueAnswer bank made phase.kind answer → Known bank made) →
     IsTruePhase object phase → phase.end ≡ Some end →
     AllByRecursion (λ i. Known (bank_at object phase.position i) end) (members_of phase.replies)
 phase_knows object phase end Known lasts says truth e =
     all_members (λ i. Known (bank_at object phase.position i) end) phase.replies
-    (all_weaker (λ reply. IsTrueReply object phase reply × (reply.step ≤ end))
-    (λ reply. Known (bank_at object phase.position reply.member) end)
-    (λ reply p. lasts (bank_at object phase.position reply.member) reply.reply.step end
-    (let order = p.0.in_order in let late = p.1 in omega arith)
-    (says _ _ _ p.0.says))
-    phase.replies
-    (all_pairs (IsTrueReply object phase) (λ reply. reply.step ≤ end) phase.replies truth.replies ((truth.complete end e).1)))
+    (all_both (λ reply r late. lasts (bank_at object phase.position reply.member) reply.reply.step end
+    (let order = r.in_order in omega arith) (says _ _ _ r.says)) _ truth.replies (truth.complete end e).1)
 
 -- a member of any quorum answered the phase, after its start
 phase_meets : (object : Object) (phase : Phase) (end : ℕ) (members : List ℕ) (P : Taken → Type 0) →

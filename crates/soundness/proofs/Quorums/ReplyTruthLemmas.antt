@@ -77,37 +77,27 @@ reply_at P (reply ∷ replies) i all h = go (or_cases (eqb reply.member i) (has 
 pub true_next : (bank : Bank) (made : ℕ) (answer : Answer) → IsTrueAnswer bank made Next answer →
     pointer_at bank made ≡ shown_status answer
 true_next bank made (answer.Pointer status) h = h
-true_next bank made answer.Done h = absurd h
-true_next bank made (answer.Greatest tag) h = absurd h
-true_next bank made (answer.Piece piece) h = absurd h
+true_next bank made answer h = absurd h
 
 pub true_spread : (status : Status) (bank : Bank) (made : ℕ) (answer : Answer) → IsTrueAnswer bank made (Spread status) answer →
     rank status ≤ rank (pointer_at bank made)
 true_spread status bank made answer.Done h = status_le-true status (pointer_at bank made) h
-true_spread status bank made (answer.Pointer s) h = absurd h
-true_spread status bank made (answer.Greatest tag) h = absurd h
-true_spread status bank made (answer.Piece piece) h = absurd h
+true_spread status bank made answer h = absurd h
 
 pub true_query : (bank : Bank) (made : ℕ) (answer : Answer) → IsTrueAnswer bank made Query answer → (tag : Tag) →
     HasFinalized bank tag made → IsAtMost tag (shown_tag answer)
 true_query bank made (answer.Greatest tag) h = λ other finalized. tag_lt-false tag other (h.1 other finalized)
-true_query bank made answer.Done h = absurd h
-true_query bank made (answer.Pointer s) h = absurd h
-true_query bank made (answer.Piece piece) h = absurd h
+true_query bank made answer h = absurd h
 
 pub true_fin : (tag : Tag) (bank : Bank) (made : ℕ) (answer : Answer) → IsTrueAnswer bank made (Finalize tag) answer →
     HasFinalized bank tag made
 true_fin tag bank made answer.Done h = h
-true_fin tag bank made (answer.Pointer s) h = absurd h
-true_fin tag bank made (answer.Greatest t) h = absurd h
-true_fin tag bank made (answer.Piece piece) h = absurd h
+true_fin tag bank made answer h = absurd h
 
 pub true_fetch : (tag : Tag) (bank : Bank) (made : ℕ) (answer : Answer) → IsTrueAnswer bank made (Fetch tag) answer →
     HasFinalized bank tag made
 true_fetch tag bank made (answer.Piece piece) h = h.0
-true_fetch tag bank made answer.Done h = absurd h
-true_fetch tag bank made (answer.Pointer s) h = absurd h
-true_fetch tag bank made (answer.Greatest t) h = absurd h
+true_fetch tag bank made answer h = absurd h
 
 -- the greatest of the replies
 

@@ -1,5 +1,5 @@
 -- The current phase of a call asks again, and the record stays sound.
-use Rattle.std.proofs.Common.{◌≡◌, ℕ, suc, ◌+◌, ◌<◌, List, [], ◌∷◌, ◌++◌}
+use Rattle.std.proofs.Common.{◌≡◌, ℕ, ◌<◌, List, [], ◌∷◌, ◌++◌}
 use Rattle.std.proofs.Common.{length, Some, None, refl, sym, subst, ap, ◌∙◌, arith, slice_get}
 use Rattle.std.proofs.lemmas.Option.{same_Some}
 use Rattle.piece.specs.declared.piece.Piece.{Piece}
@@ -16,8 +16,8 @@ use Rattle.record.specs.Sending.{requests, missing, sent_pieces}
 use Rattle.record.specs.Steps.{asked_again}
 use Rattle.record.specs.Wants.{current_phase}
 use Rattle.soundness.proofs.Values.SentValueLemmas.{Sends, request_coded}
-use Rattle.soundness.proofs.Sound.MailSoundLemmas.{mailed_sound, request_message, kind_of-request_to, all_requests, all_append, all_missing}
-use Rattle.soundness.proofs.Sound.SoundnessPartLemmas.{MessageRest, mail_rest}
+use Rattle.soundness.proofs.Sound.MailSoundLemmas.{mailed_sound, request_message, request_sound, all_requests, all_append, all_missing}
+use Rattle.soundness.proofs.Sound.ItemLemmas.{CallSound, MessageSound, call_of, mail_of}
 use Rattle.soundness.proofs.Sound.TakenReplyLemmas.{numbered_at}
 use Rattle.soundness.proofs.Sound.WantCaseLemmas.{LastAt, last_at}
 
@@ -38,20 +38,17 @@ current_due kind number (first ∷ next ∷ later) stage phase course current no
     (stage_past kind number stage first) phase course.2 current none
 
 -- the current phase asks again
-pub asked_sound : (fragment : Code) (object : Object) (step now : ℕ) → step < now → Determines fragment →
-    IsSound fragment object step → (index : ℕ) (call : Call) → slice_get object.calls index ≡ Some call →
+pub asked_sound : {fragment : Code} {object : Object} {step now : ℕ} → Determines fragment → IsSound fragment object step → step < now →
+    (index : ℕ) (call : Call) → slice_get object.calls index ≡ Some call →
     (phase : Phase) → current_phase call.phases ≡ Some phase → phase.end ≡ None →
     Sends fragment (layout_at object phase.position) call phase.kind (sent_pieces fragment object call phase.position) →
     IsSound fragment (asked_again fragment object call (Some phase)) now
-asked_sound fragment object step now less determines sound index call at phase current none sends =
-    mailed_sound fragment object step now (object.mail ++ missing object.mail (members_of phase.replies) asked) less sound
-    (all_append (MessageRest fragment object step) object.mail (missing object.mail (members_of phase.replies) asked)
-    (mail_rest fragment object step sound)
-    (all_missing (MessageRest fragment object step) object.mail (members_of phase.replies) asked
-    (all_requests (MessageRest fragment object step) phase.call phase.number phase.kind phase.position piece
-    (layout_at object phase.position).members 0
-    (length (layout_at object phase.position).members) (omega arith)
-    (λ member below. request member below))))
+asked_sound {fragment = fragment} {object = object} {step = step} determines sound less index call at phase current none sends =
+    mailed_sound (object.mail ++ missing object.mail (members_of phase.replies) asked) sound less
+    (all_append _ object.mail (missing object.mail (members_of phase.replies) asked) (mail_of sound)
+    (all_missing _ object.mail (members_of phase.replies) asked
+    (all_requests _ phase.call phase.number phase.kind phase.position piece (layout_at object phase.position).members 0
+    (length (layout_at object phase.position).members) (omega arith) request)))
   where
     piece : ℕ → Piece
     piece = sent_pieces fragment object call phase.position
@@ -62,31 +59,15 @@ asked_sound fragment object step now less determines sound index call at phase c
     there : LastAt call.phases phase
     there = last_at call.phases phase current
 
-    numbers : (phase.call ≡ suc index) × (phase.number ≡ 1 + there.place)
-    numbers = numbered_at (suc index) 1 call.phases there.place phase (sound.legal.calls index call at).numbered there.within
-
-    e : due (stage_of object index call) ≡ Some (phase.kind, phase.position)
-    e = current_due call.kind (suc index) call.phases (first_stage call.kind (source_of object index)) phase
-        (sound.legal.calls index call at).course current none
+    c : CallSound fragment object step index call
+    c = call_of sound index call at
 
     request : (member : ℕ) → member < length (layout_at object phase.position).members →
-        MessageRest fragment object step (request_message phase.call phase.number phase.kind phase.position piece member)
-    request member below = record {
-      posted = record {
-        index = index;
-        call = call;
-        at = at;
-        same_call = numbers.0;
-        place = there.place;
-        phase = phase;
-        within = there.within;
-        same_phase = (let n = numbers.1 in omega arith);
-        same_kind = kind_of-request_to phase.kind (piece member);
-        same_position = refl;
-        member = below;
-        reply = λ kind made b. absurd (cc);
-      };
-      past = λ kind made b. absurd (cc);
-      coded = request_coded fragment object step determines sound index call at phase.kind phase.position piece
-          (stage_of object index call) refl e sends member;
-    }
+        MessageSound fragment object step (request_message phase.call phase.number phase.kind phase.position piece member)
+    request member below =
+        let numbers = numbered_at call.id 1 call.phases there.place phase c.numbered there.within in
+        request_sound index phase piece member at there.within numbers.0 (let n = numbers.1 in omega arith) below
+        (request_coded fragment object step determines sound index call at phase.kind phase.position piece
+        (stage_of object index call) refl
+        (current_due call.kind call.id call.phases (first_stage call.kind (source_of object index)) phase c.course current none)
+        sends member)

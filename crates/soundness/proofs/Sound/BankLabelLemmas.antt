@@ -22,6 +22,7 @@ use Rattle.bank.proofs.CollectedBankLemmas.{get-collected}
 use Rattle.bank.proofs.RowChangeLemmas.{get-with_row}
 use Rattle.record.specs.Records.{no_bank}
 use Rattle.soundness.specs.Origins.{label_at, Gives}
+use Rattle.soundness.proofs.Sound.OpenedObjectLemmas.{get-opened}
 
 abbrev row_label : Option Row → Option Label
 row_label row = option_map (λ (r : Row). r.label) row
@@ -92,9 +93,6 @@ label-collected bank tag = ap row_label (get-collected bank tag) ∙ go (is_drop
 pub served_gives : (bank : Bank) (asked : Request) (now : ℕ) (tag : Tag) (label : Label) →
     label_at (served_bank bank asked now) tag ≡ Some label →
     (label_at bank tag ≡ Some label) ⊎ Gives (kind_of asked) tag label now
-served_gives bank request.Next now tag label e = inl e
-served_gives bank (request.Spread status) now tag label e = inl e
-served_gives bank request.Query now tag label e = inl e
 served_gives bank (request.PreWrite asked piece) now tag label e = go
     (pre_written_gives bank asked piece now tag label (sym (label-collected (pre_written bank asked piece now) tag) ∙ e))
   where
@@ -116,6 +114,7 @@ served_gives bank (request.Fetch asked) now tag label e = go
         (label_at bank tag ≡ Some label) ⊎ Gives (Fetch asked) tag label now
     go (inl old) = inl old
     go (inr new) = inr (inr (inr (ap Fetch new.0), new.1))
+served_gives bank asked now tag label e = inl e
 
 -- a bank that is retired keeps its labels
 pub retired_label : (bank : Bank) (now : ℕ) (tag : Tag) → label_at (retired_bank bank now) tag ≡ label_at bank tag
@@ -124,16 +123,10 @@ retired_label bank now tag =
 
 -- Banks that open
 
-opened_row : (member : ℕ) (delta : Option ℕ) (now : ℕ) (tag : Tag) →
-    map.get (opened_bank member delta now).rows tag ≡ cond (tag_eq tag opening_tag) (Some (opening_row member now)) None
-opened_row member delta now tag =
-    get-with_row map.empty opening_tag (λ row. opening_row member now) tag
-    ∙ ap (λ o. cond (tag_eq tag opening_tag) (Some (opening_row member now)) o) (map.get-empty tag_cmp tag)
-
 pub opened_label : (member : ℕ) (delta : Option ℕ) (now : ℕ) (tag : Tag) (label : Label) →
     label_at (opened_bank member delta now) tag ≡ Some label →
     (tag ≡ opening_tag) × (label ≡ Finalized now)
-opened_label member delta now tag label e = go (tag_eq tag opening_tag) refl (sym (ap row_label (opened_row member delta now tag)) ∙ e)
+opened_label member delta now tag label e = go (tag_eq tag opening_tag) refl (sym (ap row_label (get-opened member delta now tag)) ∙ e)
   where
     go : (b : Bool) → tag_eq tag opening_tag ≡ b → row_label (cond b (Some (opening_row member now)) None) ≡ Some label →
         (tag ≡ opening_tag) × (label ≡ Finalized now)

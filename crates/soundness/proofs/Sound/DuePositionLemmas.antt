@@ -18,7 +18,7 @@ use Rattle.record.specs.Legal.{is_move, moves_in, first_stage, source_of, stage_
 use Rattle.soundness.specs.Sound.{HasNext, HasShape}
 use Rattle.soundness.proofs.Quorums.ReplyTruthLemmas.{true_next}
 use Rattle.soundness.proofs.BaseLemmas.{before_base}
-use Rattle.soundness.proofs.ListLemmas.{all_weaker}
+use Rattle.soundness.proofs.ListLemmas.{all_map}
 use Rattle.soundness.proofs.Sound.StagePositionLemmas.{Placed, KindPlaced, DuePlaced, due_placed, placed_begun, kind_placed, PhaseFinds}
 use Rattle.soundness.proofs.Sound.StagePositionLemmas.{placed_end}
 use Rattle.soundness.proofs.Sound.StagePositionLemmas.{placed_at}
@@ -94,10 +94,8 @@ pub call_placed : (object : Object) → IsLegal object → HasShape object → (
     slice_get object.calls index ≡ Some call → Placed (length object.layouts) (stage_of object index call)
 call_placed object legal shape index call at =
     let c = legal.calls index call at in
-    placed_end (length object.layouts) call.kind (suc index) call.phases (first_stage call.kind (source_of object index)) c.course
-    (all_weaker (IsTruePhase object) (PhaseFinds (length object.layouts))
-    (λ phase truth. phase_finds object shape phase truth) call.phases c.phases)
-    (first_placed object shape index call at call.kind refl)
+    placed_end (length object.layouts) call.kind call.id call.phases (first_stage call.kind (source_of object index)) c.course
+    (all_map (λ phase truth. phase_finds object shape phase truth) _ c.phases) (first_placed object shape index call at call.kind refl)
 
 -- the base is there
 pub base_there : (object : Object) → IsLegal object → HasShape object → base_of object < length object.layouts
@@ -130,7 +128,6 @@ pub spread_there : (object : Object) → IsLegal object → HasShape object → 
     KindPlaced (length object.layouts) phase.kind phase.position
 spread_there object legal shape index call at place phase within =
     let c = legal.calls index call at in
-    placed_at (length object.layouts) call.kind (suc index) call.phases (first_stage call.kind (source_of object index)) c.course
-    (all_weaker (IsTruePhase object) (PhaseFinds (length object.layouts))
-    (λ phase truth. phase_finds object shape phase truth) call.phases c.phases)
+    placed_at (length object.layouts) call.kind call.id call.phases (first_stage call.kind (source_of object index)) c.course
+    (all_map (λ phase truth. phase_finds object shape phase truth) _ c.phases)
     (first_placed object shape index call at call.kind refl) place phase within

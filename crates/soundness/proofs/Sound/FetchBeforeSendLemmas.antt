@@ -5,7 +5,7 @@ use Rattle.std.proofs.lemmas.Option.{same_Some}
 use Rattle.tag.specs.declared.tag.Tag.{Tag}
 use Rattle.tag.specs.Tag.{tag_lt, later_tag}
 use Rattle.bank.specs.declared.status.Status.{Status}
-use Rattle.bank.specs.declared.status.Status.TheVariants.{Unset, Pending, Final}
+use Rattle.bank.specs.declared.status.Status.TheVariants.{Unset}
 use Rattle.bank.specs.declared.kind.Kind.{Kind}
 use Rattle.bank.specs.declared.kind.Kind.TheVariants.{PreWrite, Fetch}
 use Rattle.phase.specs.declared.phase.Taken.{Taken}
@@ -21,6 +21,7 @@ use Rattle.record.specs.Legal.{first_stage}
 use Rattle.record.specs.Fragments.{IsFetch}
 use Rattle.record.specs.Preconditions.{IsPreWrite}
 use Rattle.record.proofs.BegunStageLemmas.{begun_has}
+use Rattle.soundness.proofs.Sound.DueKindLemmas.{sends}
 
 -- Before the fetch
 
@@ -52,13 +53,11 @@ IsSendingDue stage = (tag : Tag) × (position : ℕ) × (due stage ≡ Some (Pre
 
 unfetched_next : (p m : ℕ) (status : Status) → IsUnfetched (after_next status p m)
 unfetched_next p m Unset = tt
-unfetched_next p m Pending = tt
-unfetched_next p m Final = tt
+unfetched_next p m status = tt
 
 unfetched_spread : (p m : ℕ) (status : Status) → IsUnfetched (after_spread status p m)
 unfetched_spread p m Unset = tt
-unfetched_spread p m Pending = tt
-unfetched_spread p m Final = tt
+unfetched_spread p m status = tt
 
 unfetched_tagged : (kind : CallKind) → Fetches kind → (number q l : ℕ) (tag : Tag) → IsUnfetched (tagged kind number q l tag)
 unfetched_tagged Read fetches number q l tag = tt
@@ -103,11 +102,6 @@ unfetched_passed kind fetches number stage (Some end) replies lacks none = unfet
 -- and it has not where its phase begins
 unfetched_begun : (stage : Stage) (position : ℕ) → IsUnfetched stage → IsUnfetched (begun_at stage position)
 unfetched_begun stage position none = begun_has (λ s. IsUnfetched s) stage position (λ first. tt) none
-
--- whether what is due sends pieces
-abbrev sends : Option (Kind × ℕ) → Bool
-sends (Some (PreWrite tag, position)) = true
-sends _ = false
 
 unfetched_sends : (stage : Stage) → IsUnfetched stage → sends (due stage) ≡ false
 unfetched_sends ReadBegin none = refl
@@ -185,5 +179,4 @@ fetched_before_sent kind fetches number (phase ∷ phases) stage course none (su
 
 pub unfetched_first : (kind : CallKind) (moves : ℕ) → IsUnfetched (first_stage kind moves)
 unfetched_first Read moves = tt
-unfetched_first (Write value) moves = tt
-unfetched_first Move moves = tt
+unfetched_first kind moves = tt

@@ -9,8 +9,8 @@ use Rattle.bank.specs.declared.kind.Kind.{Kind}
 use Rattle.phase.specs.declared.phase.Taken.{Taken}
 use Rattle.phase.specs.Phase.{Phase, lacks_pieces}
 use Rattle.record.specs.declared.call.CallKind.{CallKind}
-use Rattle.bank.specs.declared.status.Status.TheVariants.{Unset, Pending, Final}
-use Rattle.bank.specs.declared.kind.Kind.TheVariants.{Next, Spread, Query, PreWrite, Finalize, Fetch}
+use Rattle.bank.specs.declared.status.Status.TheVariants.{Unset}
+use Rattle.bank.specs.declared.kind.Kind.TheVariants.{Fetch}
 use Rattle.record.specs.declared.call.CallKind.TheVariants.{Read}
 use Rattle.record.specs.PhaseOrder.{begun_at, greatest_status, greatest_tag, due, after, passed, stage_past, stage_after, IsCourse}
 use Rattle.record.specs.PhaseOrder.{EndsBefore, after_next, after_spread, after_query, tagged}
@@ -37,13 +37,11 @@ FetchDue (Some next) = IsFetch next.0
 
 early_next : (p m : ℕ) (status : Status) → IsEarly (after_next status p m)
 early_next p m Unset = tt
-early_next p m Pending = tt
-early_next p m Final = tt
+early_next p m status = tt
 
 early_spread : (p m : ℕ) (status : Status) → IsEarly (after_spread status p m)
 early_spread p m Unset = tt
-early_spread p m Pending = tt
-early_spread p m Final = tt
+early_spread p m status = tt
 
 early_query : (number : ℕ) (found : Tag) (p l : ℕ) (greatest : Tag) (q : ℕ) → IsEarly (after_query Read number found p l greatest q)
 early_query number found p l greatest q = go (tag_lt found greatest) (eqb p l)
@@ -98,15 +96,6 @@ has_fetch number (phase ∷ phases) stage course early none =
     go (inl fetch) rest = (0, phase, refl, subst FetchDue course.0 fetch.0, fetch.1)
     go (inr e) rest = let found = rest e in (suc found.0, found.1, found.2, found.3, found.4)
 
-not_fetch : (kind : Kind) → (kind ≡ Next) ⊎ ((kind ≡ Query)
-    ⊎ (((s : Status) × (kind ≡ Spread s)) ⊎ (((t : Tag) × (kind ≡ PreWrite t)) ⊎ ((t : Tag) × (kind ≡ Finalize t))))) →
-    IsFetch kind → ⊥
-not_fetch kind (inl k) fetch = let no : Next ≡ Fetch fetch.0 = sym k ∙ fetch.1 in cc
-not_fetch kind (inr (inl k)) fetch = let no : Query ≡ Fetch fetch.0 = sym k ∙ fetch.1 in cc
-not_fetch kind (inr (inr (inl (s, k)))) fetch = let no : Spread s ≡ Fetch fetch.0 = sym k ∙ fetch.1 in cc
-not_fetch kind (inr (inr (inr (inl (t, k))))) fetch = let no : PreWrite t ≡ Fetch fetch.0 = sym k ∙ fetch.1 in cc
-not_fetch kind (inr (inr (inr (inr (t, k))))) fetch = let no : Finalize t ≡ Fetch fetch.0 = sym k ∙ fetch.1 in cc
-
 -- once a fetch has its pieces
 pub first_late : (kind : CallKind) (number : ℕ) (stage : Stage) (first phase : Phase) (tag : Tag) →
     due stage ≡ Some (first.kind, first.position) → first ≡ phase → phase.kind ≡ Fetch tag → lacks_pieces phase ≡ false →
@@ -119,13 +108,13 @@ first_late kind number stage first phase tag is_due same fetch enough =
     (is_due ∙ ap (λ (k : Kind). Some (k, first.position)) asked))
 
 pub late_due : (stage : Stage) → IsLate stage → FetchDue (due stage) → ⊥
-late_due (PreWriteAt l t) late fetch = not_fetch (PreWrite t) (inr (inr (inr (inl (t, refl))))) fetch
-late_due (FinalizeAt l t) late fetch = not_fetch (Finalize t) (inr (inr (inr (inr (t, refl))))) fetch
-late_due (AgainNext l p t) late fetch = not_fetch Next (inl refl) fetch
-late_due (AgainSpread l p t s) late fetch = not_fetch (Spread s) (inr (inr (inl (s, refl)))) fetch
-late_due (MovePreWrite p t) late fetch = not_fetch (PreWrite t) (inr (inr (inr (inl (t, refl))))) fetch
-late_due (MoveFinalize p t) late fetch = not_fetch (Finalize t) (inr (inr (inr (inr (t, refl))))) fetch
-late_due (MoveFinal p t) late fetch = not_fetch (Spread Final) (inr (inr (inl (Final, refl)))) fetch
+late_due (PreWriteAt l t) late fetch = cc
+late_due (FinalizeAt l t) late fetch = cc
+late_due (AgainNext l p t) late fetch = cc
+late_due (AgainSpread l p t s) late fetch = cc
+late_due (MovePreWrite p t) late fetch = cc
+late_due (MoveFinalize p t) late fetch = cc
+late_due (MoveFinal p t) late fetch = cc
 late_due (Ended l t) late fetch = fetch
 late_due (Moved p t) late fetch = fetch
 late_due stage late fetch = absurd late

@@ -1,9 +1,8 @@
 -- The label of a tag comes with a request for the tag, or with its bank's opening.
-use Rattle.std.proofs.Common.{◌≡◌, ℕ, zero, suc, ◌+◌, ◌<◌, ◌⊎◌, Bool, true, false, cond, List, [], ◌∷◌, ◌++◌, length, get_or}
-use Rattle.std.proofs.Common.{Option, Some, None, is_some, refl, sym, subst, subst₂, ap, ◌∙◌, inl, inr, arith, slice_get}
+use Rattle.std.proofs.Common.{◌≡◌, ℕ, zero, suc, ◌+◌, ◌<◌, ◌⊎◌, List, [], ◌∷◌, ◌++◌, length, get_or}
+use Rattle.std.proofs.Common.{Option, Some, None, refl, sym, subst, subst₂, ap, ◌∙◌, inl, inr, arith, slice_get}
 use Rattle.tag.specs.declared.tag.Tag.{Tag}
 use Rattle.layout.specs.Layout.{Layout}
-use Rattle.bank.specs.declared.kind.Kind.{Kind}
 use Rattle.bank.specs.declared.request.Request.{Request}
 use Rattle.bank.specs.declared.row.Label.{Label}
 use Rattle.bank.specs.Bank.{Bank}
@@ -12,18 +11,14 @@ use Rattle.bank.specs.Serve.{kind_of, served_bank}
 use Rattle.mail.specs.declared.message.Message.{Message}
 use Rattle.mail.specs.declared.message.Body.{Body}
 use Rattle.mail.specs.declared.message.Body.TheVariants as body
-use Rattle.phase.specs.Phase.{Phase}
-use Rattle.record.specs.Records.{Call, Object, bank_at, no_bank, base_of}
-use Rattle.record.specs.Legal.{due_of}
+use Rattle.record.specs.Records.{Object, bank_at, no_bank, base_of}
 use Rattle.record.specs.Fragments.{Code}
-use Rattle.record.specs.Wants.{current_phase}
 use Rattle.soundness.specs.Sound.{IsPosted, IsPhasePast, IsCallPast, IsSound}
-use Rattle.record.specs.Steps.{Step, stepped, on_call, on_message, opened_banks, moving_object, begun_object, advanced_object}
-use Rattle.record.specs.Steps.{settled_object, answered_object, handled_object, served_by, taken_by, repeated_object, retired_object}
-use Rattle.record.specs.Steps.{asked_again, supplied_by, supplied_object}
+use Rattle.record.specs.Steps.{Step, stepped, on_message, opened_banks, moving_object, handled_object, served_by, retired_object}
 use Rattle.soundness.specs.Origins.{label_at, Gives, ComesByRequest, ComesByOpening, ComesWithIts}
 use Rattle.soundness.proofs.ListLemmas.{all_get}
 use Rattle.soundness.proofs.Sound.KnownSinceLemmas.{bank_at_set}
+use Rattle.soundness.proofs.Sound.LeftBankLemmas.{banks_left}
 use Rattle.soundness.proofs.Sound.OpenedObjectLemmas.{opened_get}
 use Rattle.soundness.proofs.Sound.RetiredBankLemmas.{retired_cases}
 use Rattle.soundness.proofs.Sound.BankLabelLemmas.{retired_label, served_gives, opened_label, unknown_label}
@@ -40,41 +35,6 @@ appended (x ∷ xs) y d (suc i) = go (appended xs y d i)
         (get_or (xs ++ y ∷ []) i d ≡ get_or xs i d) ⊎ ((suc i ≡ suc (length xs)) × (get_or (xs ++ y ∷ []) i d ≡ y))
     go (inl old) = inl old
     go (inr new) = inr (ap suc new.0, new.1)
-
-banks_on_call : (object : Object) (o : Option Call) (change : Call → Object) →
-    ((call : Call) → (change call).banks ≡ object.banks) → (on_call object o change).banks ≡ object.banks
-banks_on_call object None change kept = refl
-banks_on_call object (Some call) change kept = kept call
-
-banks_on_message : (object : Object) (o : Option Message) (change : Message → Object) →
-    ((message : Message) → (change message).banks ≡ object.banks) → (on_message object o change).banks ≡ object.banks
-banks_on_message object None change kept = refl
-banks_on_message object (Some message) change kept = kept message
-
-banks_begun : (fragment : Code) (object : Object) (index : ℕ) (call : Call) (next : Option (Kind × ℕ)) (now : ℕ) →
-    (begun_object fragment object index call next now).banks ≡ object.banks
-banks_begun fragment object index call None now = refl
-banks_begun fragment object index call (Some next) now = refl
-
-banks_asked : (fragment : Code) (object : Object) (call : Call) (phase : Option Phase) →
-    (asked_again fragment object call phase).banks ≡ object.banks
-banks_asked fragment object call None = refl
-banks_asked fragment object call (Some phase) = refl
-
-banks_supplied : (fragment : Code) (object : Object) (index : ℕ) (call : Call) (now : ℕ) (phase : Option Phase) →
-    (supplied_by fragment object index call now phase).banks ≡ object.banks
-banks_supplied fragment object index call now None = refl
-banks_supplied fragment object index call now (Some phase) = go (is_some phase.end)
-  where
-    go : (b : Bool) →
-        (cond b (advanced_object fragment object index call now) (asked_again fragment object call (Some phase))).banks ≡ object.banks
-    go true = banks_begun fragment object index call (due_of object index call) now
-    go false = refl
-
-banks_taken : (object : Object) (place : ℕ) (message : Message) (b : Body) (now : ℕ) →
-    (taken_by object place message b now).banks ≡ object.banks
-banks_taken object place message (body.Request asked) now = refl
-banks_taken object place message (body.Reply kind made) now = refl
 
 module _ (fragment : Code) (object : Object) (last now position member : ℕ) (tag : Tag) (label : Label) (less : last < now)
     (sound : IsSound fragment object last) where
@@ -147,21 +107,22 @@ module _ (fragment : Code) (object : Object) (last now position member : ℕ) (t
       found (Some message) at e = by_body message at message.body refl e
 
   -- a move opens the banks of one more position
-  moved : (layout : Layout) → label_at (bank_at (moving_object object layout now) position member) tag ≡ Some label →
-      Comes (Step.CallMove layout)
-  moved layout e = at_position (appended object.banks fresh [] position)
+  moved : (id : ℕ) (layout : Layout) → label_at (bank_at (moving_object object id layout now) position member) tag ≡ Some label →
+      Comes (Step.CallMove id layout)
+  moved id layout e = at_position (appended object.banks fresh [] position)
     where
       fresh : List Bank
       fresh = opened_banks layout.members 0 object.delta now
 
       here : position ≡ length object.banks → (get_or fresh member no_bank ≡ no_bank)
           ⊎ (get_or fresh member no_bank ≡ opened_bank (0 + member) object.delta now) →
-          label_at (get_or fresh member no_bank) tag ≡ Some label → Comes (Step.CallMove layout)
+          label_at (get_or fresh member no_bank) tag ≡ Some label → Comes (Step.CallMove id layout)
       here p (inl none) e = absurd (unknown_label tag label (sym (ap (λ bank. label_at bank tag) none) ∙ e))
       here p (inr new) e =
           let opening = opened_label (0 + member) object.delta now tag label (sym (ap (λ bank. label_at bank tag) new) ∙ e) in
           inr (inr (record {
             layout = layout;
+            id = id;
             moves = refl;
             new = p ∙ sound.shape.banks;
             opening = opening.0;
@@ -170,47 +131,15 @@ module _ (fragment : Code) (object : Object) (last now position member : ℕ) (t
 
       at_position : (get_or (object.banks ++ fresh ∷ []) position [] ≡ get_or object.banks position [])
           ⊎ ((position ≡ length object.banks) × (get_or (object.banks ++ fresh ∷ []) position [] ≡ fresh)) →
-          Comes (Step.CallMove layout)
+          Comes (Step.CallMove id layout)
       at_position (inl old) = inl (sym (ap (λ banks. label_at (get_or banks member no_bank) tag) old) ∙ e)
       at_position (inr new) =
           here new.0 (opened_get layout.members 0 object.delta now member)
           (sym (ap (λ banks. label_at (get_or banks member no_bank) tag) new.1) ∙ e)
 
   pub labels_stepped : (step : Step) → ComesWithIts fragment object step now position member tag label
-  labels_stepped Step.CallRead e = inl e
-  labels_stepped (Step.CallWrite value) e = inl e
-  labels_stepped (Step.CallMove layout) e = moved layout e
-  labels_stepped (Step.Advance index) e =
-      kept (Step.Advance index) (stepped fragment (Step.Advance index) now object)
-      (banks_on_call object (slice_get object.calls index) (λ call. advanced_object fragment object index call now)
-      (λ call. banks_begun fragment object index call (due_of object index call) now)) e
-  labels_stepped (Step.Again index) e =
-      kept (Step.Again index) (stepped fragment (Step.Again index) now object)
-      (banks_on_call object (slice_get object.calls index) (λ call. advanced_object fragment object index call now)
-      (λ call. banks_begun fragment object index call (due_of object index call) now)) e
-  labels_stepped (Step.Supply index) e =
-      kept (Step.Supply index) (stepped fragment (Step.Supply index) now object)
-      (banks_on_call object (slice_get object.calls index) (λ call. supplied_object fragment object index call now)
-      (λ call. banks_supplied fragment object index call now (current_phase call.phases))) e
-  labels_stepped (Step.Post index) e =
-      kept (Step.Post index) (stepped fragment (Step.Post index) now object)
-      (banks_on_call object (slice_get object.calls index) (λ call. asked_again fragment object call (current_phase call.phases))
-      (λ call. banks_asked fragment object call (current_phase call.phases))) e
-  labels_stepped (Step.Settle index value) e =
-      kept (Step.Settle index value) (stepped fragment (Step.Settle index value) now object)
-      (banks_on_call object (slice_get object.calls index) (λ call. settled_object object index call value) (λ call. refl)) e
-  labels_stepped (Step.AnswerCall index) e =
-      kept (Step.AnswerCall index) (stepped fragment (Step.AnswerCall index) now object)
-      (banks_on_call object (slice_get object.calls index) (λ call. answered_object object index call now) (λ call. refl)) e
+  labels_stepped (Step.CallMove id layout) e = moved id layout e
   labels_stepped (Step.Serve place) e = served place e
-  labels_stepped (Step.Take place) e =
-      kept (Step.Take place) (stepped fragment (Step.Take place) now object)
-      (banks_on_message object (slice_get object.mail place) (λ message. taken_by object place message message.body now)
-      (λ message. banks_taken object place message message.body now)) e
-  labels_stepped (Step.Lose place) e = inl e
-  labels_stepped (Step.Repeat place) e =
-      kept (Step.Repeat place) (stepped fragment (Step.Repeat place) now object)
-      (banks_on_message object (slice_get object.mail place) (λ message. repeated_object object message) (λ message. refl)) e
   labels_stepped Step.Retire e = go (retired_cases object now position member)
     where
       new : Bank
@@ -221,3 +150,4 @@ module _ (fragment : Code) (object : Object) (last now position member : ℕ) (t
       go (inl same) = inl (sym (ap (λ bank. label_at bank tag) same) ∙ e)
       go (inr at_base) =
           inl (sym (ap (λ bank. label_at bank tag) at_base.1 ∙ retired_label (bank_at object position member) now tag) ∙ e)
+  labels_stepped step e = kept step (stepped fragment step now object) (banks_left fragment object now step tt).1 e

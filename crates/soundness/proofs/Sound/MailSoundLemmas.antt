@@ -1,82 +1,35 @@
 -- Steps that change the mail alone keep a record sound.
 use Rattle.std.proofs.Common.{◌≡◌, ℕ, zero, suc, ◌+◌, ◌<◌, Bool, true, false, cond, List, []}
-use Rattle.std.proofs.Common.{◌∷◌, ◌++◌, length, Some, refl, arith, le_refl, le_of_lt, slice_get}
+use Rattle.std.proofs.Common.{◌∷◌, ◌++◌, length, Some, refl, inl, arith, slice_get}
 use Rattle.std.specs.List.{AllByRecursion, remove}
 use Rattle.piece.specs.declared.piece.Piece.{Piece}
 use Rattle.bank.specs.declared.kind.Kind.{Kind}
-use Rattle.bank.specs.declared.kind.Kind.TheVariants.{Next, Spread, Query, PreWrite, Finalize, Fetch}
+use Rattle.bank.specs.declared.kind.Kind.TheVariants.{Next}
 use Rattle.bank.specs.Serve.{kind_of}
 use Rattle.mail.specs.declared.message.Message.{Message}
-use Rattle.record.specs.Records.{Object, bank_at}
-use Rattle.record.specs.Knowledge.{IsTruePhase}
-use Rattle.record.specs.Legal.{IsLegal}
-use Rattle.record.specs.Fragments.{Code, kind_tag, request_tag}
+use Rattle.phase.specs.Phase.{Phase}
+use Rattle.record.specs.Records.{Call, Object, layout_at}
+use Rattle.record.specs.Fragments.{Code, IfCoded, kind_tag, request_tag, request_piece}
 use Rattle.soundness.specs.Sound.{IsSound}
 use Rattle.record.specs.Sending.{request_to, requests, missing}
 use Rattle.record.specs.Steps.{lost_object, repeated_object}
 use Rattle.mail.specs.declared.message.Body.TheVariants as body
-use Rattle.soundness.proofs.ListLemmas.{all_weaker, all_get, all_push}
-use Rattle.soundness.proofs.Sound.ChangedCallLemmas.{Others, phase_same, same_call, caused_more}
-use Rattle.soundness.proofs.Sound.MonotoneLemmas.{Grows, message_grows, call_grows, bank_grows, tags_same}
-use Rattle.soundness.proofs.Sound.PreservedKnowledgeLemmas.{agree_same}
-use Rattle.soundness.proofs.Sound.ServedRequestLegalLemmas.{has_same, moved_same}
-use Rattle.soundness.proofs.Sound.SoundnessPartLemmas.{MessageRest, sound_of, sizes_of, call_rest, bank_rest, mail_rest}
+use Rattle.soundness.proofs.ListLemmas.{all_map, all_get, all_push}
+use Rattle.soundness.proofs.Sound.ChangedCallLemmas.{Others}
+use Rattle.soundness.proofs.Sound.GrowthLemmas.{calls_grow, unchanged, sizes_same}
+use Rattle.soundness.proofs.Sound.GrownItemLemmas.{message_grows, grown_sound}
+use Rattle.soundness.proofs.Sound.ItemLemmas.{MessageSound, sizes_of, turns_of, mail_of}
 
 -- the record with other mail
 abbrev pub Mailed : Object → List Message → Object
 Mailed object mail = Others object mail object.calls
 
-pub mailed_grows : (now : ℕ) (object : Object) (mail : List Message) → Grows now object (Mailed object mail)
-mailed_grows now object mail = record {
-  keeps = record { layouts = λ p h. (h, refl); banks = λ p i h. agree_same now (bank_at object p i) };
-  opened = λ p i s h o. o;
-  calls = λ index call at. record { other = call; at = at; changed = same_call call; tagged = λ value k tag e. e };
-}
-
-pub mailed_legal : (object : Object) (mail : List Message) → IsLegal object → IsLegal (Mailed object mail)
-mailed_legal object mail legal = record {
-  layouts = legal.layouts;
-  calls = λ index call at. let c = legal.calls index call at in record {
-    numbered = c.numbered;
-    begins = c.begins;
-    phases = all_weaker (IsTruePhase object) (IsTruePhase (Mailed object mail))
-        (λ phase truth. phase_same object mail object.calls phase truth)
-        call.phases c.phases;
-    course = c.course;
-    from_base = c.from_base;
-    answer = c.answer;
-  };
-  in_turn = legal.in_turn;
-  moves = legal.moves;
-  banks = λ p i. caused_more object (Mailed object mail) (λ k q step b. has_same object (Mailed object mail) refl k q step b)
-      (λ q answered m. moved_same object (Mailed object mail) refl q answered m) p
-      (bank_at object p i)
-      (legal.banks p i);
-}
-
-pub mailed_sound : (fragment : Code) (object : Object) (step now : ℕ) (mail : List Message) → step < now →
-    IsSound fragment object step → AllByRecursion (MessageRest fragment object step) mail → IsSound fragment (Mailed object mail) now
-mailed_sound fragment object step now mail less sound rests =
-    let grown = mailed_grows now object mail in
-    let new = Mailed object mail in
-    let sizes = sizes_of fragment object step sound in
-    sound_of fragment new now (mailed_legal object mail sound.legal)
-    (record {
-      positions = sizes.positions;
-      banks = sizes.banks;
-      members = sizes.members;
-      opened = sizes.opened;
-      delta = sizes.delta;
-      retired = sizes.retired;
-      leading = sizes.leading;
-    })
-    (λ index call at. call_grows fragment step now object new (le_of_lt less) grown call (sound.legal.calls index call at).phases
-    (call_rest fragment object step sound index call at))
-    (λ p i. bank_grows fragment step now object new (le_of_lt less) grown p i (bank_at object p i) refl (le_refl (length object.layouts))
-    (bank_rest fragment object step sound p i))
-    (all_weaker (MessageRest fragment object step) (MessageRest fragment new now)
-    (λ message rest. message_grows fragment step now object new less grown sound.legal message rest) mail rests)
-    (tags_same step now object new (le_of_lt less) refl sound.past.tags)
+pub mailed_sound : {fragment : Code} {object : Object} {step now : ℕ} (mail : List Message) → IsSound fragment object step →
+    step < now → AllByRecursion (MessageSound fragment object step) mail → IsSound fragment (Mailed object mail) now
+mailed_sound {object = object} {now = now} mail sound less messages =
+    let grows = calls_grow now object mail object.calls (λ index call at. unchanged index call at refl) in
+    grown_sound sound less grows (sizes_same mail object.calls refl (sizes_of sound)) (turns_of sound) (λ i c e. inl e)
+    (λ p i. inl (refl, refl)) (all_map (message_grows sound less grows) mail messages)
 
 -- a message is lost
 pub all_without : {A : Type 0} (P : A → Type 0) (xs : List A) (place : ℕ) → AllByRecursion P xs → AllByRecursion P (remove xs place)
@@ -85,20 +38,18 @@ all_without P [] (suc place) all = tt
 all_without P (x ∷ xs) zero all = all.1
 all_without P (x ∷ xs) (suc place) all = (all.0, all_without P xs place all.1)
 
-pub lost_sound : (fragment : Code) (object : Object) (step now place : ℕ) → step < now → IsSound fragment object step →
+pub lost_sound : {fragment : Code} {object : Object} {step now : ℕ} (place : ℕ) → IsSound fragment object step → step < now →
     IsSound fragment (lost_object object place) now
-lost_sound fragment object step now place less sound =
-    mailed_sound fragment object step now (remove object.mail place) less sound
-    (all_without (MessageRest fragment object step) object.mail place (mail_rest fragment object step sound))
+lost_sound {object = object} place sound less =
+    mailed_sound (remove object.mail place) sound less (all_without _ object.mail place (mail_of sound))
 
 -- a message is repeated
-pub repeated_sound : (fragment : Code) (object : Object) (step now place : ℕ) (message : Message) → step < now →
-    IsSound fragment object step → slice_get object.mail place ≡ Some message → IsSound fragment (repeated_object object message) now
-repeated_sound fragment object step now place message less sound at =
-    let rests = mail_rest fragment object step sound in
-    mailed_sound fragment object step now (object.mail ++ message ∷ []) less sound
-    (all_push (MessageRest fragment object step) object.mail message rests
-    (all_get (MessageRest fragment object step) object.mail place message rests at))
+pub repeated_sound : {fragment : Code} {object : Object} {step now : ℕ} (place : ℕ) (message : Message) →
+    slice_get object.mail place ≡ Some message → IsSound fragment object step → step < now →
+    IsSound fragment (repeated_object object message) now
+repeated_sound {object = object} place message at sound less =
+    mailed_sound (object.mail ++ message ∷ []) sound less
+    (all_push _ object.mail message (mail_of sound) (all_get _ object.mail place message (mail_of sound) at))
 
 -- requests to each member
 abbrev pub request_message : (call phase : ℕ) → Kind → (position : ℕ) → (ℕ → Piece) → (member : ℕ) → Message
@@ -108,19 +59,37 @@ request_message call phase kind position piece member =
 -- what such a request asks, and of which tag it speaks
 pub kind_of-request_to : (kind : Kind) (piece : Piece) → kind_of (request_to kind piece) ≡ kind
 kind_of-request_to Next piece = refl
-kind_of-request_to (Spread status) piece = refl
-kind_of-request_to Query piece = refl
-kind_of-request_to (PreWrite tag) piece = refl
-kind_of-request_to (Finalize tag) piece = refl
-kind_of-request_to (Fetch tag) piece = refl
+kind_of-request_to kind piece = refl
 
 pub request_tag-request_to : (kind : Kind) (piece : Piece) → request_tag (request_to kind piece) ≡ kind_tag kind
 request_tag-request_to Next piece = refl
-request_tag-request_to (Spread status) piece = refl
-request_tag-request_to Query piece = refl
-request_tag-request_to (PreWrite tag) piece = refl
-request_tag-request_to (Finalize tag) piece = refl
-request_tag-request_to (Fetch tag) piece = refl
+request_tag-request_to kind piece = refl
+
+-- a request of a phase is sound where its tag and piece are coded
+pub request_sound : {fragment : Code} {object : Object} {now place : ℕ} {call : Call} (index : ℕ) (phase : Phase) (piece : ℕ → Piece)
+    (member : ℕ) → slice_get object.calls index ≡ Some call → slice_get call.phases place ≡ Some phase → phase.call ≡ call.id →
+    phase.number ≡ suc place → member < length (layout_at object phase.position).members →
+    IfCoded fragment object phase.position member (request_tag (request_to phase.kind (piece member)))
+    (request_piece (request_to phase.kind (piece member))) →
+    MessageSound fragment object now (request_message phase.call phase.number phase.kind phase.position piece member)
+request_sound {place = place} {call = call} index phase piece member at within same_call same_phase below coded = record {
+  posted = record {
+    index = index;
+    call = call;
+    at = at;
+    same_call = same_call;
+    place = place;
+    phase = phase;
+    within = within;
+    same_phase = same_phase;
+    same_kind = kind_of-request_to phase.kind (piece member);
+    same_position = refl;
+    member = below;
+    reply = λ kind made b. absurd (cc);
+  };
+  past = λ kind made b. absurd (cc);
+  coded = coded;
+}
 
 pub all_requests : (P : Message → Type 0) (call phase : ℕ) (kind : Kind) (position : ℕ) (piece : ℕ →
     Piece) (servers : List ℕ) (member total : ℕ) → member + length servers ≡ total →

@@ -1,4 +1,4 @@
--- An object that was just opened is legal and sound.
+-- An object that was just opened is sound.
 use Rattle.std.proofs.Common.{◌≡◌, ℕ, zero, suc, ◌+◌, ◌<◌, ◌⊎◌, ◌&&◌, not, Bool, true, false, cond, List, [], ◌∷◌}
 use Rattle.std.proofs.Common.{length, get_or, Option, Some, None, is_some, refl, sym, subst, ap, ◌∙◌, inl, inr, arith}
 use Rattle.std.proofs.lemmas.Option.{same_Some}
@@ -14,16 +14,16 @@ use Rattle.bank.proofs.PieceRetentionLemmas.{opened_collected}
 use Rattle.bank.proofs.RowChangeLemmas.{get-with_row}
 use Rattle.bank.proofs.TrueAnswerLemmas.{opened_before}
 use Rattle.record.specs.Records.{Object, layout_at, bank_at, no_bank}
-use Rattle.record.specs.Legal.{IsOpenedAt, IsCaused, IsLegal}
+use Rattle.record.specs.Legal.{IsOpenedAt, IsCaused}
 use Rattle.record.specs.Fragments.{Code, IsCode, IsFragment, IsCoded}
 use Rattle.soundness.specs.Sound.{IsSound}
 use Rattle.record.specs.Steps.{opened_banks, opened_object}
 use Rattle.std.specs.FinMap as map
-use Rattle.soundness.proofs.Sound.SoundnessPartLemmas.{BankRest, sound_of}
+use Rattle.soundness.proofs.Sound.ItemLemmas.{BankSound, sound_of}
 
 -- what a bank has that was just opened
 
-get-opened : (member : ℕ) (delta : Option ℕ) (now : ℕ) (tag : Tag) →
+pub get-opened : (member : ℕ) (delta : Option ℕ) (now : ℕ) (tag : Tag) →
     map.get (opened_bank member delta now).rows tag ≡ cond (tag_eq tag opening_tag) (Some (opening_row member now)) None
 get-opened member delta now tag =
     get-with_row map.empty opening_tag (λ o. opening_row member now) tag
@@ -121,13 +121,6 @@ opened_caused object position member delta now = record {
   retired = λ step e. absurd (cc);
 }
 
-pub either_caused : (object : Object) (delta : Option ℕ) (now position member : ℕ) (bank : Bank) →
-    (bank ≡ no_bank) ⊎ (bank ≡ opened_bank (0 + member) delta now) → IsCaused object position bank
-either_caused object delta now position member bank (inl none) =
-    subst (IsCaused object position) (sym none) (no_bank_caused object position)
-either_caused object delta now position member bank (inr new) =
-    subst (IsCaused object position) (sym new) (opened_caused object position (0 + member) delta now)
-
 -- none is retired
 pub either_unretired : (delta : Option ℕ) (now member : ℕ) (bank : Bank) →
     (bank ≡ no_bank) ⊎ (bank ≡ opened_bank (0 + member) delta now) → bank.retired ≡ None
@@ -136,8 +129,9 @@ either_unretired delta now member bank (inr new) = ap (λ (b : Bank). b.retired)
 
 -- what is so of banks that are not there, and of banks that were just opened
 
-pub no_bank_rest : (fragment : Code) (object : Object) (now position member : ℕ) → BankRest fragment object now position member no_bank
-no_bank_rest fragment object now position member = record {
+pub no_bank_sound : (fragment : Code) (object : Object) (now position member : ℕ) → BankSound fragment object now position member no_bank
+no_bank_sound fragment object now position member = record {
+  caused = no_bank_caused object position;
   past = record {
     finalized = λ tag step e. absurd (no_bank_gives row_finalized tag step refl e);
     arrived = λ tag step e. absurd (no_bank_gives row_arrived tag step refl e);
@@ -155,9 +149,10 @@ opened_piece : (member : ℕ) (delta : Option ℕ) (now : ℕ) (kept : Piece) �
     empty_piece member ≡ kept
 opened_piece member delta now kept e = same_Some (empty_piece member) kept (sym (ap piece_of_row (get-opened_here member delta now)) ∙ e)
 
-pub opened_rest : (fragment : Code) → IsCode fragment → (object : Object) (delta : Option ℕ) (now position member : ℕ) →
-    BankRest fragment object now position member (opened_bank (0 + member) delta now)
-opened_rest fragment code object delta now position member = record {
+pub opened_sound : (fragment : Code) → IsCode fragment → (object : Object) (delta : Option ℕ) (now position member : ℕ) →
+    BankSound fragment object now position member (opened_bank (0 + member) delta now)
+opened_sound fragment code object delta now position member = record {
+  caused = opened_caused object position (0 + member) delta now;
   past = opened_before (0 + member) delta now (suc now) (omega arith);
   coded = λ tag known.
       subst (λ t. IsCoded fragment object position member t (piece_of (opened_bank (0 + member) delta now) t))
@@ -174,52 +169,32 @@ opened_rest fragment code object delta now position member = record {
           (record { point = omega arith; len = refl; bytes = sym (code.empty (layout_at object position).k member) });
     }
 
-pub either_rest : (fragment : Code) → IsCode fragment → (object : Object) (delta : Option ℕ) (now position member : ℕ) (bank : Bank) →
-    (bank ≡ no_bank) ⊎ (bank ≡ opened_bank (0 + member) delta now) →
-    BankRest fragment object now position member bank
-either_rest fragment code object delta now position member bank (inl none) = subst (BankRest fragment object now position member) (sym none)
-    (no_bank_rest fragment object now position member)
-either_rest fragment code object delta now position member bank (inr new) = subst (BankRest fragment object now position member) (sym new)
-    (opened_rest fragment code object delta now position member)
+pub either_sound : {fragment : Code} → IsCode fragment → (object : Object) (delta : Option ℕ) (now position member : ℕ) (bank : Bank) →
+    (bank ≡ no_bank) ⊎ (bank ≡ opened_bank (0 + member) delta now) → BankSound fragment object now position member bank
+either_sound {fragment = fragment} code object delta now position member bank (inl none) =
+    rw none (no_bank_sound fragment object now position member)
+either_sound {fragment = fragment} code object delta now position member bank (inr new) =
+    rw new (opened_sound fragment code object delta now position member)
 
--- An object that was just opened
-
--- it is legal
-pub opened_legal : (layout : Layout) (delta : Option ℕ) (now : ℕ) → IsLawful layout → IsLegal (opened_object layout delta now)
-opened_legal layout delta now lawful = record {
-  layouts = (lawful, tt);
-  calls = λ index call e. absurd (cc);
-  in_turn = λ i j a b p q less. absurd (cc);
-  moves = λ i j a b p q less k l. absurd (cc);
-  banks = λ position member. by_position position member;
-}
-  where
-    object : Object
-    object = opened_object layout delta now
-
-    by_position : (position member : ℕ) → IsCaused object position (bank_at object position member)
-    by_position zero member = either_caused object delta now zero member (get_or (opened_banks layout.members 0 delta now) member no_bank)
-        (opened_get layout.members 0 delta now member)
-    by_position (suc position) member = no_bank_caused object (suc position)
-
--- it is sound
+-- An object that was just opened is sound
 pub opening_sound : (fragment : Code) → IsCode fragment → (layout : Layout) (delta : Option ℕ) (now : ℕ) → IsLawful layout →
     IsSound fragment (opened_object layout delta now) now
 opening_sound fragment code layout delta now lawful =
-    sound_of fragment object now (opened_legal layout delta now lawful)
-    (record {
+    sound_of (record {
+      lawful = (lawful, tt);
       positions = refl;
       banks = refl;
-      members = λ p h. members p h;
-      opened = λ p i h k. opened p i h k;
-      delta = λ p i h k. deltas p i h k;
+      members = members;
+      opened = opened;
+      delta = deltas;
       retired = λ p i h k. unretired p i ∙ sym (unretired p 0);
       leading = λ p h. unretired p 0;
     })
-    (λ index call at. absurd (cc))
-    (λ p i. rests p i)
-    tt
-    (λ index call tag at e. absurd (cc))
+    (record {
+      in_turn = λ i j a b p q h. absurd (cc);
+      ids = λ i j a b p q e. absurd (cc);
+      moves = λ i j a b p q h k l. absurd (cc);
+    }) (λ index call at. absurd (cc)) banks tt
   where
     object : Object
     object = opened_object layout delta now
@@ -229,8 +204,7 @@ opening_sound fragment code layout delta now lawful =
     members (suc p) h = absurd (omega arith)
 
     opened : (p i : ℕ) → p < 1 → i < length (layout_at object p).members → (step : ℕ) × IsOpenedAt (bank_at object p i) step
-    opened zero i h k =
-        (now, subst (λ bank. IsOpenedAt bank now) (sym (opened_there layout.members 0 delta now i k)) (opened_at (0 + i) delta now))
+    opened zero i h k = (now, rw (opened_there layout.members 0 delta now i k) (opened_at (0 + i) delta now))
     opened (suc p) i h k = absurd (omega arith)
 
     deltas : (p i : ℕ) → p < 1 → i < length (layout_at object p).members → (bank_at object p i).delta ≡ delta
@@ -242,7 +216,7 @@ opening_sound fragment code layout delta now lawful =
         (opened_get layout.members 0 delta now i)
     unretired (suc p) i = refl
 
-    rests : (p i : ℕ) → BankRest fragment object now p i (bank_at object p i)
-    rests zero i = either_rest fragment code object delta now zero i (get_or (opened_banks layout.members 0 delta now) i no_bank)
+    banks : (p i : ℕ) → BankSound fragment object now p i (bank_at object p i)
+    banks zero i = either_sound code object delta now zero i (get_or (opened_banks layout.members 0 delta now) i no_bank)
         (opened_get layout.members 0 delta now i)
-    rests (suc p) i = no_bank_rest fragment object now (suc p) i
+    banks (suc p) i = no_bank_sound fragment object now (suc p) i

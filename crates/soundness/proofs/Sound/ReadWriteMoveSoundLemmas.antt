@@ -1,11 +1,11 @@
 -- Calling a read, a write or a move makes a sound record.
 use Rattle.std.proofs.Common.{◌≡◌, ℕ, zero, suc, pred, ◌+◌, ◌<◌, ◌≤◌, ◌⊎◌, Bool, true, false, cond, List, []}
-use Rattle.std.proofs.Common.{◌∷◌, ◌++◌, length, set, get_or, Some, refl, sym, subst, ap, ◌∙◌, inl, inr, arith, le_refl}
-use Rattle.std.proofs.lemmas.List.{length_push, get_or_append_left}
+use Rattle.std.proofs.Common.{◌∷◌, ◌++◌, length, get_or, Some, refl, sym, subst, ap, ◌∙◌, inl, inr, arith, le_refl}
+use Rattle.std.proofs.lemmas.List.{length_push, get_or_append_left, get_or_at, get_or_past, set_at}
 use Rattle.layout.specs.Layout.{Layout, IsLawful}
 use Rattle.bank.specs.Bank.{Bank, opened_bank}
 use Rattle.record.specs.declared.call.CallKind.{CallKind}
-use Rattle.record.specs.Records.{Call, Object, layout_at, bank_at, no_bank, no_layout, retired_at, base_of}
+use Rattle.record.specs.Records.{Call, Object, IsNewId, layout_at, bank_at, no_bank, no_layout, retired_at, base_of}
 use Rattle.bank.specs.declared.status.Status.TheVariants.{Pending}
 use Rattle.bank.specs.declared.kind.Kind.TheVariants.{Next, Spread}
 use Rattle.record.specs.declared.call.CallKind.TheVariants.{Write, Move}
@@ -18,24 +18,11 @@ use Rattle.record.specs.Steps.{new_call, opened_banks, called_object, moving_obj
 use Rattle.soundness.proofs.BaseLemmas.{leading_same}
 use Rattle.soundness.proofs.ListLemmas.{all_push}
 use Rattle.soundness.proofs.Sound.DuePositionLemmas.{base_there}
-use Rattle.soundness.proofs.Sound.NewCallLemmas.{Wider, begun}
-use Rattle.soundness.proofs.Sound.NewCallSoundLemmas.{added_sound}
-use Rattle.soundness.proofs.Sound.OpenedObjectLemmas.{opened_get, opened_at, opened_there, opened_length, either_rest, either_caused}
-use Rattle.soundness.proofs.Sound.OpenedObjectLemmas.{either_unretired}
-use Rattle.soundness.proofs.Sound.SoundnessPartLemmas.{Sizes, sizes_of, base_past}
-
-set_last : {A : Type 0} (xs : List A) (y z : A) → set (xs ++ y ∷ []) (length xs) z ≡ xs ++ z ∷ []
-set_last [] y z = refl
-set_last (x ∷ xs) y z = ap (λ ys. x ∷ ys) (set_last xs y z)
-
-get_or_past : {A : Type 0} (xs : List A) (i : ℕ) (d : A) → length xs ≤ i → get_or xs i d ≡ d
-get_or_past [] i d h = refl
-get_or_past (x ∷ xs) zero d h = absurd (omega arith)
-get_or_past (x ∷ xs) (suc i) d h = let past : length xs ≤ i = omega arith in get_or_past xs i d past
-
-get_or_end : {A : Type 0} (xs : List A) (y d : A) → get_or (xs ++ y ∷ []) (length xs) d ≡ y
-get_or_end [] y d = refl
-get_or_end (x ∷ xs) y d = get_or_end xs y d
+use Rattle.soundness.proofs.Sound.GrowthLemmas.{sizes_same}
+use Rattle.soundness.proofs.Sound.ItemLemmas.{Sizes, sizes_of, base_later}
+use Rattle.soundness.proofs.Sound.NewCallLemmas.{begun}
+use Rattle.soundness.proofs.Sound.NewCallSoundLemmas.{added, Wider, added_sound}
+use Rattle.soundness.proofs.Sound.OpenedObjectLemmas.{opened_get, opened_at, opened_there, opened_length, either_sound, either_unretired}
 
 get_or_after : {A : Type 0} (xs : List A) (y d : A) (i : ℕ) → length xs ≤ i →
     (get_or (xs ++ y ∷ []) i d ≡ d) ⊎ (get_or (xs ++ y ∷ []) i d ≡ y)
@@ -61,65 +48,50 @@ moves_added (c ∷ calls) call = go (is_move c.kind) (is_move call.kind) (moves_
 bank_none : (object : Object) (p i : ℕ) → length object.banks ≤ p → bank_at object p i ≡ no_bank
 bank_none object p i h = ap (λ banks. get_or banks i no_bank) (get_or_past object.banks p [] h)
 
-pub called_sound : (fragment : Code) → IsCode fragment → (object : Object) (step now : ℕ) →
-    step < now → IsSound fragment object step → (kind : CallKind) → is_move kind ≡ false →
+pub called_sound : {fragment : Code} {object : Object} {step now : ℕ} → IsCode fragment → IsSound fragment object step → step < now →
+    (id : ℕ) → IsNewId object id → (kind : CallKind) → is_move kind ≡ false →
     ((moves position : ℕ) → due (begun_at (first_stage kind moves) position) ≡ Some (Next, position)) →
-    ((value : List ℕ) → kind ≡ Write value → IsValue value) → IsSound fragment (called_object object kind now) now
-called_sound fragment code object step now less sound kind no_move first bytes =
-    added_sound fragment object new step now less sound kind Next base wide
-    (record {
-      positions = sizes.positions
-          ∙ ap suc (sym (ap moves_in calls_are ∙ moves_added object.calls call
-          ∙ ap (λ b. cond b (suc (moves_in object.calls)) (moves_in object.calls)) no_move));
-      banks = sizes.banks;
-      members = sizes.members;
-      opened = sizes.opened;
-      delta = sizes.delta;
-      retired = sizes.retired;
-      leading = sizes.leading;
-    })
-    calls_are refl (first (moves_in object.calls) base) (λ _. sym (base_past fragment object step now less sound))
-    (base_there object sound.legal sound.shape) refl bytes
-    (λ k index c at is. absurd (let clash : false ≡ true = sym no_move ∙ ap is_move k in cc))
+    ((value : List ℕ) → kind ≡ Write value → IsValue value) → IsSound fragment (called_object object id kind now) now
+called_sound {fragment = fragment} {object = object} {now = now} code sound less id is_new kind no_move first bytes =
+    rw (set_at object.calls (new_call id kind now) [] call (length object.calls) refl)
+    (added_sound sound less object.layouts object.banks id is_new kind Next base wide
+    (sizes_same new.mail new.calls (moves_added object.calls call
+    ∙ ap (λ b. cond b (suc (moves_in object.calls)) (moves_in object.calls)) no_move) sizes)
+    (first (moves_in object.calls) base) (λ _. sym (base_later sound now less)) (base_there object sound.legal sound.shape) refl bytes
+    (λ k. absurd (let clash : false ≡ true = sym no_move ∙ ap is_move k in cc)))
   where
-    new : Object
-    new = called_object object kind now
-
     base : ℕ
     base = base_of object
 
     call : Call
-    call = begun kind (length object.calls) now Next base (layout_at object base)
+    call = begun kind id now Next base (layout_at object base)
+
+    new : Object
+    new = added object object.layouts object.banks id kind now Next base
 
     sizes : Sizes object
-    sizes = sizes_of fragment object step sound
-
-    calls_are : new.calls ≡ object.calls ++ call ∷ []
-    calls_are = set_last object.calls (new_call kind now) call
-
-    gone : (p i : ℕ) → length object.layouts ≤ p → bank_at object p i ≡ no_bank
-    gone p i h = bank_none object p i (let b = sizes.banks in omega arith)
+    sizes = sizes_of sound
 
     wide : Wider fragment now object new
     wide = record {
-      layouts = sound.legal.layouts;
       more = le_refl (length object.layouts);
       same_layouts = λ p h. refl;
       same_banks = λ p i h. refl;
       same_retired = λ p. refl;
-      caused = λ p i h. either_caused new object.delta now p i (bank_at object p i) (inl (gone p i h));
-      rest = λ p i h. either_rest fragment code new object.delta now p i (bank_at object p i) (inl (gone p i h));
+      further = λ p i h. either_sound code new object.delta now p i (bank_at object p i)
+          (inl (bank_none object p i (let b = sizes.banks in omega arith)));
     }
 
 -- a move is called
-pub moving_sound : (fragment : Code) → IsCode fragment → (object : Object) (step now : ℕ) →
-    step < now → IsSound fragment object step → (layout : Layout) → IsLawful layout → NoOpenMove object →
-    IsSound fragment (moving_object object layout now) now
-moving_sound fragment code object step now less sound layout lawful no_open =
-    added_sound fragment object new step now less sound Move (Spread Pending) last wide
+pub moving_sound : {fragment : Code} {object : Object} {step now : ℕ} → IsCode fragment → IsSound fragment object step → step < now →
+    (id : ℕ) → IsNewId object id → (layout : Layout) → IsLawful layout → NoOpenMove object →
+    IsSound fragment (moving_object object id layout now) now
+moving_sound {fragment = fragment} {object = object} {now = now} code sound less id is_new layout lawful no_open =
+    rw (set_at object.calls (new_call id Move now) [] call (length object.calls) refl)
+    (added_sound sound less layouts banks id is_new Move (Spread Pending) last wide
     (record {
-      positions = length_push object.layouts layout ∙ more_positions
-          ∙ ap suc (sym (ap moves_in calls_are ∙ moves_added object.calls call));
+      lawful = all_push IsLawful object.layouts layout sizes.lawful lawful;
+      positions = length_push object.layouts layout ∙ more_positions ∙ ap suc (sym (moves_added object.calls call));
       banks = length_push object.banks fresh ∙ same_count ∙ sym (length_push object.layouts layout);
       members = λ p h. members p h (either p (grown_below p h));
       opened = λ p i h k. opened p i (either p (grown_below p h)) k;
@@ -127,31 +99,34 @@ moving_sound fragment code object step now less sound layout lawful no_open =
       retired = λ p i h k. retireds p i (either p (grown_below p h)) k;
       leading = leading_same object new same_retired sizes.leading;
     })
-    calls_are refl (ap (λ p. Some (Spread Pending, p)) source) (λ first. absurd (cc)) below refl (λ value e. absurd (cc)) (λ k. no_open)
+    (ap (λ p. Some (Spread Pending, p)) source) (λ first. absurd (cc)) below refl (λ value e. absurd (cc)) (λ k. no_open))
   where
-    new : Object
-    new = moving_object object layout now
-
     last : ℕ
     last = pred (length object.layouts)
 
     fresh : List Bank
     fresh = opened_banks layout.members 0 object.delta now
 
+    layouts : List Layout
+    layouts = object.layouts ++ layout ∷ []
+
+    banks : List (List Bank)
+    banks = object.banks ++ fresh ∷ []
+
+    new : Object
+    new = added object layouts banks id Move now (Spread Pending) last
+
     call : Call
-    call = begun Move (length object.calls) now (Spread Pending) last (layout_at new last)
+    call = begun Move id now (Spread Pending) last (layout_at new last)
 
     sizes : Sizes object
-    sizes = sizes_of fragment object step sound
+    sizes = sizes_of sound
 
     source : moves_in object.calls ≡ last
     source = sym (ap pred sizes.positions)
 
     below : last < length object.layouts
     below = let s = source in let p = sizes.positions in omega arith
-
-    calls_are : new.calls ≡ object.calls ++ call ∷ []
-    calls_are = set_last object.calls (new_call Move now) call
 
     more_positions : length object.layouts + 1 ≡ suc (suc (moves_in object.calls))
     more_positions = let p = sizes.positions in omega arith
@@ -172,11 +147,11 @@ moving_sound fragment code object step now less sound layout lawful no_open =
     old_banks p h = get_or_append_left object.banks (fresh ∷ []) [] p (let b = sizes.banks in omega arith)
 
     new_layout : (p : ℕ) → p ≡ length object.layouts → layout_at new p ≡ layout
-    new_layout p e = ap (λ q. layout_at new q) e ∙ get_or_end object.layouts layout no_layout
+    new_layout p e = ap (λ q. layout_at new q) e ∙ get_or_at object.layouts layout [] no_layout (length object.layouts) refl
 
     new_banks : (p : ℕ) → p ≡ length object.layouts → get_or new.banks p [] ≡ fresh
     new_banks p e = let b : p ≡ length object.banks = (let s = sizes.banks in omega arith) in ap (λ q. get_or new.banks q []) b
-        ∙ get_or_end object.banks fresh []
+        ∙ get_or_at object.banks fresh [] [] (length object.banks) refl
 
     members : (p : ℕ) → p < length new.layouts → (p < length object.layouts) ⊎ (p ≡ length object.layouts) →
         length (get_or new.banks p []) ≡ length (layout_at new p).members
@@ -240,11 +215,9 @@ moving_sound fragment code object step now less sound layout lawful no_open =
 
     wide : Wider fragment now object new
     wide = record {
-      layouts = all_push IsLawful object.layouts layout sound.legal.layouts lawful;
       more = (let l : length new.layouts ≡ length object.layouts + 1 = length_push object.layouts layout in omega arith);
       same_layouts = old_layout;
       same_banks = λ p i h. ap (λ banks. get_or banks i no_bank) (old_banks p h);
       same_retired = same_retired;
-      caused = λ p i h. either_caused new object.delta now p i (bank_at new p i) (beyond p i h);
-      rest = λ p i h. either_rest fragment code new object.delta now p i (bank_at new p i) (beyond p i h);
+      further = λ p i h. either_sound code new object.delta now p i (bank_at new p i) (beyond p i h);
     }

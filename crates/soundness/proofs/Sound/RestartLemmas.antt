@@ -1,21 +1,20 @@
 -- A call whose complete fetch lacks pieces begins anew: a read reads the sequence from the first position, a move asks again.
-use Rattle.std.proofs.Common.{◌≡◌, ℕ, suc, true, List, [], ◌∷◌, Some, refl, sym, subst, ap, ◌∙◌, slice_get}
-use Rattle.std.proofs.lemmas.Option.{same_Some, some_pair_parts}
+use Rattle.std.proofs.Common.{◌≡◌, ℕ, true, false, List, [], ◌∷◌, Some, refl, sym, subst, ap, ◌∙◌, slice_get}
+use Rattle.std.proofs.lemmas.Option.{same_Some}
 use Rattle.tag.specs.declared.tag.Tag.{Tag}
 use Rattle.bank.specs.declared.kind.Kind.{Kind}
-use Rattle.bank.specs.declared.kind.Kind.TheVariants.{Next, Spread, Query, PreWrite, Finalize, Fetch}
-use Rattle.bank.specs.declared.status.Status.TheVariants.{Pending, Final}
+use Rattle.bank.specs.declared.kind.Kind.TheVariants.{Next, Query, Fetch}
 use Rattle.phase.specs.declared.phase.Taken.{Taken}
 use Rattle.phase.specs.Phase.{Phase, lacks_pieces}
 use Rattle.record.specs.declared.call.CallKind.{CallKind}
 use Rattle.record.specs.Records.{Call, Object, base_of}
 use Rattle.record.specs.PhaseOrder.{due, after, passed, stage_after, IsCourse, begun_at, stage_past}
 use Rattle.record.specs.declared.stage.Stage.{Stage}
-use Rattle.record.specs.declared.stage.Stage.TheVariants.{ReadBegin, ReadNext, ReadSpread, QueryFrom, FetchAt, PreWriteAt}
-use Rattle.record.specs.declared.stage.Stage.TheVariants.{FinalizeAt, AgainNext, AgainSpread, MoveSpread, MoveQuery}
-use Rattle.record.specs.declared.stage.Stage.TheVariants.{MoveFetch, MovePreWrite, MoveFinalize, MoveFinal, Ended, Moved}
+use Rattle.record.specs.declared.stage.Stage.TheVariants.{FetchAt}
+use Rattle.record.specs.declared.stage.Stage.TheVariants.{MoveFetch}
 use Rattle.record.specs.Legal.{first_stage, source_of, IsLegal, due_of}
 use Rattle.record.specs.Wants.{current_phase}
+use Rattle.soundness.proofs.Sound.DueKindLemmas.{fetches}
 use Rattle.soundness.proofs.Sound.WantCaseLemmas.{Unsettled}
 use Rattle.soundness.proofs.Sound.WantPreconditionLemmas.{Plain}
 
@@ -26,34 +25,7 @@ after_lacking kind number (FetchAt q l t) replies tag position e base =
     record { kind = Next; position = base; is_due = refl; not_pre = λ tag k. absurd (cc) }
 after_lacking kind number (MoveFetch p t) replies tag position e base =
     record { kind = Query; position = p; is_due = refl; not_pre = λ tag k. absurd (cc) }
-after_lacking kind number ReadBegin replies tag position e base =
-    absurd (let other = (some_pair_parts Next (Fetch tag) 0 position e).0 in cc)
-after_lacking kind number (ReadNext a b) replies tag position e base =
-    absurd (let other = (some_pair_parts Next (Fetch tag) a position e).0 in cc)
-after_lacking kind number (ReadSpread a b c) replies tag position e base =
-    absurd (let other = (some_pair_parts (Spread c) (Fetch tag) a position e).0 in cc)
-after_lacking kind number (QueryFrom a b c d) replies tag position e base =
-    absurd (let other = (some_pair_parts Query (Fetch tag) a position e).0 in cc)
-after_lacking kind number (PreWriteAt a b) replies tag position e base =
-    absurd (let other = (some_pair_parts (PreWrite b) (Fetch tag) a position e).0 in cc)
-after_lacking kind number (FinalizeAt a b) replies tag position e base =
-    absurd (let other = (some_pair_parts (Finalize b) (Fetch tag) a position e).0 in cc)
-after_lacking kind number (AgainNext a b c) replies tag position e base =
-    absurd (let other = (some_pair_parts Next (Fetch tag) b position e).0 in cc)
-after_lacking kind number (AgainSpread a b c d) replies tag position e base =
-    absurd (let other = (some_pair_parts (Spread d) (Fetch tag) b position e).0 in cc)
-after_lacking kind number (MoveSpread a) replies tag position e base =
-    absurd (let other = (some_pair_parts (Spread Pending) (Fetch tag) a position e).0 in cc)
-after_lacking kind number (MoveQuery a) replies tag position e base =
-    absurd (let other = (some_pair_parts Query (Fetch tag) a position e).0 in cc)
-after_lacking kind number (MovePreWrite a b) replies tag position e base =
-    absurd (let other = (some_pair_parts (PreWrite b) (Fetch tag) (suc a) position e).0 in cc)
-after_lacking kind number (MoveFinalize a b) replies tag position e base =
-    absurd (let other = (some_pair_parts (Finalize b) (Fetch tag) (suc a) position e).0 in cc)
-after_lacking kind number (MoveFinal a b) replies tag position e base =
-    absurd (let other = (some_pair_parts (Spread Final) (Fetch tag) a position e).0 in cc)
-after_lacking kind number (Ended a b) replies tag position e base = absurd (cc)
-after_lacking kind number (Moved a b) replies tag position e base = absurd (cc)
+after_lacking kind number stage replies tag position e base = absurd (let no : false ≡ true = ap fetches e in cc)
 
 last_lacking : (kind : CallKind) (number : ℕ) (phases : List Phase) (stage : Stage) (phase : Phase) (tag : Tag) (end : ℕ) →
     IsCourse kind number stage phases → current_phase phases ≡ Some phase → phase.end ≡ Some end → phase.kind ≡ Fetch tag →
@@ -76,6 +48,6 @@ last_lacking kind number (first ∷ next ∷ later) stage phase tag end course c
 pub anew_due : (object : Object) → IsLegal object → (index : ℕ) (call : Call) → slice_get object.calls index ≡ Some call →
     Unsettled call true → Plain (due_of object index call)
 anew_due object legal index call at wanting =
-    last_lacking call.kind (suc index) call.phases (first_stage call.kind (source_of object index)) wanting.phase wanting.fetch.0
+    last_lacking call.kind call.id call.phases (first_stage call.kind (source_of object index)) wanting.phase wanting.fetch.0
     wanting.end (legal.calls index call at).course wanting.current wanting.ended wanting.fetch.1 wanting.lacking
     (base_of object)

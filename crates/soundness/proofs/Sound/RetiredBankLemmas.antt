@@ -49,9 +49,9 @@ module _ (object : Object) (now : ℕ) where
       outer (inr here) = inner here.0 here.1 (mapped (λ bank. retired_bank bank now) (get_or object.banks base []) i)
 
 -- a bank that is retired was caused so
-pub retired_caused : (object : Object) (answered now : ℕ) (bank : Bank) → IsMovedOut object (base_of object) answered → answered < now →
-    IsCaused object (base_of object) bank → IsCaused object (base_of object) (retired_bank bank now)
-retired_caused object answered now bank moved less caused = record {
+pub retired_caused : (object : Object) (position answered now : ℕ) (bank : Bank) → IsMovedOut object position answered → answered < now →
+    IsCaused object position bank → IsCaused object position (retired_bank bank now)
+retired_caused object position answered now bank moved less caused = record {
   finalized = λ tag step e. caused.finalized tag step (sym (retired_finalized bank now tag) ∙ e);
   arrived = λ tag step e. caused.arrived tag step (sym (retired_arrived bank now tag) ∙ e);
   pending = caused.pending;
@@ -60,7 +60,7 @@ retired_caused object answered now bank moved less caused = record {
 }
   where
     go : (o : Option ℕ) → bank.retired ≡ o → (step : ℕ) → since bank.retired now ≡ Some step →
-        (a : ℕ) × IsMovedOut object (base_of object) a × (a < step)
+        (a : ℕ) × IsMovedOut object position a × (a < step)
     go None is step e =
         let same : now ≡ step = same_Some now step (sym (ap (λ o. since o now) is) ∙ e) in
         (answered, moved, (let l = less in omega arith))

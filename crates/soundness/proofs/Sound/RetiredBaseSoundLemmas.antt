@@ -1,35 +1,28 @@
 -- Retiring the base keeps a record sound.
-use Rattle.std.proofs.Common.{◌≡◌, ℕ, suc, ◌<◌, ◌≤◌, ◌⊎◌, List, [], length, map, get_or, slice_get}
-use Rattle.std.proofs.Common.{Some, None, refl, sym, subst, ap, ◌∙◌, inl, inr, arith, le_refl, le_of_lt}
+use Rattle.std.proofs.Common.{◌≡◌, ℕ, suc, ◌<◌, ◌≤◌, ◌⊎◌, List, [], length, map, get_or, slice_set}
+use Rattle.std.proofs.Common.{Some, None, refl, sym, subst, ap, ◌∙◌, inl, inr, arith, le_refl}
 use Rattle.std.proofs.lemmas.List.{length-set, length-map, get_or-map, get_or-set_same}
 use Rattle.std.proofs.lemmas.Bool.{cases_eq}
-use Rattle.std.specs.List.{AllByRecursion}
 use Rattle.bank.specs.Bank.{Bank}
 use Rattle.bank.specs.Collect.{retired_bank}
-use Rattle.bank.specs.Facts.{IsBefore, SameBefore}
-use Rattle.bank.specs.Knowledge.{since, came_by}
+use Rattle.bank.specs.Knowledge.{since}
+use Rattle.bank.proofs.MonotoneLemmas.{Grows as BankGrows, retired_grows}
 use Rattle.bank.proofs.PieceRetentionLemmas.{retired_collected}
-use Rattle.bank.proofs.RowChangeLemmas.{comes_past}
-use Rattle.phase.specs.declared.phase.Taken.{Taken}
-use Rattle.record.specs.Records.{Call, Object, layout_at, bank_at, no_bank, retired_at, base_at, base_of}
-use Rattle.record.specs.Knowledge.{IsTruePhase}
-use Rattle.record.specs.Legal.{first_stage, source_of, IsMovedOut, IsCaused, IsOpenedAt, IsLegal}
+use Rattle.record.specs.Records.{Object, layout_at, bank_at, no_bank, retired_at, base_of}
+use Rattle.record.specs.Legal.{IsMovedOut}
 use Rattle.record.specs.Fragments.{Code}
-use Rattle.soundness.specs.Sound.{IsPhasePast, IsSound}
 use Rattle.record.specs.Steps.{retired_object}
+use Rattle.soundness.specs.Sound.{IsSound}
 use Rattle.soundness.proofs.Quorums.QuorumMeetingLemmas.{lawful_at}
-use Rattle.soundness.proofs.BaseLemmas.{base_same, base_kept, base_raised}
-use Rattle.soundness.proofs.ListLemmas.{all_weaker, all_pairs}
-use Rattle.soundness.proofs.Sound.NewCallLemmas.{made_before}
-use Rattle.soundness.proofs.Sound.ServedBankLemmas.{retired_past, retired_opened_at, retired_agrees, retired_coded}
-use Rattle.soundness.proofs.Sound.ChangedCallLemmas.{same_call, caused_more}
+use Rattle.soundness.proofs.BaseLemmas.{base_raised}
 use Rattle.soundness.proofs.Sound.DuePositionLemmas.{base_there}
-use Rattle.soundness.proofs.Sound.PreservedKnowledgeLemmas.{agree_same, Keeps, phase_kept}
+use Rattle.soundness.proofs.Sound.GrowthLemmas.{Grows, bank_stays, opened_stays, banks_grow, moved_grows}
+use Rattle.soundness.proofs.Sound.GrownItemLemmas.{before_later}
+use Rattle.soundness.proofs.Sound.GrownItemLemmas.{bank_grows, mail_grows, grown_sound}
+use Rattle.soundness.proofs.Sound.ItemLemmas.{BankSound, Sizes, sizes_of, turns_of, call_of, bank_of}
 use Rattle.soundness.proofs.Sound.KnownSinceLemmas.{get_or_set}
-use Rattle.soundness.proofs.Sound.MonotoneLemmas.{Grows, message_grows, call_grows, bank_grows, before_later, tags_same}
-use Rattle.soundness.proofs.Sound.SoundnessPartLemmas.{BankRest, MessageRest, Sizes, sound_of, sizes_of, call_rest, bank_rest, mail_rest}
-use Rattle.soundness.proofs.Sound.ServedRequestLegalLemmas.{has_same, moved_same}
 use Rattle.soundness.proofs.Sound.RetiredBankLemmas.{Cases, retired_cases, retired_caused}
+use Rattle.soundness.proofs.Sound.ServedBankLemmas.{retired_past, retired_coded}
 
 module _ (fragment : Code) (object : Object) (step now : ℕ) (less : step < now) (sound : IsSound fragment object step) where
   abbrev pub fresh : Object
@@ -39,7 +32,7 @@ module _ (fragment : Code) (object : Object) (step now : ℕ) (less : step < now
   base = base_of object
 
   sizes : Sizes object
-  sizes = sizes_of fragment object step sound
+  sizes = sizes_of sound
 
   below : base < length object.layouts
   below = base_there object sound.legal sound.shape
@@ -102,50 +95,15 @@ module _ (fragment : Code) (object : Object) (step now : ℕ) (less : step < now
       let r = raised in
       ap (λ (bank : Bank). bank.retired) (apart p 0 (λ same. omega arith)) ∙ sizes.leading p (omega arith)
 
-  agrees : (p i : ℕ) → SameBefore (bank_at object p i) (bank_at fresh p i) now
-  agrees p i = go (retired_cases object now p i)
+  grew : (p i : ℕ) → BankGrows now (bank_at object p i) (bank_at fresh p i)
+  grew p i = go (retired_cases object now p i)
     where
-      go : Cases object now p i → SameBefore (bank_at object p i) (bank_at fresh p i) now
-      go (inl same) = subst (λ bank. SameBefore (bank_at object p i) bank now) (sym same) (agree_same now (bank_at object p i))
-      go (inr at_base) =
-          subst (λ bank. SameBefore (bank_at object p i) bank now) (sym at_base.1) (retired_agrees (bank_at object p i) now)
-
-  same_retired : (p s : ℕ) → s < now → came_by (retired_at fresh p) s ≡ came_by (retired_at object p) s
-  same_retired p s early = go (retired_cases object now p 0)
-    where
-      go : Cases object now p 0 → came_by (retired_at fresh p) s ≡ came_by (retired_at object p) s
-      go (inl same) = ap (λ (bank : Bank). came_by bank.retired s) same
-      go (inr at_base) =
-          ap (λ (bank : Bank). came_by bank.retired s) at_base.1
-          ∙ comes_past now (retired_at object p) (since (retired_at object p) now) (inr refl) s early
-
-  same_base : (s : ℕ) → s < now → base_at fresh s ≡ base_at object s
-  same_base s early = base_same fresh.banks object.banks s (λ p. same_retired p s early)
-
-  opens : (p i opened : ℕ) → IsOpenedAt (bank_at object p i) opened → IsOpenedAt (bank_at fresh p i) opened
-  opens p i opened o = go (retired_cases object now p i)
-    where
-      go : Cases object now p i → IsOpenedAt (bank_at fresh p i) opened
-      go (inl same) = subst (λ bank. IsOpenedAt bank opened) (sym same) o
-      go (inr at_base) =
-          subst (λ bank. IsOpenedAt bank opened) (sym at_base.1) (retired_opened_at (bank_at object p i) now opened o)
-
-  same_delta : (p i : ℕ) → (bank_at fresh p i).delta ≡ (bank_at object p i).delta
-  same_delta p i = go (retired_cases object now p i)
-    where
-      go : Cases object now p i → (bank_at fresh p i).delta ≡ (bank_at object p i).delta
-      go (inl same) = ap (λ (bank : Bank). bank.delta) same
-      go (inr at_base) = ap (λ (bank : Bank). bank.delta) at_base.1
-
-  keeps : Keeps now object fresh
-  keeps = record { layouts = λ p h. (h, refl); banks = λ p i h. agrees p i }
+      go : Cases object now p i → BankGrows now (bank_at object p i) (bank_at fresh p i)
+      go (inl same) = rw same (bank_stays now (bank_at object p i))
+      go (inr at_base) = rw at_base.1 (retired_grows (bank_at object p i) now)
 
   grows : Grows now object fresh
-  grows = record {
-    keeps = keeps;
-    opened = λ p i opened h o. opens p i opened o;
-    calls = λ index call e. record { other = call; at = e; changed = same_call call; tagged = λ value k tag t. t };
-  }
+  grows = banks_grow now object object.mail (slice_set object.banks base changed) grew
 
   members : (p : ℕ) → p < length object.layouts → length (get_or fresh.banks p []) ≡ length (layout_at object p).members
   members p h = go (get_or_set object.banks base p changed [])
@@ -157,84 +115,39 @@ module _ (fragment : Code) (object : Object) (step now : ℕ) (less : step < now
           ap length at_base.1 ∙ length-map (get_or object.banks base []) (λ bank. retired_bank bank now)
           ∙ ap (λ q. length (get_or object.banks q [])) (sym at_base.0) ∙ sizes.members p h
 
-  starts : (index : ℕ) (call : Call) → slice_get object.calls index ≡ Some call →
-      AllByRecursion (λ phase. base_at fresh phase.start ≡ base_at object phase.start) call.phases
-  starts index call at =
-      all_weaker (IsPhasePast step) (λ phase. base_at fresh phase.start ≡ base_at object phase.start)
-      (λ phase past. let s = past.start in same_base phase.start (omega arith)) call.phases
-      (call_rest fragment object step sound index call at).past.phases
-
-  was : (p i : ℕ) → BankRest fragment fresh now p i (bank_at object p i)
-  was p i =
-      bank_grows fragment step now object fresh (le_of_lt less) grows p i (bank_at object p i) refl (le_refl (length object.layouts))
-      (bank_rest fragment object step sound p i)
-
-  before : (p i : ℕ) → IsBefore (bank_at object p i) now
-  before p i = before_later (suc step) now less (bank_at object p i) (bank_rest fragment object step sound p i).past
-
-  rests : (p i : ℕ) → BankRest fragment fresh now p i (bank_at fresh p i)
-  rests p i = go (retired_cases object now p i)
-    where
-      go : Cases object now p i → BankRest fragment fresh now p i (bank_at fresh p i)
-      go (inl same) = subst (BankRest fragment fresh now p i) (sym same) (was p i)
-      go (inr at_base) = subst (BankRest fragment fresh now p i) (sym at_base.1) (record {
-        past = retired_past (bank_at object p i) now (before p i);
-        coded = retired_coded fragment fresh p i (bank_at object p i) now (was p i).coded;
-        next = record { pending = (was p i).next.pending; final = (was p i).next.final };
+  -- each bank of the base is sound, where the move out of it was answered
+  banks : (answered : ℕ) → IsMovedOut object base answered → answered < now → (p i : ℕ) → Cases object now p i →
+      ((bank_at fresh p i ≡ bank_at object p i) × (layout_at fresh p ≡ layout_at object p))
+      ⊎ BankSound fragment fresh now p i (bank_at fresh p i)
+  banks answered moved early p i (inl same) = inl (same, refl)
+  banks answered moved early p i (inr at_base) =
+      let was = bank_grows sound less grows p i refl in
+      inr (rw at_base.1 (record {
+        caused = rw at_base.0 (retired_caused fresh base answered now (bank_at object base i) (moved_grows grows base answered moved) early
+            (rw at_base.0 at was.caused));
+        past = retired_past (bank_at object p i) now (before_later less (bank_of sound p i).past);
+        coded = retired_coded fragment fresh p i (bank_at object p i) now was.coded;
+        next = record { pending = was.next.pending; final = was.next.final };
         collected = retired_collected (bank_at object p i) now;
-      })
-
-  caused : (answered : ℕ) → IsMovedOut object base answered → answered < now → (p i : ℕ) → IsCaused fresh p (bank_at fresh p i)
-  caused answered moved early p i =
-      caused_more object fresh (λ k q s b. has_same object fresh refl k q s b) (λ q a m. moved_same object fresh refl q a m)
-      p (bank_at fresh p i) (go (retired_cases object now p i))
-    where
-      go : Cases object now p i → IsCaused object p (bank_at fresh p i)
-      go (inl same) = subst (IsCaused object p) (sym same) (sound.legal.banks p i)
-      go (inr at_base) =
-          subst (IsCaused object p) (sym at_base.1)
-          (subst (λ q. IsCaused object q (retired_bank (bank_at object q i) now)) (sym at_base.0)
-          (retired_caused object answered now (bank_at object base i) moved early (sound.legal.banks base i)))
-
-  legal : (answered : ℕ) → IsMovedOut object base answered → answered < now → IsLegal fresh
-  legal answered moved early = record {
-    layouts = sound.legal.layouts;
-    calls = λ index call at. let c = sound.legal.calls index call at in record {
-      numbered = c.numbered;
-      begins = c.begins;
-      phases =
-          all_weaker (λ phase. AllByRecursion (λ (taken : Taken). taken.reply.step < now) phase.replies × IsTruePhase object phase)
-          (IsTruePhase fresh) (λ phase p. phase_kept now object fresh phase keeps p.0 p.1) call.phases
-          (all_pairs (λ phase. AllByRecursion (λ (taken : Taken). taken.reply.step < now) phase.replies) (IsTruePhase object)
-          call.phases (made_before fragment object step now less sound index call at) c.phases);
-      course = c.course;
-      from_base = base_kept (base_at object) (base_at fresh) call.kind (suc index) call.phases
-          (first_stage call.kind (source_of object index)) (starts index call at) c.from_base;
-      answer = c.answer;
-    };
-    in_turn = sound.legal.in_turn;
-    moves = sound.legal.moves;
-    banks = λ p i. caused answered moved early p i;
-  }
+      }))
 
   -- The base is retired
-  pub retired_sound : (answered : ℕ) → IsMovedOut object base answered → IsSound fragment fresh now
-  retired_sound answered moved =
-      let past = (call_rest fragment object step sound moved.index moved.call moved.at).past.answered answered moved.was in
-      sound_of fragment fresh now (legal answered moved (omega arith))
-      (record {
+  pub retired_base_sound : (answered : ℕ) → IsMovedOut object base answered → IsSound fragment fresh now
+  retired_base_sound answered moved =
+      let past = (call_of sound moved.index moved.call moved.at).answered answered moved.was in
+      grown_sound sound less grows (record {
+        lawful = sizes.lawful;
         positions = sizes.positions;
         banks = length-set object.banks base changed ∙ sizes.banks;
         members = members;
-        opened = λ p i h k. let o = sizes.opened p i h k in (o.0, opens p i o.0 o.1);
-        delta = λ p i h k. same_delta p i ∙ sizes.delta p i h k;
+        opened = λ p i h k. let o = sizes.opened p i h k in (o.0, opened_stays (grew p i) o.0 o.1);
+        delta = λ p i h k. (grew p i).delta ∙ sizes.delta p i h k;
         retired = retireds;
         leading = leading;
-      })
-      (λ index call at. call_grows fragment step now object fresh (le_of_lt less) grows call (sound.legal.calls index call at).phases
-      (call_rest fragment object step sound index call at))
-      rests
-      (all_weaker (MessageRest fragment object step) (MessageRest fragment fresh now)
-      (λ message rest. message_grows fragment step now object fresh less grows sound.legal message rest) object.mail
-      (mail_rest fragment object step sound))
-      (tags_same step now object fresh (le_of_lt less) refl sound.past.tags)
+      }) (turns_of sound) (λ i c e. inl e) (λ p i. banks answered moved (omega arith) p i (retired_cases object now p i))
+      (mail_grows sound less grows)
+
+pub retired_sound : {fragment : Code} {object : Object} {step now : ℕ} → IsSound fragment object step → step < now → (answered : ℕ) →
+    IsMovedOut object (base_of object) answered → IsSound fragment (retired_object object now) now
+retired_sound {fragment = fragment} {object = object} {step = step} {now = now} sound less answered moved =
+    retired_base_sound fragment object step now less sound answered moved

@@ -1,11 +1,11 @@
 -- A call that is to send pieces has the value, and for as many members as there are.
-use Rattle.std.proofs.Common.{◌≡◌, ℕ, suc, ◌<◌, ◌⊎◌, true, false, cond, List, length, get_or, Option}
-use Rattle.std.proofs.Common.{Some, None, IsSome, is_some, refl, sym, subst, ap, ◌∙◌, inl, inr, arith, slice_get}
+use Rattle.std.proofs.Common.{◌≡◌, ℕ, suc, ◌<◌, ◌⊎◌, true, false, length, get_or}
+use Rattle.std.proofs.Common.{Some, IsSome, refl, sym, subst, ap, ◌∙◌, inl, inr, arith, slice_get}
 use Rattle.std.proofs.lemmas.Bool.{cases_eq}
 use Rattle.std.proofs.lemmas.Option.{same_Some, slice_get_within, slice_get-get_or}
 use Rattle.tag.specs.declared.tag.Tag.{Tag}
 use Rattle.bank.specs.declared.kind.Kind.{Kind}
-use Rattle.bank.specs.declared.kind.Kind.TheVariants.{Next, Spread, Query, PreWrite, Finalize, Fetch}
+use Rattle.bank.specs.declared.kind.Kind.TheVariants.{PreWrite, Fetch}
 use Rattle.phase.specs.Phase.{Phase, lacks_pieces}
 use Rattle.record.specs.declared.call.CallKind.{CallKind}
 use Rattle.record.specs.declared.call.CallKind.TheVariants.{Read, Write, Move}
@@ -16,12 +16,11 @@ use Rattle.record.specs.Legal.{first_stage, source_of, due_of}
 use Rattle.record.specs.Fragments.{Code, IsFetch}
 use Rattle.soundness.specs.Sound.{IsSound}
 use Rattle.record.specs.Sending.{sent_value}
-use Rattle.record.specs.declared.stage.Want.{Want}
-use Rattle.record.specs.Wants.{current_phase, is_fetch, want_for, want_of_fetch, want_after, want_of}
+use Rattle.record.specs.Wants.{current_phase, want_of}
 use Rattle.record.specs.Preconditions.{IsPreWrite, WantsPieces, AwaitsPieces}
 use Rattle.record.specs.declared.stage.Want.TheVariants as wants
 use Rattle.soundness.proofs.Sound.FetchBeforeSendLemmas.{Fetches, Fetched, fetched_before_due, fetched_before_sent, unfetched_first}
-use Rattle.soundness.proofs.Sound.WantCaseLemmas.{LastAt, last_at, Ready}
+use Rattle.soundness.proofs.Sound.WantCaseLemmas.{LastAt, last_at}
 use Rattle.soundness.proofs.Sound.WantPreconditionLemmas.{supply_ready}
 
 -- The value
@@ -65,7 +64,7 @@ settled_of fragment object step sound index call at fetches takes = go takes
     first : Stage
     first = first_stage call.kind (source_of object index)
 
-    course : IsCourse call.kind (suc index) first call.phases
+    course : IsCourse call.kind call.id first call.phases
     course = (sound.legal.calls index call at).course
 
     go : WantsPieces object index call ⊎ AwaitsPieces object index call → IsSome call.settled
@@ -73,14 +72,14 @@ settled_of fragment object step sound index call at fetches takes = go takes
         let both = supply_ready object index call wanted.0 wanted.1 wanted.2.1 in
         let next = both.1 in
         settled_after fragment object step sound index call at both.0.phase both.0.current both.0.settled
-        (fetched_before_due call.kind fetches (suc index) call.phases first course (unfetched_first call.kind (source_of object index))
+        (fetched_before_due call.kind fetches call.id call.phases first course (unfetched_first call.kind (source_of object index))
         (base_of object) (next.tag, next.position, next.is_due))
     go (inr awaits) =
         let phase = awaits.0 in
         let there = last_at call.phases phase awaits.1.current in
         settled_after fragment object step sound index call at phase awaits.1.current
         (λ fetch. absurd (not_both phase.kind awaits.2 fetch))
-        (fetched_before_sent call.kind fetches (suc index) call.phases first course (unfetched_first call.kind (source_of object index))
+        (fetched_before_sent call.kind fetches call.id call.phases first course (unfetched_first call.kind (source_of object index))
         there.place phase there.within awaits.2)
 
 -- a call that wants its pieces, or that sends them, has their value
@@ -96,38 +95,10 @@ sent_there fragment object step sound index call at takes = go call.kind refl
 
 -- How many pieces
 
--- after a complete phase, and after a fetch once its value is there, a call wants what is due
-after_end : (end : Option ℕ) (kind : Kind) (settled : Option (List ℕ)) (next settle : Want) →
-    IsSome end → (IsFetch kind → IsSome settled) →
-    cond (is_some end) (cond (is_fetch kind) (cond (is_some settled) next settle) next) wants.Replies ≡ next
-after_end None kind settled next settle ended has = absurd (cc)
-after_end (Some end) (Fetch tag) None next settle ended has = absurd (let no : false ≡ true = has (tag, refl) in cc)
-after_end (Some end) (Fetch tag) (Some value) next settle ended has = refl
-after_end (Some end) Next settled next settle ended has = refl
-after_end (Some end) (Spread status) settled next settle ended has = refl
-after_end (Some end) Query settled next settle ended has = refl
-after_end (Some end) (PreWrite tag) settled next settle ended has = refl
-after_end (Some end) (Finalize tag) settled next settle ended has = refl
-
--- a call that is ready wants what is due
-pub ready_wants : (object : Object) (index : ℕ) (call : Call) → Ready call →
-    want_of object index call ≡ want_for object (due_of object index call)
-ready_wants object index call ready =
-    ap (λ a. cond (is_some a) wants.Done (want_after object next call.settled (current_phase call.phases))) ready.open_call
-    ∙ ap (λ p. want_after object next call.settled p) ready.current
-    ∙ after_end ready.phase.end ready.phase.kind call.settled (want_for object next)
-    (want_of_fetch object ready.phase) (ap is_some ready.ended) ready.settled
-  where
-    next : Option (Kind × ℕ)
-    next = due_of object index call
-
 -- the pieces that a call wants are for the threshold and the members of the layout where they are due
 pub supply_counts : (object : Object) (index : ℕ) (call : Call) (k n : ℕ) → want_of object index call ≡ wants.Supply k n →
     (tag : Tag) × (position : ℕ) × (due_of object index call ≡ Some (PreWrite tag, position))
     × (k ≡ (layout_at object position).k) × (n ≡ length (layout_at object position).members)
 supply_counts object index call k n e =
-    let both = supply_ready object index call k n e in
-    let next = both.1 in
-    let same : wants.Supply k n ≡ wants.Supply (layout_at object next.position).k (length (layout_at object next.position).members) =
-    sym e ∙ ready_wants object index call both.0 ∙ next.wants in
-    (next.tag, next.position, next.is_due, cc, cc)
+    let next = (supply_ready object index call k n e).1 in
+    (next.tag, next.position, next.is_due, next.pieces, next.members)

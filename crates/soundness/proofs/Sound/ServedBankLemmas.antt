@@ -1,8 +1,7 @@
 -- What a bank of the record is after a request, and what it answers, as far as the journal's pieces go.
 use Rattle.std.proofs.Common.{◌≡◌, ℕ, suc, Bool, true, false, cond, Option, Some, None, IsSome}
-use Rattle.std.proofs.Common.{is_some, option_map, refl, sym, subst, ap, ◌∙◌, inl, inr, arith}
+use Rattle.std.proofs.Common.{is_some, option_map, refl, sym, subst, ap, arith}
 use Rattle.tag.specs.declared.tag.Tag.{Tag}
-use Rattle.tag.specs.Tag.{opening_tag}
 use Rattle.piece.specs.declared.piece.Piece.{Piece}
 use Rattle.bank.specs.declared.row.Arrival.{Arrival}
 use Rattle.bank.specs.declared.row.Row.{Row}
@@ -12,13 +11,13 @@ use Rattle.bank.specs.Bank.{piece_that_came}
 use Rattle.bank.specs.Bank.{piece_of_row, knows}
 use Rattle.bank.specs.Collect.{emptied_arrival, emptied_row, collected, IsCollected, is_outside, retired_bank}
 use Rattle.bank.specs.Knowledge.{since, row_finalized, finalized_at, arrived_at, is_dropped, IsTrueAnswer}
-use Rattle.bank.specs.Facts.{IsBefore, SameBefore}
+use Rattle.bank.specs.Facts.{IsBefore}
 use Rattle.bank.specs.Serve.{kind_of, greatest_final, served_bank, answer_to}
 use Rattle.bank.proofs.CollectedBankLemmas.{get-collected, finalized_at-collected, arrived_at-collected}
-use Rattle.bank.proofs.RowChangeLemmas.{Comes, with_row, all_rows}
+use Rattle.bank.proofs.RowChangeLemmas.{with_row, all_rows}
 use Rattle.bank.proofs.MonotoneLemmas.{served_grows, retired_grows}
 use Rattle.bank.proofs.GreatestTagLemmas.{greatest_final_is}
-use Rattle.bank.proofs.TrueAnswerLemmas.{grows_order, grows_past, served_truth}
+use Rattle.bank.proofs.TrueAnswerLemmas.{grows_order, served_truth}
 use Rattle.record.specs.Records.{Object}
 use Rattle.record.specs.Legal.{IsOpenedAt}
 use Rattle.record.specs.Fragments.{Code, IsCoded, IfCoded, answer_tag, answer_piece, request_tag, request_piece}
@@ -40,26 +39,7 @@ pub served_next : (count position : ℕ) (bank : Bank) (asked : Request) (now : 
 served_next count position bank request.Next now placed next = next
 served_next count position bank (request.Spread status) now placed next = record { pending = λ step e. placed; final = λ step e. placed }
 served_next count position bank request.Query now placed next = next
-served_next count position bank (request.PreWrite tag piece) now placed next = record { pending = next.pending; final = next.final }
-served_next count position bank (request.Finalize tag) now placed next = record { pending = next.pending; final = next.final }
-served_next count position bank (request.Fetch tag) now placed next = record { pending = next.pending; final = next.final }
-
--- what has come stays
-comes_stays : (now : ℕ) (old new : Option ℕ) → Comes now old new → (step : ℕ) → old ≡ Some step → new ≡ Some step
-comes_stays now old new (inl same) step e = same ∙ e
-comes_stays now old new (inr first) step e = first ∙ ap (λ o. since o now) e
-
--- so a bank stays opened since its step
-pub served_opened_at : (bank : Bank) (asked : Request) (now step : ℕ) → IsOpenedAt bank step →
-    IsOpenedAt (served_bank bank asked now) step
-served_opened_at bank asked now step opened =
-    let grows = served_grows bank asked now in
-    record {
-      finalized = comes_stays now (finalized_at bank opening_tag) (finalized_at (served_bank bank asked now) opening_tag)
-          (grows.finalized opening_tag) step opened.finalized;
-      arrived = comes_stays now (arrived_at bank opening_tag) (arrived_at (served_bank bank asked now) opening_tag)
-          (grows.arrived opening_tag) step opened.arrived;
-    }
+served_next count position bank asked now placed next = record { pending = next.pending; final = next.final }
 
 -- what it answers is true of the bank that it leaves
 pub served_true : (bank : Bank) (asked : Request) (now step : ℕ) → IsBefore bank now → IsOpenedAt bank step → IsCollected bank →
@@ -125,9 +105,6 @@ module _ (fragment : Code) (object : Object) (position member : ℕ) where
   pub served_coded : (bank : Bank) (asked : Request) (now : ℕ) →
       IfCoded fragment object position member (request_tag asked) (request_piece asked) → BankCoded bank →
       BankCoded (served_bank bank asked now)
-  served_coded bank request.Next now new coded = coded
-  served_coded bank (request.Spread status) now new coded = coded
-  served_coded bank request.Query now new coded = coded
   served_coded bank (request.PreWrite tag piece) now new coded =
       collected_rows RowCoded emptied_coded (pre_written bank tag piece now)
       (all_rows bank.rows tag (λ row. row_after_pre_write row piece now) RowCoded
@@ -136,6 +113,7 @@ module _ (fragment : Code) (object : Object) (position member : ℕ) where
       collected_rows RowCoded emptied_coded (finalized bank tag now) (finalized_coded bank tag now new coded)
   served_coded bank (request.Fetch tag) now new coded =
       collected_rows RowCoded emptied_coded (finalized bank tag now) (finalized_coded bank tag now new coded)
+  served_coded bank asked now new coded = coded
 
   -- and once it is retired
   pub retired_coded : (bank : Bank) (now : ℕ) → BankCoded bank → BankCoded (retired_bank bank now)
@@ -175,21 +153,9 @@ module _ (fragment : Code) (object : Object) (position member : ℕ) where
       kept false piece here = here
 
 -- what a request leaves as it is
-pub served-delta : (bank : Bank) (asked : Request) (now : ℕ) → (served_bank bank asked now).delta ≡ bank.delta
-served-delta bank request.Next now = refl
-served-delta bank (request.Spread status) now = refl
-served-delta bank request.Query now = refl
-served-delta bank (request.PreWrite tag piece) now = refl
-served-delta bank (request.Finalize tag) now = refl
-served-delta bank (request.Fetch tag) now = refl
-
 pub served-retired : (bank : Bank) (asked : Request) (now : ℕ) → (served_bank bank asked now).retired ≡ bank.retired
 served-retired bank request.Next now = refl
-served-retired bank (request.Spread status) now = refl
-served-retired bank request.Query now = refl
-served-retired bank (request.PreWrite tag piece) now = refl
-served-retired bank (request.Finalize tag) now = refl
-served-retired bank (request.Fetch tag) now = refl
+served-retired bank asked now = refl
 
 -- A bank that is retired keeps labels and arrivals
 pub retired_finalized : (bank : Bank) (now : ℕ) (tag : Tag) → finalized_at (retired_bank bank now) tag ≡ finalized_at bank tag
@@ -205,12 +171,3 @@ retired_arrived bank now tag =
 pub retired_past : (bank : Bank) (now : ℕ) → IsBefore bank now → IsBefore (retired_bank bank now) (suc now)
 retired_past bank now before =
     grows_order bank (retired_bank bank now) now (suc now) (retired_grows bank now) (omega arith) before
-
-pub retired_opened_at : (bank : Bank) (now step : ℕ) → IsOpenedAt bank step → IsOpenedAt (retired_bank bank now) step
-retired_opened_at bank now step opened = record {
-  finalized = retired_finalized bank now opening_tag ∙ opened.finalized;
-  arrived = retired_arrived bank now opening_tag ∙ opened.arrived;
-}
-
-pub retired_agrees : (bank : Bank) (now : ℕ) → SameBefore bank (retired_bank bank now) now
-retired_agrees bank now = grows_past bank (retired_bank bank now) now (retired_grows bank now)

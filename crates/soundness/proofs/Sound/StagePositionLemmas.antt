@@ -12,7 +12,7 @@ use Rattle.phase.specs.declared.phase.Taken.{Taken}
 use Rattle.phase.specs.Phase.{Phase, lacks_pieces}
 use Rattle.record.specs.declared.call.CallKind.{CallKind}
 use Rattle.bank.specs.declared.status.Status.TheVariants.{Unset, Pending, Final}
-use Rattle.bank.specs.declared.kind.Kind.TheVariants.{Next, Spread, Query, PreWrite, Finalize, Fetch}
+use Rattle.bank.specs.declared.kind.Kind.TheVariants.{Next, Spread}
 use Rattle.record.specs.declared.call.CallKind.TheVariants.{Read, Write, Move}
 use Rattle.record.specs.PhaseOrder.{begun_at, greatest_status, greatest_tag, due, after, passed, stage_past, stage_after}
 use Rattle.record.specs.PhaseOrder.{IsCourse, after_next, after_spread, after_query, after_again, tagged}
@@ -53,31 +53,21 @@ DuePlaced count None = Unit {0}
 DuePlaced count (Some next) = KindPlaced count next.0 next.1
 
 pub due_placed : (count : ℕ) (stage : Stage) → Placed count stage → DuePlaced count (due stage)
-due_placed count ReadBegin placed = placed
 due_placed count (ReadNext p m) placed = placed.1
 due_placed count (ReadSpread p m s) placed = placed.1
 due_placed count (QueryFrom p l t q) placed = let a = placed.0 in let b = placed.2 in omega arith
 due_placed count (FetchAt q l t) placed = placed.0
-due_placed count (PreWriteAt l t) placed = placed
-due_placed count (FinalizeAt l t) placed = placed
 due_placed count (AgainNext l p t) placed = placed.1
 due_placed count (AgainSpread l p t s) placed = placed.1
-due_placed count (MoveSpread p) placed = placed
 due_placed count (MoveQuery p) placed = omega arith
 due_placed count (MoveFetch p t) placed = omega arith
-due_placed count (MovePreWrite p t) placed = placed
-due_placed count (MoveFinalize p t) placed = placed
-due_placed count (MoveFinal p t) placed = placed
 due_placed count (Ended l t) placed = tt
 due_placed count (Moved p t) placed = tt
+due_placed count stage placed = placed
 
 pub kind_placed : (count : ℕ) (kind : Kind) (position : ℕ) → KindPlaced count kind position → position < count
-kind_placed count Next position placed = placed
 kind_placed count (Spread status) position placed = omega arith
-kind_placed count Query position placed = placed
-kind_placed count (PreWrite tag) position placed = placed
-kind_placed count (Finalize tag) position placed = placed
-kind_placed count (Fetch tag) position placed = placed
+kind_placed count kind position placed = placed
 
 -- a pointer that a phase found names one of the positions
 abbrev pub Finds : (count : ℕ) → Kind → (position : ℕ) → List Taken → Type 0
@@ -95,8 +85,7 @@ after_next_placed count p m Final finds low below = (low, finds (omega arith))
 
 after_spread_placed : (count p m : ℕ) (status : Status) → m ≤ p → suc p < count → Placed count (after_spread status p m)
 after_spread_placed count p m Unset low below = (omega arith, below)
-after_spread_placed count p m Pending low below = (omega arith, below)
-after_spread_placed count p m Final low below = (omega arith, below)
+after_spread_placed count p m status low below = (omega arith, below)
 
 after_again_placed : (count l p : ℕ) (tag : Tag) (status : Status) → (1 ≤ rank status → suc p < count) → l < count →
     p < count → Placed count (after_again status l p tag)
@@ -124,7 +113,6 @@ query_placed count kind number found p l greatest q low a b = go (tag_lt found g
 
 placed_after : (count : ℕ) (kind : CallKind) (number : ℕ) (stage : Stage) (replies : List Taken) (lacks : Bool) →
     DueFinds count (due stage) replies → Placed count stage → Placed count (after kind number stage replies lacks)
-placed_after count kind number ReadBegin replies lacks finds placed = placed
 placed_after count kind number (ReadNext p m) replies lacks finds placed =
     after_next_placed count p m (greatest_status replies) (finds refl) placed.0 placed.1
 placed_after count kind number (ReadSpread p m s) replies lacks finds placed = after_spread_placed count p m s placed.0 placed.1
@@ -133,20 +121,14 @@ placed_after count kind number (QueryFrom p l t q) replies lacks finds placed =
 placed_after count kind number (FetchAt q l t) replies true finds placed = omega arith
 placed_after count kind number (FetchAt q l t) replies false finds placed =
     cond_both (eqb q l) (AgainNext l l t) (PreWriteAt l t) (λ stage. Placed count stage) (λ e. (placed.1, placed.1)) (λ e. placed.1)
-placed_after count kind number (PreWriteAt l t) replies lacks finds placed = placed
 placed_after count kind number (FinalizeAt l t) replies lacks finds placed = (placed, placed)
 placed_after count kind number (AgainNext l p t) replies lacks finds placed =
     after_again_placed count l p t (greatest_status replies) (finds refl) placed.0 placed.1
-placed_after count kind number (AgainSpread l p t s) replies lacks finds placed = placed
-placed_after count kind number (MoveSpread p) replies lacks finds placed = placed
-placed_after count kind number (MoveQuery p) replies lacks finds placed = placed
 placed_after count kind number (MoveFetch p t) replies true finds placed = placed
-placed_after count kind number (MoveFetch p t) replies false finds placed = placed
-placed_after count kind number (MovePreWrite p t) replies lacks finds placed = placed
-placed_after count kind number (MoveFinalize p t) replies lacks finds placed = placed
 placed_after count kind number (MoveFinal p t) replies lacks finds placed = tt
 placed_after count kind number (Ended l t) replies lacks finds placed = tt
 placed_after count kind number (Moved p t) replies lacks finds placed = tt
+placed_after count kind number stage replies lacks finds placed = placed
 
 placed_passed : (count : ℕ) (kind : CallKind) (number : ℕ) (stage : Stage) (end : Option ℕ) (replies : List Taken) (lacks : Bool) →
     DueFinds count (due stage) replies → Placed count stage → Placed count (passed kind number stage end replies lacks)

@@ -1,6 +1,6 @@
 -- The call and the phase that take a reply.
 use Rattle.std.proofs.Common.{◌≡◌, ℕ, zero, suc, ◌+◌, ◌<◌, ◌≤◌, ◌⊎◌, Bool, true, false}
-use Rattle.std.proofs.Common.{cond, eqb, nat_lt, not, is_some, List, [], ◌∷◌, length, set, Option, Some, None}
+use Rattle.std.proofs.Common.{cond, eqb, nat_lt, not, is_some, List, [], ◌∷◌, ◌++◌, length, set, Option, Some, None}
 use Rattle.std.proofs.Common.{refl, sym, subst, ap, ◌∙◌, inl, inr, arith, eqb-true, slice_get, ◌&&◌}
 use Rattle.std.proofs.lemmas.Bool.{cases_eq}
 use Rattle.std.proofs.lemmas.Bool.Decides.{nat_tests}
@@ -20,9 +20,8 @@ use Rattle.record.specs.Legal.{AreNumbered}
 use Rattle.record.specs.Journals.{stage_tag}
 use Rattle.record.specs.Fragments.{Code, IsFetch, IsSettled, HasPiece}
 use Rattle.record.specs.Steps.{taking_phases}
-use Rattle.soundness.proofs.ListLemmas.{all_weaker, get_push, get_set, set_here, set_there}
+use Rattle.soundness.proofs.ListLemmas.{get_push, get_set, set_here, set_there, all_map}
 use Rattle.record.proofs.Phases.PastFetchLemmas.{IsOfWrite, late_of_write, late_past, of_write_past}
-use Rattle.soundness.proofs.Sound.PreconditionLemmas.{grown_phase}
 use Rattle.record.proofs.BegunStageLemmas.{begun_tag}
 
 pub numbered_at : (call number : ℕ) (phases : List Phase) (place : ℕ) (phase : Phase) → AreNumbered call number phases →
@@ -58,6 +57,10 @@ has-members_of : (replies : List Taken) (member : ℕ) → has (members_of repli
 has-members_of [] member = refl
 has-members_of (t ∷ ts) member = grind (arith, nat_tests, has-members_of ts member)
 
+-- the phase with one more reply
+abbrev pub grown_phase : Phase → Taken → (end : Option ℕ) → Phase
+grown_phase phase taken end = record phase { replies = phase.replies ++ taken ∷ []; end = end }
+
 -- what is recorded of a message
 abbrev pub taken_reply : Message → Reply → (now : ℕ) → Taken
 taken_reply message made now = record { member = message.member; reply = made; step = now }
@@ -90,10 +93,6 @@ take_result phase call number member made now =
         (s : Bool) → nat_lt (length phase.replies + 1) phase.quorum ≡ s →
         (cond (c && (n && not (is_some o))) (cond h phase (grown_to s)) phase ≡ phase)
         ⊎ Recorded phase call number taken now (cond (c && (n && not (is_some o))) (cond h phase (grown_to s)) phase)
-    go false c n m o d h e s f = inl refl
-    go true c false m o d h e s f = inl refl
-    go true c true m (Some end) d h e s f = inl refl
-    go true c true m None d true e s f = inl refl
     go true c true m None d false e false f = inr (record {
       same_call = eqb-true call phase.call c;
       same_number = eqb-true number phase.number m;
@@ -112,6 +111,7 @@ take_result phase call number member made now =
       completes = λ step t. absurd (cc);
       grown = refl;
     })
+    go c e n m o d h g s f = inl refl
 
 -- the last phase, which takes the message
 pub record TakesAt (phases : List Phase) (message : Message) (now : ℕ) : Type 0 where
@@ -180,9 +180,8 @@ settled_more fragment object call place phase reply end value within s = go (cas
             members = s.pieces.members;
             distinct = s.pieces.distinct;
             enough = subst (λ (p : Phase). (layout_at object p.position).k ≤ length s.pieces.members) same s.pieces.enough;
-            pieces = all_weaker (HasPiece fragment object s.phase value) (HasPiece fragment object grown value)
-                (λ member piece. has_piece_more fragment object phase reply end value member
-                (subst (λ (p : Phase). HasPiece fragment object p value member) same piece)) s.pieces.members s.pieces.pieces;
+            pieces = all_map (λ member piece. has_piece_more fragment object phase reply end value member
+                (subst (λ (p : Phase). HasPiece fragment object p value member) same piece)) _ s.pieces.pieces;
           };
         }
     go (inr apart) = record {

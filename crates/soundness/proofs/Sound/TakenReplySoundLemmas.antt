@@ -1,5 +1,5 @@
 -- A reply that is taken, recorded or stale, keeps a record sound.
-use Rattle.std.proofs.Common.{◌≡◌, ℕ, suc, pred, ◌+◌, ◌<◌, ◌⊎◌, List, length, set}
+use Rattle.std.proofs.Common.{◌≡◌, ℕ, suc, ◌+◌, ◌<◌, ◌⊎◌, List, length, set}
 use Rattle.std.proofs.Common.{Some, refl, sym, subst, subst₂, ap, ◌∙◌, inl, inr, arith, slice_get}
 use Rattle.std.proofs.lemmas.Option.{same_Some}
 use Rattle.std.specs.List.{remove}
@@ -7,46 +7,48 @@ use Rattle.bank.specs.declared.kind.Kind.{Kind}
 use Rattle.bank.specs.declared.reply.Reply.{Reply}
 use Rattle.mail.specs.declared.message.Message.{Message}
 use Rattle.phase.specs.Phase.{Phase, after_body, after_reply, after_take}
-use Rattle.record.specs.Records.{Call, Object}
+use Rattle.record.specs.Records.{Call, Object, index_by_id}
+use Rattle.record.specs.Legal.{IsLegal}
 use Rattle.record.specs.Fragments.{Code}
 use Rattle.soundness.specs.Sound.{IsPosted, IsSound}
 use Rattle.record.specs.Steps.{taking_phases, taken_object}
 use Rattle.mail.specs.declared.message.Body.TheVariants as body
 use Rattle.soundness.proofs.ListLemmas.{all_get}
+use Rattle.soundness.proofs.Sound.CallIdLemmas.{found_by_id}
 use Rattle.soundness.proofs.Sound.CallStepSoundLemmas.{WithCall}
 use Rattle.soundness.proofs.Sound.ChangedCallLemmas.{Others}
 use Rattle.soundness.proofs.Sound.MailSoundLemmas.{Mailed, all_without, mailed_sound}
 use Rattle.soundness.proofs.Sound.RecordedReplySoundLemmas.{recorded_sound}
-use Rattle.soundness.proofs.Sound.SoundnessPartLemmas.{MessageRest, mail_rest}
+use Rattle.soundness.proofs.Sound.ItemLemmas.{MessageSound, call_of, mail_of}
 use Rattle.soundness.proofs.Sound.TakenReplyLemmas.{numbered_at, taken_reply, Recorded, take_result, TakesAt, takes_at, set_same}
 
 -- the object after the take, where the message names this call, of which this phase is the last
-taken_is : (object : Object) (place : ℕ) (message : Message) (now index : ℕ) (call : Call) → message.call ≡ suc index →
+taken_is : (object : Object) → IsLegal object → (place : ℕ) (message : Message) (now index : ℕ) (call : Call) → message.call ≡ call.id →
     slice_get object.calls index ≡ Some call → (takes : TakesAt call.phases message now) →
     taken_object object place message now ≡ WithCall object (remove object.mail place) index
     (record call { phases = set call.phases takes.place (after_take takes.phase message now) })
-taken_is object place message now index call c at takes =
-    let pc : pred message.call ≡ index = ap pred c in
-    let at' : slice_get object.calls (pred message.call) ≡ Some call = subst (λ i. slice_get object.calls i ≡ Some call) (sym pc) at in
-    let one : taken_object object place message now ≡ outcome (pred message.call) (taking_phases call.phases message now) = rw at' refl in
+taken_is object legal place message now index call c at takes =
+    let found : ℕ = index_by_id object.calls message.call in
+    let pc : found ≡ index = found_by_id object legal index call message.call c at in
+    let at' : slice_get object.calls found ≡ Some call = subst (λ i. slice_get object.calls i ≡ Some call) (sym pc) at in
+    let one : taken_object object place message now ≡ outcome found (taking_phases call.phases message now) = rw at' refl in
     subst₂ (λ i phases. taken_object object place message now ≡ outcome i phases) pc takes.is one
   where
     outcome : ℕ → List Phase → Object
     outcome i phases = WithCall object (remove object.mail place) i (record call { phases = phases })
 
-pub taken_sound : (fragment : Code) (object : Object) (step now place : ℕ) → step < now → IsSound fragment object step →
+pub taken_sound : {fragment : Code} {object : Object} {step now : ℕ} (place : ℕ) → IsSound fragment object step → step < now →
     (message : Message) (kind : Kind) (made : Reply) → slice_get object.mail place ≡ Some message →
     message.body ≡ body.Reply kind made → IsSound fragment (taken_object object place message now) now
-taken_sound fragment object step now place less sound message kind made at body_is =
-    subst (λ o. IsSound fragment o now) (sym (taken_is object place message now posted.index posted.call posted.same_call posted.at takes))
-    (subst (λ p. IsSound fragment (with_next p) now) (sym taken)
-    (go (take_result takes.phase message.call message.phase message.member made now)))
+taken_sound {fragment = fragment} {object = object} {step = step} {now = now} place sound less message kind made at body_is =
+    rw (taken_is object sound.legal place message now posted.index posted.call posted.same_call posted.at takes, taken)
+    (go (take_result takes.phase message.call message.phase message.member made now))
   where
-    rest : MessageRest fragment object step message
-    rest = all_get (MessageRest fragment object step) object.mail place message (mail_rest fragment object step sound) at
+    sent : MessageSound fragment object step message
+    sent = all_get _ object.mail place message (mail_of sound) at
 
     posted : IsPosted object message
-    posted = rest.posted
+    posted = sent.posted
 
     takes : TakesAt posted.call.phases message now
     takes = takes_at posted.call.phases message now posted.place posted.phase posted.within
@@ -67,17 +69,15 @@ taken_sound fragment object step now place less sound message kind made at body_
         (set_same posted.call.phases takes.place takes.phase takes.within)
         ∙ ap (λ calls. Others object (remove object.mail place) calls) (set_same object.calls posted.index posted.call posted.at)
 
-    numbers : (takes.phase.call ≡ suc posted.index) × (takes.phase.number ≡ 1 + takes.place)
-    numbers = numbered_at (suc posted.index) 1 posted.call.phases takes.place takes.phase
-        (sound.legal.calls posted.index posted.call posted.at).numbered
-        takes.within
+    numbers : (takes.phase.call ≡ posted.call.id) × (takes.phase.number ≡ 1 + takes.place)
+    numbers = numbered_at posted.call.id 1 posted.call.phases takes.place takes.phase
+        (call_of sound posted.index posted.call posted.at).numbered takes.within
 
     go : (next ≡ takes.phase) ⊎ Recorded takes.phase message.call message.phase (taken_reply message made now) now next →
         IsSound fragment (with_next next) now
     go (inl idle) =
         subst (λ o. IsSound fragment o now) (sym (ap with_next idle ∙ same))
-        (mailed_sound fragment object step now (remove object.mail place) less sound
-        (all_without (MessageRest fragment object step) object.mail place (mail_rest fragment object step sound)))
+        (mailed_sound (remove object.mail place) sound less (all_without _ object.mail place (mail_of sound)))
     go (inr recorded) =
         let here : posted.place
         ≡ takes.place = (let a = posted.same_phase in let b = numbers.1 in let n = recorded.same_number in omega arith) in
@@ -89,5 +89,4 @@ taken_sound fragment object step now place less sound message kind made at body_
         subst₂
         (λ i p. IsSound fragment
         (WithCall object (remove object.mail place) posted.index (record posted.call { phases = set posted.call.phases i p })) now)
-        here (sym took.grown)
-        (recorded_sound fragment object step now place less sound message kind made body_is rest posted last next took)
+        here (sym took.grown) (recorded_sound place sound less message kind made body_is sent last next took)

@@ -1,7 +1,8 @@
--- What a call wants, by its last phase and the one that is due.
-use Rattle.std.proofs.Common.{◌≡◌, ℕ, suc, ◌<◌, ◌⊎◌, Bool, true, false, cond, List, [], ◌∷◌, length}
-use Rattle.std.proofs.Common.{Option, Some, None, IsSome, is_some, refl, sym, subst, ap, ◌∙◌, inl, inr, arith, slice_get}
+-- What a call wants says how far it is: where its current phase is, and what is due.
+use Rattle.std.proofs.Common.{◌≡◌, ℕ, suc, ◌<◌, Bool, true, false, cond, List, [], ◌∷◌, length}
+use Rattle.std.proofs.Common.{Option, Some, None, IsSome, is_some, refl, sym, subst, ap, ◌∙◌, arith, slice_get}
 use Rattle.std.proofs.lemmas.Option.{same_Some}
+use Rattle.tag.specs.declared.tag.Tag.{Tag}
 use Rattle.bank.specs.declared.kind.Kind.{Kind}
 use Rattle.phase.specs.Phase.{Phase, lacks_pieces}
 use Rattle.record.specs.Records.{Call, Object, layout_at}
@@ -32,22 +33,24 @@ ends_before [] phase end now e d less = absurd (cc)
 ends_before (first ∷ []) phase end now e d less = (end, ap (λ (p : Phase). p.end) (same_Some first phase e) ∙ d, less)
 ends_before (first ∷ next ∷ later) phase end now e d less = ends_before (next ∷ later) phase end now e d less
 
--- a call that may begin its next phase or be answered
-pub record Ready (call : Call) : Type 0 where
+-- a call that is not answered, whose current phase is complete
+pub record PhaseEnded (call : Call) : Type 0 where
   pub open_call : call.answered ≡ None
   pub phase : Phase
   pub current : current_phase call.phases ≡ Some phase
   pub end : ℕ
   pub ended : phase.end ≡ Some end
+
+-- a call that may begin its next phase or be answered
+pub record Ready (call : Call) : Type 0 where
+  pub last : PhaseEnded call
+  pub open last use *
   pub settled : IsFetch phase.kind → IsSome call.settled
 
 -- a call whose current phase is a complete fetch of which nothing is settled, and that lacks pieces or not
 pub record Unsettled (call : Call) (lacks : Bool) : Type 0 where
-  pub open_call : call.answered ≡ None
-  pub phase : Phase
-  pub current : current_phase call.phases ≡ Some phase
-  pub end : ℕ
-  pub ended : phase.end ≡ Some end
+  pub last : PhaseEnded call
+  pub open last use *
   pub fetch : IsFetch phase.kind
   pub none : call.settled ≡ None
   pub lacking : lacks_pieces phase ≡ lacks
@@ -57,134 +60,88 @@ pub record Waiting (call : Call) : Type 0 where
   pub open_call : call.answered ≡ None
   pub unended : (phase : Phase) → current_phase call.phases ≡ Some phase → phase.end ≡ None
 
--- the case of a call that wants its value
-pub record Settling (call : Call) (want : Want) : Type 0 where
-  pub k : ℕ
-  pub len : ℕ
-  pub is : want ≡ wants.Settle k len
-  pub unsettled : Unsettled call false
+-- a phase that is due and sends no pieces
+pub record Plain (next : Option (Kind × ℕ)) : Type 0 where
+  pub kind : Kind
+  pub position : ℕ
+  pub is_due : next ≡ Some (kind, position)
+  pub not_pre : (tag : Tag) → kind ≡ PreWrite tag → ⊥
 
-abbrev pub Cases : Object → Call → Option (Kind × ℕ) → Want → Type 0
-Cases object call next want =
-    (want ≡ wants.Done)
-    ⊎ (((want ≡ wants.Replies) × Waiting call) ⊎ (Settling call want
-    ⊎ (((want ≡ wants.Again) × Unsettled call true) ⊎ (Ready call × (want_for object next ≡ want)))))
+-- a phase that is due and sends pieces, so many for the layout of its position
+pub record Sending (object : Object) (next : Option (Kind × ℕ)) (k n : ℕ) : Type 0 where
+  pub tag : Tag
+  pub position : ℕ
+  pub is_due : next ≡ Some (PreWrite tag, position)
+  pub pieces : k ≡ (layout_at object position).k
+  pub members : n ≡ length (layout_at object position).members
+
+-- what each want says of the call, of which `next` is due
+abbrev pub Says : Object → Call → (next : Option (Kind × ℕ)) → Want → Type 0
+Says object call next wants.Done = Unit {0}
+Says object call next wants.Replies = Waiting call
+Says object call next wants.Again = Unsettled call true
+Says object call next (wants.Settle k len) = Unsettled call false
+Says object call next wants.Advance = Ready call × Plain next
+Says object call next (wants.Supply k n) = Ready call × Sending object next k n
+Says object call next wants.Answer = Ready call × (next ≡ None)
 
 pub fetch_is : (kind : Kind) → is_fetch kind ≡ true → IsFetch kind
 fetch_is (Fetch tag) e = (tag, refl)
-fetch_is Next e = absurd (cc)
-fetch_is (Spread s) e = absurd (cc)
-fetch_is Query e = absurd (cc)
-fetch_is (PreWrite tag) e = absurd (cc)
-fetch_is (Finalize tag) e = absurd (cc)
+fetch_is kind e = absurd (cc)
 
 is_fetch_of : (kind : Kind) → IsFetch kind → is_fetch kind ≡ true
-is_fetch_of kind fetch = subst (λ k. is_fetch k ≡ true) (sym fetch.1) refl
+is_fetch_of kind fetch = rw fetch.1 refl
 
--- the cases of a want
-want_cases : (object : Object) (call : Call) (next : Option (Kind × ℕ)) (want : Want) →
-    cond (is_some call.answered) wants.Done (want_after object next call.settled (current_phase call.phases)) ≡ want →
-    Cases object call next want
-want_cases object call next want e = on_answer call.answered refl
-  where
-    settle_at : Phase → Want
-    settle_at phase = wants.Settle (layout_at object phase.position).k (value_len phase.replies)
+module _ (object : Object) (call : Call) (next : Option (Kind × ℕ)) where
+  due_says : (due : Option (Kind × ℕ)) → next ≡ due → Ready call → Says object call next (want_for object due)
+  due_says None e ready = (ready, e)
+  due_says (Some (PreWrite tag, p)) e ready = (ready, record { tag = tag; position = p; is_due = e; pieces = refl; members = refl })
+  due_says (Some (Next, p)) e ready = (ready, record { kind = Next; position = p; is_due = e; not_pre = λ tag k. absurd (cc) })
+  due_says (Some (Spread s, p)) e ready = (ready, record { kind = Spread s; position = p; is_due = e; not_pre = λ tag k. absurd (cc) })
+  due_says (Some (Query, p)) e ready = (ready, record { kind = Query; position = p; is_due = e; not_pre = λ tag k. absurd (cc) })
+  due_says (Some (Finalize t, p)) e ready = (ready, record { kind = Finalize t; position = p; is_due = e; not_pre = λ tag k. absurd (cc) })
+  due_says (Some (Fetch t, p)) e ready = (ready, record { kind = Fetch t; position = p; is_due = e; not_pre = λ tag k. absurd (cc) })
 
-    on_lacking : call.answered ≡ None → (phase : Phase) → current_phase call.phases ≡ Some phase → (end : ℕ) →
-        phase.end ≡ Some end → is_fetch phase.kind ≡ true → call.settled ≡ None → (b : Bool) → lacks_pieces phase ≡ b →
-        cond b wants.Again (settle_at phase) ≡ want → Cases object call next want
-    on_lacking unanswered phase current end ended fetch none true lacking w =
-        inr (inr (inr (inl (
-          sym w,
-          record {
-            open_call = unanswered;
-            phase = phase;
-            current = current;
-            end = end;
-            ended = ended;
-            fetch = fetch_is phase.kind fetch;
-            none = none;
-            lacking = lacking;
-          },
-        ))))
-    on_lacking unanswered phase current end ended fetch none false lacking w =
-        inr (inr (inl (record {
-          k = (layout_at object phase.position).k;
-          len = value_len phase.replies;
-          is = sym w;
-          unsettled = record {
-            open_call = unanswered;
-            phase = phase;
-            current = current;
-            end = end;
-            ended = ended;
-            fetch = fetch_is phase.kind fetch;
-            none = none;
-            lacking = lacking;
-          };
-        })))
+  lacking_says : (last : PhaseEnded call) → IsFetch last.phase.kind → call.settled ≡ None → (b : Bool) → lacks_pieces last.phase ≡ b →
+      Says object call next (cond b wants.Again (wants.Settle (layout_at object last.phase.position).k (value_len last.phase.replies)))
+  lacking_says last fetch none true lacking = record { last = last; fetch = fetch; none = none; lacking = lacking }
+  lacking_says last fetch none false lacking = record { last = last; fetch = fetch; none = none; lacking = lacking }
 
-    on_settled : call.answered ≡ None → (phase : Phase) → current_phase call.phases ≡ Some phase → (end : ℕ) →
-        phase.end ≡ Some end → is_fetch phase.kind ≡ true → (s : Option (List ℕ)) → call.settled ≡ s →
-        cond (is_some s) (want_for object next) (want_of_fetch object phase) ≡ want → Cases object call next want
-    on_settled unanswered phase current end ended fetch None s w =
-        on_lacking unanswered phase current end ended fetch s (lacks_pieces phase) refl w
-    on_settled unanswered phase current end ended fetch (Some value) s w =
-        inr (inr (inr (inr (
-          record {
-            open_call = unanswered;
-            phase = phase;
-            current = current;
-            end = end;
-            ended = ended;
-            settled = λ f. ap is_some s;
-          },
-          w,
-        ))))
+  settled_says : (last : PhaseEnded call) → IsFetch last.phase.kind → (s : Option (List ℕ)) → call.settled ≡ s →
+      Says object call next (cond (is_some s) (want_for object next) (want_of_fetch object last.phase))
+  settled_says last fetch None s = lacking_says last fetch s (lacks_pieces last.phase) refl
+  settled_says last fetch (Some value) s = due_says next refl (record { last = last; settled = λ f. ap is_some s })
 
-    on_fetch : call.answered ≡ None → (phase : Phase) → current_phase call.phases ≡ Some phase →
-        (end : ℕ) → phase.end ≡ Some end → (f : Bool) → is_fetch phase.kind ≡ f →
-        cond f (cond (is_some call.settled) (want_for object next) (want_of_fetch object phase)) (want_for object next) ≡ want →
-        Cases object call next want
-    on_fetch unanswered phase current end ended true f w = on_settled unanswered phase current end ended f call.settled refl w
-    on_fetch unanswered phase current end ended false f w =
-        inr (inr (inr (inr (
-          record {
-            open_call = unanswered;
-            phase = phase;
-            current = current;
-            end = end;
-            ended = ended;
-            settled = λ fetch. absurd (let no : false ≡ true = sym f ∙ is_fetch_of phase.kind fetch in cc);
-          },
-          w,
-        ))))
+  ended_says : (last : PhaseEnded call) → (f : Bool) → is_fetch last.phase.kind ≡ f → Says object call next
+      (cond f (cond (is_some call.settled) (want_for object next) (want_of_fetch object last.phase)) (want_for object next))
+  ended_says last true f = settled_says last (fetch_is last.phase.kind f) call.settled refl
+  ended_says last false f = due_says next refl (record {
+    last = last;
+    settled = λ fetch. absurd (let no : false ≡ true = sym f ∙ is_fetch_of last.phase.kind fetch in cc);
+  })
 
-    on_end : call.answered ≡ None → (phase : Phase) → current_phase call.phases ≡ Some phase →
-        (o : Option ℕ) → phase.end ≡ o → cond (is_some o) (cond (is_fetch phase.kind)
-        (cond (is_some call.settled) (want_for object next) (want_of_fetch object phase)) (want_for object next)) wants.Replies ≡ want →
-        Cases object call next want
-    on_end unanswered phase current None o w =
-        inr (inl (
-          sym w,
-          record {
-            open_call = unanswered;
-            unended = λ other c. ap (λ (p : Phase). p.end) (sym (same_Some phase other (sym current ∙ c))) ∙ o;
-          },
-        ))
-    on_end unanswered phase current (Some end) o w = on_fetch unanswered phase current end o (is_fetch phase.kind) refl w
+  phase_says : call.answered ≡ None → (phase : Phase) → current_phase call.phases ≡ Some phase → (o : Option ℕ) → phase.end ≡ o →
+      Says object call next (cond (is_some o) (cond (is_fetch phase.kind)
+      (cond (is_some call.settled) (want_for object next) (want_of_fetch object phase)) (want_for object next)) wants.Replies)
+  phase_says unanswered phase current None o = record {
+    open_call = unanswered;
+    unended = λ other c. ap (λ (p : Phase). p.end) (sym (same_Some phase other (sym current ∙ c))) ∙ o;
+  }
+  phase_says unanswered phase current (Some end) o =
+      ended_says (record { open_call = unanswered; phase = phase; current = current; end = end; ended = o }) (is_fetch phase.kind) refl
 
-    on_phase : call.answered ≡ None → (p : Option Phase) → current_phase call.phases ≡ p →
-        want_after object next call.settled p ≡ want → Cases object call next want
-    on_phase unanswered None p w =
-        inr (inl
-        (sym w, record { open_call = unanswered; unended = λ other c. absurd (let no : None ≡ Some other = sym p ∙ c in cc) }))
-    on_phase unanswered (Some phase) p w = on_end unanswered phase p phase.end refl (w)
+  current_says : call.answered ≡ None → (p : Option Phase) → current_phase call.phases ≡ p →
+      Says object call next (want_after object next call.settled p)
+  current_says unanswered None p =
+      record { open_call = unanswered; unended = λ other c. absurd (let no : None ≡ Some other = sym p ∙ c in cc) }
+  current_says unanswered (Some phase) p = phase_says unanswered phase p phase.end refl
 
-    on_answer : (a : Option ℕ) → call.answered ≡ a → Cases object call next want
-    on_answer None a = on_phase a (current_phase call.phases) refl (rw a at e)
-    on_answer (Some step) a = inl (sym (rw a at e))
+  want_says : (a : Option ℕ) → call.answered ≡ a →
+      Says object call next (cond (is_some a) wants.Done (want_after object next call.settled (current_phase call.phases)))
+  want_says None a = current_says a (current_phase call.phases) refl
+  want_says (Some step) a = tt
 
-pub cases_of : (object : Object) (index : ℕ) (call : Call) (want : Want) → want_of object index call ≡ want →
-    Cases object call (due_of object index call) want
-cases_of object index call want e = want_cases object call (due_of object index call) want e
+pub says : (object : Object) (index : ℕ) (call : Call) (want : Want) → want_of object index call ≡ want →
+    Says object call (due_of object index call) want
+says object index call want e =
+    subst (Says object call (due_of object index call)) e (want_says object call (due_of object index call) call.answered refl)

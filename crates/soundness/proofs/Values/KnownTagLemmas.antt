@@ -27,30 +27,32 @@ use Rattle.record.specs.Journals.{stage_tag, tag_of, IsJournaled}
 use Rattle.record.specs.Fragments.{Code, IfCoded, answer_tag, answer_piece}
 use Rattle.soundness.specs.Sound.{IsSound}
 use Rattle.bank.specs.declared.reply.Answer.TheVariants as answer
-use Rattle.soundness.proofs.ListLemmas.{all_weaker}
+use Rattle.soundness.proofs.ListLemmas.{all_at, all_map}
 use Rattle.soundness.proofs.Sound.Enough.QuorumPieceLemmas.{greatest_is}
-use Rattle.soundness.proofs.Sound.SoundnessPartLemmas.{ReplyCoded, all_from}
 use Rattle.record.proofs.BegunStageLemmas.{begun_has}
 
 -- some value of the tag is in the journal
 abbrev pub Known : Object → Tag → Type 0
 Known object tag = (value : List ℕ) × IsJournaled object tag value
 
--- what is so of the tag at a stage
+-- what is so of the tag at a stage: P of one that was found, and Q of the call's own
+abbrev pub TagsAre : (P Q : Tag → Type 0) → Stage → Type 0
+TagsAre P Q (QueryFrom p l t q) = P t
+TagsAre P Q (FetchAt q l t) = Q t
+TagsAre P Q (PreWriteAt l t) = Q t
+TagsAre P Q (FinalizeAt l t) = Q t
+TagsAre P Q (AgainNext l p t) = Q t
+TagsAre P Q (AgainSpread l p t s) = Q t
+TagsAre P Q (MoveFetch p t) = Q t
+TagsAre P Q (MovePreWrite p t) = Q t
+TagsAre P Q (MoveFinalize p t) = Q t
+TagsAre P Q (MoveFinal p t) = Q t
+TagsAre P Q (Ended l t) = Q t
+TagsAre P Q (Moved p t) = Q t
+TagsAre P Q _ = Unit {0}
+
 abbrev pub TagIs : (Tag → Type 0) → Stage → Type 0
-TagIs P (QueryFrom p l t q) = P t
-TagIs P (FetchAt q l t) = P t
-TagIs P (PreWriteAt l t) = P t
-TagIs P (FinalizeAt l t) = P t
-TagIs P (AgainNext l p t) = P t
-TagIs P (AgainSpread l p t s) = P t
-TagIs P (MoveFetch p t) = P t
-TagIs P (MovePreWrite p t) = P t
-TagIs P (MoveFinalize p t) = P t
-TagIs P (MoveFinal p t) = P t
-TagIs P (Ended l t) = P t
-TagIs P (Moved p t) = P t
-TagIs P _ = Unit {0}
+TagIs P stage = TagsAre P P stage
 
 pub opening_known : (object : Object) → Known object opening_tag
 opening_known object = ([], inl (refl, refl))
@@ -59,138 +61,130 @@ pub shown_known : (fragment : Code) (object : Object) (position member : ℕ) (k
     IfCoded fragment object position member (answer_tag kind answer) (answer_piece answer) →
     Known object (shown_tag answer)
 shown_known fragment object position member kind (answer.Greatest tag) coded = (coded.value, coded.journaled)
-shown_known fragment object position member kind answer.Done coded = opening_known object
-shown_known fragment object position member kind (answer.Pointer s) coded = opening_known object
-shown_known fragment object position member kind (answer.Piece piece) coded = opening_known object
+shown_known fragment object position member kind answer coded = opening_known object
 
-known_next : (P : Tag → Type 0) → P opening_tag → (p m : ℕ) (status : Status) → TagIs P (after_next status p m)
-known_next P opening p m Unset = opening
-known_next P opening p m Pending = tt
-known_next P opening p m Final = tt
+-- tags that were found, and the opening tag, are P; the tag that a call takes of them is Q
+module _ (P Q : Tag → Type 0) (opening : P opening_tag) (more : (t : Tag) → P t → Q t) (kind : CallKind) (number : ℕ)
+    (takes : (q l : ℕ) (t : Tag) → P t → TagsAre P Q (tagged kind number q l t)) where
+  tags_next : (p m : ℕ) (status : Status) → TagsAre P Q (after_next status p m)
+  tags_next p m Unset = opening
+  tags_next p m Pending = tt
+  tags_next p m Final = tt
 
-known_spread : (P : Tag → Type 0) (p m : ℕ) (status : Status) → TagIs P (after_spread status p m)
-known_spread P p m Unset = tt
-known_spread P p m Pending = tt
-known_spread P p m Final = tt
+  tags_spread : (p m : ℕ) (status : Status) → TagsAre P Q (after_spread status p m)
+  tags_spread p m Unset = tt
+  tags_spread p m status = tt
 
-known_again : (P : Tag → Type 0) (l p : ℕ) (t : Tag) (status : Status) → P t → TagIs P (after_again status l p t)
-known_again P l p t Unset known =
-    cond_both (eqb p l) (Ended l t) (PreWriteAt p t) (λ stage. TagIs P stage) (λ e. known) (λ e. known)
-known_again P l p t Pending known = known
-known_again P l p t Final known = known
+  tags_again : (l p : ℕ) (t : Tag) (status : Status) → Q t → TagsAre P Q (after_again status l p t)
+  tags_again l p t Unset own = cond_both (eqb p l) (Ended l t) (PreWriteAt p t) (λ stage. TagsAre P Q stage) (λ e. own) (λ e. own)
+  tags_again l p t Pending own = own
+  tags_again l p t Final own = own
+
+  tags_query : (found : Tag) (p l : ℕ) (greatest : Tag) (q : ℕ) → P found → P greatest →
+      TagsAre P Q (after_query kind number found p l greatest q)
+  tags_query found p l greatest q new old =
+      cond_both (eqb p l) (tagged kind number place l later) (QueryFrom (suc p) l later place) (λ stage. TagsAre P Q stage)
+      (λ e. takes place l later known) (λ e. known)
+    where
+      later : Tag
+      later = later_tag greatest found
+
+      place : ℕ
+      place = cond (tag_lt found greatest) q p
+
+      known : P later
+      known = cond_both (tag_lt greatest found) found greatest P (λ e. new) (λ e. old)
+
+  tags_after : (stage : Stage) (replies : List Taken) (lacks : Bool) → P (greatest_tag replies) → TagsAre P Q stage →
+      TagsAre P Q (after kind number stage replies lacks)
+  tags_after ReadBegin replies lacks shown own = tt
+  tags_after (ReadNext p m) replies lacks shown own = tags_next p m (greatest_status replies)
+  tags_after (ReadSpread p m s) replies lacks shown own = tags_spread p m s
+  tags_after (QueryFrom p l t q) replies lacks shown own = tags_query (greatest_tag replies) p l t q shown own
+  tags_after (FetchAt q l t) replies true shown own = tt
+  tags_after (FetchAt q l t) replies false shown own =
+      cond_both (eqb q l) (AgainNext l l t) (PreWriteAt l t) (λ stage. TagsAre P Q stage) (λ e. own) (λ e. own)
+  tags_after (AgainNext l p t) replies lacks shown own = tags_again l p t (greatest_status replies) own
+  tags_after (MoveSpread p) replies lacks shown own = tt
+  tags_after (MoveQuery p) replies lacks shown own = more (greatest_tag replies) shown
+  tags_after (MoveFetch p t) replies true shown own = tt
+  tags_after stage replies lacks shown own = own
+
+  tags_passed : (stage : Stage) (end : Option ℕ) (replies : List Taken) (lacks : Bool) → P (greatest_tag replies) → TagsAre P Q stage →
+      TagsAre P Q (passed kind number stage end replies lacks)
+  tags_passed stage None replies lacks shown own = own
+  tags_passed stage (Some end) replies lacks shown own = tags_after stage replies lacks shown own
+
+  tags_past : (stage : Stage) (phase : Phase) → P (greatest_tag phase.replies) → TagsAre P Q stage →
+      TagsAre P Q (stage_past kind number stage phase)
+  tags_past stage phase shown own =
+      tags_passed (begun_at stage phase.position) phase.end phase.replies (lacks_pieces phase) shown
+      (begun_has (λ s. TagsAre P Q s) stage phase.position (λ first. tt) own)
+
+  pub tags_end : (phases : List Phase) (stage : Stage) → AllByRecursion (λ phase. P (greatest_tag phase.replies)) phases →
+      TagsAre P Q stage → TagsAre P Q (stage_after kind number stage phases)
+  tags_end [] stage shown own = own
+  tags_end (phase ∷ phases) stage shown own =
+      tags_end phases (stage_past kind number stage phase) shown.1 (tags_past stage phase shown.0 own)
+
+  -- and at the stage where a phase was due
+  pub tags_at : (phases : List Phase) (stage : Stage) → IsCourse kind number stage phases → (place : ℕ) (phase : Phase) →
+      slice_get phases place ≡ Some phase →
+      ((before : ℕ) (other : Phase) → before < place → slice_get phases before ≡ Some other → P (greatest_tag other.replies)) →
+      TagsAre P Q stage → (there : Stage) × (due there ≡ Some (phase.kind, phase.position)) × TagsAre P Q there
+  tags_at [] stage course place phase at shown own = absurd (cc)
+  tags_at (first ∷ phases) stage course zero phase at shown own =
+      let there = begun_at stage first.position in (
+        there,
+        subst (λ (p : Phase). due there ≡ Some (p.kind, p.position)) (same_Some first phase at) course.0,
+        begun_has (λ s. TagsAre P Q s) stage first.position (λ begins. tt) own,
+      )
+  tags_at (first ∷ phases) stage course (suc place) phase at shown own =
+      tags_at phases (stage_past kind number stage first) course.2 place phase at
+      (λ before other less e. shown (suc before) other (omega arith) e)
+      (tags_past stage first (shown 0 first (omega arith) refl) own)
+
+pub tags_first : (P Q : Tag → Type 0) (kind : CallKind) (from : ℕ) → TagsAre P Q (first_stage kind from)
+tags_first P Q Read from = tt
+tags_first P Q kind from = tt
+
+pub tags_tag : (P Q : Tag → Type 0) (stage : Stage) (tag : Tag) → TagsAre P Q stage → stage_tag stage ≡ Some tag → Q tag
+tags_tag P Q (FetchAt q l t) tag own e = subst Q (same_Some t tag e) own
+tags_tag P Q (PreWriteAt l t) tag own e = subst Q (same_Some t tag e) own
+tags_tag P Q (FinalizeAt l t) tag own e = subst Q (same_Some t tag e) own
+tags_tag P Q (AgainNext l p t) tag own e = subst Q (same_Some t tag e) own
+tags_tag P Q (AgainSpread l p t s) tag own e = subst Q (same_Some t tag e) own
+tags_tag P Q (MoveFetch p t) tag own e = subst Q (same_Some t tag e) own
+tags_tag P Q (MovePreWrite p t) tag own e = subst Q (same_Some t tag e) own
+tags_tag P Q (MoveFinalize p t) tag own e = subst Q (same_Some t tag e) own
+tags_tag P Q (MoveFinal p t) tag own e = subst Q (same_Some t tag e) own
+tags_tag P Q (Ended l t) tag own e = subst Q (same_Some t tag e) own
+tags_tag P Q (Moved p t) tag own e = subst Q (same_Some t tag e) own
+tags_tag P Q stage tag own e = absurd (cc)
+
+-- A read or a move takes a tag that was found
 
 abbrev pub IsNoWrite : CallKind → Type 0
 IsNoWrite kind = (value : List ℕ) → kind ≡ Write value → ⊥
 
-known_tagged : (P : Tag → Type 0) (kind : CallKind) (number q l : ℕ) (t : Tag) → IsNoWrite kind → P t →
+known_tagged : (P : Tag → Type 0) (kind : CallKind) (number : ℕ) → IsNoWrite kind → (q l : ℕ) (t : Tag) → P t →
     TagIs P (tagged kind number q l t)
-known_tagged P Read number q l t plain known = known
-known_tagged P (Write value) number q l t plain known = absurd (plain value refl)
-known_tagged P Move number q l t plain known = known
+known_tagged P Read number plain q l t known = known
+known_tagged P (Write value) number plain q l t known = absurd (plain value refl)
+known_tagged P Move number plain q l t known = known
 
-known_query : (P : Tag → Type 0) (kind : CallKind) (number : ℕ) (found : Tag) (p l : ℕ) (greatest : Tag) (q : ℕ) → IsNoWrite kind →
-    P found → P greatest → TagIs P (after_query kind number found p l greatest q)
-known_query P kind number found p l greatest q plain new old =
-    cond_both (eqb p l) (tagged kind number place l later) (QueryFrom (suc p) l later place) (λ stage. TagIs P stage)
-    (λ e. known_tagged P kind number place l later plain known) (λ e. known)
-  where
-    later : Tag
-    later = later_tag greatest found
-
-    place : ℕ
-    place = cond (tag_lt found greatest) q p
-
-    known : P later
-    known = cond_both (tag_lt greatest found) found greatest P (λ e. new) (λ e. old)
-
-known_after : (P : Tag → Type 0) → P opening_tag → (kind : CallKind) (number : ℕ) (stage : Stage) (replies : List Taken) (lacks : Bool) →
-    IsNoWrite kind →
-    P (greatest_tag replies) → TagIs P stage →
-    TagIs P (after kind number stage replies lacks)
-known_after P opening kind number ReadBegin replies lacks plain shown known = tt
-known_after P opening kind number (ReadNext p m) replies lacks plain shown known = known_next P opening p m (greatest_status replies)
-known_after P opening kind number (ReadSpread p m s) replies lacks plain shown known = known_spread P p m s
-known_after P opening kind number (QueryFrom p l t q) replies lacks plain shown known =
-    known_query P kind number (greatest_tag replies) p l t q plain shown known
-known_after P opening kind number (FetchAt q l t) replies true plain shown known = tt
-known_after P opening kind number (FetchAt q l t) replies false plain shown known =
-    cond_both (eqb q l) (AgainNext l l t) (PreWriteAt l t) (λ stage. TagIs P stage) (λ e. known) (λ e. known)
-known_after P opening kind number (PreWriteAt l t) replies lacks plain shown known = known
-known_after P opening kind number (FinalizeAt l t) replies lacks plain shown known = known
-known_after P opening kind number (AgainNext l p t) replies lacks plain shown known = known_again P l p t (greatest_status replies) known
-known_after P opening kind number (AgainSpread l p t s) replies lacks plain shown known = known
-known_after P opening kind number (MoveSpread p) replies lacks plain shown known = tt
-known_after P opening kind number (MoveQuery p) replies lacks plain shown known = shown
-known_after P opening kind number (MoveFetch p t) replies true plain shown known = tt
-known_after P opening kind number (MoveFetch p t) replies false plain shown known = known
-known_after P opening kind number (MovePreWrite p t) replies lacks plain shown known = known
-known_after P opening kind number (MoveFinalize p t) replies lacks plain shown known = known
-known_after P opening kind number (MoveFinal p t) replies lacks plain shown known = known
-known_after P opening kind number (Ended l t) replies lacks plain shown known = known
-known_after P opening kind number (Moved p t) replies lacks plain shown known = known
-
-known_passed : (P : Tag → Type 0) → P opening_tag →
-    (kind : CallKind) (number : ℕ) (stage : Stage) (end : Option ℕ) (replies : List Taken) (lacks : Bool) →
-    IsNoWrite kind → P (greatest_tag replies) → TagIs P stage →
-    TagIs P (passed kind number stage end replies lacks)
-known_passed P opening kind number stage None replies lacks plain shown known = known
-known_passed P opening kind number stage (Some end) replies lacks plain shown known =
-    known_after P opening kind number stage replies lacks plain shown known
-
-known_past : (P : Tag → Type 0) → P opening_tag → (kind : CallKind) (number : ℕ) (stage : Stage) (phase : Phase) →
-    IsNoWrite kind → P (greatest_tag phase.replies) → TagIs P stage → TagIs P (stage_past kind number stage phase)
-known_past P opening kind number stage phase plain shown known =
-    known_passed P opening kind number (begun_at stage phase.position) phase.end phase.replies (lacks_pieces phase) plain shown
-    (begun_has (λ s. TagIs P s) stage phase.position (λ first. tt) known)
-
-pub known_end : (P : Tag → Type 0) → P opening_tag → (kind : CallKind) (number : ℕ) (phases : List Phase) (stage : Stage) → IsNoWrite kind →
-    AllByRecursion (λ phase. P (greatest_tag phase.replies)) phases →
-    TagIs P stage → TagIs P (stage_after kind number stage phases)
-known_end P opening kind number [] stage plain shown known = known
-known_end P opening kind number (phase ∷ phases) stage plain shown known =
-    known_end P opening kind number phases (stage_past kind number stage phase) plain shown.1
-    (known_past P opening kind number stage phase plain shown.0 known)
-
--- and at the stage where a phase was due
 pub known_at : (P : Tag → Type 0) → P opening_tag → (kind : CallKind) (number : ℕ) (phases : List Phase) (stage : Stage) →
     IsNoWrite kind → IsCourse kind number stage phases → (place : ℕ) (phase : Phase) → slice_get phases place ≡ Some phase →
     ((before : ℕ) (other : Phase) → before < place → slice_get phases before ≡ Some other → P (greatest_tag other.replies)) →
     TagIs P stage → (there : Stage) × (due there ≡ Some (phase.kind, phase.position)) × TagIs P there
-known_at P opening kind number [] stage plain course place phase at shown known = absurd (cc)
-known_at P opening kind number (first ∷ phases) stage plain course zero phase at shown known =
-    let there = begun_at stage first.position in (
-      there,
-      subst (λ (p : Phase). due there ≡ Some (p.kind, p.position)) (same_Some first phase at) course.0,
-      begun_has (λ s. TagIs P s) stage first.position (λ begins. tt) known,
-    )
-known_at P opening kind number (first ∷ phases) stage plain course (suc place) phase at shown known =
-    known_at P opening kind number phases (stage_past kind number stage first) plain course.2 place
-    phase at (λ before other less e. shown (suc before) other (omega arith) e)
-    (known_past P opening kind number stage first plain (shown 0 first (omega arith) refl) known)
+known_at P opening kind number phases stage plain =
+    tags_at P P opening (λ t p. p) kind number (known_tagged P kind number plain) phases stage
 
 pub known_tag : (P : Tag → Type 0) (stage : Stage) (tag : Tag) → TagIs P stage → stage_tag stage ≡ Some tag → P tag
-known_tag P (FetchAt q l t) tag known e = subst P (same_Some t tag e) known
-known_tag P (PreWriteAt l t) tag known e = subst P (same_Some t tag e) known
-known_tag P (FinalizeAt l t) tag known e = subst P (same_Some t tag e) known
-known_tag P (AgainNext l p t) tag known e = subst P (same_Some t tag e) known
-known_tag P (AgainSpread l p t s) tag known e = subst P (same_Some t tag e) known
-known_tag P (MoveFetch p t) tag known e = subst P (same_Some t tag e) known
-known_tag P (MovePreWrite p t) tag known e = subst P (same_Some t tag e) known
-known_tag P (MoveFinalize p t) tag known e = subst P (same_Some t tag e) known
-known_tag P (MoveFinal p t) tag known e = subst P (same_Some t tag e) known
-known_tag P (Ended l t) tag known e = subst P (same_Some t tag e) known
-known_tag P (Moved p t) tag known e = subst P (same_Some t tag e) known
-known_tag P ReadBegin tag known e = absurd (cc)
-known_tag P (ReadNext p m) tag known e = absurd (cc)
-known_tag P (ReadSpread p m s) tag known e = absurd (cc)
-known_tag P (QueryFrom p l t q) tag known e = absurd (cc)
-known_tag P (MoveSpread p) tag known e = absurd (cc)
-known_tag P (MoveQuery p) tag known e = absurd (cc)
+known_tag P stage tag known e = tags_tag P P stage tag known e
 
 pub known_first : (P : Tag → Type 0) (kind : CallKind) (from : ℕ) → TagIs P (first_stage kind from)
-known_first P Read from = tt
-known_first P (Write value) from = tt
-known_first P Move from = tt
+known_first P kind from = tags_first P P kind from
 
 -- what the phases of a call show is in the journal
 pub phase_known : (fragment : Code) (object : Object) (step : ℕ) → IsSound fragment object step → (index : ℕ) (call : Call) →
@@ -198,8 +192,7 @@ pub phase_known : (fragment : Code) (object : Object) (step : ℕ) → IsSound f
     Known object (greatest_tag phase.replies)
 phase_known fragment object step sound index call at place phase within =
     greatest_is (Known object) phase.replies (opening_known object)
-    (all_weaker (ReplyCoded fragment object phase) (λ reply. Known object (shown_tag reply.reply.answer))
-    (λ reply c. shown_known fragment object phase.position reply.member phase.kind reply.reply.answer c) phase.replies
+    (all_map (λ reply c. shown_known fragment object phase.position reply.member phase.kind reply.reply.answer c) _
     (sound.coded.phases index place call phase at within))
 
 -- a call's tag is in the journal
@@ -209,13 +202,13 @@ pub call_known : (fragment : Code) (object : Object) (step : ℕ) → IsSound fr
 call_known fragment object step sound index call at tag e = go call.kind refl
   where
     shown : AllByRecursion (λ phase. Known object (greatest_tag phase.replies)) call.phases
-    shown = all_from (λ phase. Known object (greatest_tag phase.replies)) call.phases
+    shown = all_at call.phases
         (λ place phase within. phase_known fragment object step sound index call at place phase within)
 
     other : IsNoWrite call.kind → Known object tag
     other plain = known_tag (Known object) (stage_of object index call) tag
-        (known_end (Known object) (opening_known object) call.kind (suc index) call.phases
-        (first_stage call.kind (source_of object index)) plain shown
+        (tags_end (Known object) (Known object) (opening_known object) (λ t p. p) call.kind call.id
+        (known_tagged (Known object) call.kind call.id plain) call.phases (first_stage call.kind (source_of object index)) shown
         (known_first (Known object) call.kind (source_of object index))) e
 
     go : (kind : CallKind) → call.kind ≡ kind → Known object tag

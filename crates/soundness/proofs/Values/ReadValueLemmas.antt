@@ -20,8 +20,8 @@ use Rattle.record.specs.Journals.{stage_tag, tag_of, IsJournaled, ReadsJournaled
 use Rattle.record.specs.Fragments.{Code, IsValue, AreValues, Determines, IsCoded, IfCoded, answer_tag}
 use Rattle.record.specs.Fragments.{answer_piece, AreCoded, HasPiece, IsSettled, AreSettled}
 use Rattle.soundness.proofs.Quorums.QuorumMeetingLemmas.{lawful_at}
-use Rattle.soundness.proofs.Values.WrittenTagLemmas.{written_number}
-use Rattle.soundness.proofs.ListLemmas.{all_weaker, all_get}
+use Rattle.soundness.proofs.Values.WrittenTagLemmas.{written_above, written_id}
+use Rattle.soundness.proofs.ListLemmas.{all_weaker, all_get, all_map}
 use Rattle.soundness.proofs.Sound.Enough.PieceCountLemmas.{pieces_not_lacking}
 use Rattle.soundness.proofs.Sound.FetchOrderLemmas.{first_late}
 use Rattle.record.proofs.Phases.PastFetchLemmas.{IsLateWith, fetch_due, late_stays}
@@ -56,7 +56,7 @@ pub settled_tag : (fragment : Code) (object : Object) → IsLegal object → (in
     tag_of object index call ≡ Some settled.fetch.0
 settled_tag fragment object legal index call at value settled =
     let c = legal.calls index call at in
-    fetched_tag call.kind (suc index) call.phases (first_stage call.kind (source_of object index)) c.course settled.place settled.phase
+    fetched_tag call.kind call.id call.phases (first_stage call.kind (source_of object index)) c.course settled.place settled.phase
     settled.fetch.0 settled.within settled.fetch.1
     (pieces_not_lacking fragment object settled.phase value
     (all_get (IsTruePhase object) call.phases settled.place settled.phase c.phases settled.within) settled.pieces)
@@ -66,13 +66,13 @@ pub journal_unique : (object : Object) → IsLegal object → (tag : Tag) (v w :
     IsJournaled object tag w → v ≡ w
 journal_unique object legal tag v w (inl a) (inl b) = a.1 ∙ sym b.1
 journal_unique object legal tag v w (inl a) (inr b) =
-    let n = written_number object legal tag w b in let o = ap (λ (t : Tag). t.call) a.0 in absurd (omega arith)
+    let n = written_above object legal tag w b in let o = ap (λ (t : Tag). t.number) a.0 in absurd (omega arith)
 journal_unique object legal tag v w (inr a) (inl b) =
-    let n = written_number object legal tag v a in let o = ap (λ (t : Tag). t.call) b.0 in absurd (omega arith)
+    let n = written_above object legal tag v a in let o = ap (λ (t : Tag). t.number) b.0 in absurd (omega arith)
 journal_unique object legal tag v w (inr a) (inr b) =
-    let n = written_number object legal tag v a in
-    let m = written_number object legal tag w b in
-    let place : a.index ≡ b.index = omega arith in
+    let n = written_id object legal tag v a in
+    let m = written_id object legal tag w b in
+    let place : a.index ≡ b.index = legal.ids a.index b.index a.call b.call a.at b.at (sym n ∙ m) in
     let one : a.call ≡ b.call = same_Some a.call b.call (sym a.at ∙ ap (λ i. slice_get object.calls i) place ∙ b.at) in
     let kinds : Write v ≡ Write w = sym a.kind ∙ ap (λ (c : Call). c.kind) one ∙ b.kind in
     cc
@@ -119,10 +119,8 @@ pub settled_journaled : (fragment : Code) (object : Object) → Determines fragm
     IsValue value → (settled : IsSettled fragment object call value) → IsJournaled object settled.fetch.0 value
 settled_journaled fragment object determines legal values coded index call at value bytes settled =
     go settled.pieces.members settled.pieces.distinct settled.pieces.enough
-    (all_weaker (HasPiece fragment object settled.phase value) (Agrees fragment object k tag value)
-    (λ member has. piece_agrees fragment object legal coded index settled.place call settled.phase at settled.within tag
-    settled.fetch.1 value member has)
-    settled.pieces.members settled.pieces.pieces)
+    (all_map (λ member has. piece_agrees fragment object legal coded index settled.place call settled.phase at settled.within tag
+    settled.fetch.1 value member has) _ settled.pieces.pieces)
   where
     k : ℕ
     k = (layout_at object settled.phase.position).k

@@ -37,7 +37,7 @@ pub sent_by_write : (fragment : Code) (object : Object) (step : ℕ) → IsSound
     slice_get call.phases place ≡ Some phase → kind_tag phase.kind ≡ Some tag → (value : List ℕ) → call.kind ≡ Write value →
     tag_of object index call ≡ Some tag
 sent_by_write fragment object step sound index place call phase tag at within e value k =
-    sent_tag value call.kind k (suc index) call.phases (first_stage call.kind (source_of object index))
+    sent_tag value call.kind k call.id call.phases (first_stage call.kind (source_of object index))
     (of_write_first value call.kind (source_of object index) k) (sound.legal.calls index call at).course place phase tag within e
 
 pub sent_known : (fragment : Code) (object : Object) (step : ℕ) → IsSound fragment object step →
@@ -47,7 +47,7 @@ sent_known fragment object step sound index place call phase tag at within e = g
   where
     other : IsNoWrite call.kind → Known object tag
     other plain =
-        let there = known_at (Known object) (opening_known object) call.kind (suc index) call.phases
+        let there = known_at (Known object) (opening_known object) call.kind call.id call.phases
         (first_stage call.kind (source_of object index)) plain (sound.legal.calls index call at).course place phase within
         (λ before p less w. phase_known fragment object step sound index call at before p w)
         (known_first (Known object) call.kind (source_of object index)) in

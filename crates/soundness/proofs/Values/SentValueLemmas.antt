@@ -13,9 +13,9 @@ use Rattle.bank.specs.declared.kind.Kind.TheVariants.{Next, Spread, Query, PreWr
 use Rattle.record.specs.declared.call.CallKind.TheVariants.{Read, Write, Move}
 use Rattle.record.specs.PhaseOrder.{due}
 use Rattle.record.specs.declared.stage.Stage.{Stage}
-use Rattle.record.specs.declared.stage.Stage.TheVariants.{ReadBegin, ReadNext, ReadSpread, QueryFrom, FetchAt, PreWriteAt}
-use Rattle.record.specs.declared.stage.Stage.TheVariants.{FinalizeAt, AgainNext, AgainSpread, MoveSpread, MoveQuery}
-use Rattle.record.specs.declared.stage.Stage.TheVariants.{MoveFetch, MovePreWrite, MoveFinalize, MoveFinal, Ended, Moved}
+use Rattle.record.specs.declared.stage.Stage.TheVariants.{FetchAt, PreWriteAt}
+use Rattle.record.specs.declared.stage.Stage.TheVariants.{FinalizeAt}
+use Rattle.record.specs.declared.stage.Stage.TheVariants.{MoveFetch, MovePreWrite, MoveFinalize, Ended, Moved}
 use Rattle.record.specs.Journals.{stage_tag, tag_of, IsJournaled}
 use Rattle.record.specs.Fragments.{Code, Determines, IsFragment, IsCoded, IfCoded, kind_tag, request_tag, request_piece}
 use Rattle.soundness.specs.Sound.{IsSound}
@@ -49,23 +49,15 @@ DueTag None has = Unit {0}
 DueTag (Some next) has = (t : Tag) → kind_tag next.0 ≡ Some t → has ≡ Some t
 
 due_tags : (stage : Stage) → DueTag (due stage) (stage_tag stage)
-due_tags ReadBegin = λ t e. absurd (cc)
-due_tags (ReadNext p m) = λ t e. absurd (cc)
-due_tags (ReadSpread p m s) = λ t e. absurd (cc)
-due_tags (QueryFrom p l t q) = λ t e. absurd (cc)
 due_tags (FetchAt q l t) = λ t e. e
 due_tags (PreWriteAt l t) = λ t e. e
 due_tags (FinalizeAt l t) = λ t e. e
-due_tags (AgainNext l p t) = λ t e. absurd (cc)
-due_tags (AgainSpread l p t s) = λ t e. absurd (cc)
-due_tags (MoveSpread p) = λ t e. absurd (cc)
-due_tags (MoveQuery p) = λ t e. absurd (cc)
 due_tags (MoveFetch p t) = λ t e. e
 due_tags (MovePreWrite p t) = λ t e. e
 due_tags (MoveFinalize p t) = λ t e. e
-due_tags (MoveFinal p t) = λ t e. absurd (cc)
 due_tags (Ended l t) = tt
 due_tags (Moved p t) = tt
+due_tags stage = λ t e. absurd (cc)
 
 pub due_tag : (stage : Stage) (kind : Kind) (position : ℕ) (tag : Tag) → due stage ≡ Some (kind, position) →
     kind_tag kind ≡ Some tag → stage_tag stage ≡ Some tag

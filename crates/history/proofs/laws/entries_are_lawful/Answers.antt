@@ -3,5 +3,5 @@ use Rattle.history.proofs.LawfulEntryLemmas.{lawful_entries}
 use Rattle.history.proofs.laws.entries_are_lawful.Goals as goal
 
 pub returns : goal.returns
-returns c = λ fragment object last code sound.
-    lawful_entries object (reads_journaled fragment object code.determines sound.legal sound.values sound.coded sound.settled)
+returns c = λ fragment object last code sound numbered.
+    lawful_entries object numbered (reads_journaled fragment object code.determines sound.legal sound.values sound.coded sound.settled)

@@ -10,4 +10,4 @@ returns-clause-calls c =
     let object = c.args.register.now.object in
     let listed = c.deref.ensures.value ∙ c.in_ok-entries.ensures.entries in
     let made = c.in_ok-tagged_entries.ensures ∙ ap (λ (es : List Entry). map (λ entry. tagged_entry object entry) es) listed in
-    subst (λ (calls : List TaggedCall). AreCallsOf object calls) (sym made) (calls_of_entries object)
+    subst (λ (calls : List TaggedCall). AreCallsOf object calls) (sym made) (calls_of_entries object c.soundness.ensures.numbered)

@@ -1,7 +1,7 @@
 use Rattle.std.proofs.Common.{List, ℕ, refl, subst}
 use Rattle.player.specs.Shown.{ShowsCall, ShowsSequence, ShowsCheck, HasNoCall}
 use Rattle.player.specs.Play.{Prints}
-use Rattle.player.proofs.CommandResultLemmas.{shown, may_change, changed, no_bad}
+use Rattle.player.proofs.CommandResultLemmas.{shown, changed, no_bad}
 use Rattle.player.proofs.player.carry_out.Goals as goal
 
 pub returns-in-Show : goal.returns-in-Show
@@ -22,28 +22,7 @@ returns-in-Check g c =
     (ShowsCheck c.args.cluster.now named c.in-Check.calls.items) (HasNoCall c.args.cluster.now named c.in-Check.calls.items)
     (λ text is. (refl, is)) (λ bad. (bad, refl)) asked
 
-pub change-requires : goal.change-requires
-change-requires g c = may_change c.args.command (record {
-  servers = c.in_default.not-Servers;
-  show = c.in_default.not-Show;
-  mail = c.in_default.not-Mail;
-  bank = c.in_default.not-Bank;
-  account = c.in_default.not-Account;
-  history = c.in_default.not-History;
-  sequence = c.in_default.not-Sequence;
-  check = c.in_default.not-Check;
-})
-
-pub returns-in_default : goal.returns-in_default
-returns-in_default g c =
-    let may = may_change c.args.command (record {
-      servers = c.in_default.not-Servers;
-      show = c.in_default.not-Show;
-      mail = c.in_default.not-Mail;
-      bank = c.in_default.not-Bank;
-      account = c.in_default.not-Account;
-      history = c.in_default.not-History;
-      sequence = c.in_default.not-Sequence;
-      check = c.in_default.not-Check;
-    }) in
-    changed _ _ c.args.cluster.now c.change.new.cluster c.args.command c.change.result _ may c.change.ensures (c.print_line.ensures _ refl)
+pub returns-in-Change : goal.returns-in-Change
+returns-in-Change g c =
+    changed _ _ c.args.cluster.now c.change.new.cluster c.args.command c.in-Change.asked c.change.result _ c.in-Change.is c.change.ensures
+    (c.print_line.ensures _ refl)

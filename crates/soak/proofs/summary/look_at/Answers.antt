@@ -10,7 +10,8 @@ returns-clause-check c =
     let object = c.args.register.now.object in
     let listed : c.deref-3.result.now ≡ entries object = c.deref-3.ensures.value ∙ c.in_ok-entries.ensures.entries in
     let lawful : AreLawfulEntries (entries object) =
-    c.entries_are_lawful.ensures fragment object c.args.register.now.last c.fragments_are_a_code.ensures c.soundness.ensures.sound in
+    c.entries_are_lawful.ensures fragment object c.args.register.now.last c.fragments_are_a_code.ensures c.soundness.ensures.sound
+    c.soundness.ensures.numbered in
     c.check.ensures.1 (
       subst AreLawfulEntries (sym listed) lawful,
       subst (λ es. IsSequence es c.deref-4.result.now) (sym listed)

@@ -19,10 +19,11 @@ use Rattle.record.specs.PhaseOrder.{due}
 use Rattle.record.specs.Legal.{IsLegal, BeginInOpen, AreOpened}
 use Rattle.record.specs.Fragments.{IsFetch, answer_piece, TookPiece, HasEnough, HasDropped}
 use Rattle.bank.specs.declared.reply.Answer.TheVariants as answer
+use Rattle.soundness.proofs.Quorums.ReplyTruthLemmas.{all_at}
 use Rattle.soundness.proofs.Quorums.QuorumMeetingLemmas.{lawful_at, phase_quorum}
 use Rattle.soundness.proofs.Quorums.ReplyTruthLemmas.{all_members, came_by_later}
 use Rattle.soundness.proofs.Quorums.CommonMemberLemmas.{quorums_share}
-use Rattle.soundness.proofs.ListLemmas.{all_weaker}
+use Rattle.soundness.proofs.ListLemmas.{all_map}
 use Rattle.soundness.proofs.Sound.Enough.FinalizedPieceLemmas.{fetch_rests, had_before}
 use Rattle.soundness.proofs.Sound.Enough.QuorumPieceLemmas.{Had, had_later}
 use Rattle.soundness.proofs.Sound.Enough.StagePieceLemmas.{AtPhase, call_at_phase}
@@ -31,17 +32,7 @@ use Rattle.soundness.proofs.Sound.Enough.StagePieceLemmas.{AtPhase, call_at_phas
 true_fetched : (tag : Tag) (bank : Bank) (made : ℕ) (answer : Answer) → IsTrueAnswer bank made (Fetch tag) answer →
     HoldsPiece bank tag made → IsSome (answer_piece answer)
 true_fetched tag bank made (answer.Piece piece) says held = says.1.1 held
-true_fetched tag bank made answer.Done says held = absurd says
-true_fetched tag bank made (answer.Pointer s) says held = absurd says
-true_fetched tag bank made (answer.Greatest t) says held = absurd says
-
-all_at : (P : ℕ → Type 0) (xs : List ℕ) (i : ℕ) → AllByRecursion P xs → has xs i ≡ true → P i
-all_at P [] i all h = absurd (cc)
-all_at P (x ∷ xs) i all h = go (or_cases (eqb x i) (has xs i) h) (all_at P xs i all.1)
-  where
-    go : (eqb x i ≡ true) ⊎ (has xs i ≡ true) → (has xs i ≡ true → P i) → P i
-    go (inl e) rest = subst P (eqb-true x i e) all.0
-    go (inr e) rest = rest e
+true_fetched tag bank made answer says held = absurd says
 
 reply_place : (P : Taken → Type 0) (replies : List Taken) (i : ℕ) →
     AllByRecursion P replies → has (members_of replies) i ≡ true →
@@ -118,9 +109,8 @@ opening_had object phase end truth e opened = record {
   members = members_of phase.replies;
   is_quorum = phase_quorum object phase end truth e;
   all = all_members (λ i. HadPiece (bank_at object phase.position i) opening_tag phase.start) phase.replies
-      (all_weaker (IsTrueReply object phase) (λ reply. HadPiece (bank_at object phase.position reply.member) opening_tag phase.start)
-      (λ reply r. let o = opened reply.member r.within in
-      subst (λ came. came_by came phase.start ≡ true) (sym o.1.arrived) (le-leb o.0 phase.start o.2)) phase.replies truth.replies);
+      (all_map (λ reply r. let o = opened reply.member r.within in
+      subst (λ came. came_by came phase.start ≡ true) (sym o.1.arrived) (le-leb o.0 phase.start o.2)) _ truth.replies);
 }
 
 -- a complete fetch has pieces of at least k members, or one had dropped the tag

@@ -1,20 +1,20 @@
 -- What was fetched before had its pieces.
-use Rattle.std.proofs.Common.{◌≡◌, ℕ, zero, suc, ◌<◌, ◌≤◌, ◌⊎◌, true, Option}
+use Rattle.std.proofs.Common.{◌≡◌, ℕ, zero, suc, ◌<◌, ◌≤◌, ◌⊎◌, true, false, ap, Option}
 use Rattle.std.proofs.Common.{Some, None, refl, subst₂, inl, inr, arith, le_of_lt, leb-true}
 use Rattle.std.proofs.lemmas.Option.{some_pair_parts}
 use Rattle.tag.specs.declared.tag.Tag.{Tag}
 use Rattle.tag.specs.Tag.{opening_tag}
 use Rattle.bank.specs.declared.kind.Kind.{Kind}
 use Rattle.record.specs.Records.{Object, bank_at}
-use Rattle.bank.specs.declared.status.Status.TheVariants.{Pending, Final}
-use Rattle.bank.specs.declared.kind.Kind.TheVariants.{Next, Spread, Query, PreWrite, Finalize, Fetch}
+use Rattle.bank.specs.declared.kind.Kind.TheVariants.{Finalize, Fetch}
 use Rattle.bank.specs.Knowledge.{came_by, finalized_at, HasFinalized}
 use Rattle.record.specs.PhaseOrder.{due}
 use Rattle.record.specs.declared.stage.Stage.{Stage}
-use Rattle.record.specs.declared.stage.Stage.TheVariants.{ReadBegin, ReadNext, ReadSpread, QueryFrom, FetchAt, PreWriteAt}
-use Rattle.record.specs.declared.stage.Stage.TheVariants.{FinalizeAt, AgainNext, AgainSpread, MoveSpread, MoveQuery}
-use Rattle.record.specs.declared.stage.Stage.TheVariants.{MoveFetch, MovePreWrite, MoveFinalize, MoveFinal, Ended, Moved}
+use Rattle.record.specs.declared.stage.Stage.TheVariants.{FetchAt}
+use Rattle.record.specs.declared.stage.Stage.TheVariants.{FinalizeAt}
+use Rattle.record.specs.declared.stage.Stage.TheVariants.{MoveFetch, MoveFinalize}
 use Rattle.record.specs.Legal.{IsLegal, HasBegun}
+use Rattle.soundness.proofs.Sound.DueKindLemmas.{fetches, finalizes}
 use Rattle.soundness.proofs.Sound.Enough.QuorumPieceLemmas.{Had, had_later, Somewhere}
 use Rattle.soundness.proofs.Sound.Enough.StagePieceLemmas.{PieceFacts, AtPhase, call_at_phase}
 
@@ -29,30 +29,7 @@ fetch_rests object now position (MoveFetch q t) tag facts e =
     let parts = some_pair_parts (Fetch t) (Fetch tag) q position e in
     let same : t ≡ tag = (let k = parts.0 in cc) in
     subst₂ (λ p u. Somewhere object p u now) parts.1 same facts
-fetch_rests object now position ReadBegin tag facts e = absurd (let other = (some_pair_parts Next (Fetch tag) 0 position e).0 in cc)
-fetch_rests object now position (ReadNext a b) tag facts e = absurd (let other = (some_pair_parts Next (Fetch tag) a position e).0 in cc)
-fetch_rests object now position (ReadSpread a b c) tag facts e =
-    absurd (let other = (some_pair_parts (Spread c) (Fetch tag) a position e).0 in cc)
-fetch_rests object now position (QueryFrom a b c d) tag facts e =
-    absurd (let other = (some_pair_parts Query (Fetch tag) a position e).0 in cc)
-fetch_rests object now position (PreWriteAt a b) tag facts e =
-    absurd (let other = (some_pair_parts (PreWrite b) (Fetch tag) a position e).0 in cc)
-fetch_rests object now position (FinalizeAt a b) tag facts e =
-    absurd (let other = (some_pair_parts (Finalize b) (Fetch tag) a position e).0 in cc)
-fetch_rests object now position (AgainNext a b c) tag facts e = absurd (let other = (some_pair_parts Next (Fetch tag) b position e).0 in cc)
-fetch_rests object now position (AgainSpread a b c d) tag facts e =
-    absurd (let other = (some_pair_parts (Spread d) (Fetch tag) b position e).0 in cc)
-fetch_rests object now position (MoveSpread a) tag facts e =
-    absurd (let other = (some_pair_parts (Spread Pending) (Fetch tag) a position e).0 in cc)
-fetch_rests object now position (MoveQuery a) tag facts e = absurd (let other = (some_pair_parts Query (Fetch tag) a position e).0 in cc)
-fetch_rests object now position (MovePreWrite a b) tag facts e =
-    absurd (let other = (some_pair_parts (PreWrite b) (Fetch tag) (suc a) position e).0 in cc)
-fetch_rests object now position (MoveFinalize a b) tag facts e =
-    absurd (let other = (some_pair_parts (Finalize b) (Fetch tag) (suc a) position e).0 in cc)
-fetch_rests object now position (MoveFinal a b) tag facts e =
-    absurd (let other = (some_pair_parts (Spread Final) (Fetch tag) a position e).0 in cc)
-fetch_rests object now position (Ended a b) tag facts e = absurd (cc)
-fetch_rests object now position (Moved a b) tag facts e = absurd (cc)
+fetch_rests object now position stage tag facts e = absurd (let no : false ≡ true = ap fetches e in cc)
 
 -- before a tag is finalized by its own request, a quorum had its pieces
 fin_rests : (object : Object) (now position : ℕ) (stage : Stage) (tag : Tag) → PieceFacts object now stage →
@@ -65,31 +42,7 @@ fin_rests object now position (MoveFinalize q t) tag facts e =
     let parts = some_pair_parts (Finalize t) (Finalize tag) (suc q) position e in
     let same : t ≡ tag = (let k = parts.0 in cc) in
     subst₂ (λ p u. Had object p u now) parts.1 same facts
-fin_rests object now position ReadBegin tag facts e = absurd (let other = (some_pair_parts Next (Finalize tag) 0 position e).0 in cc)
-fin_rests object now position (ReadNext a b) tag facts e = absurd (let other = (some_pair_parts Next (Finalize tag) a position e).0 in cc)
-fin_rests object now position (ReadSpread a b c) tag facts e =
-    absurd (let other = (some_pair_parts (Spread c) (Finalize tag) a position e).0 in cc)
-fin_rests object now position (QueryFrom a b c d) tag facts e =
-    absurd (let other = (some_pair_parts Query (Finalize tag) a position e).0 in cc)
-fin_rests object now position (FetchAt a b c) tag facts e =
-    absurd (let other = (some_pair_parts (Fetch c) (Finalize tag) a position e).0 in cc)
-fin_rests object now position (PreWriteAt a b) tag facts e =
-    absurd (let other = (some_pair_parts (PreWrite b) (Finalize tag) a position e).0 in cc)
-fin_rests object now position (AgainNext a b c) tag facts e =
-    absurd (let other = (some_pair_parts Next (Finalize tag) b position e).0 in cc)
-fin_rests object now position (AgainSpread a b c d) tag facts e =
-    absurd (let other = (some_pair_parts (Spread d) (Finalize tag) b position e).0 in cc)
-fin_rests object now position (MoveSpread a) tag facts e =
-    absurd (let other = (some_pair_parts (Spread Pending) (Finalize tag) a position e).0 in cc)
-fin_rests object now position (MoveQuery a) tag facts e = absurd (let other = (some_pair_parts Query (Finalize tag) a position e).0 in cc)
-fin_rests object now position (MoveFetch a b) tag facts e =
-    absurd (let other = (some_pair_parts (Fetch b) (Finalize tag) a position e).0 in cc)
-fin_rests object now position (MovePreWrite a b) tag facts e =
-    absurd (let other = (some_pair_parts (PreWrite b) (Finalize tag) (suc a) position e).0 in cc)
-fin_rests object now position (MoveFinal a b) tag facts e =
-    absurd (let other = (some_pair_parts (Spread Final) (Finalize tag) a position e).0 in cc)
-fin_rests object now position (Ended a b) tag facts e = absurd (cc)
-fin_rests object now position (Moved a b) tag facts e = absurd (cc)
+fin_rests object now position stage tag facts e = absurd (let no : false ≡ true = ap finalizes e in cc)
 
 pub came_at : (o : Option ℕ) (step : ℕ) → came_by o step ≡ true → (came : ℕ) × (o ≡ Some came) × (came ≤ step)
 came_at None step e = absurd (cc)

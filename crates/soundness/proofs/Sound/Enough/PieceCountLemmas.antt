@@ -1,6 +1,6 @@
 -- The members whose pieces a phase took: as many as the replies that bring a piece.
 use Rattle.std.proofs.Common.{nat_eq, ◌≡◌, ℕ, zero, suc, ◌+◌, ◌≤◌, Bool, true, false, cond, nat_lt, List, [], ◌∷◌}
-use Rattle.std.proofs.Common.{length, Some, None, IsSome, is_some, refl, sym, subst, ap, ◌∙◌, arith, eqb-true, slice_get}
+use Rattle.std.proofs.Common.{length, Some, IsSome, is_some, refl, sym, subst, ap, ◌∙◌, arith, eqb-true, slice_get}
 use Rattle.std.specs.List.{AllByRecursion, IsDistinct, list_any}
 use Rattle.std.proofs.lemmas.Bool.Decides.{nat_tests}
 use Rattle.std.proofs.lemmas.List.Recursion.{is_count_by}
@@ -40,17 +40,11 @@ holders_counted replies = is_count_by (λ rs. length (holders rs)) brings refl e
 
 piece_brought : (answer : Answer) → IsSome (answer_piece answer) → has_piece answer ≡ true
 piece_brought (answer.Piece (Some piece)) some = refl
-piece_brought (answer.Piece None) some = absurd (cc)
-piece_brought answer.Done some = absurd (cc)
-piece_brought (answer.Pointer status) some = absurd (cc)
-piece_brought (answer.Greatest tag) some = absurd (cc)
+piece_brought answer some = absurd (cc)
 
 brought_piece : (answer : Answer) → has_piece answer ≡ true → IsSome (answer_piece answer)
 brought_piece (answer.Piece (Some piece)) e = refl
-brought_piece (answer.Piece None) e = absurd (cc)
-brought_piece answer.Done e = absurd (cc)
-brought_piece (answer.Pointer status) e = absurd (cc)
-brought_piece (answer.Greatest tag) e = absurd (cc)
+brought_piece answer e = absurd (cc)
 
 -- the test may compare either way round
 has_flipped : (xs : List ℕ) (x : ℕ) → list_any (nat_eq x) xs ≡ has xs x

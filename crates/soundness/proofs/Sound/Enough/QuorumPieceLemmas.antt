@@ -13,12 +13,12 @@ use Rattle.record.specs.Records.{Object, layout_at, bank_at}
 use Rattle.bank.specs.Bank.{Bank}
 use Rattle.bank.specs.declared.kind.Kind.TheVariants.{Query, PreWrite}
 use Rattle.bank.specs.Knowledge.{finalized_at, arrived_at, HasFinalized, HadPiece, IsTrueAnswer}
-use Rattle.record.specs.Knowledge.{IsTrueReply, IsTruePhase}
+use Rattle.record.specs.Knowledge.{IsTruePhase}
 use Rattle.record.specs.PhaseOrder.{shown_tag, greatest_tag}
 use Rattle.bank.specs.declared.reply.Answer.TheVariants as answer
-use Rattle.soundness.proofs.Quorums.QuorumMeetingLemmas.{phase_quorum}
-use Rattle.soundness.proofs.Quorums.ReplyTruthLemmas.{all_members, came_by_later}
-use Rattle.soundness.proofs.ListLemmas.{all_weaker, all_pairs}
+use Rattle.soundness.proofs.Quorums.QuorumMeetingLemmas.{phase_knows, phase_quorum}
+use Rattle.soundness.proofs.Quorums.ReplyTruthLemmas.{came_by_later}
+use Rattle.soundness.proofs.ListLemmas.{all_map, all_both}
 
 -- a quorum of the position had pieces of the tag by the step
 pub record Had (object : Object) (position : ℕ) (tag : Tag) (step : ℕ) : Type 0 where
@@ -31,8 +31,7 @@ pub had_later : (object : Object) (position : ℕ) (tag : Tag) (s u : ℕ) → s
 had_later object position tag s u h had = record {
   members = had.members;
   is_quorum = had.is_quorum;
-  all = all_weaker (λ i. HadPiece (bank_at object position i) tag s) (λ i. HadPiece (bank_at object position i) tag u)
-      (λ i e. came_by_later (arrived_at (bank_at object position i) tag) s u h e) had.members had.all;
+  all = all_map (λ i e. came_by_later (arrived_at (bank_at object position i) tag) s u h e) _ had.all;
 }
 
 -- the tag was finalized at some member, or is the opening one
@@ -52,16 +51,12 @@ pub record Says (object : Object) (kind : Kind) (position end : ℕ) (replies : 
 true_pre : (tag : Tag) (bank : Bank) (made : ℕ) (answer : Answer) → IsTrueAnswer bank made (PreWrite tag) answer →
     HadPiece bank tag made
 true_pre tag bank made answer.Done h = h
-true_pre tag bank made (answer.Pointer s) h = absurd h
-true_pre tag bank made (answer.Greatest t) h = absurd h
-true_pre tag bank made (answer.Piece piece) h = absurd h
+true_pre tag bank made answer h = absurd h
 
 true_shown : (bank : Bank) (made : ℕ) (answer : Answer) → IsTrueAnswer bank made Query answer →
     HasFinalized bank (shown_tag answer) made
 true_shown bank made (answer.Greatest tag) h = h.0
-true_shown bank made answer.Done h = absurd h
-true_shown bank made (answer.Pointer s) h = absurd h
-true_shown bank made (answer.Piece piece) h = absurd h
+true_shown bank made answer h = absurd h
 
 later_is : (a b : Tag) (P : Tag → Type 0) → P a → P b → P (later_tag a b)
 later_is a b P p q = cond_both (tag_lt a b) b a P (λ e. q) (λ e. p)
@@ -74,33 +69,19 @@ greatest_is P (reply ∷ replies) opening all =
 
 pub says_of : (object : Object) (phase : Phase) (end : ℕ) → IsTruePhase object phase → phase.end ≡ Some end →
     Says object phase.kind phase.position end phase.replies
-says_of object phase end truth e =
-    let timely = all_pairs (IsTrueReply object phase) (λ reply. reply.step ≤ end) phase.replies truth.replies
-    ((truth.complete end e).1) in
-    record {
-      brought = λ tag k. record {
-        members = members_of phase.replies;
-        is_quorum = phase_quorum object phase end truth e;
-        all = all_members (λ i. HadPiece (bank_at object phase.position i) tag end) phase.replies
-            (all_weaker (λ reply. IsTrueReply object phase reply × (reply.step ≤ end))
-            (λ reply. HadPiece (bank_at object phase.position reply.member) tag end)
-            (λ reply p. came_by_later (arrived_at (bank_at object phase.position reply.member) tag) reply.reply.step end
-            (let order = p.0.in_order in let late = p.1 in omega arith)
-            (true_pre tag (bank_at object phase.position reply.member) reply.reply.step reply.reply.answer
-            (subst (λ kind. IsTrueAnswer (bank_at object phase.position reply.member) reply.reply.step kind reply.reply.answer) k
-            p.0.says)))
-            phase.replies timely);
-      };
-      shown = λ k. greatest_is (λ tag. Somewhere object phase.position tag end) phase.replies (inl refl)
-          (all_weaker (λ reply. IsTrueReply object phase reply × (reply.step ≤ end))
-          (λ reply. Somewhere object phase.position (shown_tag reply.reply.answer) end)
-          (λ reply p. inr (
-            reply.member,
-            came_by_later (finalized_at (bank_at object phase.position reply.member) (shown_tag reply.reply.answer)) reply.reply.step end
-                (let order = p.0.in_order in let late = p.1 in omega arith)
-                (true_shown (bank_at object phase.position reply.member) reply.reply.step reply.reply.answer
-                (subst (λ kind. IsTrueAnswer (bank_at object phase.position reply.member) reply.reply.step kind reply.reply.answer) k
-                p.0.says)),
-          ))
-          phase.replies timely);
-    }
+says_of object phase end truth e = record {
+  brought = λ tag k. record {
+    members = members_of phase.replies;
+    is_quorum = phase_quorum object phase end truth e;
+    all = phase_knows object phase end (λ bank s. HadPiece bank tag s) (λ bank s u h. came_by_later (arrived_at bank tag) s u h)
+        (λ bank made answer is. true_pre tag bank made answer (subst (λ kind. IsTrueAnswer bank made kind answer) k is)) truth e;
+  };
+  shown = λ k. greatest_is (λ tag. Somewhere object phase.position tag end) phase.replies (inl refl)
+      (all_both (λ reply r late. inr (
+        reply.member,
+        came_by_later (finalized_at (bank_at object phase.position reply.member) (shown_tag reply.reply.answer)) reply.reply.step end
+            (let order = r.in_order in omega arith)
+            (true_shown (bank_at object phase.position reply.member) reply.reply.step reply.reply.answer
+            (subst (λ kind. IsTrueAnswer (bank_at object phase.position reply.member) reply.reply.step kind reply.reply.answer) k r.says)),
+      )) _ truth.replies (truth.complete end e).1);
+}

@@ -21,9 +21,9 @@ use Rattle.record.specs.Knowledge.{IsTruePhase}
 use Rattle.record.specs.PhaseOrder.{greatest_status, greatest_tag, due, after, passed, IsCourse, stage_past, begun_at}
 use Rattle.record.specs.PhaseOrder.{after_next, after_spread, after_query, after_again, tagged}
 use Rattle.record.specs.declared.stage.Stage.{Stage}
-use Rattle.record.specs.declared.stage.Stage.TheVariants.{ReadBegin, ReadNext, ReadSpread, QueryFrom, FetchAt, PreWriteAt}
-use Rattle.record.specs.declared.stage.Stage.TheVariants.{FinalizeAt, AgainNext, AgainSpread, MoveSpread, MoveQuery}
-use Rattle.record.specs.declared.stage.Stage.TheVariants.{MoveFetch, MovePreWrite, MoveFinalize, MoveFinal, Ended, Moved}
+use Rattle.record.specs.declared.stage.Stage.TheVariants.{ReadNext, ReadSpread, QueryFrom, FetchAt, PreWriteAt}
+use Rattle.record.specs.declared.stage.Stage.TheVariants.{FinalizeAt, AgainNext, MoveQuery}
+use Rattle.record.specs.declared.stage.Stage.TheVariants.{MoveFetch, MovePreWrite, MoveFinalize, Ended}
 use Rattle.record.specs.Legal.{IsLegal, first_stage, source_of}
 use Rattle.soundness.proofs.PhaseStartLemmas.{StartsFrom}
 use Rattle.soundness.proofs.Quorums.QuorumMeetingLemmas.{start_before_end}
@@ -53,8 +53,7 @@ after_next_pieces object end Final p m = tt
 
 after_spread_pieces : (object : Object) (end : ℕ) (status : Status) (p m : ℕ) → PieceFacts object end (after_spread status p m)
 after_spread_pieces object end Unset p m = tt
-after_spread_pieces object end Pending p m = tt
-after_spread_pieces object end Final p m = tt
+after_spread_pieces object end status p m = tt
 
 after_again_pieces : (object : Object) (end : ℕ) (status : Status) (last p : ℕ) (tag : Tag) →
     PieceFacts object end (after_again status last p tag)
@@ -99,7 +98,6 @@ pieces_after :
     (lacks : Bool) →
     due stage ≡ Some (asked, position) → Says object asked position end replies → now ≤ end → PieceFacts object now stage →
     PieceFacts object end (after kind number stage replies lacks)
-pieces_after object kind number now ReadBegin asked position end replies lacks e says over facts = tt
 pieces_after object kind number now (ReadNext p m) asked position end replies lacks e says over facts =
     after_next_pieces object end (greatest_status replies) p m
 pieces_after object kind number now (ReadSpread p m status) asked position end replies lacks e says over facts =
@@ -113,21 +111,15 @@ pieces_after object kind number now (FetchAt q last tag) asked position end repl
     cond_both (eqb q last) (AgainNext last last tag) (PreWriteAt last tag) (λ stage. PieceFacts object end stage) (λ e. tt) (λ e. tt)
 pieces_after object kind number now (PreWriteAt last tag) asked position end replies lacks e says over facts =
     let here = says_at object (PreWrite tag) asked last position end replies says e in here.brought tag refl
-pieces_after object kind number now (FinalizeAt last tag) asked position end replies lacks e says over facts = tt
 pieces_after object kind number now (AgainNext last p tag) asked position end replies lacks e says over facts =
     after_again_pieces object end (greatest_status replies) last p tag
-pieces_after object kind number now (AgainSpread last p tag status) asked position end replies lacks e says over facts = tt
-pieces_after object kind number now (MoveSpread p) asked position end replies lacks e says over facts = tt
 pieces_after object kind number now (MoveQuery p) asked position end replies lacks e says over facts =
     let here = says_at object Query asked p position end replies says e in here.shown refl
 pieces_after object kind number now (MoveFetch p tag) asked position end replies true e says over facts = tt
 pieces_after object kind number now (MoveFetch p tag) asked position end replies false e says over facts = tt
 pieces_after object kind number now (MovePreWrite p tag) asked position end replies lacks e says over facts =
     let here = says_at object (PreWrite tag) asked (suc p) position end replies says e in here.brought tag refl
-pieces_after object kind number now (MoveFinalize p tag) asked position end replies lacks e says over facts = tt
-pieces_after object kind number now (MoveFinal p tag) asked position end replies lacks e says over facts = tt
-pieces_after object kind number now (Moved p tag) asked position end replies lacks e says over facts = tt
-pieces_after object kind number now (Ended last tag) asked position end replies lacks e says over facts = tt
+pieces_after object kind number now stage asked position end replies lacks e says over facts = tt
 
 pub record AtPhase (object : Object) (phase : Phase) : Type 0 where
   pub stage : Stage
@@ -169,8 +161,7 @@ at_phase object lawful kind number (first ∷ next ∷ later) now stage course t
 
 first_pieces : (object : Object) (kind : CallKind) (from now : ℕ) → PieceFacts object now (first_stage kind from)
 first_pieces object Read from now = tt
-first_pieces object (Write value) from now = tt
-first_pieces object Move from now = tt
+first_pieces object kind from now = tt
 
 starts_at_zero : (phases : List Phase) → StartsFrom 0 phases
 starts_at_zero [] = tt
@@ -180,6 +171,6 @@ pub call_at_phase : (object : Object) → IsLegal object → (index : ℕ) (call
     (place : ℕ) (phase : Phase) → slice_get call.phases place ≡ Some phase → AtPhase object phase
 call_at_phase object legal index call at place phase within =
     let c = legal.calls index call at in
-    at_phase object legal.layouts call.kind (suc index) call.phases 0 (first_stage call.kind (source_of object index)) c.course c.phases
+    at_phase object legal.layouts call.kind call.id call.phases 0 (first_stage call.kind (source_of object index)) c.course c.phases
     (starts_at_zero call.phases)
     (first_pieces object call.kind (source_of object index) 0) place phase within

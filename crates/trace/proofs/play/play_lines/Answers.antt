@@ -1,5 +1,6 @@
 use Rattle.std.proofs.Common.{ℕ, ◌<◌, List, None, map, Bor, length, arith}
 use Rattle.std.proofs.lemmas.List.{length-map}
+use Rattle.std.proofs.lemmas.Result.{err_from_is_err_and}
 use Rattle.player.proofs.ScriptRunLemmas.{nothing_played, one_more, line_at}
 use Rattle.trace.proofs.PlayedScriptLemmas.{ends_before, leads_through}
 use Rattle.trace.proofs.play.play_lines.Goals as goal
@@ -11,13 +12,14 @@ pub loop-index-preserved : goal.loop-index-preserved
 loop-index-preserved c =
     let within : c.loop-index.index < length c.args.lines.now = omega arith in
     one_more _ c.loop-index.index _ (line_at c.args.lines.now c.loop-index.index _ within) c.loop-index.cluster
-    c.play_numbered.new.cluster None None None c.loop-index.invariant c.in-Ok.ensures
+    c.play_numbered.new.cluster None None None c.loop-index.invariant c.in_ok-play_numbered.ensures
 
-pub returns-in-Err : goal.returns-in-Err
-returns-in-Err c = λ script is.
+pub returns-in_err-play_numbered : goal.returns-in_err-play_numbered
+returns-in_err-play_numbered c = λ script is.
+    let p = err_from_is_err_and c.from_residual.result c.from_residual.ensures.1 in
     let within : c.loop-index.index < length c.args.lines.now = omega arith in
-    ends_before _ c.loop-index.index _ (line_at c.args.lines.now c.loop-index.index _ within) script c.loop-index.cluster
-    c.in-Err.fault is c.loop-index.invariant c.in-Err.ensures
+    rw (p.1, p.2) (ends_before _ c.loop-index.index _ (line_at c.args.lines.now c.loop-index.index _ within) script c.loop-index.cluster
+    c.in_err-play_numbered.field-0.0 is c.loop-index.invariant c.in_err-play_numbered.ensures)
 
 pub returns : goal.returns
 returns c = λ script is.

@@ -3,7 +3,7 @@ use Rattle.exports.specs.Json.{json_text}
 use Rattle.trace.proofs.ShownTextLemmas.{events_shown}
 use Rattle.trace.proofs.show.show_json.Goals as goal
 
-pub returns-in-Ok : goal.returns-in-Ok
-returns-in-Ok g c =
-    events_shown json_text c.args.register.now _ _ c.print.result _ _ c.deref.ensures.value c.in-Ok.ensures
+pub returns : goal.returns
+returns g c =
+    events_shown json_text c.args.register.now _ _ c.print.result _ _ c.deref.ensures.value c.in_ok-events.ensures
     (c.print.ensures.shown _ refl) c.print.ensures.lost

@@ -1,5 +1,5 @@
 use Rattle.std.proofs.Common.{subst, sym}
-use Rattle.locked_steps.proofs.ChosenMessageLemmas.{on_err}
+use Rattle.cluster.proofs.ObjectStepLemmas.{on_err}
 use Rattle.client.specs.Callers.{StaysOpen}
 use Rattle.client.proofs.store.Store.finish.Goals as goal
 

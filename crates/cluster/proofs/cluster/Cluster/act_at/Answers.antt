@@ -1,11 +1,14 @@
 use Rattle.std.proofs.Common.{◌≡◌, suc, ◌+◌, length, Ok, Err, subst, ap, sym, ◌∙◌}
 use Rattle.cluster.specs.Acts.{IsReady}
 use Rattle.register.specs.Act.{act_cause, answered_by, step_of}
+use Rattle.register.specs.State.{next_id}
 use Rattle.cluster.specs.Causes.{next}
 use Rattle.cluster.specs.Cluster.{Cluster, place_of}
+use Rattle.cluster.specs.Preconditions.{MayMake}
+use Rattle.cluster.specs.Steps.{stepped}
 use Rattle.cluster.proofs.ActLemmas.{act_at, act_by, act_none, no_more, no_less}
 use Rattle.cluster.proofs.NamedObjectPlaceLemmas.{object_is_at, index_within}
-use Rattle.cluster.proofs.ObjectStepLemmas.{stepped_at, unchanged_at, last_before, cause_at, next_is, read_at}
+use Rattle.cluster.proofs.ObjectStepLemmas.{stepped_at, unchanged_at, last_before, cause_at, next_is, next_id_at, read_at}
 use Rattle.cluster.proofs.PreconditionLemmas.{may_at}
 use Rattle.cluster.proofs.RunningSumLemmas.{part_mailed, refused_counted, summed_at}
 use Rattle.cluster.proofs.cluster.Cluster.act_at.Goals as goal
@@ -24,14 +27,16 @@ pub invariant_of-self : goal.invariant_of-self
 invariant_of-self c =
     let at = object_is_at c.self.inside.objects.entries c.args.name.now c.args.object c.self.view_is c.index_mut-register.result.now
     c.requires.placed c.index_mut-register.ensures.value in
+    let number = next_id c.index_mut-register.result.now.object in
     let ready = subst (λ n. IsReady n c.args.act) (sym (ap (λ (k : Cluster). length k.servers) c.self.view_is)) c.requires.ready in
     record {
       kept = act_at c.self.invariant.kept at c.args.act ready c.in-Ok.ensures.step
           (act_none c.in-Ok.answered c.args.act c.in-Ok.ensures.cause)
           c.begun-begun.ensures.count;
-      summed = summed_at c.self.invariant.summed at c.waiting-waited.ensures.sound (step_of c.args.act)
-          (no_more (length c.self.inside.servers) c.index_mut-register.result.now.object c.args.act ready)
-          (no_less (length c.self.inside.servers) c.index_mut-register.result.now.object c.args.act ready (suc c.self.inside.counter))
+      summed = summed_at c.self.invariant.summed at c.waiting-waited.ensures.sound (step_of number c.args.act)
+          (no_more (length c.self.inside.servers) number c.index_mut-register.result.now.object c.args.act ready)
+          (no_less (length c.self.inside.servers) number c.index_mut-register.result.now.object c.args.act ready
+          (suc c.self.inside.counter))
           c.in-Ok.ensures.step
           c.waiting-waited.result c.waiting.result c.exchanged-self-inside.result c.waiting-waited.ensures.value c.waiting.ensures.value
           c.waiting.ensures.within c.exchanged-self-inside.ensures;
@@ -47,15 +52,17 @@ pub returns-in-Ok-clause-step : goal.returns-in-Ok-clause-step
 returns-in-Ok-clause-step c =
     let at = object_is_at c.self.inside.objects.entries c.args.name.now c.args.object c.self.view_is c.index_mut-register.result.now
     c.requires.placed c.index_mut-register.ensures.value in
-    stepped_at c.self.view_is at (step_of c.args.act) c.in-Ok.ensures.step
+    stepped_at c.self.view_is at (step_of (next_id c.index_mut-register.result.now.object) c.args.act) c.in-Ok.ensures.step
+    ∙ ap (λ n. stepped c.args.self.now c.args.name.now (step_of n c.args.act)) (sym (next_id_at c.self.view_is at))
 
 pub returns-in-Ok-clause-may : goal.returns-in-Ok-clause-may
 returns-in-Ok-clause-may c =
     let at = object_is_at c.self.inside.objects.entries c.args.name.now c.args.object c.self.view_is c.index_mut-register.result.now
     c.requires.placed c.index_mut-register.ensures.value in
-    may_at c.self.view_is at (step_of c.args.act)
+    subst (λ n. MayMake c.args.self.now c.args.name.now (step_of n c.args.act)) (sym (next_id_at c.self.view_is at))
+    (may_at c.self.view_is at (step_of (next_id c.index_mut-register.result.now.object) c.args.act)
     (c.allowed_steps_may_be_made.ensures.acts c.args.act (c.self.inside.counter + 1) c.values_are_lawful.ensures
-    (act_none c.in-Ok.answered c.args.act c.in-Ok.ensures.cause))
+    (act_none c.in-Ok.answered c.args.act c.in-Ok.ensures.cause)))
 
 pub returns-in-Ok-clause-cause : goal.returns-in-Ok-clause-cause
 returns-in-Ok-clause-cause c =

@@ -25,7 +25,7 @@ returns-clause-acts c name act lawful none = allowed_act c.args.self.now name (e
 
 pub returns-clause-moves : goal.returns-clause-moves
 returns-clause-moves c name id none =
-    allowed_move c.args.self.now name
+    allowed_move c.args.self.now name (every c)
     (subst (λ (k : Cluster). AllByRecursion IsLawful k.layouts) c.self.view_is
     (subst (AllByRecursion IsLawful) c.deref.ensures.value c.are_lawful.ensures)) id none
 

@@ -1,7 +1,7 @@
 use Rattle.std.proofs.Common.{Some, inl, sym, subst, ap, ◌∙◌}
 use Rattle.tag.specs.Refusal.{IsByCause}
 use Rattle.register.specs.Causes.{pieces_cause}
-use Rattle.register.specs.View.{pieces_at}
+use Rattle.register.specs.View.{fetched_pieces}
 use Rattle.cluster.proofs.FoundObjectLemmas.{named_found, read_found, cause_found, none_found, if_ok}
 use Rattle.cluster.proofs.cluster.Cluster.pieces.Goals as goal
 
@@ -9,7 +9,7 @@ pub returns-in-Some-clause-pieces : goal.returns-in-Some-clause-pieces
 returns-in-Some-clause-pieces c =
     let found = named_found c.self.inside.objects.entries c.args.name.now c.in-Some.register.now c.self.view_is c.in-Some.ensures.value in
     if_ok c.pieces.result
-    (λ x e. read_found found (λ object. Some (pieces_at object c.args.call)) ∙ ap Some (sym e)) c.pieces.ensures.pieces
+    (λ x e. read_found found (λ object. Some (fetched_pieces object c.args.call)) ∙ ap Some (sym e)) c.pieces.ensures.pieces
 
 pub returns-in-Some-clause-cause : goal.returns-in-Some-clause-cause
 returns-in-Some-clause-cause c =

@@ -3,7 +3,7 @@ use Rattle.tag.specs.declared.limits.TheConstants.{MOST_STEPS}
 use Rattle.record.specs.Steps.{Step}
 use Rattle.register.specs.Retiring.{retire_cause}
 use Rattle.cluster.proofs.LookupLemmas.{at_place}
-use Rattle.cluster.proofs.ObjectStepLemmas.{stepped_at, unchanged_at, last_before, cause_at, no_object}
+use Rattle.cluster.proofs.ObjectStepLemmas.{stepped_at, on_err, unchanged_at, last_before, cause_at, no_object, exactly_refused}
 use Rattle.cluster.proofs.PreconditionLemmas.{may_at}
 use Rattle.cluster.proofs.RetiredSumLemmas.{past_retired, part_loaded, load_within, part_freed, retire_counted, freed_exactly}
 use Rattle.cluster.proofs.RunningSumLemmas.{refused_counted}
@@ -25,17 +25,12 @@ invariant_of-self c =
     c.index_mut-register.ensures.value in
     refused_counted c.self.invariant at refl
 
-pub returns-in-Err-clause-cause : goal.returns-in-Err-clause-cause
-returns-in-Err-clause-cause c =
+pub returns-in_err-may_retire-clause-cause : goal.returns-in_err-may_retire-clause-cause
+returns-in_err-may_retire-clause-cause c =
     let at = at_place c.self.inside.objects.entries c.args.name.now c.in-Some.place c.index_mut-register.result.now c.in-Some.ensures.index
     c.index_mut-register.ensures.value in
-    cause_at c.self.view_is at (λ now object. retire_cause now object c.args.position) ∙ c.in-Err.ensures.cause
-
-pub returns-in-Err-clause-unchanged : goal.returns-in-Err-clause-unchanged
-returns-in-Err-clause-unchanged c =
-    let at = at_place c.self.inside.objects.entries c.args.name.now c.in-Some.place c.index_mut-register.result.now c.in-Some.ensures.index
-    c.index_mut-register.ensures.value in
-    unchanged_at at refl ∙ c.self.view_is
+    exactly_refused c.from_residual.result _ c.from_residual.ensures.1
+    (cause_at c.self.view_is at (λ now object. retire_cause now object c.args.position) ∙ c.in_err-may_retire.ensures.cause)
 
 pub unload-requires-clause-count : goal.unload-requires-clause-count
 unload-requires-clause-count c = let same = c.self.invariant.summed.servers in omega (arith, same, c.count.ensures)
@@ -62,46 +57,52 @@ pub overflow_sub-self : goal.overflow_sub-self
 overflow_sub-self c =
     let at = at_place c.self.inside.objects.entries c.args.name.now c.in-Some.place c.index_mut-register.result.now c.in-Some.ensures.index
     c.index_mut-register.ensures.value in
-    let part = part_freed c.self.invariant at c.soundness.ensures.sound c.in-Ok-retire.ensures.freed in
+    let part = part_freed c.self.invariant at c.soundness.ensures.sound c.in-Ok.ensures.freed in
     omega (arith, part)
 
-pub invariant_of-self-in-Ok-retire : goal.invariant_of-self-in-Ok-retire
-invariant_of-self-in-Ok-retire c =
+pub invariant_of-self-in-Ok : goal.invariant_of-self-in-Ok
+invariant_of-self-in-Ok c =
     let at = at_place c.self.inside.objects.entries c.args.name.now c.in-Some.place c.index_mut-register.result.now c.in-Some.ensures.index
     c.index_mut-register.ensures.value in
     let few : c.self.inside.counter + 1 ≤ MOST_STEPS =
-    past_retired (c.self.inside.counter + 1) _ c.index_mut-register.result.now.object c.in-Ok-retire.ensures.cause in
-    retire_counted c.self.invariant at c.soundness.ensures.sound c.in-Ok-retire.ensures.step few c.in-Ok-retire.ensures.freed
+    past_retired (c.self.inside.counter + 1) _ c.index_mut-register.result.now.object c.in-Ok.ensures.cause in
+    retire_counted c.self.invariant at c.soundness.ensures.sound c.in-Ok.ensures.step few c.in-Ok.ensures.freed
     c.unload.new.loads c.unload.ensures.count c.unload.ensures.freed
 
 pub returns-clause-step : goal.returns-clause-step
 returns-clause-step c =
     let at = at_place c.self.inside.objects.entries c.args.name.now c.in-Some.place c.index_mut-register.result.now c.in-Some.ensures.index
     c.index_mut-register.ensures.value in
-    stepped_at c.self.view_is at Step.Retire c.in-Ok-retire.ensures.step
+    stepped_at c.self.view_is at Step.Retire c.in-Ok.ensures.step
 
 pub returns-clause-may : goal.returns-clause-may
 returns-clause-may c =
     let at = at_place c.self.inside.objects.entries c.args.name.now c.in-Some.place c.index_mut-register.result.now c.in-Some.ensures.index
     c.index_mut-register.ensures.value in
     may_at c.self.view_is at Step.Retire
-    (c.allowed_steps_may_be_made.ensures.retire c.args.position (c.self.inside.counter + 1) c.in-Ok-retire.ensures.cause)
+    (c.allowed_steps_may_be_made.ensures.retire c.args.position (c.self.inside.counter + 1) c.in-Ok.ensures.cause)
 
 pub returns-clause-freed : goal.returns-clause-freed
 returns-clause-freed c =
     let at = at_place c.self.inside.objects.entries c.args.name.now c.in-Some.place c.index_mut-register.result.now c.in-Some.ensures.index
     c.index_mut-register.ensures.value in
     let few : c.self.inside.counter + 1 ≤ MOST_STEPS =
-    past_retired (c.self.inside.counter + 1) _ c.index_mut-register.result.now.object c.in-Ok-retire.ensures.cause in
-    freed_exactly c.self.invariant at c.soundness.ensures.sound c.in-Ok-retire.ensures.step few c.in-Ok-retire.ensures.freed
+    past_retired (c.self.inside.counter + 1) _ c.index_mut-register.result.now.object c.in-Ok.ensures.cause in
+    freed_exactly c.self.invariant at c.soundness.ensures.sound c.in-Ok.ensures.step few c.in-Ok.ensures.freed
     c.self.view_is
 
 pub returns-clause-cause : goal.returns-clause-cause
 returns-clause-cause c =
     let at = at_place c.self.inside.objects.entries c.args.name.now c.in-Some.place c.index_mut-register.result.now c.in-Some.ensures.index
     c.index_mut-register.ensures.value in
-    cause_at c.self.view_is at (λ now object. retire_cause now object c.args.position) ∙ c.in-Ok-retire.ensures.cause
+    cause_at c.self.view_is at (λ now object. retire_cause now object c.args.position) ∙ c.in-Ok.ensures.cause
 
 -- what the register refuses it would have refused before
 pub unreachable-requires : goal.unreachable-requires
-unreachable-requires c = absurd (let clash = sym c.in-Ok.ensures.cause ∙ c.in-Err-retire.ensures.cause in cc)
+unreachable-requires c = absurd (let clash = sym c.in_ok-may_retire.ensures.cause ∙ c.in-Err.ensures.cause in cc)
+
+pub returns-in_err-may_retire-clause-unchanged : goal.returns-in_err-may_retire-clause-unchanged
+returns-in_err-may_retire-clause-unchanged c =
+    let at = at_place c.self.inside.objects.entries c.args.name.now c.in-Some.place c.index_mut-register.result.now c.in-Some.ensures.index
+    c.index_mut-register.ensures.value in
+    on_err c.from_residual.result (unchanged_at at refl ∙ c.self.view_is)

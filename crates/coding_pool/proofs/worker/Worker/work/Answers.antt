@@ -1,7 +1,7 @@
 use Rattle.std.proofs.Common.{◌≡◌, ℕ, ◌++◌, ◌∷◌, [], ap, sym, ◌∙◌, arith, rules, subst, All, List}
 use Rattle.std.proofs.lemmas.List.Elements.{All-push}
 use Rattle.crossbeam_queue.specs.Passes.{view, IsPassOf}
-use Rattle.encoder.specs.Fragment.{piece_of}
+use Rattle.encoder.specs.Fragment.{piece_at_point}
 use Rattle.piece.specs.declared.piece.Piece.{Piece}
 use Rattle.coding_pool.specs.declared.jobs.Known.{Known}
 use Rattle.coding_pool.specs.Jobs.{known}
@@ -22,7 +22,7 @@ returns-in_default-clause-whole g c =
 pub loop-preserved : goal.loop-preserved
 loop-preserved g c =
     let old = c.loop.invariant in
-    let made : c.in_ok-made.field-0 ≡ piece_of c.args.errand.value.now c.args.errand.k c.in-Some-pop_as.job = search rules in
+    let made : c.in_ok-made.field-0 ≡ piece_at_point c.args.errand.value.now c.args.errand.k c.in-Some-pop_as.job = search rules in
     let at = ap point_of made in
     let v = view c.loop.self.pass in
     let step : view c.pop_as.new.pass
@@ -31,8 +31,8 @@ loop-preserved g c =
     let pushed : (view c.pop_as.new.pass).pushed ≡ v.pushed = ap (λ (u : Known). u.pushed) step in
     let ok : IsPassOf c.args.errand.jobs.now c.pop_as.new.pass = search rules in
     let items : c.push.new.self.items ≡ c.loop.self.pieces.items ++ c.in_ok-made.field-0 ∷ [] = search rules in
-    let P : Piece → Type 0 = λ p. p ≡ piece_of c.args.errand.value.now c.args.errand.k p.point in
-    let is : P c.in_ok-made.field-0 = subst (λ (i : ℕ). c.in_ok-made.field-0 ≡ piece_of c.args.errand.value.now c.args.errand.k i)
+    let P : Piece → Type 0 = λ p. p ≡ piece_at_point c.args.errand.value.now c.args.errand.k p.point in
+    let is : P c.in_ok-made.field-0 = subst (λ (i : ℕ). c.in_ok-made.field-0 ≡ piece_at_point c.args.errand.value.now c.args.errand.k i)
     (sym at) made in
     record {
       worker = record {

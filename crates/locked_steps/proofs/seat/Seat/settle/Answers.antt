@@ -3,7 +3,7 @@ use Rattle.std.specs.Prelude.{Option}
 use Rattle.std.specs.String.{string_bytes}
 use Rattle.std.proofs.lemmas.List.{append-nil}
 use Rattle.register.specs.declared.receipt.Receipt.{Receipt}
-use Rattle.locked_steps.specs.Seats.{listed, pending_of}
+use Rattle.locked_steps.specs.Seats.{pending_list, pending_of}
 use Rattle.locked_steps.specs.declared.call_record.CallRecord.{CallRecord}
 use Rattle.locked_steps.proofs.RecordOrderLemmas.{rising_settled, length_settled}
 use Rattle.locked_steps.proofs.seat.Seat.settle.Goals as goal
@@ -29,8 +29,8 @@ invariant_of-self g c =
     let le : t.answered ≤ c.max-self-inside.result = omega arith in
     let n = length_settled name c.self.inside.records.items c.push_reserved.new.self.items c.self.inside.pending p r is
     c.push_reserved.ensures.items in
-    let one : length (listed (pending_of name c.self.inside.pending)) ≡ 1 =
-    ap (λ (o : Option CallRecord). length (listed (pending_of name o))) is in
+    let one : length (pending_list (pending_of name c.self.inside.pending)) ≡ 1 =
+    ap (λ (o : Option CallRecord). length (pending_list (pending_of name o))) is in
     let up = rising_settled name c.self.inside.records.items c.push_reserved.new.self.items c.self.inside.pending c.self.inside.floor
     c.max-self-inside.result p r t is refl
     c.push_reserved.ensures.items h.2 later le in

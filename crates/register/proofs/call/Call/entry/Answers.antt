@@ -11,7 +11,7 @@ returns-clause-entry c =
     let value = c.in_ok-value.ensures.value k.answered c.is_some.ensures
     ∙ ap (λ (a : Option ℕ). entry_value t.call.kind a t.call.settled) answered in
     λ j. record {
-      call = c.args.number;
+      call = ap (λ (t : Tracked). t.call.id) c.self.view_is j;
       kind = c.operation.ensures j;
       called = ap (λ (t : Tracked). t.call.called) c.self.view_is j;
       answered = answered j;

@@ -16,16 +16,18 @@ use Rattle.register.proofs.TakenCallLemmas.{stage_open}
 use Rattle.register.proofs.call.Call.take.Goals as goal
 
 -- a call by its parts
-abbrev tracked_of : CallKind → ℕ → Option ℕ → Option (List ℕ) → List Phase → Stage → Tracked
-tracked_of kind called answered settled phases stage =
-    record { call = record { kind = kind; called = called; answered = answered; settled = settled; phases = phases }; stage = stage }
+abbrev tracked_of : (id : ℕ) → CallKind → ℕ → Option ℕ → Option (List ℕ) → List Phase → Stage → Tracked
+tracked_of id kind called answered settled phases stage = record {
+  call = record { id = id; kind = kind; called = called; answered = answered; settled = settled; phases = phases };
+  stage = stage;
+}
 
 pub returns-then-count-eq0-clause-call : goal.returns-then-count-eq0-clause-call
 returns-then-count-eq0-clause-call c =
     let ps = c.self.inside.phases.items in
     let k = c.self.inside in
     let e : Tracked = record {
-      call = record { kind = k.kind; called = k.called; answered = k.answered; settled = k.settled; phases = ps };
+      call = record { id = k.id; kind = k.kind; called = k.called; answered = k.answered; settled = k.settled; phases = ps };
       stage = k.stage;
     } in
     let none : length ps ≡ 0 = omega (arith, c.len-count.ensures, c.if-count-eq0.true) in
@@ -47,7 +49,7 @@ returns-then-complete-clause-call c =
     let m = c.args.message in
     let now = c.args.now in
     let e : Tracked = record {
-      call = record { kind = k.kind; called = k.called; answered = k.answered; settled = k.settled; phases = ps };
+      call = record { id = k.id; kind = k.kind; called = k.called; answered = k.answered; settled = k.settled; phases = ps };
       stage = k.stage;
     } in
     let i = c.len-count.result - 1 in
@@ -124,9 +126,9 @@ returns-clause-call c =
     ∙ ap (λ (x : Phase). stage_past k.kind m.call k.stage x) (new ∙ c.take-took.ensures.phase)
     ∙ sym (ap (λ o. stage_taken k.kind k.stage o m now) (current_at ps i p last c.index_mut.ensures.value)
     ∙ stage_open k.kind k.stage p m now open_yet) in
-    ap (λ qs. tracked_of k.kind k.called k.answered k.settled qs c.passed-self-inside.result)
+    ap (λ qs. tracked_of k.id k.kind k.called k.answered k.settled qs c.passed-self-inside.result)
     (taking_at ps m now i p q last c.index_mut.ensures.value c.take-took.ensures.phase)
-    ∙ ap (λ s. tracked_of k.kind k.called k.answered k.settled (taking_phases ps m now) s) stage
+    ∙ ap (λ s. tracked_of k.id k.kind k.called k.answered k.settled (taking_phases ps m now) s) stage
     ∙ ap (taken_tracked m now) c.self.view_is
 
 pub returns-clause-took : goal.returns-clause-took

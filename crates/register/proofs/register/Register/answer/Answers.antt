@@ -1,7 +1,8 @@
-use Rattle.std.proofs.Common.{inl, inr, refl, Some}
+use Rattle.std.proofs.Common.{inl, refl, Some}
 use Rattle.register.proofs.AnswerLemmas.{answer_refused, answer_cause_none, answer_past, answer_step, answer_kept, operation_again}
 use Rattle.register.proofs.AnswerLemmas.{called_again, value_again, receipt_is}
 use Rattle.register.proofs.FoundCallLemmas.{is_found, wanting, below_those, few_those}
+use Rattle.register.proofs.RoomLemmas.{handed_on}
 use Rattle.register.proofs.register.Register.answer.Goals as goal
 
 pub want_of-requires-clause-below : goal.want_of-requires-clause-below
@@ -29,11 +30,13 @@ returns-then-now-gt-MOST_STEPS-clause-cause c =
     let w = wanting f c.want_of.ensures c.deref-2.ensures.value c.in-Answer.is in
     inl (rw (← c.self.view_is) (answer_past w c.args.now c.if-now-gt-MOST_STEPS.true))
 
-pub returns-in-Err-clause-cause : goal.returns-in-Err-clause-cause
-returns-in-Err-clause-cause c =
+pub returns-in_err-value-clause-cause : goal.returns-in_err-value-clause-cause
+returns-in_err-value-clause-cause c =
     let f = is_found c.self.invariant c.in_ok-index.ensures.place c.deref.ensures.value c.index.ensures in
     let w = wanting f c.want_of.ensures c.deref-2.ensures.value c.in-Answer.is in
-    inr (rw (← c.self.view_is) (answer_cause_none w c.args.now c.if-now-gt-MOST_STEPS.false), c.in-Err.ensures.refused)
+    handed_on _ c.from_residual-in_err-value.result _
+    (rw (← c.self.view_is) (answer_cause_none w c.args.now c.if-now-gt-MOST_STEPS.false))
+    c.from_residual-in_err-value.ensures.1 c.in_err-value.ensures.refused
 
 pub returns-clause-cause : goal.returns-clause-cause
 returns-clause-cause c =
@@ -61,4 +64,4 @@ returns-clause-receipt c =
     rw (← c.self.view_is)
     (receipt_is f c.args.object c.args.now (operation_again f c.index-3.ensures c.operation-operation.ensures)
     (called_again f c.index-4.ensures c.called-called.ensures)
-    (value_again f c.args.now c.index-2.ensures (c.in-Ok.ensures.value (Some c.args.now) refl)))
+    (value_again f c.args.now c.index-2.ensures (c.in_ok-value.ensures.value (Some c.args.now) refl)))

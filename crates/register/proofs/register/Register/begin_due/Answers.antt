@@ -2,8 +2,7 @@ use Rattle.std.proofs.Common.{length, inl, refl, sym, ap, arith, ◌∙◌}
 use Rattle.register.proofs.AdvanceLemmas.{stage_below, due_read, due_there, due_refused, due_past, some_due, needs_none, beginning}
 use Rattle.register.proofs.BeginPhaseLemmas.{begin_room, begin_cause, begin_step, begin_kept}
 use Rattle.register.proofs.FoundCallLemmas.{is_found, again, wanting, below_those, few_those}
-use Rattle.register.proofs.RefusedStepLemmas.{as_it_was, written_back}
-use Rattle.register.proofs.RoomLemmas.{by_cause}
+use Rattle.register.proofs.RoomLemmas.{by_cause, same_cause}
 use Rattle.register.proofs.register.Register.begin_due.Goals as goal
 
 pub want_of-requires-clause-below : goal.want_of-requires-clause-below
@@ -63,44 +62,40 @@ begin-requires-clause-room c =
     let b = beginning c.args.anew w is d c.index-3.ensures c.layout.ensures c.index_mut.ensures.value in
     begin_room b c.args.now c.self.view_is c.requires.after
 
-pub invariant_of-self : goal.invariant_of-self
-invariant_of-self c =
+pub invariant_of-self-2 : goal.invariant_of-self-2
+invariant_of-self-2 c =
     let f = is_found c.self.invariant c.in_ok-index.ensures.place c.deref.ensures.value c.index.ensures in
     let w = wanting f c.want_of.ensures c.deref-2.ensures.value refl in
     let d = due_read f c.index-2.ensures c.stage.ensures c.begun_at.ensures c.due.ensures c.in-Some.is in
     let is = sym c.wants_due.ensures ∙ c.if-not-wants_due.false in
     let b = beginning c.args.anew w is d c.index-3.ensures c.layout.ensures c.index_mut.ensures.value in
-    begin_kept b c.args.now c.in-Ok.ensures.mail c.in-Ok.ensures.call c.self.view_is c.requires.after c.in-Ok.ensures.cause
+    begin_kept b c.args.now c.in_ok-begin.ensures.mail c.in_ok-begin.ensures.call c.self.view_is c.requires.after
+    c.in_ok-begin.ensures.cause
 
-pub returns-in-Ok-clause-step : goal.returns-in-Ok-clause-step
-returns-in-Ok-clause-step c =
+pub returns-clause-step : goal.returns-clause-step
+returns-clause-step c =
     let f = is_found c.self.invariant c.in_ok-index.ensures.place c.deref.ensures.value c.index.ensures in
     let w = wanting f c.want_of.ensures c.deref-2.ensures.value refl in
     let d = due_read f c.index-2.ensures c.stage.ensures c.begun_at.ensures c.due.ensures c.in-Some.is in
     let is = sym c.wants_due.ensures ∙ c.if-not-wants_due.false in
     let b = beginning c.args.anew w is d c.index-3.ensures c.layout.ensures c.index_mut.ensures.value in
-    rw (← c.self.view_is) (begin_step b c.args.now c.in-Ok.ensures.mail c.in-Ok.ensures.call)
+    rw (← c.self.view_is) (begin_step b c.args.now c.in_ok-begin.ensures.mail c.in_ok-begin.ensures.call)
 
-pub returns-in-Ok-clause-cause : goal.returns-in-Ok-clause-cause
-returns-in-Ok-clause-cause c =
+pub returns-clause-cause : goal.returns-clause-cause
+returns-clause-cause c =
     let f = is_found c.self.invariant c.in_ok-index.ensures.place c.deref.ensures.value c.index.ensures in
     let w = wanting f c.want_of.ensures c.deref-2.ensures.value refl in
     let d = due_read f c.index-2.ensures c.stage.ensures c.begun_at.ensures c.due.ensures c.in-Some.is in
     let is = sym c.wants_due.ensures ∙ c.if-not-wants_due.false in
     let b = beginning c.args.anew w is d c.index-3.ensures c.layout.ensures c.index_mut.ensures.value in
-    rw (← c.self.view_is) (begin_cause b c.args.now c.if-now-gt-MOST_STEPS.false ∙ c.in-Ok.ensures.cause)
+    rw (← c.self.view_is) (begin_cause b c.args.now c.if-now-gt-MOST_STEPS.false ∙ c.in_ok-begin.ensures.cause)
 
-pub returns-in-Err-clause-cause : goal.returns-in-Err-clause-cause
-returns-in-Err-clause-cause c =
+pub returns-in_err-begin-clause-cause : goal.returns-in_err-begin-clause-cause
+returns-in_err-begin-clause-cause c =
     let f = is_found c.self.invariant c.in_ok-index.ensures.place c.deref.ensures.value c.index.ensures in
     let w = wanting f c.want_of.ensures c.deref-2.ensures.value refl in
     let d = due_read f c.index-2.ensures c.stage.ensures c.begun_at.ensures c.due.ensures c.in-Some.is in
     let is = sym c.wants_due.ensures ∙ c.if-not-wants_due.false in
     let b = beginning c.args.anew w is d c.index-3.ensures c.layout.ensures c.index_mut.ensures.value in
-    rw (← c.self.view_is) (by_cause (begin_cause b c.args.now c.if-now-gt-MOST_STEPS.false) c.in-Err.ensures.cause)
-
-pub returns-in-Err-clause-unchanged : goal.returns-in-Err-clause-unchanged
-returns-in-Err-clause-unchanged c =
-    let e = c.in-Err.ensures in
-    as_it_was c.self.invariant c.self.view_is refl e.kept
-    (written_back c.self.inside.calls.items c.in_ok-index.index e.unchanged c.index_mut.ensures.value)
+    same_cause _ c.from_residual-in_err-begin.result _ c.from_residual-in_err-begin.ensures.1
+    (rw (← c.self.view_is) (by_cause (begin_cause b c.args.now c.if-now-gt-MOST_STEPS.false) c.in_err-begin.ensures.cause))

@@ -7,12 +7,12 @@ use Rattle.register.proofs.register.Register.call_view.Goals as goal
 
 pub unreachable-requires : goal.unreachable-requires
 unreachable-requires c =
-    let f = is_found c.self.invariant c.in-Ok.ensures.place c.deref.ensures.value c.index-tracked.ensures in
+    let f = is_found c.self.invariant c.in_ok-index.ensures.place c.deref.ensures.value c.index-tracked.ensures in
     begun f (sym c.in_default.ensures)
 
 pub overflow_cast-result : goal.overflow_cast-result
 overflow_cast-result c =
-    let f = is_found c.self.invariant c.in-Ok.ensures.place c.deref.ensures.value c.index-tracked.ensures in
+    let f = is_found c.self.invariant c.in_ok-index.ensures.place c.deref.ensures.value c.index-tracked.ensures in
     let few = replies_few f (sym c.in-Some.ensures) in
     omega (arith, few, ap length c.replies.ensures)
 
@@ -21,12 +21,12 @@ want_of-requires-clause-count c = few_those c.self.invariant c.deref-2.ensures.v
 
 pub want_of-requires-clause-below : goal.want_of-requires-clause-below
 want_of-requires-clause-below c =
-    let f = is_found c.self.invariant c.in-Ok.ensures.place c.deref.ensures.value c.index-tracked.ensures in
+    let f = is_found c.self.invariant c.in_ok-index.ensures.place c.deref.ensures.value c.index-tracked.ensures in
     below_those f c.deref-2.ensures.value
 
 pub returns-clause-view : goal.returns-clause-view
 returns-clause-view c =
-    let f = is_found c.self.invariant c.in-Ok.ensures.place c.deref.ensures.value c.index-tracked.ensures in
+    let f = is_found c.self.invariant c.in_ok-index.ensures.place c.deref.ensures.value c.index-tracked.ensures in
     let w = wanting f c.want_of.ensures c.deref-2.ensures.value refl in
     rw (← c.self.view_is)
     (view_is f (sym c.in-Some.ensures) w
@@ -43,5 +43,5 @@ returns-clause-view c =
 
 pub returns-clause-cause : goal.returns-clause-cause
 returns-clause-cause c =
-    let f = is_found c.self.invariant c.in-Ok.ensures.place c.deref.ensures.value c.index-tracked.ensures in
+    let f = is_found c.self.invariant c.in_ok-index.ensures.place c.deref.ensures.value c.index-tracked.ensures in
     rw (← c.self.view_is) (caused f _)

@@ -1,8 +1,10 @@
-use Rattle.std.proofs.Common.{◌≡◌, ◌++◌, ◌+◌, drop}
-use Rattle.record.specs.Journals.{entries_from}
+use Rattle.std.proofs.Common.{◌≡◌, ◌++◌, drop, map}
+use Rattle.record.specs.Journals.{entry_of}
+use Rattle.record.specs.Records.{Call}
 use Rattle.register.specs.Tracked.{calls_of}
 use Rattle.register.proofs.register.Register.entries.Given as goal
 
-abbrev pub invariant-loop-index : goal.invariant-loop-index
-invariant-loop-index l =
-    entries_from 1 (calls_of l.call-items) ≡ l.entries.items ++ entries_from (l.index + 1) (calls_of (drop l.index l.call-items))
+abbrev pub invariant-loop-call : goal.invariant-loop-call
+invariant-loop-call l =
+    map (λ (call : Call). entry_of call.id call) (calls_of l.call-items)
+    ≡ l.entries.items ++ map (λ (call : Call). entry_of call.id call) (calls_of (drop l.call-index l.call-items))

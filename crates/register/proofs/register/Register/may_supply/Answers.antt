@@ -1,7 +1,6 @@
 use Rattle.std.proofs.Common.{length, Option, sym, ap, subst, arith}
 use Rattle.tag.specs.declared.refusal.Refusal.{Refusal}
 use Rattle.tag.specs.Refusal.{IsExactlyByCause}
-use Rattle.register.proofs.ChangedCallLemmas.{if_no_such}
 use Rattle.register.proofs.FoundCallLemmas.{is_found, below_those, few_those}
 use Rattle.register.proofs.SentPieceLemmas.{sending, position_there}
 use Rattle.register.proofs.SuppliedPieceLemmas.{none_of}
@@ -13,26 +12,19 @@ pieces_position-requires-clause-count c = few_those c.self.invariant c.deref-2.e
 
 pub pieces_position-requires-clause-below : goal.pieces_position-requires-clause-below
 pieces_position-requires-clause-below c =
-    let f = is_found c.self.invariant c.in-Ok.ensures.place c.deref.ensures.value c.index-tracked.ensures in
+    let f = is_found c.self.invariant c.in_ok-index.ensures.place c.deref.ensures.value c.index-tracked.ensures in
     below_those f c.deref-2.ensures.value
 
 pub index-requires : goal.index-requires
 index-requires c =
-    let f = is_found c.self.invariant c.in-Ok.ensures.place c.deref.ensures.value c.index-tracked.ensures in
+    let f = is_found c.self.invariant c.in_ok-index.ensures.place c.deref.ensures.value c.index-tracked.ensures in
     let s = sending f c.pieces_position.ensures c.deref-2.ensures.value c.in-Some.is in
     let there = position_there s in
     omega (arith, there, c.deref-2.ensures.len, ap length c.deref-2.ensures.value)
 
-pub returns-in-Err : goal.returns-in-Err
-returns-in-Err c =
-    record {
-      cause = rw (← c.self.view_is) (if_no_such c.self.invariant c.deref.ensures.value c.in-Err.ensures.refused _);
-      coded = or_wrong c.args.now c.args.self.now.object c.args.call;
-    }
-
 pub returns-in_default : goal.returns-in_default
 returns-in_default c =
-    let f = is_found c.self.invariant c.in-Ok.ensures.place c.deref.ensures.value c.index-tracked.ensures in
+    let f = is_found c.self.invariant c.in_ok-index.ensures.place c.deref.ensures.value c.index-tracked.ensures in
     let s = sending f c.pieces_position.ensures c.deref-2.ensures.value (none_of c.pieces_position.result c.in_default.not-Some) in
     record {
       cause = rw (← c.self.view_is) (permitted_is s c.args.now);
@@ -41,7 +33,7 @@ returns-in_default c =
 
 pub returns-then-now-gt-MOST_STEPS : goal.returns-then-now-gt-MOST_STEPS
 returns-then-now-gt-MOST_STEPS c =
-    let f = is_found c.self.invariant c.in-Ok.ensures.place c.deref.ensures.value c.index-tracked.ensures in
+    let f = is_found c.self.invariant c.in_ok-index.ensures.place c.deref.ensures.value c.index-tracked.ensures in
     let s = sending f c.pieces_position.ensures c.deref-2.ensures.value c.in-Some.is in
     record {
       cause = rw (← c.self.view_is) (past_permitted s c.args.now c.if-now-gt-MOST_STEPS.true);
@@ -50,7 +42,7 @@ returns-then-now-gt-MOST_STEPS c =
 
 pub returns-then-is_replied : goal.returns-then-is_replied
 returns-then-is_replied c =
-    let f = is_found c.self.invariant c.in-Ok.ensures.place c.deref.ensures.value c.index-tracked.ensures in
+    let f = is_found c.self.invariant c.in_ok-index.ensures.place c.deref.ensures.value c.index-tracked.ensures in
     let s = sending f c.pieces_position.ensures c.deref-2.ensures.value c.in-Some.is in
     let is = permits_begin s c.index.ensures c.layout.ensures c.args.now c.if-now-gt-MOST_STEPS.false c.self.view_is c.requires.after
     c.can_begin.result c.current.ensures c.is_replied.ensures c.if-is_replied.true c.n-members.ensures.value c.can_begin.ensures in
@@ -62,7 +54,7 @@ returns-then-is_replied c =
 
 pub returns-else-is_replied : goal.returns-else-is_replied
 returns-else-is_replied c =
-    let f = is_found c.self.invariant c.in-Ok.ensures.place c.deref.ensures.value c.index-tracked.ensures in
+    let f = is_found c.self.invariant c.in_ok-index.ensures.place c.deref.ensures.value c.index-tracked.ensures in
     let s = sending f c.pieces_position.ensures c.deref-2.ensures.value c.in-Some.is in
     let is = permits_asking s c.index.ensures c.layout.ensures c.args.now c.if-now-gt-MOST_STEPS.false c.self.view_is c.requires.after
     c.can_ask_again.result c.current.ensures c.is_replied.ensures c.if-is_replied.false c.can_ask_again.ensures in

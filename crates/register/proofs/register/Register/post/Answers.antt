@@ -4,7 +4,7 @@ use Rattle.tag.specs.declared.refusal.Refusal.{Refusal}
 use Rattle.register.proofs.AskAgainLemmas.{again_room, again_by, again_step, again_kept}
 use Rattle.register.proofs.FoundCallLemmas.{is_found, wanting, below_those, few_those, current_again}
 use Rattle.register.proofs.PostLemmas.{post_refused, post_pieces, post_past, posting}
-use Rattle.register.proofs.RefusedStepLemmas.{as_it_was}
+use Rattle.register.proofs.RoomLemmas.{same_cause}
 use Rattle.register.proofs.register.Register.post.Goals as goal
 
 pub want_of-requires-clause-below : goal.want_of-requires-clause-below
@@ -48,41 +48,38 @@ ask_again-requires-clause-room c =
     let a = posting w p c.is_plain.ensures c.if-not-is_plain.false c.index-3.ensures in
     again_room a c.args.now c.self.view_is c.requires.after
 
-pub invariant_of-self : goal.invariant_of-self
-invariant_of-self c =
+pub invariant_of-self-2 : goal.invariant_of-self-2
+invariant_of-self-2 c =
     let f = is_found c.self.invariant c.in_ok-index.ensures.place c.deref.ensures.value c.index.ensures in
     let w = wanting f c.want_of.ensures c.deref-2.ensures.value c.in-Replies.is in
     let p = current_again f c.index-2.ensures c.current.ensures in
     let a = posting w p c.is_plain.ensures c.if-not-is_plain.false c.index-3.ensures in
-    again_kept a c.args.now c.in-Ok.ensures.mail c.self.view_is c.requires.after
+    again_kept a c.args.now c.in_ok-ask_again.ensures.mail c.self.view_is c.requires.after
 
-pub returns-in-Ok-clause-step : goal.returns-in-Ok-clause-step
-returns-in-Ok-clause-step c =
+pub returns-clause-step : goal.returns-clause-step
+returns-clause-step c =
     let f = is_found c.self.invariant c.in_ok-index.ensures.place c.deref.ensures.value c.index.ensures in
     let w = wanting f c.want_of.ensures c.deref-2.ensures.value c.in-Replies.is in
     let p = current_again f c.index-2.ensures c.current.ensures in
     let a = posting w p c.is_plain.ensures c.if-not-is_plain.false c.index-3.ensures in
-    rw (← c.self.view_is) (again_step a c.args.now c.in-Ok.ensures.mail)
+    rw (← c.self.view_is) (again_step a c.args.now c.in_ok-ask_again.ensures.mail)
 
-pub returns-in-Ok-clause-cause : goal.returns-in-Ok-clause-cause
-returns-in-Ok-clause-cause c =
+pub returns-clause-cause : goal.returns-clause-cause
+returns-clause-cause c =
     let f = is_found c.self.invariant c.in_ok-index.ensures.place c.deref.ensures.value c.index.ensures in
     let w = wanting f c.want_of.ensures c.deref-2.ensures.value c.in-Replies.is in
     let p = current_again f c.index-2.ensures c.current.ensures in
     let a = posting w p c.is_plain.ensures c.if-not-is_plain.false c.index-3.ensures in
     rw (← c.self.view_is)
-    (again_by a c.args.now c.if-now-gt-MOST_STEPS.false (λ cause. cause ≡ None) c.in-Ok.ensures.cause)
+    (again_by a c.args.now c.if-now-gt-MOST_STEPS.false (λ cause. cause ≡ None) c.in_ok-ask_again.ensures.cause)
 
-pub returns-in-Err-clause-cause : goal.returns-in-Err-clause-cause
-returns-in-Err-clause-cause c =
+pub returns-in_err-ask_again-clause-cause : goal.returns-in_err-ask_again-clause-cause
+returns-in_err-ask_again-clause-cause c =
     let f = is_found c.self.invariant c.in_ok-index.ensures.place c.deref.ensures.value c.index.ensures in
     let w = wanting f c.want_of.ensures c.deref-2.ensures.value c.in-Replies.is in
     let p = current_again f c.index-2.ensures c.current.ensures in
     let a = posting w p c.is_plain.ensures c.if-not-is_plain.false c.index-3.ensures in
-    let r = c.in-Err.refusal in
-    rw (← c.self.view_is) (again_by a c.args.now c.if-now-gt-MOST_STEPS.false
-    (λ (cause : Option Refusal). IsRefusalBy cause r) c.in-Err.ensures.cause)
-
-pub returns-in-Err-clause-unchanged : goal.returns-in-Err-clause-unchanged
-returns-in-Err-clause-unchanged c =
-    as_it_was c.self.invariant c.self.view_is refl c.in-Err.ensures.kept refl
+    let r = c.in_err-ask_again.field-0.0 in
+    same_cause _ c.from_residual-in_err-ask_again.result _ c.from_residual-in_err-ask_again.ensures.1
+    (rw (← c.self.view_is) (again_by a c.args.now c.if-now-gt-MOST_STEPS.false
+    (λ (cause : Option Refusal). IsRefusalBy cause r) c.in_err-ask_again.ensures.cause))

@@ -29,18 +29,18 @@ overflow_add-self c =
 
 pub invariant_of-self : goal.invariant_of-self
 invariant_of-self c =
-    let r = retiring c.args.position c.args.now c.self.invariant c.self.view_is c.in-Ok.ensures.cause c.index_mut.ensures.value
+    let r = retiring c.args.position c.args.now c.self.invariant c.self.view_is c.in_ok-may_retire.ensures.cause c.index_mut.ensures.value
     c.retire-freed.ensures.layout c.retire-freed.ensures.banks in
     retire_kept r c.retire-freed.ensures.freed c.self.view_is c.requires.after
 
-pub returns-in-Ok-clause-step : goal.returns-in-Ok-clause-step
-returns-in-Ok-clause-step c =
-    let r = retiring c.args.position c.args.now c.self.invariant c.self.view_is c.in-Ok.ensures.cause c.index_mut.ensures.value
+pub returns-clause-step : goal.returns-clause-step
+returns-clause-step c =
+    let r = retiring c.args.position c.args.now c.self.invariant c.self.view_is c.in_ok-may_retire.ensures.cause c.index_mut.ensures.value
     c.retire-freed.ensures.layout c.retire-freed.ensures.banks in
     rw (← c.self.view_is) (retire_step r c.retire-freed.ensures.freed)
 
-pub returns-in-Ok-clause-freed : goal.returns-in-Ok-clause-freed
-returns-in-Ok-clause-freed c =
-    let r = retiring c.args.position c.args.now c.self.invariant c.self.view_is c.in-Ok.ensures.cause c.index_mut.ensures.value
+pub returns-clause-freed : goal.returns-clause-freed
+returns-clause-freed c =
+    let r = retiring c.args.position c.args.now c.self.invariant c.self.view_is c.in_ok-may_retire.ensures.cause c.index_mut.ensures.value
     c.retire-freed.ensures.layout c.retire-freed.ensures.banks in
     freed_is r c.retire-freed.ensures.freed ∙ ap (λ (s : State). base_bytes s.object) c.self.view_is

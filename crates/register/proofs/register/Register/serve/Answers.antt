@@ -1,6 +1,5 @@
-use Rattle.std.proofs.Common.{arith, refl}
+use Rattle.std.proofs.Common.{arith}
 use Rattle.bank.specs.Serve.{served_bank}
-use Rattle.register.proofs.RefusedStepLemmas.{as_it_was, written_back}
 use Rattle.register.proofs.ServeRequestLemmas.{position_there, serving, member_there, part_stored, bytes_few}
 use Rattle.register.proofs.ServedRegisterLemmas.{served, put, new_there, new_fits, new_few, reply_fits, serve_step, serve_kept}
 use Rattle.register.proofs.register.Register.serve.Goals as goal
@@ -33,19 +32,19 @@ overflow_sub-self c =
 pub bytes-requires-2-clause-there : goal.bytes-requires-2-clause-there
 bytes-requires-2-clause-there c =
     let s = serving c.args.place c.self.invariant c.at-message.ensures c.in-Request.is c.index_mut-position.ensures.value in
-    let d = served s c.in-Ok.ensures.layout c.in-Ok.ensures.bank c.bytes.ensures.value c.if-bytes-self.false in
+    let d = served s c.in_ok-reply.ensures.layout c.in_ok-reply.ensures.bank c.bytes.ensures.value c.if-bytes-self.false in
     new_there d
 
 pub bytes-requires-2-clause-room : goal.bytes-requires-2-clause-room
 bytes-requires-2-clause-room c other is =
     let s = serving c.args.place c.self.invariant c.at-message.ensures c.in-Request.is c.index_mut-position.ensures.value in
-    let d = served s c.in-Ok.ensures.layout c.in-Ok.ensures.bank c.bytes.ensures.value c.if-bytes-self.false in
+    let d = served s c.in_ok-reply.ensures.layout c.in_ok-reply.ensures.bank c.bytes.ensures.value c.if-bytes-self.false in
     new_few d other is
 
 pub overflow_add-self : goal.overflow_add-self
 overflow_add-self c =
     let s = serving c.args.place c.self.invariant c.at-message.ensures c.in-Request.is c.index_mut-position.ensures.value in
-    let d = served s c.in-Ok.ensures.layout c.in-Ok.ensures.bank c.bytes.ensures.value c.if-bytes-self.false in
+    let d = served s c.in_ok-reply.ensures.layout c.in_ok-reply.ensures.bank c.bytes.ensures.value c.if-bytes-self.false in
     let fits = new_fits d in
     let before = c.bytes-before.ensures d.request.bank d.request.held in
     let after = c.bytes-2.ensures (served_bank d.request.bank c.in-Request.request c.args.now) (put d) in
@@ -54,25 +53,18 @@ overflow_add-self c =
 pub reply_in_place-requires-clause-room : goal.reply_in_place-requires-clause-room
 reply_in_place-requires-clause-room c =
     let s = serving c.args.place c.self.invariant c.at-message.ensures c.in-Request.is c.index_mut-position.ensures.value in
-    reply_fits s c.in-Ok.ensures.reply (omega (arith, c.len.ensures.value, c.len.ensures.within))
+    reply_fits s c.in_ok-reply.ensures.reply (omega (arith, c.len.ensures.value, c.len.ensures.within))
 
 pub invariant_of-self-2 : goal.invariant_of-self-2
 invariant_of-self-2 c =
     let s = serving c.args.place c.self.invariant c.at-message.ensures c.in-Request.is c.index_mut-position.ensures.value in
-    let d = served s c.in-Ok.ensures.layout c.in-Ok.ensures.bank c.bytes.ensures.value c.if-bytes-self.false in
+    let d = served s c.in_ok-reply.ensures.layout c.in_ok-reply.ensures.bank c.bytes.ensures.value c.if-bytes-self.false in
     let before = c.bytes-before.ensures d.request.bank d.request.held in
     let after = c.bytes-2.ensures (served_bank d.request.bank c.in-Request.request c.args.now) (put d) in
-    serve_kept d c.in-Ok.ensures.reply c.reply_in_place.ensures before after c.self.view_is c.requires.after
+    serve_kept d c.in_ok-reply.ensures.reply c.reply_in_place.ensures before after c.self.view_is c.requires.after
 
 pub returns-clause-step : goal.returns-clause-step
 returns-clause-step c =
     let s = serving c.args.place c.self.invariant c.at-message.ensures c.in-Request.is c.index_mut-position.ensures.value in
-    let d = served s c.in-Ok.ensures.layout c.in-Ok.ensures.bank c.bytes.ensures.value c.if-bytes-self.false in
-    rw (← c.self.view_is) (serve_step d c.in-Ok.ensures.reply c.reply_in_place.ensures 0)
-
-pub returns-in-Err-clause-unchanged : goal.returns-in-Err-clause-unchanged
-returns-in-Err-clause-unchanged c =
-    as_it_was c.self.invariant c.self.view_is
-    (written_back c.self.inside.positions.items c.at-message.result.now.position c.in-Err.ensures.unchanged
-    c.index_mut-position.ensures.value)
-    refl refl
+    let d = served s c.in_ok-reply.ensures.layout c.in_ok-reply.ensures.bank c.bytes.ensures.value c.if-bytes-self.false in
+    rw (← c.self.view_is) (serve_step d c.in_ok-reply.ensures.reply c.reply_in_place.ensures 0)

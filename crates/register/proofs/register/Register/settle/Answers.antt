@@ -1,7 +1,6 @@
 use Rattle.std.proofs.Common.{sym, subst, ◌∙◌, refl}
 use Rattle.tag.specs.declared.refusal.Refusal.TheVariants.{NotNow, Collected}
 use Rattle.decoder.specs.Decoded.{IsDecoded}
-use Rattle.register.proofs.ChangedCallLemmas.{if_no_such}
 use Rattle.register.proofs.FoundCallLemmas.{is_found, wanting, below_those, few_those, current_again, not_settle}
 use Rattle.register.proofs.SettleLemmas.{settle_refused, settle_wrong, settle_none, settle_past, settle_is, settle_kept, settled_as, told}
 use Rattle.register.proofs.SettleLemmas.{may_settle}
@@ -12,20 +11,12 @@ want_of-requires-clause-count c = few_those c.self.invariant c.deref-2.ensures.v
 
 pub want_of-requires-clause-below : goal.want_of-requires-clause-below
 want_of-requires-clause-below c =
-    let f = is_found c.self.invariant c.in-Ok.ensures.place c.deref.ensures.value c.index.ensures in
+    let f = is_found c.self.invariant c.in_ok-index.ensures.place c.deref.ensures.value c.index.ensures in
     below_those f c.deref-2.ensures.value
-
-pub returns-in-Err : goal.returns-in-Err
-returns-in-Err c =
-    record {
-      step = tt;
-      cause = rw (← c.self.view_is) (if_no_such c.self.invariant c.deref.ensures.value c.in-Err.ensures.refused _);
-      unchanged = refl;
-    }
 
 pub returns-in_default : goal.returns-in_default
 returns-in_default c =
-    let f = is_found c.self.invariant c.in-Ok.ensures.place c.deref.ensures.value c.index.ensures in
+    let f = is_found c.self.invariant c.in_ok-index.ensures.place c.deref.ensures.value c.index.ensures in
     let w = wanting f c.want_of.ensures c.deref-2.ensures.value refl in
     record {
       step = tt;
@@ -36,7 +27,7 @@ returns-in_default c =
 
 pub returns-in-Again : goal.returns-in-Again
 returns-in-Again c =
-    let f = is_found c.self.invariant c.in-Ok.ensures.place c.deref.ensures.value c.index.ensures in
+    let f = is_found c.self.invariant c.in_ok-index.ensures.place c.deref.ensures.value c.index.ensures in
     let w = wanting f c.want_of.ensures c.deref-2.ensures.value c.in-Again.is in
     record {
       step = tt;
@@ -46,14 +37,14 @@ returns-in-Again c =
 
 pub returns-then-not-is_decoded_from-clause-cause : goal.returns-then-not-is_decoded_from-clause-cause
 returns-then-not-is_decoded_from-clause-cause c =
-    let f = is_found c.self.invariant c.in-Ok.ensures.place c.deref.ensures.value c.index.ensures in
+    let f = is_found c.self.invariant c.in_ok-index.ensures.place c.deref.ensures.value c.index.ensures in
     let w = wanting f c.want_of.ensures c.deref-2.ensures.value c.in-Settle.is in
     let wrong = sym (told c.in-Settle.k c.args.decoded c.is_decoded_from.ensures c.replies.ensures) ∙ c.if-not-is_decoded_from.true in
     rw (← c.self.view_is) (settle_wrong w (current_again f c.index-2.ensures c.in-Some.ensures) c.args.decoded c.args.now wrong)
 
 pub returns-then-now-gt-MOST_STEPS-clause-cause : goal.returns-then-now-gt-MOST_STEPS-clause-cause
 returns-then-now-gt-MOST_STEPS-clause-cause c =
-    let f = is_found c.self.invariant c.in-Ok.ensures.place c.deref.ensures.value c.index.ensures in
+    let f = is_found c.self.invariant c.in_ok-index.ensures.place c.deref.ensures.value c.index.ensures in
     let w = wanting f c.want_of.ensures c.deref-2.ensures.value c.in-Settle.is in
     let right = sym (told c.in-Settle.k c.args.decoded c.is_decoded_from.ensures c.replies.ensures) ∙ c.if-not-is_decoded_from.false in
     rw (← c.self.view_is)
@@ -61,7 +52,7 @@ returns-then-now-gt-MOST_STEPS-clause-cause c =
 
 pub returns-clause-cause : goal.returns-clause-cause
 returns-clause-cause c =
-    let f = is_found c.self.invariant c.in-Ok.ensures.place c.deref.ensures.value c.index.ensures in
+    let f = is_found c.self.invariant c.in_ok-index.ensures.place c.deref.ensures.value c.index.ensures in
     let w = wanting f c.want_of.ensures c.deref-2.ensures.value c.in-Settle.is in
     let right = sym (told c.in-Settle.k c.args.decoded c.is_decoded_from.ensures c.replies.ensures) ∙ c.if-not-is_decoded_from.false in
     rw (← c.self.view_is)
@@ -69,7 +60,7 @@ returns-clause-cause c =
 
 pub invariant_of-self : goal.invariant_of-self
 invariant_of-self c =
-    let f = is_found c.self.invariant c.in-Ok.ensures.place c.deref.ensures.value c.index.ensures in
+    let f = is_found c.self.invariant c.in_ok-index.ensures.place c.deref.ensures.value c.index.ensures in
     let w = wanting f c.want_of.ensures c.deref-2.ensures.value c.in-Settle.is in
     let right = sym (told c.in-Settle.k c.args.decoded c.is_decoded_from.ensures c.replies.ensures) ∙ c.if-not-is_decoded_from.false in
     let current = current_again f c.index-2.ensures c.in-Some.ensures in
@@ -79,6 +70,6 @@ invariant_of-self c =
 
 pub returns-clause-step : goal.returns-clause-step
 returns-clause-step c =
-    let f = is_found c.self.invariant c.in-Ok.ensures.place c.deref.ensures.value c.index.ensures in
+    let f = is_found c.self.invariant c.in_ok-index.ensures.place c.deref.ensures.value c.index.ensures in
     let new = settled_as f c.index_mut.ensures.value c.settle.ensures c.into_value.ensures in
     rw (← c.self.view_is) (settle_is f c.args.decoded.value c.args.now new)

@@ -1,0 +1,62 @@
+-- The strings of an answer are its bytes, and with an address in front they are a frame.
+use Rattle.std.proofs.Common.{◌≡◌, ℕ, ◌^◌, ◌<◌, ◌≤◌, List, [], ◌∷◌, ◌++◌, length, length-append, refl, ap, ◌∙◌, arith}
+use Rattle.std.specs.Fmt.{decimal}
+use Rattle.std.specs.List.{concat}
+use Rattle.std.proofs.lemmas.Fmt.{length-decimal-le}
+use Rattle.std.proofs.lemmas.List.{append-nil}
+use Rattle.std.proofs.lemmas.List.Folds.{concat-append}
+use Rattle.frames.specs.Frame.{IsShort, IsFrame, header, line_end}
+use Rattle.frames.specs.declared.limits.TheConstants.{MOST_STRINGS, LONGEST_STRING}
+use Rattle.client_commands.specs.Answers.{answer_bytes, answer_strings, error_line}
+use Rattle.client_commands.specs.Laws.{AnswersHaveFrames}
+use Rattle.client_commands.specs.Texts.{error_text}
+use Rattle.client_commands.specs.declared.answer.Answer.{Answer}
+use Rattle.client_commands.specs.declared.answer.Answer.TheVariants as answer
+use Rattle.client_commands.proofs.TextLemmas.{error_is_text}
+
+joined : (a : Answer) → concat (answer_strings a) ≡ answer_bytes a
+joined answer.Ok = refl
+joined answer.Pong = refl
+joined (answer.Value value) = refl
+joined (answer.Number n) = append-nil (answer_bytes (answer.Number n))
+joined answer.NoCommands = refl
+joined (answer.Error e) = append-nil (answer_bytes (answer.Error e))
+
+pub joined_behind : (old new : List (List ℕ)) (a : Answer) → new ≡ old ++ answer_strings a → concat new ≡ concat old ++ answer_bytes a
+joined_behind old new a e =
+    ap concat e ∙ concat-append old (answer_strings a) ∙ ap (λ (bytes : List ℕ). concat old ++ bytes) (joined a)
+
+-- ---- frames
+
+small : (string : List ℕ) → length string ≤ 200 → IsShort string
+small string le = let limit : LONGEST_STRING ≡ 16842752 = refl in omega arith
+
+header_short : (mark n : ℕ) → n < 2 ^ 64 → IsShort (header mark n)
+header_short mark n lt =
+    let digits : length (decimal n) ≤ 20 = length-decimal-le 20 n (omega arith) (omega arith) lt in
+    small (header mark n) (omega (arith, length-append (decimal n) line_end))
+
+line_short : (text : List ℕ) → length text ≤ 100 → IsShort (error_line text)
+line_short text le = small (error_line text) (omega (arith, length-append text line_end))
+
+one : (address string : List ℕ) → IsShort address → IsShort string → IsFrame (address ∷ string ∷ [])
+one address string a s =
+    let limit : MOST_STRINGS ≡ 1024 = refl in
+    record { few = omega arith; short = (a, (s, tt)) }
+
+three : (address line value : List ℕ) → IsShort address → IsShort line → IsShort value → IsFrame (address ∷ line ∷ value ∷ line_end ∷ [])
+three address line value a l v =
+    let limit : MOST_STRINGS ≡ 1024 = refl in
+    record { few = omega arith; short = (a, (l, (v, (small line_end (omega arith), tt)))) }
+
+pub framed : AnswersHaveFrames
+framed address answer.Ok a fits = one address (answer_bytes answer.Ok) a (small (answer_bytes answer.Ok) (omega arith))
+framed address answer.Pong a fits = one address (answer_bytes answer.Pong) a (small (answer_bytes answer.Pong) (omega arith))
+framed address (answer.Value value) a fits =
+    let limit : LONGEST_STRING ≡ 16842752 = refl in
+    three address (header 36 (length value)) value a (header_short 36 (length value) (omega arith)) fits
+framed address (answer.Number n) a fits = one address (header 58 n) a (header_short 58 n fits)
+framed address answer.NoCommands a fits =
+    one address (answer_bytes answer.NoCommands) a (small (answer_bytes answer.NoCommands) (omega arith))
+framed address (answer.Error e) a fits =
+    one address (error_line (error_text e)) a (line_short (error_text e) (error_is_text e).short)

@@ -1,0 +1,7 @@
+pub mod NumberLemmas
+pub mod WordLemmas
+pub mod ArgumentLemmas
+pub mod MoveLemmas
+pub mod CommandLemmas
+pub mod TextLemmas
+pub mod AnswerLemmas

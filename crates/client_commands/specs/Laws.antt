@@ -1,0 +1,32 @@
+-- The contracts that docs/trusted.md lists do not depend on this file; other contracts and proofs do.
+-- What holds of all errors and of all answers.
+use Rattle.std.specs.Prelude.{ℕ, ◌^◌, ◌<◌, List, ◌∷◌, Bool, IsTrue, nat_le, ◌&&◌, ⊤}
+use Rattle.std.specs.List.{list_all}
+use Rattle.frames.specs.Frame.{IsShort, IsFrame}
+use Rattle.client_commands.specs.Answers.{answer_strings}
+use Rattle.client_commands.specs.Texts.{error_text}
+use Rattle.client_commands.specs.declared.answer.Answer.{Answer}
+use Rattle.client_commands.specs.declared.answer.Answer.TheVariants as answer
+use Rattle.client_commands.specs.declared.answer.AnswerError.{AnswerError}
+
+-- whether a byte is a printable ASCII character: none of them is CR or LF
+abbrev pub is_printable : ℕ → Bool
+is_printable byte = nat_le 32 byte && nat_le byte 126
+
+-- the text of each error consists of printable ASCII characters
+abbrev pub ErrorTextsArePrintable : Type 0
+ErrorTextsArePrintable = (error : AnswerError) → IsTrue (list_all is_printable (error_text error))
+
+-- a value is short enough for a string of a frame, and a number has 64 bits
+abbrev pub IsShortAnswer : Answer → Type 0
+IsShortAnswer answer.Ok = ⊤
+IsShortAnswer answer.Pong = ⊤
+IsShortAnswer (answer.Value value) = IsShort value
+IsShortAnswer (answer.Number n) = n < 2 ^ 64
+IsShortAnswer answer.NoCommands = ⊤
+IsShortAnswer (answer.Error error) = ⊤
+
+-- an address and the strings of such an answer are a frame
+abbrev pub AnswersHaveFrames : Type 0
+AnswersHaveFrames = (address : List ℕ) (a : Answer) → IsShort address → IsShortAnswer a
+    → IsFrame (address ∷ answer_strings a)

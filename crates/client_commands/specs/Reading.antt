@@ -1,0 +1,86 @@
+-- The contracts that docs/trusted.md lists do not depend on this file; other contracts and proofs do.
+-- Which command the strings of a frame are, or what the first fault is.
+use Rattle.std.specs.Prelude.{ℕ, List, [], ◌∷◌, length, get_or, Option, Some, None, Result, Ok, Err, ◌==◌, codes}
+use Rattle.std.specs.Prelude.{if◌then◌else◌}
+use Rattle.string_parts.specs.Parts.{and_then}
+use Rattle.client_commands.specs.Arguments.{checked_name, checked_value, only_argument, name_and_value}
+use Rattle.client_commands.specs.Layouts.{layout_from}
+use Rattle.client_commands.specs.Words.{is_word, named}
+use Rattle.client_commands.specs.declared.command.Command.{Command}
+use Rattle.client_commands.specs.declared.command.Command.TheVariants as ask
+use Rattle.client_commands.specs.declared.command.CommandName.{CommandName}
+use Rattle.client_commands.specs.declared.command.CommandName.TheVariants as of
+use Rattle.client_commands.specs.declared.fault.CommandFault.{CommandFault}
+use Rattle.client_commands.specs.declared.fault.CommandFault.TheVariants.{UnknownCommand, UnknownSubcommand}
+use Rattle.client_commands.specs.declared.fault.CommandFault.TheVariants.{WrongCount}
+
+-- a command, or the first fault
+abbrev pub Found : Type 0
+Found = Result Command CommandFault
+
+-- GET: a name
+unfoldable pub get_from : List (List ℕ) → Found
+get_from arguments =
+    and_then (only_argument of.Get arguments) (λ name.
+    and_then (checked_name name) (λ name.
+    Ok (ask.Get name)))
+
+-- SET: a name and a value
+unfoldable pub set_from : List (List ℕ) → Found
+set_from arguments =
+    and_then (name_and_value arguments) (λ both.
+    and_then (checked_name both.0) (λ name.
+    and_then (checked_value both.1) (λ value.
+    Ok (ask.Set name value))))
+
+-- MOVE: a name, and a layout behind it
+unfoldable pub move_from : List (List ℕ) → Found
+move_from arguments = and_then (layout_from arguments) (λ layout. Ok (ask.Move (get_or arguments 0 []) layout))
+
+-- PING: a text, or nothing
+unfoldable pub ping_from : List (List ℕ) → Found
+ping_from [] = Ok (ask.Ping None)
+ping_from (text ∷ more) = and_then (only_argument of.Ping (text ∷ more)) (λ text. Ok (ask.Ping (Some text)))
+
+-- ECHO: a text
+unfoldable pub echo_from : List (List ℕ) → Found
+echo_from arguments = and_then (only_argument of.Echo arguments) (λ text. Ok (ask.Echo text))
+
+-- this command, unless the number of strings is another than it has
+abbrev pub counted : ℕ → ℕ → Command → Found
+counted count wanted command = if count == wanted then Ok command else Err (WrongCount of.Client)
+
+-- CLIENT with this word, and so many strings behind it
+unfoldable pub subcommand_from : List ℕ → ℕ → Found
+subcommand_from word count =
+    if is_word word (codes "id") then counted count 0 ask.ClientId
+    else (if is_word word (codes "setname") then counted count 1 ask.DescribeClient
+    else (if is_word word (codes "setinfo") then counted count 2 ask.DescribeClient
+    else Err UnknownSubcommand))
+
+-- CLIENT: a word, and what belongs to it
+unfoldable pub client_from : List (List ℕ) → Found
+client_from [] = Err (WrongCount of.Client)
+client_from (word ∷ rest) = subcommand_from word (length rest)
+
+-- the command of this name with these arguments
+abbrev pub command_from : CommandName → List (List ℕ) → Found
+command_from of.Get arguments = get_from arguments
+command_from of.Set arguments = set_from arguments
+command_from of.Move arguments = move_from arguments
+command_from of.Info arguments = Ok ask.Info
+command_from of.Ping arguments = ping_from arguments
+command_from of.Echo arguments = echo_from arguments
+command_from of.Command arguments = Ok ask.ListCommands
+command_from of.Client arguments = client_from arguments
+command_from of.Quit arguments = Ok ask.Quit
+
+-- the command of this name, where there is one
+abbrev pub command_named : Option CommandName → List (List ℕ) → Found
+command_named None arguments = Err UnknownCommand
+command_named (Some name) arguments = command_from name arguments
+
+-- the command that strings are: its name, and its arguments behind it
+unfoldable pub command_at : List (List ℕ) → Found
+command_at [] = Err UnknownCommand
+command_at (word ∷ arguments) = command_named (named word) arguments

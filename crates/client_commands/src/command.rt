@@ -1,0 +1,73 @@
+ghost use Rattle.std.specs.Prelude.{◌≡◌, Some};
+ghost use Rattle.client_commands.specs.Words.{name_text};
+
+use bytes::Bytes;
+use layout::Layout;
+use std::fmt;
+
+/// What a client asks. The names, the values and the texts are strings of the frame, and no byte of them is copied.
+#[derive(Debug, PartialEq, Eq, Drop)]
+pub enum Command {
+    /// `GET name`: the value of a name.
+    Get(Bytes),
+    /// `SET name value`: gives a name a value.
+    Set { name: Bytes, value: Bytes },
+    /// `MOVE name k node ..`: moves a name to the layout of this k and these nodes.
+    Move { name: Bytes, layout: Layout },
+    /// `INFO`: what the node says of itself.
+    Info,
+    /// `PING` or `PING text`: whether the node answers.
+    Ping(Option<Bytes>),
+    /// `ECHO text`: the text.
+    Echo(Bytes),
+    /// `COMMAND`: the list of commands, which is empty.
+    ListCommands,
+    /// `CLIENT ID`: the number of the connection.
+    ClientId,
+    /// `CLIENT SETNAME text` or `CLIENT SETINFO text text`: what the client says of itself. A node keeps none of it.
+    DescribeClient,
+    /// `QUIT`: the end of the connection.
+    Quit,
+}
+
+/// The first word of a command.
+#[derive(Clone, Copy, Debug, PartialEq, Eq)]
+pub enum CommandName {
+    Get,
+    Set,
+    Move,
+    Info,
+    Ping,
+    Echo,
+    Command,
+    Client,
+    Quit,
+}
+
+impl CommandName {
+    /// The name in small letters.
+    pub fn text(self) -> &'static str
+        ensures { result.now ≡ name_text self }
+    {
+        match self {
+            CommandName::Get => "get",
+            CommandName::Set => "set",
+            CommandName::Move => "move",
+            CommandName::Info => "info",
+            CommandName::Ping => "ping",
+            CommandName::Echo => "echo",
+            CommandName::Command => "command",
+            CommandName::Client => "client",
+            CommandName::Quit => "quit",
+        }
+    }
+}
+
+/// The name in small letters.
+impl fmt::Display for CommandName {
+    ghost output = { λ name. Some (name_text name) };
+
+    fn fmt<W: fmt::Write>(&self, f: &mut fmt::Formatter<W>) -> fmt::Result {
+        f.write_str(self.text())
+    }
+}

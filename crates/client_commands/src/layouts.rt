@@ -1,0 +1,59 @@
+//! The arguments of a `MOVE`.
+ghost use Rattle.std.specs.Prelude.{◌≡◌, ◌≤◌, ◌<◌, length, IfOk};
+ghost use Rattle.tag.specs.declared.limits.TheConstants.{MOST_MEMBERS};
+ghost use Rattle.client_commands.specs.Layouts.{
+  Sees,
+  numbers_from,
+  layout_of,
+  layout_from,
+};
+
+use crate::command::CommandName;
+use crate::fault::CommandFault;
+use crate::number::read_number;
+use arrayvec::ArrayVec;
+use bytes::Bytes;
+use layout::Layout;
+use string_parts::checked_layout;
+use tag::{LONGEST_NAME, MOST_MEMBERS};
+
+/// The layout of a `MOVE`, whose arguments are a name, a k and the nodes.
+#[tactic(auto, unfolding(crate::specs::Layouts::layout_from))]
+pub(crate) fn read_layout(arguments: &[Bytes]) -> Result<Layout, CommandFault>
+    ensures some { IfOk result (λ _. 0 < length arguments.now) }
+    ensures exact { result ≡ layout_from arguments.now }
+{
+    match arguments {
+        [name, k, nodes @ ..] => layout_of(name, k, nodes),
+        [_] => Err(CommandFault::WrongCount(CommandName::Move)),
+        [] => Err(CommandFault::WrongCount(CommandName::Move)),
+    }
+}
+
+#[tactic(auto, unfolding(crate::specs::Layouts::layout_of))]
+fn layout_of(name: &[u8], k: &[u8], nodes: &[Bytes]) -> Result<Layout, CommandFault>
+    ensures { result ≡ layout_of name.now k.now nodes.now }
+{
+    if nodes.is_empty() || nodes.len() > MOST_MEMBERS {
+        return Err(CommandFault::WrongCount(CommandName::Move));
+    }
+    if name.len() > LONGEST_NAME {
+        return Err(CommandFault::NameTooLong);
+    }
+    let k = read_number(k)?;
+    let members = read_numbers(nodes)?;
+    checked_layout(k, &members, CommandFault::BadLayout)
+}
+
+// The numbers that the strings write.
+fn read_numbers(strings: &[Bytes]) -> Result<ArrayVec<u8, MOST_MEMBERS>, CommandFault>
+    requires { length strings.now ≤ MOST_MEMBERS }
+    ensures { Sees (λ numbers. numbers.items) result (numbers_from strings.now) }
+{
+    let mut numbers = ArrayVec::new();
+    for string in strings {
+        let number = read_number(string)?;
+        numbers.push(number);
+    }
+    Ok(numbers)
+}

@@ -1,0 +1,20 @@
+//! What a client asks a node, as a Redis client writes it, and what it is answered.
+#![tactic(auto)]
+
+pub use answer::{Answer, AnswerError};
+pub use command::{Command, CommandName};
+pub use fault::CommandFault;
+pub use laws::{answers_have_frames, error_texts_are_printable};
+pub use reading::read_command;
+pub use writing::push_answer;
+
+mod answer;
+mod arguments;
+mod command;
+mod fault;
+mod laws;
+mod layouts;
+mod number;
+mod reading;
+mod words;
+mod writing;

@@ -1,0 +1,153 @@
+//! Commands from frames.
+ghost use Rattle.std.specs.Prelude.{◌≡◌, Ok, IfOk};
+ghost use Rattle.client_commands.specs.declared.command.Command.{Command as Asked};
+ghost use Rattle.client_commands.specs.Command.{Asks};
+ghost use Rattle.client_commands.specs.Reading.{
+  command_at,
+  command_from,
+  get_from,
+  set_from,
+  move_from,
+  ping_from,
+  echo_from,
+  client_from,
+  subcommand_from,
+  counted,
+};
+
+use crate::arguments::{checked_name, checked_value, name_and_value, only_argument, take_first};
+use crate::command::{Command, CommandName};
+use crate::fault::CommandFault;
+use crate::layouts::read_layout;
+use crate::words::{is_word, name_of};
+use bytes::Bytes;
+use frames::Frame;
+
+/// What a frame asks. Names of commands are read without regard to the case of ASCII letters.
+///
+/// A fault is the first one in the order of `CommandFault`. It asks for no memory.
+pub fn read_command(frame: Frame) -> Result<Command, CommandFault>
+    // The frame asks for what is read.
+    ensures found { IfOk result (λ command. Asks frame command) }
+    // A frame that asks for a command is read as that command.
+    ensures only { (command : Asked) → Asks frame command → result ≡ Ok command }
+    // Which fault it is.
+    ensures exact { result ≡ command_at frame }
+{
+    read_strings(frame.into_strings())
+}
+
+// What these strings ask.
+#[tactic(auto, unfolding(crate::specs::Reading::command_at))]
+fn read_strings(mut strings: Vec<Bytes>) -> Result<Command, CommandFault>
+    ensures { result ≡ command_at strings.items }
+{
+    if strings.is_empty() {
+        return Err(CommandFault::UnknownCommand);
+    }
+    let word = take_first(&mut strings);
+    match name_of(&word) {
+        Some(name) => read_arguments(name, strings),
+        None => Err(CommandFault::UnknownCommand),
+    }
+}
+
+// What the command of this name asks with these arguments.
+fn read_arguments(name: CommandName, arguments: Vec<Bytes>) -> Result<Command, CommandFault>
+    ensures { result ≡ command_from name arguments.items }
+{
+    match name {
+        CommandName::Get => read_get(arguments),
+        CommandName::Set => read_set(arguments),
+        CommandName::Move => read_move(arguments),
+        CommandName::Info => Ok(Command::Info),
+        CommandName::Ping => read_ping(arguments),
+        CommandName::Echo => read_echo(arguments),
+        CommandName::Command => Ok(Command::ListCommands),
+        CommandName::Client => read_client(&arguments),
+        CommandName::Quit => Ok(Command::Quit),
+    }
+}
+
+#[tactic(auto, unfolding(crate::specs::Reading::get_from))]
+fn read_get(arguments: Vec<Bytes>) -> Result<Command, CommandFault>
+    ensures { result ≡ get_from arguments.items }
+{
+    let name = only_argument(CommandName::Get, arguments)?;
+    let name = checked_name(name)?;
+    Ok(Command::Get(name))
+}
+
+#[tactic(auto, unfolding(crate::specs::Reading::set_from))]
+fn read_set(arguments: Vec<Bytes>) -> Result<Command, CommandFault>
+    ensures { result ≡ set_from arguments.items }
+{
+    let (name, value) = name_and_value(arguments)?;
+    let name = checked_name(name)?;
+    let value = checked_value(value)?;
+    Ok(Command::Set { name, value })
+}
+
+#[tactic(auto, unfolding(crate::specs::Reading::move_from))]
+fn read_move(mut arguments: Vec<Bytes>) -> Result<Command, CommandFault>
+    ensures { result ≡ move_from arguments.items }
+{
+    let layout = read_layout(&arguments)?;
+    let name = take_first(&mut arguments);
+    Ok(Command::Move { name, layout })
+}
+
+#[tactic(auto, unfolding(crate::specs::Reading::ping_from))]
+fn read_ping(arguments: Vec<Bytes>) -> Result<Command, CommandFault>
+    ensures { result ≡ ping_from arguments.items }
+{
+    if arguments.is_empty() {
+        return Ok(Command::Ping(None));
+    }
+    let text = only_argument(CommandName::Ping, arguments)?;
+    Ok(Command::Ping(Some(text)))
+}
+
+#[tactic(auto, unfolding(crate::specs::Reading::echo_from))]
+fn read_echo(arguments: Vec<Bytes>) -> Result<Command, CommandFault>
+    ensures { result ≡ echo_from arguments.items }
+{
+    let text = only_argument(CommandName::Echo, arguments)?;
+    Ok(Command::Echo(text))
+}
+
+#[tactic(auto, unfolding(crate::specs::Reading::client_from))]
+fn read_client(arguments: &[Bytes]) -> Result<Command, CommandFault>
+    ensures { result ≡ client_from arguments.now }
+{
+    match arguments {
+        [word, rest @ ..] => read_subcommand(word, rest.len()),
+        [] => Err(CommandFault::WrongCount(CommandName::Client)),
+    }
+}
+
+// What a `CLIENT` asks with this word and so many strings behind it.
+#[tactic(auto, unfolding(crate::specs::Reading::subcommand_from))]
+fn read_subcommand(word: &[u8], count: usize) -> Result<Command, CommandFault>
+    ensures { result ≡ subcommand_from word.now count }
+{
+    if is_word(word, b"id") {
+        counted(count, 0, Command::ClientId)
+    } else if is_word(word, b"setname") {
+        counted(count, 1, Command::DescribeClient)
+    } else if is_word(word, b"setinfo") {
+        counted(count, 2, Command::DescribeClient)
+    } else {
+        Err(CommandFault::UnknownSubcommand)
+    }
+}
+
+// This command, unless the number of strings is another than it has.
+fn counted(count: usize, wanted: usize, command: Command) -> Result<Command, CommandFault>
+    ensures { result ≡ counted count wanted command }
+{
+    if count != wanted {
+        return Err(CommandFault::WrongCount(CommandName::Client));
+    }
+    Ok(command)
+}

@@ -1,0 +1,84 @@
+//! Answers to strings of a frame.
+ghost use Rattle.std.specs.Prelude.{◌≡◌, ◌++◌, ◌∷◌, [], IfOk, OnOk, OnErr, length};
+ghost use Rattle.std.specs.List.{concat};
+ghost use Rattle.frames.specs.Frame.{header};
+ghost use Rattle.client_commands.specs.Texts.{error_text};
+ghost use Rattle.client_commands.specs.Answers.{answer_bytes, answer_strings, error_line};
+
+use crate::answer::{Answer, AnswerError};
+use bytes::Bytes;
+use std::alloc::{AllocError, Global};
+
+/// Appends the strings of an answer to those of a frame. The host writes the bytes of the strings to the connection,
+/// one after another. A value stands in a string of its own, and no byte of it is copied.
+///
+/// Where memory is refused, the strings are as they were.
+pub fn push_answer(
+    alloc: Global,
+    strings: &mut Vec<Bytes>,
+    answer: Answer,
+) -> Result<(), AllocError>
+    // Which bytes are appended.
+    ensures bytes { OnOk result (concat strings.new.items ≡ concat strings.old.items ++ answer_bytes answer) }
+    // In which strings.
+    ensures pushed { OnOk result (strings.new.items ≡ strings.old.items ++ answer_strings answer) }
+    ensures kept { OnErr result (strings.new.items ≡ strings.old.items) }
+{
+    push_strings(alloc, strings, answer)
+}
+
+// The same, without the clause on bytes.
+fn push_strings(alloc: Global, strings: &mut Vec<Bytes>, answer: Answer) -> Result<(), AllocError>
+    ensures pushed { OnOk result (strings.new.items ≡ strings.old.items ++ answer_strings answer) }
+    ensures kept { OnErr result (strings.new.items ≡ strings.old.items) }
+{
+    match answer {
+        Answer::Ok => push_string(strings, Bytes::from_static(b"+OK\r\n")),
+        Answer::Pong => push_string(strings, Bytes::from_static(b"+PONG\r\n")),
+        Answer::Value(value) => push_value(strings, length_line(alloc, value.len())?, value),
+        Answer::Number(number) => push_string(strings, number_line(alloc, number)?),
+        Answer::NoCommands => push_string(strings, Bytes::from_static(b"*0\r\n")),
+        Answer::Error(error) => push_string(strings, error_line(alloc, error)?),
+    }
+}
+
+fn push_string(strings: &mut Vec<Bytes>, string: Bytes) -> Result<(), AllocError>
+    ensures pushed { OnOk result (strings.new.items ≡ strings.old.items ++ string ∷ []) }
+    ensures kept { OnErr result (strings.new.items ≡ strings.old.items) }
+{
+    strings.push(string)?;
+    Ok(())
+}
+
+// The line with its length, a value, and CR LF.
+fn push_value(strings: &mut Vec<Bytes>, line: Bytes, value: Bytes) -> Result<(), AllocError>
+    ensures pushed { OnOk result (strings.new.items ≡ strings.old.items ++ line ∷ value ∷ (13 ∷ 10 ∷ []) ∷ []) }
+    ensures kept { OnErr result (strings.new.items ≡ strings.old.items) }
+{
+    strings.reserve(3)?;
+    strings.push_reserved(line);
+    strings.push_reserved(value);
+    strings.push_reserved(Bytes::from_static(b"\r\n"));
+    Ok(())
+}
+
+// The line before a value of this length.
+fn length_line(alloc: Global, len: usize) -> Result<Bytes, AllocError>
+    ensures { IfOk result (λ line. line ≡ header 36 len) }
+{
+    Bytes::from_string(format!(in alloc; "${len}\r\n")?)
+}
+
+// The line of a number.
+fn number_line(alloc: Global, number: u64) -> Result<Bytes, AllocError>
+    ensures { IfOk result (λ line. line ≡ header 58 number) }
+{
+    Bytes::from_string(format!(in alloc; ":{number}\r\n")?)
+}
+
+// The line of an error.
+fn error_line(alloc: Global, error: AnswerError) -> Result<Bytes, AllocError>
+    ensures { IfOk result (λ line. line ≡ error_line (error_text error)) }
+{
+    Bytes::from_string(format!(in alloc; "-ERR {error}\r\n")?)
+}

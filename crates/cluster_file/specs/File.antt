@@ -1,0 +1,42 @@
+-- The contracts that docs/trusted.md lists do not depend on this file; other contracts and proofs do.
+-- What all nodes of a cluster agree on.
+use Rattle.std.specs.Prelude.{ℕ, ◌≤◌, ◌++◌, IsTrue, List, length, nat_eq, Option}
+use Rattle.std.specs.List.{IsDistinct}
+use Rattle.layout.specs.Quorum.{has}
+use Rattle.placement.specs.Placement.{ClusterNodes, AreLawfulNodes}
+use Rattle.tag.specs.declared.limits.TheConstants.{MOST_SERVERS}
+
+-- what is fixed when the cluster is first started: the nodes that placement uses, the n and the k of a name's first
+-- layout, the bound delta of its banks, and the node that moves objects
+pub record Fixed : Type 0 where
+  pub nodes : List ℕ
+  pub n : ℕ
+  pub k : ℕ
+  pub delta : Option ℕ
+  pub mover : ℕ
+
+-- what is fixed, the nodes that joined later, and the number of ticks after which a call is given up
+pub record ClusterFile : Type 0 where
+  pub fixed : Fixed
+  pub later : List ℕ
+  pub ticks : ℕ
+
+-- the nodes that placement uses, with k and n
+abbrev pub placement_of : Fixed → ClusterNodes
+placement_of fixed = record { k = fixed.k; n = fixed.n; nodes = fixed.nodes }
+
+-- what is fixed is lawful: placement takes the nodes with k and n, and the mover is one of them
+pub record IsLawfulFixed (fixed : Fixed) : Type 0 where
+  pub placed : AreLawfulNodes (placement_of fixed)
+  pub mover : IsTrue (has fixed.nodes fixed.mover)
+
+-- no node of the two lists is named twice, and they are at most MOST_SERVERS
+pub record AreApart (nodes later : List ℕ) : Type 0 where
+  pub distinct : IsDistinct nat_eq (nodes ++ later)
+  pub few : length (nodes ++ later) ≤ MOST_SERVERS
+
+-- a file is lawful: what is fixed is, all nodes are apart, and a call gets a tick at least
+pub record IsLawful (file : ClusterFile) : Type 0 where
+  pub fixed : IsLawfulFixed file.fixed
+  pub nodes : AreApart file.fixed.nodes file.later
+  pub ticks : 1 ≤ file.ticks

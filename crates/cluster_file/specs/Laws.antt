@@ -1,0 +1,17 @@
+-- The contracts that docs/trusted.md lists do not depend on this file; other contracts and proofs do.
+-- What holds of every file.
+use Rattle.std.specs.Prelude.{◌≡◌, ℕ, List}
+use Rattle.layout.specs.Layout.{IsLawful as IsLawfulLayout}
+use Rattle.placement.specs.Placement.{placed}
+use Rattle.cluster_file.specs.File.{Fixed, ClusterFile, IsLawful, placement_of}
+use Rattle.cluster_file.specs.Written.{IsDelta}
+use Rattle.cluster_file.specs.Digest.{hashed}
+
+-- where the same bytes are hashed of two files, what is fixed in them is the same
+abbrev pub HashedBytesDiffer : Type 0
+HashedBytesDiffer = (a b : Fixed) → IsDelta a.delta → IsDelta b.delta → hashed a ≡ hashed b → a ≡ b
+
+-- the nodes of a lawful file give each name a lawful layout
+abbrev pub PlacedLayoutsAreLawful : Type 0
+PlacedLayoutsAreLawful =
+    (file : ClusterFile) (name : List ℕ) → IsLawful file → IsLawfulLayout (placed (placement_of file.fixed) name)

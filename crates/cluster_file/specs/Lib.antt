@@ -1,0 +1,9 @@
+pub mod File
+pub mod Lines
+pub mod Settings
+pub mod Numbers
+pub mod Reading
+pub mod Gives
+pub mod Digest
+pub mod Written
+pub mod Laws

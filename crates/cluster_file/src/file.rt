@@ -1,0 +1,136 @@
+//! What all nodes of a cluster agree on.
+ghost use Rattle.std.specs.Prelude.{◌≡◌, ◌≤◌, ◌++◌, ◌||◌, [], length};
+ghost use Rattle.layout.specs.Quorum.{has};
+ghost use Rattle.cluster_file.specs.File.{AreApart, IsLawful, IsLawfulFixed, placement_of};
+ghost use Rattle.cluster_file.specs.Digest.{digest_of};
+ghost use Rattle.cluster_file.specs.Gives.{shown};
+
+use crate::digest::digest_of;
+use crate::nodes::has;
+use arrayvec::ArrayVec;
+use placement::ClusterNodes;
+use std::marker::Model;
+use tag::MOST_SERVERS;
+
+/// The length of a file's digest, in bytes.
+pub const DIGEST_LENGTH: usize = 16;
+
+// What is fixed when the cluster is first started.
+#[derive(Debug, Drop)]
+pub(crate) struct Fixed {
+    pub nodes: ArrayVec<u8, MOST_SERVERS>,
+    pub n: u8,
+    pub k: u8,
+    pub delta: Option<u32>,
+    pub mover: u8,
+}
+
+/// What all nodes of a cluster agree on: what is fixed when the cluster is first started, the nodes that joined later,
+/// and the patience of calls.
+#[derive(Debug, Drop)]
+pub struct ClusterFile {
+    fixed: Fixed,
+    later: ArrayVec<u8, MOST_SERVERS>,
+    ticks: u32,
+}
+
+impl Model for ClusterFile {
+    ghost use Rattle.cluster_file.specs.File.{ClusterFile as File, IsLawful};
+    ghost use Rattle.cluster_file.specs.Gives.{shown};
+
+    ghost Value = { File };
+
+    ghost view = { λ c. record { fixed = shown c.fixed; later = c.later.items; ticks = c.ticks } };
+
+    ghost invariant = { λ c. IsLawful (record { fixed = shown c.fixed; later = c.later.items; ticks = c.ticks }) };
+}
+
+impl ClusterFile {
+    // The file of these parts.
+    pub(crate) fn new(fixed: Fixed, later: ArrayVec<u8, MOST_SERVERS>, ticks: u32) -> ClusterFile
+        requires fixed { IsLawfulFixed (shown fixed) }
+        requires later { AreApart fixed.nodes.items later.items }
+        requires ticks { 1 ≤ ticks }
+        ensures { result ≡ record { fixed = shown fixed; later = later.items; ticks = ticks } }
+    {
+        ClusterFile {
+            fixed,
+            later,
+            ticks,
+        }
+    }
+
+    /// The nodes that placement uses, in order.
+    pub fn nodes(&self) -> &[u8]
+        ensures nodes { result.now ≡ self.now.fixed.nodes }
+        ensures lawful { IsLawful self.now }
+    {
+        &self.fixed.nodes
+    }
+
+    /// The number of members of the layout that a name has before any move: from 1 to the number of nodes.
+    pub fn n(&self) -> u8
+        ensures { result ≡ self.now.fixed.n }
+    {
+        self.fixed.n
+    }
+
+    /// The number of fragments that give a value back, from 1 to n, in the layout that a name has before any move.
+    pub fn k(&self) -> u8
+        ensures { result ≡ self.now.fixed.k }
+    {
+        self.fixed.k
+    }
+
+    /// The bound delta of each bank, or none where banks keep all pieces.
+    pub fn delta(&self) -> Option<u32>
+        ensures { result ≡ self.now.fixed.delta }
+    {
+        self.fixed.delta
+    }
+
+    /// The node that moves objects. It is one of those that placement uses.
+    pub fn mover(&self) -> u8
+        ensures { result ≡ self.now.fixed.mover }
+    {
+        self.fixed.mover
+    }
+
+    /// The nodes that joined later, in order.
+    pub fn later(&self) -> &[u8]
+        ensures { result.now ≡ self.now.later }
+    {
+        &self.later
+    }
+
+    /// Whether this is the number of a node, be it one that joined later.
+    pub fn has_node(&self, number: u8) -> bool
+        ensures { result ≡ (has self.now.fixed.nodes number || has self.now.later number) }
+    {
+        has(&self.fixed.nodes, number) || has(&self.later, number)
+    }
+
+    /// The number of ticks after which a call without an answer is given up, from 1.
+    pub fn ticks(&self) -> u32
+        ensures { result ≡ self.now.ticks }
+    {
+        self.ticks
+    }
+
+    /// The nodes, n and k, which place each name. It allocates no memory and is never refused.
+    pub fn placement(&self) -> ClusterNodes
+        ensures { result ≡ placement_of self.now.fixed }
+    {
+        match ClusterNodes::new(self.fixed.k, self.fixed.n, &self.fixed.nodes) {
+            Ok(nodes) => nodes,
+            Err(_) => unreachable!(),
+        }
+    }
+
+    /// A digest of what is fixed: the first 16 bytes of a SHA-256 digest. Later nodes and ticks do not change it.
+    pub fn digest(&self) -> [u8; DIGEST_LENGTH]
+        ensures { result ≡ digest_of self.now.fixed }
+    {
+        digest_of(&self.fixed)
+    }
+}

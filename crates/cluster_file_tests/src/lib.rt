@@ -1,0 +1,10 @@
+//! Tests of `cluster_file`, with texts and faults that were written by hand. They stand in a crate of their own, since
+//! a crate with tests is proved twice.
+#![tactic(auto)]
+
+#[cfg(test)]
+mod digests;
+#[cfg(test)]
+mod faults;
+#[cfg(test)]
+mod read;

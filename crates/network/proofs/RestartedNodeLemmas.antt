@@ -1,0 +1,68 @@
+-- A world whose open calls become fewer, but for the moves, still follows the record.
+use Rattle.std.proofs.Common.{◌≡◌, ℕ, suc, Bool, true, false, ◌&&◌, not, eqb, eqb-true, List, Some, refl, sym, subst, ap, ◌∙◌}
+use Rattle.std.specs.List.{filter}
+use Rattle.bank.specs.Bank.{Bank}
+use Rattle.record.specs.Legal.{is_move}
+use Rattle.record.specs.Records.{Object}
+use Rattle.record.specs.declared.call.CallKind.TheVariants.{Move}
+use Rattle.network.specs.Worlds.{World, OpenCall, open_call, after_restart, without_call}
+use Rattle.network.specs.Events.{Event, happens}
+use Rattle.network.specs.Following.{Follows, LeadsOn, IsOpenIn, last_step}
+use Rattle.network.specs.Followed.{IsFollowed}
+use Rattle.network.proofs.OpenCallLemmas.{all_filter, found, found_filter}
+use Rattle.network.proofs.StepLemmas.{no_step}
+
+-- the world with other calls, one event later
+abbrev pub with_calls : World → List OpenCall → World
+with_calls world calls = record world { calls = calls; now = suc world.now }
+
+-- the world with those calls alone that pass a test, which each move that is found does
+pub fewer_follow : (world : World) (object : Object) (test : OpenCall → Bool) →
+    ((id : ℕ) (call : OpenCall) → open_call world.calls id ≡ Some call → call.kind ≡ Move → test call ≡ true) →
+    Follows world object → Follows (with_calls world (filter test world.calls)) object
+fewer_follow world object test moves follows = record {
+  one = follows.one;
+  delta = follows.delta;
+  layouts = follows.layouts;
+  banks = follows.banks;
+  sent = follows.sent;
+  history = follows.history;
+  calls = all_filter (IsOpenIn object) test world.calls follows.calls;
+  moves = λ index call at kind none. let move = follows.moves index call at kind none in record {
+    carried = move.carried;
+    found = found_filter test world.calls call.id move.carried move.found (moves call.id move.carried move.found move.kind);
+    kind = move.kind;
+    node = move.node;
+  };
+  kept = follows.kept;
+}
+
+stays : (same : Bool) → not (same && not true) ≡ true
+stays true = refl
+stays false = refl
+
+pub restart_followed : (node : ℕ) (banks : List (List Bank)) (calls : List OpenCall) → IsFollowed (Event.Restart node banks calls)
+restart_followed node banks calls fragment world object code sound follows may premised =
+    let restarted = with_calls world (after_restart node world.calls) in
+    let new = happens fragment world (Event.Restart node banks calls) in
+    let same : restarted ≡ new =
+    ap (λ b. let w : World = record world { banks = b; calls = after_restart node world.calls; now = suc world.now } in w)
+    (sym premised.log.0)
+    ∙ ap (λ c. let w : World = record world { banks = banks; calls = c; now = suc world.now } in w) (sym premised.log.1) in
+    subst (LeadsOn fragment object (last_step world.now)) same
+    (no_step fragment object world.now restarted refl sound
+    (fewer_follow world object (λ call. not (eqb call.node node && not (is_move call.kind)))
+    (λ id call found kind.
+    subst (λ k. not (eqb call.node node && not (is_move k)) ≡ true) (sym kind) (stays (eqb call.node node))) follows))
+
+passes : (b : Bool) → (b ≡ true → ⊥) → not b ≡ true
+passes true no_true = absurd (no_true refl)
+passes false no_true = refl
+
+pub give_up_followed : (id : ℕ) → IsFollowed (Event.GiveUp id)
+give_up_followed id fragment world object code sound follows may premised =
+    no_step fragment object world.now (with_calls world (without_call id world.calls)) refl sound
+    (fewer_follow world object (λ call. not (eqb call.id id))
+    (λ n call at kind. passes (eqb call.id id)
+    (λ same. (found (λ call. call.id ≡ id → call.kind ≡ Move → ⊥) world.calls n call may at).0
+    (eqb-true call.id id same) kind)) follows)

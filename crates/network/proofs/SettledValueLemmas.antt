@@ -1,0 +1,142 @@
+-- A world in which a call settles a value still follows the record, where the call settles it too.
+use Rattle.std.proofs.Common.{◌≡◌, ℕ, suc, ◌≤◌, true, false, List, length, map, get_or, Option, Some, None, option_map, IsSome}
+use Rattle.std.proofs.Common.{refl, sym, subst, ap, ◌∙◌, slice_get}
+use Rattle.std.proofs.lemmas.Option.{same_Some, slice_get-map}
+use Rattle.layout.specs.Layout.{Layout}
+use Rattle.bank.specs.declared.kind.Kind.{Kind}
+use Rattle.phase.specs.declared.phase.Taken.{Taken}
+use Rattle.phase.specs.Phase.{Phase, lacks_pieces}
+use Rattle.record.specs.declared.call.CallKind.{CallKind}
+use Rattle.record.specs.declared.call.CallKind.TheVariants.{Read, Write, Move}
+use Rattle.record.specs.declared.call.Entry.{Entry}
+use Rattle.record.specs.declared.stage.Want.TheVariants as want
+use Rattle.record.specs.Fragments.{Code, HasPiece, HasPieces, IsFragment}
+use Rattle.record.specs.Journals.{entry_value, operation_of}
+use Rattle.record.specs.Legal.{first_stage, due_of}
+use Rattle.record.specs.PhaseOrder.{begun_at, stage_after}
+use Rattle.record.specs.Records.{Call, Object, layout_at, no_layout}
+use Rattle.record.specs.Steps.{Step, on_call, settled_object}
+use Rattle.record.specs.Wants.{is_fetch, value_len, want_after}
+use Rattle.soundness.proofs.ListLemmas.{all_weaker, set_here}
+use Rattle.soundness.proofs.Sound.ChangedCallLemmas.{moves_set}
+use Rattle.network.specs.Unstamped.{unstamped_phase, unstamped_taken}
+use Rattle.network.specs.Worlds.{World, OpenCall, layouts_of, open_call, parts_of}
+use Rattle.network.specs.Events.{Event, on_open}
+use Rattle.network.specs.Following.{LeadsOn, IsOpenIn, last_step}
+use Rattle.network.specs.Followed.{IsFollowed}
+use Rattle.network.proofs.ChangedCallLemmas.{changed_follow, own_entry, with_new, with_one}
+use Rattle.network.proofs.CurrentPhaseLemmas.{current_is, ended_is, fetch_is, kind_is, lacks_is, want_is}
+use Rattle.network.proofs.OneFileLemmas.{layouts_known}
+use Rattle.network.proofs.OpenCallLemmas.{found}
+use Rattle.network.proofs.StepLemmas.{one_step}
+
+taken_there : (xs : List Taken) (place : ℕ) (taken : Taken) → slice_get (map unstamped_taken xs) place ≡ Some taken →
+    (original : Taken) × (slice_get xs place ≡ Some original) × (unstamped_taken original ≡ taken)
+taken_there xs place taken at = go (slice_get xs place) refl (sym (slice_get-map unstamped_taken xs place) ∙ at)
+  where
+    go : (o : Option Taken) → slice_get xs place ≡ o → option_map unstamped_taken o ≡ Some taken →
+        (original : Taken) × (slice_get xs place ≡ Some original) × (unstamped_taken original ≡ taken)
+    go None e is = absurd (cc)
+    go (Some original) e is = (original, e, same_Some (unstamped_taken original) taken is)
+
+-- pieces that a phase without stamps took, the phase took
+has_pieces : (fragment : Code) (world : World) (node : ℕ) (object : Object) (phase : Phase) (value : List ℕ) →
+    object.layouts ≡ layouts_of world node → HasPieces fragment (parts_of world node) (unstamped_phase phase) value →
+    HasPieces fragment object phase value
+has_pieces fragment world node object phase value layouts has = record {
+  members = has.members;
+  distinct = has.distinct;
+  enough = subst (λ (l : Layout). l.k ≤ length has.members) same has.enough;
+  pieces = all_weaker (HasPiece fragment (parts_of world node) (unstamped_phase phase) value) (HasPiece fragment object phase value)
+      (λ member piece. let there = taken_there phase.replies piece.place piece.reply piece.within in record {
+        place = piece.place;
+        reply = there.0;
+        within = there.1;
+        same_member = ap (λ (t : Taken). t.member) there.2 ∙ piece.same_member;
+        piece = piece.piece;
+        same_piece = ap (λ (t : Taken). t.reply.answer) there.2 ∙ piece.same_piece;
+        is_fragment = subst (λ l. IsFragment fragment l member value piece.piece) same piece.is_fragment;
+      }) has.members has.pieces;
+}
+  where
+    same : get_or (layouts_of world node) phase.position no_layout ≡ get_or object.layouts phase.position no_layout
+    same = ap (λ layouts. get_or layouts phase.position no_layout) (sym layouts)
+
+-- a value that is settled does not show in the entry before the answer
+value_same : (kind : CallKind) (old new : Option (List ℕ)) → entry_value kind None old ≡ entry_value kind None new
+value_same Read old new = refl
+value_same (Write value) old new = refl
+value_same Move old new = refl
+
+entry_settled : (call : Call) (settled : Option (List ℕ)) → call.answered ≡ None →
+    own_entry (record call { settled = settled }) ≡ own_entry call
+entry_settled call settled none =
+    ap (λ v. let e : Entry = record {
+      call = call.id;
+      kind = operation_of call.kind;
+      called = call.called;
+      answered = call.answered;
+      value = v;
+    } in e)
+    (ap (λ o. entry_value call.kind o settled) none ∙ value_same call.kind settled call.settled
+    ∙ ap (λ o. entry_value call.kind o call.settled) (sym none))
+
+want_settle : (object : Object) (next : Option (Kind × ℕ)) (settled : Option (List ℕ)) (last : Phase) → IsSome last.end →
+    is_fetch last.kind ≡ true → settled ≡ None → lacks_pieces last ≡ false →
+    want_after object next settled (Some last) ≡ want.Settle (layout_at object last.position).k (value_len last.replies)
+want_settle object next settled last ended fetch none enough = rw (ended, fetch, none, enough) refl
+
+settled_open : (object : Object) (value : List ℕ) (old : OpenCall) (is : IsOpenIn object old) →
+    IsOpenIn (with_new object object.mail is.index (record is.call { settled = Some value })) (record old { settled = Some value })
+settled_open object value old is =
+    let call : Call = record is.call { settled = Some value } in record {
+      index = is.index;
+      call = call;
+      at = set_here object.calls is.index is.call call is.at;
+      id = is.id;
+      kind = is.kind;
+      settled = refl;
+      unanswered = is.unanswered;
+      earlier = is.earlier;
+      last = is.last;
+      phases = is.phases;
+      phase = is.phase;
+      stage = is.stage
+          ∙ ap (λ moves. begun_at (stage_after is.call.kind is.call.id (first_stage is.call.kind moves) is.earlier) is.last.position)
+          (sym (moves_set object.calls is.index is.index is.call call is.at refl));
+    }
+
+pub settle_followed : (id : ℕ) (value : List ℕ) → IsFollowed (Event.Settle id value)
+settle_followed id value fragment world object code sound follows may premised =
+    let old = may.0 in
+    let fetched = may.2 in
+    let held = found (IsOpenIn object) world.calls id old follows.calls may.1 in
+    let is = held.0 in
+    let call : Call = record is.call { settled = Some value } in
+    let new : OpenCall = record old { settled = Some value } in
+    let kind = kind_is object old is in
+    let unsettled : is.call.settled ≡ None = sym is.settled ∙ fetched.unsettled in
+    let enough : lacks_pieces is.last ≡ false = sym (lacks_is object old is) ∙ fetched.enough in
+    let wants = want_is object old is
+    ∙ want_settle object (due_of object is.index is.call) is.call.settled is.last (ended_is object old is fetched.complete)
+    (fetch_is is.last.kind (fetched.fetch.0, sym kind ∙ fetched.fetch.1)) unsettled enough in
+    let pieces = has_pieces fragment world old.node object is.last value (follows.layouts ∙ layouts_known world follows.one old.node)
+    (subst (λ p. HasPieces fragment (parts_of world old.node) p value) is.phase fetched.pieces) in
+    let led : LeadsOn fragment object (last_step world.now) (with_one world new world.sent) =
+    one_step fragment object world.now (Step.Settle is.index value) (with_new object object.mail is.index call)
+    (with_one world new world.sent) code refl sound
+    (record {
+      call = is.call;
+      k = (layout_at object is.last.position).k;
+      len = value_len is.last.replies;
+      wants = (is.at, wants);
+      phase = is.last;
+      current = current_is object old is;
+      pieces = pieces;
+      is_value = fetched.is_value;
+    })
+    (ap (λ o. on_call object o (λ c. settled_object object is.index c value)) is.at)
+    (changed_follow world object old new is call object.mail world.sent follows (ap (open_call world.calls) held.1 ∙ may.1)
+    refl refl refl refl (entry_settled is.call (Some value) is.unanswered) follows.sent (settled_open object value old is)) in
+    subst (λ o. LeadsOn fragment object (last_step world.now) (on_open (record world { now = suc world.now }) o
+    (λ c. with_one world (record c { settled = Some value }) world.sent))) (sym may.1) led

@@ -1,0 +1,104 @@
+-- Every run of worlds follows a run of the record.
+use Rattle.std.proofs.Common.{◌≡◌, ℕ, suc, ◌≤◌, List, [], ◌∷◌, ◌++◌, map, get_or, Option, None}
+use Rattle.std.proofs.Common.{refl, sym, subst, ap, ◌∙◌, arith}
+use Rattle.std.specs.FinMap as map
+use Rattle.bank.specs.Bank.{Bank, opened_bank, opening_row}
+use Rattle.bank.specs.declared.status.Pointer.TheVariants as pointer
+use Rattle.tag.specs.Tag.{opening_tag}
+use Rattle.record.specs.Fragments.{Code, IsCode}
+use Rattle.record.specs.Records.{Object, no_bank}
+use Rattle.record.specs.Steps.{Step, stepped, opened_banks, opened_object}
+use Rattle.soundness.specs.Sound.{IsSound}
+use Rattle.soundness.proofs.Sound.OpenedObjectLemmas.{opening_sound}
+use Rattle.network.specs.Unstamped.{unstamped_bank}
+use Rattle.network.specs.Worlds.{ClusterFile, World, opened_world}
+use Rattle.network.specs.Events.{Event, happens, run}
+use Rattle.network.specs.Premises.{IsOneFile, MayRun}
+use Rattle.network.specs.Following.{Follows, LeadsOn, MayRunNumbered, run_numbered, last_step}
+use Rattle.network.specs.Followed.{IsFollowed, RunsAreFollowed}
+use Rattle.network.proofs.OneFileLemmas.{banks_opened}
+use Rattle.network.proofs.ServedRequestLemmas.{bare_empty}
+use Rattle.network.proofs.UnstampedRowLemmas.{insert-bare}
+
+-- Steps, and then more steps
+
+run_append : (fragment : Code) (first second : List (Step × ℕ)) (object : Object) →
+    run_numbered fragment (first ++ second) object ≡ run_numbered fragment second (run_numbered fragment first object)
+run_append fragment [] second object = refl
+run_append fragment (step ∷ first) second object = run_append fragment first second (stepped fragment step.0 step.1 object)
+
+later_first : (fragment : Code) (steps : List (Step × ℕ)) (last middle end : ℕ) (object : Object) → last ≤ middle →
+    MayRunNumbered fragment steps middle end object → MayRunNumbered fragment steps last end object
+later_first fragment [] last middle end object le may = (let h : middle ≤ end = may in omega arith)
+later_first fragment (step ∷ steps) last middle end object le may = (omega (arith, may.0), may.1, may.2)
+
+may_append : (fragment : Code) (first second : List (Step × ℕ)) (last middle end : ℕ) (object : Object) →
+    MayRunNumbered fragment first last middle object → MayRunNumbered fragment second middle end (run_numbered fragment first object) →
+    MayRunNumbered fragment (first ++ second) last end object
+may_append fragment [] second last middle end object a b = later_first fragment second last middle end object a b
+may_append fragment (step ∷ first) second last middle end object a b =
+    (a.0, a.1, may_append fragment first second step.1 middle end (stepped fragment step.0 step.1 object) a.2 b)
+
+-- an event, and then others
+leads_on : (fragment : Code) (object : Object) (last : ℕ) (middle world : World) (first : LeadsOn fragment object last middle) →
+    LeadsOn fragment (run_numbered fragment first.steps object) (last_step middle.now) world → LeadsOn fragment object last world
+leads_on fragment object last middle world first second =
+    let same = sym (run_append fragment first.steps second.steps object) in record {
+      steps = first.steps ++ second.steps;
+      may = may_append fragment first.steps second.steps last (last_step middle.now) (last_step world.now) object first.may second.may;
+      sound = subst (λ o. IsSound fragment o (last_step world.now)) same second.sound;
+      follows = subst (Follows world) same second.follows;
+    }
+
+pub run_followed : ((event : Event) → IsFollowed event) → (fragment : Code) → IsCode fragment → (events : List Event)
+    (world : World) (object : Object) → IsSound fragment object (last_step world.now) → Follows world object →
+    MayRun fragment events world → LeadsOn fragment object (last_step world.now) (run fragment events world)
+run_followed each fragment code [] world object sound follows may = record {
+  steps = [];
+  may = (let h : last_step world.now ≤ last_step world.now = omega arith in h);
+  sound = sound;
+  follows = follows;
+}
+run_followed each fragment code (event ∷ events) world object sound follows may =
+    let first = each event fragment world object code sound follows may.0 may.1 in
+    leads_on fragment object (last_step world.now) (happens fragment world event) (run fragment (event ∷ events) world) first
+    (run_followed each fragment code events (happens fragment world event) (run_numbered fragment first.steps object)
+    first.sound first.follows may.2)
+
+-- An opened world
+
+opened-bare : (point now : ℕ) (delta : Option ℕ) → unstamped_bank (opened_bank point delta now) ≡ opened_bank point delta 0
+opened-bare point now delta =
+    ap (λ rows. let b : Bank = record { rows = rows; pointer = pointer.Unset; delta = delta; retired = None } in b)
+    (insert-bare map.empty opening_tag (opening_row point now) ∙ ap (λ rows. map.insert rows opening_tag (opening_row point 0)) bare_empty)
+
+pub opened_banks-bare : (servers : List ℕ) (member now : ℕ) (delta : Option ℕ) →
+    map unstamped_bank (opened_banks servers member delta now) ≡ opened_banks servers member delta 0
+opened_banks-bare [] member now delta = refl
+opened_banks-bare (server ∷ servers) member now delta =
+    ap (λ b. b ∷ map unstamped_bank (opened_banks servers (suc member) delta now)) (opened-bare member now delta)
+    ∙ ap (λ l. opened_bank member delta 0 ∷ l) (opened_banks-bare servers (suc member) now delta)
+
+unretired : (servers : List ℕ) (delta : Option ℕ) → (get_or (opened_banks servers 0 delta 0) 0 no_bank).retired ≡ None
+unretired [] delta = refl
+unretired (server ∷ servers) delta = refl
+
+opened_follow : (files : ℕ → ClusterFile) → IsOneFile files →
+    Follows (opened_world files) (opened_object (files 0).first (files 0).delta 0)
+opened_follow files one = record {
+  one = one;
+  delta = refl;
+  layouts = refl;
+  banks = ap (λ banks. banks ∷ []) (opened_banks-bare (files 0).first.members 0 0 (files 0).delta
+      ∙ banks_opened files one (files 0).first.members 0);
+  sent = refl;
+  history = refl;
+  calls = tt;
+  moves = λ index call at kind none. absurd (cc);
+  kept = unretired (files 0).first.members (files 0).delta;
+}
+
+pub runs_followed : ((event : Event) → IsFollowed event) → RunsAreFollowed
+runs_followed each fragment files events code one lawful may =
+    run_followed each fragment code events (opened_world files) (opened_object (files 0).first (files 0).delta 0)
+    (opening_sound fragment code (files 0).first (files 0).delta 0 lawful) (opened_follow files one) may

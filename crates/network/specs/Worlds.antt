@@ -1,0 +1,109 @@
+-- The contracts that docs/trusted.md lists do not depend on this file; other contracts and proofs do.
+-- The world of one object: what its nodes keep of it, and all messages that they ever sent.
+use Rattle.std.specs.Prelude.{ℕ, suc, ◌==◌, ◌&&◌, not, if◌then◌else◌, List, [], ◌∷◌, map, Option, None, Some, get_or}
+use Rattle.std.specs.List.{filter}
+use Rattle.layout.specs.Layout.{Layout}
+use Rattle.bank.specs.Bank.{Bank, opened_bank}
+use Rattle.mail.specs.declared.message.Message.{Message}
+use Rattle.phase.specs.Phase.{Phase, lacks_pieces}
+use Rattle.bank.specs.declared.kind.Kind.{Kind}
+use Rattle.record.specs.declared.call.CallKind.{CallKind}
+use Rattle.record.specs.declared.call.Entry.{Entry}
+use Rattle.record.specs.declared.stage.Stage.{Stage}
+use Rattle.record.specs.Legal.{is_move}
+use Rattle.record.specs.PhaseOrder.{begun_at, due, passed}
+use Rattle.record.specs.Records.{Object, no_bank, no_layout}
+
+-- a call that a node carries out: its id, kind, settled value, current phase, and the stage at which that began
+pub record OpenCall : Type 0 where
+  pub node : ℕ
+  pub id : ℕ
+  pub kind : CallKind
+  pub settled : Option (List ℕ)
+  pub stage : Stage
+  pub phase : Phase
+
+-- a cluster file: how many finalized versions banks keep beside the newest (None: all), which node moves objects, and
+-- the layout of the object's position 0
+pub record ClusterFile : Type 0 where
+  pub delta : Option ℕ
+  pub mover : ℕ
+  pub first : Layout
+
+-- a world: the cluster file that each node runs with; the layouts of the positions from 1 on, and the banks by position
+-- (each bank is kept by the node that the layout names); the nodes' open calls; all messages ever sent; and as history
+-- entries, and how many events
+pub record World : Type 0 where
+  pub files : (node : ℕ) → ClusterFile
+  pub later : List Layout
+  pub banks : List (List Bank)
+  pub calls : List OpenCall
+  pub sent : List Message
+  pub history : List Entry
+  pub now : ℕ
+
+-- the new banks of the members `member`, `member` + 1 and so on, each opened by its node, as the node's file says
+abbrev pub new_banks : (files : ℕ → ClusterFile) → (servers : List ℕ) → (member : ℕ) → List Bank
+new_banks files [] member = []
+new_banks files (server ∷ servers) member =
+    opened_bank member (files server).delta 0 ∷ new_banks files servers (suc member)
+
+-- a world before the first event, with these cluster files; position 0 has the banks that the file of node 0 names
+abbrev pub opened_world : (files : ℕ → ClusterFile) → World
+opened_world files = record {
+  files = files;
+  later = [];
+  banks = new_banks files (files 0).first.members 0 ∷ [];
+  calls = [];
+  sent = [];
+  history = [];
+  now = 0;
+}
+
+-- the layouts of all positions, as a node knows them: that of position 0 is in its file
+abbrev pub layouts_of : World → (node : ℕ) → List Layout
+layouts_of world node = (world.files node).first ∷ world.later
+
+-- the layout of a position, as a node knows it
+abbrev pub layout_of : World → (node position : ℕ) → Layout
+layout_of world node position = get_or (layouts_of world node) position no_layout
+
+-- the bank that the member of a position keeps
+abbrev pub bank_of : World → (position member : ℕ) → Bank
+bank_of world position member = get_or (get_or world.banks position []) member no_bank
+
+-- the layouts that a node knows, the banks and the messages, as a record of an object without calls
+abbrev pub parts_of : World → (node : ℕ) → Object
+parts_of world node = record {
+  delta = (world.files node).delta;
+  layouts = layouts_of world node;
+  banks = world.banks;
+  mail = world.sent;
+  calls = [];
+}
+
+-- the open call with this id, if a node carries it out
+abbrev pub open_call : List OpenCall → (id : ℕ) → Option OpenCall
+open_call [] id = None
+open_call (call ∷ calls) id = if call.id == id then Some call else open_call calls id
+
+-- the calls with this one in the place of the one with its id
+abbrev pub with_open : OpenCall → List OpenCall → List OpenCall
+with_open call calls = map (λ other. if other.id == call.id then call else other) calls
+
+-- the calls without the one with this id
+abbrev pub without_call : (id : ℕ) → List OpenCall → List OpenCall
+without_call id calls = filter (λ call. not (call.id == id)) calls
+
+-- the calls that are there after a node stopped and started again: its reads and writes are gone
+abbrev pub after_restart : (node : ℕ) → List OpenCall → List OpenCall
+after_restart node calls = filter (λ call. not (call.node == node && not (is_move call.kind))) calls
+
+-- the stage to which the current phase of a call leads
+abbrev pub reached : OpenCall → Stage
+reached call =
+    passed call.kind call.id call.stage call.phase.end call.phase.replies (lacks_pieces call.phase)
+
+-- the phase that is due for a call, with its position; a first reading begins at position 0
+abbrev pub next_of : OpenCall → Option (Kind × ℕ)
+next_of call = due (begun_at (reached call) 0)

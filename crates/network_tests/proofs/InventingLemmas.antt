@@ -1,0 +1,127 @@
+-- Replies that the network invented, and a read that misses a write.
+use Rattle.std.proofs.Common.{List, [], ◌∷◌, ◌++◌, inl, refl, arith, le_refl}
+use Rattle.record.specs.Fragments.{IsValue}
+use Rattle.network.specs.Worlds.{World}
+use Rattle.network.specs.Events.{happens, run}
+use Rattle.network.specs.Premises.{MayRun}
+use Rattle.network.specs.Events.{Event}
+use Rattle.network_tests.specs.Scripts.{start, whole}
+use Rattle.network_tests.specs.Forgetting.{write_to_two}
+use Rattle.network_tests.specs.Inventing.{MayRunInventing, invented_asked, invented_settled, invented_ended, inventing}
+use Rattle.network_tests.proofs.EventRunLemmas.{one_distinct, other_id, ready, ready_settled}
+use Rattle.network_tests.proofs.ForgettingLemmas.{writes}
+
+-- what may happen where the network invents no message may happen where it may
+may_inventing : (events : List Event) (world : World) → MayRun whole events world → MayRunInventing whole events world
+may_inventing [] world may = tt
+may_inventing (event ∷ events) world may =
+    (may.0, record { log = may.1.log; ids = may.1.ids }, may_inventing events (happens whole world event) may.2)
+
+inventing_append : (first second : List Event) (world : World) → MayRunInventing whole first world →
+    MayRunInventing whole second (run whole first world) → MayRunInventing whole (first ++ second) world
+inventing_append [] second world a b = b
+inventing_append (event ∷ first) second world a b =
+    (a.0, a.1, inventing_append first second (happens whole world event) a.2 b)
+
+abbrev after_write : World
+after_write = run whole write_to_two start
+
+abbrev after_query : World
+after_query = run whole invented_asked after_write
+
+abbrev after_fetch : World
+after_fetch = run whole invented_settled after_query
+
+empty_is_value : IsValue []
+empty_is_value = (tt, omega arith)
+
+reads : MayRunInventing whole invented_asked after_write
+reads = (
+  tt,
+  record { log = tt; ids = other_id },
+  (
+    (_, _, refl),
+    record { log = tt; ids = tt },
+    (
+      (_, _, refl),
+      record { log = tt; ids = tt },
+      (
+        (_, refl, inl (ready _ refl refl, refl)),
+        record { log = tt; ids = tt },
+        (
+          (_, _, refl),
+          record { log = tt; ids = tt },
+          ((_, _, refl), record { log = tt; ids = tt }, tt),
+        ),
+      ),
+    ),
+  ),
+)
+
+settles : MayRunInventing whole invented_settled after_query
+settles = (
+  (_, refl, inl (ready _ refl refl, refl)),
+  record { log = tt; ids = tt },
+  (
+    (_, _, refl),
+    record { log = tt; ids = tt },
+    (
+      (_, _, refl),
+      record { log = tt; ids = tt },
+      (
+        (
+          _,
+          refl,
+          record {
+            complete = refl;
+            fetch = (_, refl);
+            unsettled = refl;
+            enough = refl;
+            pieces = record {
+              members = 0 ∷ [];
+              distinct = one_distinct 0;
+              enough = le_refl 1;
+              pieces = (
+                record {
+                  place = 0;
+                  reply = _;
+                  within = refl;
+                  same_member = refl;
+                  piece = _;
+                  same_piece = refl;
+                  is_fragment = record { point = refl; len = refl; bytes = refl };
+                },
+                tt,
+              );
+            };
+            is_value = empty_is_value;
+          },
+        ),
+        record { log = tt; ids = tt },
+        tt,
+      ),
+    ),
+  ),
+)
+
+read_ends : MayRunInventing whole invented_ended after_fetch
+read_ends = (
+  (_, refl, inl (ready_settled _ refl refl, refl)),
+  record { log = tt; ids = tt },
+  (
+    (_, _, refl),
+    record { log = tt; ids = tt },
+    (
+      (_, _, refl),
+      record { log = tt; ids = tt },
+      ((_, refl, ready _ refl refl, refl), record { log = tt; ids = tt }, tt),
+    ),
+  ),
+)
+
+pub every_event : MayRunInventing whole inventing start
+every_event =
+    inventing_append write_to_two (invented_asked ++ (invented_settled ++ invented_ended)) start
+    (may_inventing write_to_two start writes)
+    (inventing_append invented_asked (invented_settled ++ invented_ended) after_write reads
+    (inventing_append invented_settled invented_ended after_query settles read_ends))

@@ -1,0 +1,96 @@
+-- A write that takes a reply twice.
+use Rattle.std.proofs.Common.{List, [], ◌∷◌, ◌++◌, inl, refl}
+use Rattle.bank.specs.declared.reply.Answer.TheVariants.{Done}
+use Rattle.network.specs.Worlds.{World}
+use Rattle.network.specs.Events.{Event, run}
+use Rattle.network.specs.Premises.{MayRun}
+use Rattle.network_tests.specs.Scripts.{served, start, taken, to_keep, whole}
+use Rattle.network_tests.specs.Examples.{write_asked, write_finalized, write_ended, until_taken, taken_twice}
+use Rattle.network_tests.proofs.EventRunLemmas.{may_append, ready}
+use Rattle.network_tests.proofs.WriteLemmas.{after_asked, asks}
+
+abbrev first_taken : List Event
+first_taken = Event.Advance 7 ∷ served 7 3 0 to_keep 0 ∷ taken 7 3 0 to_keep 0 Done ∷ []
+
+abbrev second_taken : List Event
+second_taken = taken 7 3 0 to_keep 0 Done ∷ served 7 3 0 to_keep 1 ∷ taken 7 3 0 to_keep 1 Done ∷ []
+
+abbrev after_first : World
+after_first = run whole first_taken (after_asked 0)
+
+abbrev after_second : World
+after_second = run whole second_taken after_first
+
+abbrev after_finalized : World
+after_finalized = run whole write_finalized after_second
+
+takes_first : MayRun whole first_taken (after_asked 0)
+takes_first = (
+  (_, refl, inl (ready _ refl refl, refl)),
+  record { network = tt; log = tt; ids = tt },
+  (
+    (_, refl),
+    record { network = (10, refl); log = tt; ids = tt },
+    ((_, _, refl), record { network = (13, refl); log = tt; ids = tt }, tt),
+  ),
+)
+
+takes_second : MayRun whole second_taken after_first
+takes_second = (
+  (_, _, refl),
+  record { network = (13, refl); log = tt; ids = tt },
+  (
+    (_, refl),
+    record { network = (11, refl); log = tt; ids = tt },
+    ((_, _, refl), record { network = (14, refl); log = tt; ids = tt }, tt),
+  ),
+)
+
+finalizes : MayRun whole write_finalized after_second
+finalizes = (
+  (_, refl, inl (ready _ refl refl, refl)),
+  record { network = tt; log = tt; ids = tt },
+  (
+    (_, refl),
+    record { network = (15, refl); log = tt; ids = tt },
+    (
+      (_, refl),
+      record { network = (16, refl); log = tt; ids = tt },
+      (
+        (_, _, refl),
+        record { network = (18, refl); log = tt; ids = tt },
+        ((_, _, refl), record { network = (19, refl); log = tt; ids = tt }, tt),
+      ),
+    ),
+  ),
+)
+
+ends : MayRun whole write_ended after_finalized
+ends = (
+  (_, refl, inl (ready _ refl refl, refl)),
+  record { network = tt; log = tt; ids = tt },
+  (
+    (_, refl),
+    record { network = (20, refl); log = tt; ids = tt },
+    (
+      (_, refl),
+      record { network = (21, refl); log = tt; ids = tt },
+      (
+        (_, _, refl),
+        record { network = (23, refl); log = tt; ids = tt },
+        (
+          (_, _, refl),
+          record { network = (24, refl); log = tt; ids = tt },
+          ((_, refl, ready _ refl refl, refl), record { network = tt; log = tt; ids = tt }, tt),
+        ),
+      ),
+    ),
+  ),
+)
+
+pub every_event : MayRun whole taken_twice start
+every_event =
+    may_append until_taken (second_taken ++ (write_finalized ++ write_ended)) start
+    (may_append (write_asked 0) first_taken start (asks 0) takes_first)
+    (may_append second_taken (write_finalized ++ write_ended) after_first takes_second
+    (may_append write_finalized write_ended after_second finalizes ends))

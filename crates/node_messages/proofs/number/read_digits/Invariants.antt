@@ -1,8 +1,0 @@
--- Reading the digits that are left behind those so far gives the number of all of them.
-use Rattle.std.proofs.Common.{◌≡◌, ◌≤◌, drop}
-use Rattle.node_messages.specs.Numbers.{digits_from}
-use Rattle.node_messages.proofs.number.read_digits.Given as goal
-
-abbrev pub invariant-loop-byte : goal.invariant-loop-byte
-invariant-loop-byte l =
-    (digits_from l.most l.number (drop l.byte-index l.bytes) ≡ digits_from l.most l.first l.bytes) × (l.number ≤ l.most)
