@@ -8,7 +8,8 @@ import sys
 import time
 from functools import cache
 
-PROVED = re.compile(r"(?m)^rt: (\w+) proved$")
+# What an earlier run on this machine proved is said to be kept.
+PROVED = re.compile(r"(?m)^rt: (\w+) (?:proved$|is kept: )")
 ENDED = re.compile(r"(?m)^\d+ passed, \d+ failed$")
 PAUSE = 2.0  # seconds between two looks at what was printed
 
