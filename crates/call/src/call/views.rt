@@ -1,0 +1,89 @@
+//! Read access to a call.
+
+ghost use Rattle.std.specs.Prelude.{◌≡◌, ℕ, Option, is_some, option_copied, IfOk, IfErr};
+ghost use Rattle.tag.specs.declared.refusal.Refusal.TheVariants.{NoMemory};
+ghost use Rattle.record.specs.Journals.{operation_of, entry_value};
+ghost use Rattle.record.specs.Sending.{sent_value};
+ghost use Rattle.call.specs.Call.{IsCall};
+
+use crate::call::Call;
+use bytes::Bytes;
+use phase::Phase;
+use record::{CallKind, Operation, Stage};
+use tag::{CallId, Refusal};
+
+impl Call {
+    /// The id of the call, which no other call of its object has.
+    pub fn id(&self) -> CallId
+        ensures { result ≡ self.now.id }
+    {
+        self.id
+    }
+
+    /// The kind of the call, without its value.
+    pub fn operation(&self) -> Operation
+        ensures { result ≡ operation_of self.now.kind }
+    {
+        match &self.kind {
+            CallKind::Read => Operation::Read,
+            CallKind::Write(_) => Operation::Write,
+            CallKind::Move => Operation::Move,
+        }
+    }
+
+    /// The current phase.
+    pub fn phase(&self) -> &Phase
+        ensures value { result.now ≡ self.now.phase }
+        ensures lawful { IsCall self.now }
+    {
+        &self.phase
+    }
+
+    /// The stage at which the current phase began.
+    pub fn stage(&self) -> Stage
+        ensures { result ≡ self.now.stage }
+    {
+        self.stage
+    }
+
+    /// Whether the call has settled a value.
+    pub fn is_settled(&self) -> bool
+        ensures { result ≡ is_some self.now.settled }
+    {
+        self.settled.is_some()
+    }
+
+    /// The value that the call writes, or has settled so far.
+    pub fn value(&self) -> Option<&Bytes>
+        ensures { option_copied result ≡ sent_value self.now.kind self.now.settled }
+    {
+        match &self.kind {
+            CallKind::Write(value) => Some(value),
+            CallKind::Read | CallKind::Move => self.settled.as_ref(),
+        }
+    }
+
+    /// A copy of the value that the call writes, or that a read returns once it is answered. The copy shares its bytes.
+    ///
+    /// `NoMemory` is the only refusal.
+    pub fn returned(&self, is_answered: bool) -> Result<Option<Bytes>, Refusal>
+        ensures value { (answered : Option ℕ) → is_answered ≡ is_some answered
+            → IfOk result (λ v. v ≡ entry_value self.now.kind answered self.now.settled) }
+
+        ensures refused { IfErr result (λ e. e ≡ NoMemory) }
+    {
+        match &self.kind {
+            CallKind::Write(value) => Ok(Some(value.clone()?)),
+            CallKind::Read => {
+                if !is_answered {
+                    return Ok(None);
+                }
+                match &self.settled {
+                    Some(value) => Ok(Some(value.clone()?)),
+                    None => Ok(None),
+                }
+            }
+            CallKind::Move => Ok(None),
+        }
+    }
+}

@@ -1,0 +1,11 @@
+//! One call that is not answered. It keeps its current phase alone, and the stage at which that phase began. It never
+//! looks at other calls, at messages that wait, or at a bank: its caller hands it each reply, and sends its requests.
+#![tactic(auto)]
+
+pub use call::Call;
+pub use messages::{request_to, requests};
+pub use next::Next;
+
+mod call;
+mod messages;
+mod next;

@@ -1,0 +1,82 @@
+//! The requests of a phase.
+
+ghost use Rattle.std.specs.Prelude.{◌≡◌, ℕ, List, length, IfOk, IfErr, option_copied};
+ghost use Rattle.tag.specs.declared.refusal.Refusal.TheVariants.{NoMemory};
+ghost use Rattle.mail.specs.declared.message.Body.TheVariants as body;
+ghost use Rattle.record.specs.Sending.{request_to, requests};
+ghost use Rattle.call.specs.Pieces.{piece_from, HavePieces, HavePieceOf};
+
+use bank::{Kind, Request};
+use encoder::Coded;
+use mail::{Body, Message};
+use phase::Ask;
+use std::alloc::Global;
+use tag::Refusal;
+
+/// The requests of a phase to all members, member 0 first. For a phase that sends pieces, `coded` is the encoded value,
+/// with a piece for each member.
+///
+/// `NoMemory` is the only refusal.
+pub fn requests(
+    alloc: Global,
+    ask: Ask,
+    members: u8,
+    coded: Option<&Coded>,
+) -> Result<Vec<Message>, Refusal>
+    requires { HavePieces ask.kind members (option_copied coded) }
+    ensures requests { (servers : List ℕ) → length servers ≡ members
+        → IfOk result (λ ms. ms.items ≡ requests ask.call ask.number ask.kind ask.position servers 0
+        (piece_from (option_copied coded.entry))) }
+
+    ensures refused { IfErr result (λ e. e ≡ NoMemory) }
+{
+    let mut messages = Vec::with_capacity(alloc, usize::from(members))?;
+    for member in 0..members {
+        messages.push(request_to(ask, member, coded)?)?;
+    }
+    Ok(messages)
+}
+
+/// The request of a phase to a member. For a phase that sends pieces, `coded` is the encoded value, with a piece for
+/// the member.
+///
+/// `NoMemory` is the only refusal.
+pub fn request_to(ask: Ask, member: u8, coded: Option<&Coded>) -> Result<Message, Refusal>
+    requires { HavePieceOf ask.kind member (option_copied coded) }
+    ensures request { IfOk result (λ m. m ≡ record {
+      call = ask.call;
+      phase = ask.number;
+      position = ask.position;
+      member = member;
+      body = body.Request (request_to ask.kind (piece_from (option_copied coded.entry) member));
+    }) }
+
+    ensures refused { IfErr result (λ e. e ≡ NoMemory) }
+{
+    Ok(Message {
+        call: ask.call,
+        phase: ask.number,
+        position: ask.position,
+        member,
+        body: Body::Request(request_of(ask.kind, member, coded)?),
+    })
+}
+
+// The request that a phase of this kind sends to a member.
+fn request_of(kind: Kind, member: u8, coded: Option<&Coded>) -> Result<Request, Refusal>
+    requires { HavePieceOf kind member (option_copied coded) }
+    ensures request { IfOk result (λ q. q ≡ request_to kind (piece_from (option_copied coded.entry) member)) }
+    ensures refused { IfErr result (λ e. e ≡ NoMemory) }
+{
+    Ok(match kind {
+        Kind::Next => Request::Next,
+        Kind::Spread(status) => Request::Spread(status),
+        Kind::Query => Request::Query,
+        Kind::PreWrite(tag) => match coded {
+            Some(coded) => Request::PreWrite(tag, coded.piece_at(member).clone()?),
+            None => unreachable!(),
+        },
+        Kind::Finalize(tag) => Request::Finalize(tag),
+        Kind::Fetch(tag) => Request::Fetch(tag),
+    })
+}
