@@ -51,12 +51,11 @@ impl Cost {
 pub fn cost_of(register: &Register, call: CallId) -> Cost
     ensures { result ≡ cost_of register.now.object call }
 {
-    let phases = register.phases_view(call);
     Cost {
-        phases: phases.len() as u64,
-        requests: sums::requests(phases),
-        replies: sums::replies(phases),
-        sent: sums::sent(register, call, phases),
-        returned: sums::returned(phases),
+        phases: register.phase_count(call) as u64,
+        requests: sums::requests(register, call),
+        replies: sums::replies(register, call),
+        sent: sums::sent(register, call),
+        returned: sums::returned(register, call),
     }
 }

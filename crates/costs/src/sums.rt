@@ -1,6 +1,7 @@
 //! The sums over the phases of a call.
-ghost use Rattle.std.specs.Prelude.{◌≡◌, sum_by, length};
+ghost use Rattle.std.specs.Prelude.{◌≡◌, ◌<◌, Some, length, slice_get, sum_by};
 ghost use Rattle.record.specs.Accounts.{member_sum};
+ghost use Rattle.register.specs.View.{phases_at};
 ghost use Rattle.costs.specs.Cost.{bytes_for, came_at, fragment_at, returned_in, sent_in, taken_bytes};
 ghost use Rattle.std.specs.FinMap as map;
 ghost use Rattle.std.specs.Io.Iter.{u64_saturate};
@@ -10,37 +11,51 @@ use phase::{Phase, Taken};
 use register::Register;
 use tag::{CallId, Tag};
 
-/// The number of requests of these phases: one to each member that a phase asks.
-pub fn requests(phases: &[Phase]) -> u64
-    ensures { result ≡ u64_saturate (sum_by (λ p. p.members) phases.now) }
+/// The number of requests of the call: one to each member that a phase asks.
+pub fn requests(register: &Register, call: CallId) -> u64
+    ensures { result ≡ u64_saturate (sum_by (λ p. p.members) (phases_at register.now.object call)) }
 {
     let mut total: u64 = 0;
-    for phase in phases {
+    for index in 0..register.phase_count(call) {
+        let phase = phase_at(register, call, index);
         total = total.saturating_add(u64::from(phase.members()));
     }
     total
 }
 
-/// The number of replies that these phases took.
-pub fn replies(phases: &[Phase]) -> u64
-    ensures { result ≡ u64_saturate (sum_by (λ p. length p.replies) phases.now) }
+/// The number of replies that the call took.
+pub fn replies(register: &Register, call: CallId) -> u64
+    ensures { result ≡ u64_saturate (sum_by (λ p. length p.replies) (phases_at register.now.object call)) }
 {
     let mut total: u64 = 0;
-    for phase in phases {
+    for index in 0..register.phase_count(call) {
+        let phase = phase_at(register, call, index);
         total = total.saturating_add(phase.replies().len() as u64);
     }
     total
 }
 
-/// The bytes of the fragments in the replies that these phases took.
-pub fn returned(phases: &[Phase]) -> u64
-    ensures { result ≡ u64_saturate (sum_by returned_in phases.now) }
+/// The bytes of the fragments in the replies that the call took.
+pub fn returned(register: &Register, call: CallId) -> u64
+    ensures { result ≡ u64_saturate (sum_by returned_in (phases_at register.now.object call)) }
 {
     let mut total: u64 = 0;
-    for phase in phases {
+    for index in 0..register.phase_count(call) {
+        let phase = phase_at(register, call, index);
         total = total.saturating_add(returned_in(phase.replies()));
     }
     total
+}
+
+// The phase at an index, which is below the number of the call's phases.
+fn phase_at(register: &Register, call: CallId, index: usize) -> &Phase
+    requires { index < length (phases_at register.now.object call) }
+    ensures { slice_get (phases_at register.now.object call) index ≡ Some result.now }
+{
+    let Some(phase) = register.phase_view(call, index) else {
+        unreachable!();
+    };
+    phase
 }
 
 fn returned_in(replies: &[Taken]) -> u64
@@ -53,12 +68,13 @@ fn returned_in(replies: &[Taken]) -> u64
     total
 }
 
-/// The bytes of the fragments that the pre-writes among these phases of the call send.
-pub fn sent(register: &Register, call: CallId, phases: &[Phase]) -> u64
-    ensures { result ≡ u64_saturate (sum_by (sent_in register.now.object call) phases.now) }
+/// The bytes of the fragments that the pre-writes of the call send.
+pub fn sent(register: &Register, call: CallId) -> u64
+    ensures { result ≡ u64_saturate (sum_by (sent_in register.now.object call) (phases_at register.now.object call)) }
 {
     let mut total: u64 = 0;
-    for phase in phases {
+    for index in 0..register.phase_count(call) {
+        let phase = phase_at(register, call, index);
         total = total.saturating_add(sent_in(register, call, phase));
     }
     total

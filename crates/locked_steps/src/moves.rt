@@ -158,7 +158,7 @@ fn is_move_begun(register: &Register, call: CallId, step: Stamp) -> bool
     let Ok(view) = register.call_view(call) else {
         return false;
     };
-    let Some(phase) = register.phases_view(call).first() else {
+    let Some(phase) = register.phase_view(call, 0) else {
         return false;
     };
     if view.kind != Operation::Move {

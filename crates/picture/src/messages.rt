@@ -13,8 +13,11 @@ pub(crate) const MOST_REPLIES: usize = 4000;
 pub(crate) fn shown_calls(plan: &Plan, register: &Register) -> usize {
     let mut replies: usize = 0;
     for (index, lane) in plan.lanes.iter().enumerate() {
-        for phase in register.phases_view(lane.entry.call) {
-            replies = replies.saturating_add(phase.replies().len());
+        let call = lane.entry.call;
+        for place in 0..register.phase_count(call) {
+            if let Some(phase) = register.phase_view(call, place) {
+                replies = replies.saturating_add(phase.replies().len());
+            }
         }
         if replies > MOST_REPLIES {
             return index;
@@ -31,8 +34,10 @@ pub(crate) fn draw_replies<W: fmt::Write>(
 ) -> fmt::Result {
     for lane in plan.lanes.iter().take(shown_calls(plan, register)) {
         let call = lane.entry.call;
-        for phase in register.phases_view(call) {
-            draw_replies_of(f, plan, call, phase)?;
+        for index in 0..register.phase_count(call) {
+            if let Some(phase) = register.phase_view(call, index) {
+                draw_replies_of(f, plan, call, phase)?;
+            }
         }
     }
     Ok(())
@@ -112,10 +117,9 @@ fn draw_loss<W: fmt::Write>(
 
 // The step at which the phase of a lost message began.
 fn asked(register: &Register, loss: &Loss) -> Stamp {
-    for phase in register.phases_view(loss.call) {
-        if phase.number() == loss.phase {
-            return phase.steps().0;
-        }
+    // Phases are numbered from 1.
+    match register.phase_view(loss.call, (loss.phase as usize).saturating_sub(1)) {
+        Some(phase) => phase.steps().0,
+        None => loss.step,
     }
-    loss.step
 }

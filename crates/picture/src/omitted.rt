@@ -44,9 +44,12 @@ fn draw_count<W: fmt::Write>(f: &mut fmt::Formatter<W>, these: &str, count: usiz
 fn narrow_phases(plan: &Plan, register: &Register) -> usize {
     let mut count: usize = 0;
     for lane in &plan.lanes {
-        for phase in register.phases_view(lane.entry.call) {
-            if plan.phase_width(phase).0 < LETTER {
-                count = count.saturating_add(1);
+        let call = lane.entry.call;
+        for index in 0..register.phase_count(call) {
+            if let Some(phase) = register.phase_view(call, index) {
+                if plan.phase_width(phase).0 < LETTER {
+                    count = count.saturating_add(1);
+                }
             }
         }
     }

@@ -28,8 +28,11 @@ pub(crate) fn draw_phases<W: fmt::Write>(
     register: &Register,
 ) -> fmt::Result {
     for lane in &plan.lanes {
-        for phase in register.phases_view(lane.entry.call) {
-            draw_phase(f, plan, lane, phase)?;
+        let call = lane.entry.call;
+        for index in 0..register.phase_count(call) {
+            if let Some(phase) = register.phase_view(call, index) {
+                draw_phase(f, plan, lane, phase)?;
+            }
         }
         draw_end(f, plan, lane)?;
     }

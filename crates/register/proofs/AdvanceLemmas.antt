@@ -24,7 +24,7 @@ use Rattle.soundness.proofs.Sound.WantPreconditionLemmas.{Plain, advance_ready, 
 use Rattle.soundness.proofs.Sound.RestartLemmas.{anew_due}
 use Rattle.transfer.specs.Limits.{IsBelowLimit}
 use Rattle.register.specs.Causes.{unless, wants_due, due_step, due_cause, new_phase_cause}
-use Rattle.register.specs.Coding.{piece_from, HavePieces}
+use Rattle.call.specs.Pieces.{piece_from, HavePieces}
 use Rattle.register.specs.Position.{Position, layouts_of, banks_of}
 use Rattle.register.specs.State.{Contents, made, state_of}
 use Rattle.register.specs.Tracked.{Tracked, calls_of, with_begun}

@@ -19,7 +19,7 @@ use Rattle.soundness.proofs.ListLemmas.{all_get}
 use Rattle.soundness.proofs.Sound.TakenReplyLemmas.{numbered_at}
 use Rattle.soundness.proofs.Sound.WantCaseLemmas.{last_at}
 use Rattle.register.specs.Causes.{if_step}
-use Rattle.register.specs.Coding.{piece_from, HavePieces}
+use Rattle.call.specs.Pieces.{piece_from, HavePieces}
 use Rattle.register.specs.Kept.{IsKept, HasRoomIfFew}
 use Rattle.register.specs.State.{Contents, State, made, state_of}
 use Rattle.register.specs.Tracked.{Tracked, asked_again}

@@ -1,8 +1,6 @@
 -- A move begins, by what was read.
-use Rattle.std.proofs.Common.{◌≡◌, ◌-◌, ◌+◌, ◌<◌, ◌++◌, ◌∷◌, ℕ, nat_lt, suc, true, length, get_or, List, [], None, sym, subst, ap, ◌∙◌}
+use Rattle.std.proofs.Common.{◌≡◌, ◌-◌, ◌+◌, ◌<◌, ◌++◌, ◌∷◌, ℕ, suc, true, length, get_or, List, [], None, sym, subst, ap, ◌∙◌}
 use Rattle.std.proofs.Common.{arith}
-use Rattle.tag.specs.declared.limits.TheConstants.{MOST_PHASES}
-use Rattle.tag.specs.declared.refusal.Refusal.TheVariants.{Full}
 use Rattle.layout.specs.Layout.{Layout, IsLawful}
 use Rattle.bank.specs.Bank.{empty_piece}
 use Rattle.bank.specs.declared.kind.Kind.TheVariants.{Spread}
@@ -14,7 +12,7 @@ use Rattle.record.specs.declared.stage.Stage.{Stage}
 use Rattle.record.specs.Legal.{first_stage}
 use Rattle.record.specs.Steps.{new_call, moving_object}
 use Rattle.record.specs.Sending.{requests}
-use Rattle.register.specs.Causes.{unless, move_cause}
+use Rattle.register.specs.Causes.{move_cause}
 use Rattle.register.specs.Kept.{HasRoomIfFew, IsKept}
 use Rattle.register.specs.Position.{Position}
 use Rattle.register.specs.State.{Contents, State, next_id, state_of}
@@ -58,10 +56,10 @@ module _ {c : Contents} {now number from : ℕ} {source : Layout} {call : Tracke
       (moving_fits c now number from source b.kept may.none b.last b.numbered (later c view after))
 
   pub moved_cause : (layout : Layout) → MayMove c now → move_cause layout now (state_of c).object
-      ≡ unless (nat_lt (length call.call.phases) MOST_PHASES) Full (mail_cause (asked call))
+      ≡ mail_cause (asked call)
   moved_cause layout may =
       moved_cause_is c now number from source layout b.kept may.none b.last b.numbered may.call.within may.few_positions may.call.few
-      ∙ ap (λ (u : Tracked). unless (nat_lt (length u.call.phases) MOST_PHASES) Full (mail_cause (asked u))) (sym b.is_fresh)
+      ∙ ap (λ (u : Tracked). mail_cause (asked u)) (sym b.is_fresh)
 
   -- what the positions, the mail and the calls are made
   module _ {layout : Layout} {next : Position} {held positions : List Position} {mail : List Message} {reserved pushed : List Tracked}

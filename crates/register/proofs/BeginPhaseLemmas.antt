@@ -14,12 +14,12 @@ use Rattle.soundness.specs.Sound.{IsSound}
 use Rattle.record.specs.Steps.{Step, stepped}
 use Rattle.record.specs.Sending.{requests}
 use Rattle.register.specs.Causes.{new_phase_cause, unless}
-use Rattle.register.specs.Coding.{piece_from}
+use Rattle.call.specs.Pieces.{piece_from}
 use Rattle.register.specs.Kept.{IsKept, HasRoomIfFew}
 use Rattle.register.specs.State.{Contents, State, made, state_of}
 use Rattle.register.specs.Tracked.{Tracked, with_begun}
 use Rattle.register.proofs.ChangedCallLemmas.{with_due, with_due_kept, sound_room, room_there}
-use Rattle.register.proofs.FoundCallLemmas.{IsFound, later}
+use Rattle.register.proofs.FoundCallLemmas.{IsFound, at, later}
 use Rattle.register.proofs.RoomLemmas.{step_within}
 use Rattle.register.proofs.StepInvariantLemmas.{steps_on}
 
@@ -38,11 +38,15 @@ module _ {c : Contents} {number index : ℕ} {t : Tracked} {step : Step} {cause 
   begun = with_due c index t kind position layout now (piece_from coded)
 
   abbrev pub mail_begun : List Message
-  mail_begun = c.mail ++ requests number (suc (length t.call.phases)) kind position layout.members 0 (piece_from coded)
+  mail_begun = c.mail ++ requests t.call.id (suc (length t.call.phases)) kind position layout.members 0 (piece_from coded)
+
+  -- the id of the call is its number
+  id_is : t.call.id ≡ suc index
+  id_is = b.found.kept.numbered index t.call (at b.found)
 
   mail_is : mail_begun ≡ begun.mail
   mail_is =
-      ap (λ n. c.mail ++ requests n (suc (length t.call.phases)) kind position layout.members 0 (piece_from coded)) (sym b.found.named)
+      ap (λ n. c.mail ++ requests n (suc (length t.call.phases)) kind position layout.members 0 (piece_from coded)) id_is
 
   begun_sound : {s : State} → state_of c ≡ s → s.last < now → IsSound fragment (state_of begun).object now
   begun_sound view after =
@@ -61,12 +65,12 @@ module _ {c : Contents} {number index : ℕ} {t : Tracked} {step : Step} {cause 
 
   -- what the call and the mail are made
   module _ {mail : List Message} {new : Tracked} (mail_made : mail ≡ mail_begun)
-      (call_made : new ≡ with_begun t number kind position layout now) where
+      (call_made : new ≡ with_begun t t.call.id kind position layout now) where
     made_is : begun ≡ record c { mail = mail; calls = set c.calls index new; last = now }
     made_is =
         ap (λ ms. record begun { mail = ms }) (sym mail_is ∙ sym mail_made)
         ∙ ap (λ u. record c { mail = mail; calls = set c.calls index u; last = now })
-        (ap (λ n. with_begun t n kind position layout now) b.found.named ∙ sym call_made)
+        (ap (λ n. with_begun t n kind position layout now) (sym id_is) ∙ sym call_made)
 
     pub begin_step : state_of (record c { mail = mail; calls = set c.calls index new; last = now }) ≡ made step now (state_of c)
     begin_step = sym (b.makes now ∙ ap state_of made_is)

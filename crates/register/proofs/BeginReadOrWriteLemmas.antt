@@ -1,9 +1,7 @@
 -- A call that reads the sequence of layouts begins, by what was read.
-use Rattle.std.proofs.Common.{◌≡◌, ◌+◌, ◌<◌, ◌++◌, ◌∷◌, ℕ, nat_lt, suc, length, get_or, List, [], None, refl, sym, subst}
+use Rattle.std.proofs.Common.{◌≡◌, ◌+◌, ◌<◌, ◌++◌, ◌∷◌, ℕ, suc, length, get_or, List, [], None, refl, sym, subst}
 use Rattle.std.proofs.Common.{subst₂, ap, ◌∙◌, arith}
 use Rattle.std.proofs.lemmas.Option.{slice_get_read}
-use Rattle.tag.specs.declared.limits.TheConstants.{MOST_PHASES}
-use Rattle.tag.specs.declared.refusal.Refusal.TheVariants.{Full}
 use Rattle.layout.specs.Layout.{Layout}
 use Rattle.bank.specs.Bank.{empty_piece}
 use Rattle.bank.specs.declared.kind.Kind.TheVariants.{Next}
@@ -15,7 +13,7 @@ use Rattle.record.specs.Legal.{first_stage}
 use Rattle.record.specs.Records.{layout_at}
 use Rattle.record.specs.Steps.{Step, new_call, called_object}
 use Rattle.record.specs.Sending.{requests}
-use Rattle.register.specs.Causes.{unless, read_cause}
+use Rattle.register.specs.Causes.{read_cause}
 use Rattle.register.specs.Kept.{HasRoomIfFew, IsKept}
 use Rattle.register.specs.Position.{Position}
 use Rattle.register.specs.State.{Contents, State, next_id, state_of}
@@ -66,10 +64,10 @@ module _ {c : Contents} {kind : CallKind} {now number : ℕ} {layout : Layout} {
       (sound_room _ now (called_sound c kind now number layout b.kept b.reads b.placed b.numbered (later c view after)))
 
   pub begun_cause : MayCall c now
-      → reading_cause (state_of c).object kind now ≡ unless (nat_lt (length call.call.phases) MOST_PHASES) Full (mail_cause (asked call))
+      → reading_cause (state_of c).object kind now ≡ mail_cause (asked call)
   begun_cause may =
       reading_cause_is c kind now number layout b.kept.based b.placed b.numbered may.within may.few
-      ∙ ap (λ (u : Tracked). unless (nat_lt (length u.call.phases) MOST_PHASES) Full (mail_cause (asked u))) (sym b.is_fresh)
+      ∙ ap (λ (u : Tracked). mail_cause (asked u)) (sym b.is_fresh)
 
   -- what the mail and the calls are made
   module _ {mail : List Message} {reserved pushed : List Tracked} {new : Tracked} (mail_is : mail ≡ asked call)

@@ -18,7 +18,8 @@ use Rattle.record.specs.Steps.{Step, stepped, on_call}
 use Rattle.record.specs.Sending.{sent_pieces, requests, missing}
 use Rattle.record.specs.Wants.{current_phase}
 use Rattle.register.specs.Causes.{unless, if_step, is_replies, is_plain, may_post, post_cause}
-use Rattle.register.specs.Coding.{is_pre_write, piece_from, HavePieces}
+use Rattle.call.specs.Pieces.{piece_from, HavePieces}
+use Rattle.register.specs.Coding.{is_pre_write}
 use Rattle.register.specs.Position.{layouts_of, banks_of}
 use Rattle.register.specs.State.{Contents, made, state_of}
 use Rattle.register.specs.Tracked.{Tracked, calls_of, asked_again}

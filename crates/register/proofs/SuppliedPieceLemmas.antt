@@ -18,7 +18,8 @@ use Rattle.record.specs.Steps.{supplied_by, supplied_object}
 use Rattle.record.specs.Steps as steps
 use Rattle.record.specs.Wants.{current_phase}
 use Rattle.register.specs.Causes.{supply_cause, supplied_cause, supply_room_cause, is_replied, if_step, unless}
-use Rattle.register.specs.Coding.{is_coded_for, piece_from}
+use Rattle.call.specs.Pieces.{piece_from}
+use Rattle.register.specs.Coding.{is_coded_for}
 use Rattle.register.specs.Position.{Position}
 use Rattle.register.specs.State.{Contents, state_of}
 use Rattle.register.specs.Tracked.{Tracked}

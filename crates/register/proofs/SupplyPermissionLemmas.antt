@@ -20,7 +20,8 @@ use Rattle.record.specs.Steps.{Step, stepped}
 use Rattle.record.specs.Preconditions.{WantsPieces}
 use Rattle.record.specs.Wants.{current_phase}
 use Rattle.register.specs.Causes.{call_at, if_call, unless, is_replied, supply_cause, supplied_cause, supply_room_cause, supplying_cause}
-use Rattle.register.specs.Coding.{bytes_eq, is_coded_for, pieces_due, pieces_position, piece_from}
+use Rattle.call.specs.Pieces.{piece_from}
+use Rattle.register.specs.Coding.{bytes_eq, is_coded_for, pieces_due, pieces_position}
 use Rattle.register.specs.Kept.{HasRoomIfFew}
 use Rattle.register.specs.Position.{Position}
 use Rattle.register.specs.State.{Contents, State, state_of}
@@ -143,7 +144,7 @@ module _ {c : Contents} {number index position : ℕ} {t : Tracked} (to : IsSend
         own_is now ∙ begin_cause begun now within
         ∙ room_by (nat_lt (length t.call.phases) MOST_PHASES) (nat_le (length c.mail + n) MOST_MESSAGES) b (mail_begun begun now)
         (begin_room begun now view after)
-        (sum_few c.mail number (suc (length t.call.phases)) next.0.0 next.0.1 layout.members (piece_from (Some own)) n
+        (sum_few c.mail t.call.id (suc (length t.call.phases)) next.0.0 next.0.1 layout.members (piece_from (Some own)) n
         (nat_le (length c.mail + n) MOST_MESSAGES) members refl)
         tested
       where

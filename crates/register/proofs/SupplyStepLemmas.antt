@@ -23,7 +23,8 @@ use Rattle.record.specs.declared.stage.Stage.{Stage}
 use Rattle.record.specs.declared.stage.Want.TheVariants as want
 use Rattle.soundness.proofs.Sound.WantPreconditionLemmas.{waiting_of, supply_ready}
 use Rattle.register.specs.Causes.{supply_cause, new_phase_cause, is_replied, if_step}
-use Rattle.register.specs.Coding.{pieces_position, piece_from, HavePieces}
+use Rattle.call.specs.Pieces.{piece_from, HavePieces}
+use Rattle.register.specs.Coding.{pieces_position}
 use Rattle.register.specs.Position.{layouts_of, banks_of}
 use Rattle.register.specs.State.{Contents, made, state_of}
 use Rattle.register.specs.Tracked.{Tracked, calls_of, asked_again}

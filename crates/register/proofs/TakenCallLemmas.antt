@@ -1,10 +1,12 @@
 -- What a take makes of a call.
-use Rattle.std.proofs.Common.{◌≡◌, ℕ, zero, suc, ◌+◌, ◌-◌, true, false, cond, List, [], ◌∷◌, length, get_or, set, slice_get, Option, Some}
-use Rattle.std.proofs.Common.{None, is_some, sym, ap, ◌∙◌, refl, arith}
+use Rattle.std.proofs.Common.{◌≡◌, ℕ, suc, ◌==◌, ◌&&◌, Bool, true, false, cond, List, [], ◌∷◌, ◌++◌, length, Option, Some}
+use Rattle.std.proofs.Common.{None, is_some, sym, ap, subst, ◌∙◌, refl, arith}
+use Rattle.std.proofs.lemmas.Bool.{eqb-true}
 use Rattle.std.proofs.lemmas.Bool.Decides.{nat_tests}
 use Rattle.mail.specs.declared.message.Message.{Message}
 use Rattle.mail.specs.declared.message.Body.{Body}
 use Rattle.mail.specs.declared.message.Body.TheVariants as body
+use Rattle.phase.specs.declared.phase.Taken.{Taken}
 use Rattle.phase.specs.declared.phase.Took.TheVariants as took
 use Rattle.phase.specs.Phase.{Phase, is_current, has_taken, makes_quorum, with_reply, after_body, after_take}
 use Rattle.phase.specs.Phase.{took_body, took_by, lacks_pieces}
@@ -13,7 +15,9 @@ use Rattle.record.specs.declared.stage.Stage.{Stage}
 use Rattle.record.specs.PhaseOrder.{begun_at, passed, stage_past, stage_after}
 use Rattle.record.specs.Steps.{taking_phases}
 use Rattle.record.specs.Wants.{current_phase}
-use Rattle.register.specs.Tracked.{Tracked, stage_taken, taken_tracked}
+use Rattle.transfer.specs.Limits.{IsBelowLimit, HasNextTag}
+use Rattle.call.specs.Call.{OpenCall, CanReach, IsCall, reached, taken_call}
+use Rattle.register.specs.Tracked.{Tracked, IsTracked, stage_taken, taken_tracked, tracked_of}
 use Rattle.register.proofs.FirstReadingLemmas.{begun_again, take_position}
 
 ended_body : (p : Phase) (m : Message) (now : ℕ) (b : Body) → is_some p.end ≡ true
@@ -33,30 +37,18 @@ ended_same p m now ended = (ended_body p m now m.body ended).0
 pub ended_stale : (p : Phase) (m : Message) → is_some p.end ≡ true → took_by p m ≡ took.Stale
 ended_stale p m ended = (ended_body p m 0 m.body ended).1
 
--- the current phase stands at the last place
-pub current_last : (ps : List Phase) → slice_get ps (length ps - 1) ≡ current_phase ps
-current_last [] = refl
-current_last (p ∷ []) = refl
-current_last (p ∷ q ∷ ps) =
-    let same : length (p ∷ q ∷ ps) - 1 ≡ suc (length (q ∷ ps) - 1) = omega arith in
-    ap (slice_get (p ∷ q ∷ ps)) same ∙ current_last (q ∷ ps)
+-- the last phase is the current one
+pub current_push : (ps : List Phase) (p : Phase) → current_phase (ps ++ p ∷ []) ≡ Some p
+current_push [] p = refl
+current_push (x ∷ []) p = refl
+current_push (x ∷ y ∷ ys) p = current_push (y ∷ ys) p
 
-pub current_at : (ps : List Phase) (i : ℕ) (p : Phase) → i + 1 ≡ length ps → p ≡ get_or ps i p → current_phase ps ≡ Some p
-current_at [] i p last read = absurd (omega (arith, last))
-current_at (x ∷ []) zero p last read = ap Some (sym read)
-current_at (x ∷ []) (suc i) p last read = absurd (omega (arith, last))
-current_at (x ∷ y ∷ ys) zero p last read = absurd (omega (arith, last))
-current_at (x ∷ y ∷ ys) (suc i) p last read = current_at (y ∷ ys) i p (omega (arith, last)) read
-
--- the last phase takes the message
-pub taking_at : (ps : List Phase) (m : Message) (now i : ℕ) (p new : Phase) → i + 1 ≡ length ps → p ≡ get_or ps i p
-    → new ≡ after_take p m now
-    → set ps i new ≡ taking_phases ps m now
-taking_at [] m now i p new last read is = absurd (omega (arith, last))
-taking_at (x ∷ []) m now zero p new last read is = ap (λ z. z ∷ []) (is ∙ ap (λ y. after_take y m now) read)
-taking_at (x ∷ []) m now (suc i) p new last read is = absurd (omega (arith, last))
-taking_at (x ∷ y ∷ ys) m now zero p new last read is = absurd (omega (arith, last))
-taking_at (x ∷ y ∷ ys) m now (suc i) p new last read is = ap (λ zs. x ∷ zs) (taking_at (y ∷ ys) m now i p new (omega (arith, last)) read is)
+-- and takes the message
+pub taking_push : (ps : List Phase) (p : Phase) (m : Message) (now : ℕ)
+    → taking_phases (ps ++ p ∷ []) m now ≡ ps ++ after_take p m now ∷ []
+taking_push [] p m now = refl
+taking_push (x ∷ []) p m now = refl
+taking_push (x ∷ y ∷ ys) p m now = ap (λ zs. x ∷ zs) (taking_push (y ∷ ys) p m now)
 
 pub length_taking : (ps : List Phase) (m : Message) (now : ℕ) → length (taking_phases ps m now) ≡ length ps
 length_taking [] m now = refl
@@ -87,15 +79,6 @@ stage_taking kind s (p ∷ []) m now = step p.end refl
         ∙ ap (λ (x : Phase). stage_past kind m.call s x) (sym (ended_same p m now (ap is_some e)))
 stage_taking kind s (p ∷ q ∷ ps) m now = stage_taking kind (stage_past kind m.call s p) (q ∷ ps) m now
 
--- a call that has begun no phase takes nothing
-pub taking_none : (ps : List Phase) (m : Message) (now : ℕ) → length ps ≡ 0 → taking_phases ps m now ≡ ps
-taking_none [] m now none = refl
-taking_none (p ∷ ps) m now none = absurd (omega (arith, none))
-
-pub current_none : (ps : List Phase) → length ps ≡ 0 → current_phase ps ≡ None
-current_none [] none = refl
-current_none (p ∷ ps) none = absurd (omega (arith, none))
-
 -- a call whose phases and stage stay as they are
 pub taken_same : (t : Tracked) (m : Message) (now : ℕ) → taking_phases t.call.phases m now ≡ t.call.phases
     → stage_taken t.call.kind t.stage (current_phase t.call.phases) m now ≡ t.stage → t ≡ taken_tracked m now t
@@ -112,3 +95,83 @@ stage_ended kind s p m now ended = ap (λ b. cond b s (stage_past kind m.call s 
 pub stage_open : (kind : CallKind) (s : Stage) (p : Phase) (m : Message) (now : ℕ) → is_some p.end ≡ false
     → stage_taken kind s (Some p) m now ≡ stage_past kind m.call s (after_take p m now)
 stage_open kind s p m now open_yet = ap (λ b. cond b s (stage_past kind m.call s (after_take p m now))) open_yet
+
+-- a message that completes a phase names the phase's call
+same_call : (p : Phase) (m : Message) (now : ℕ) → is_some p.end ≡ false → is_some (after_take p m now).end ≡ true → m.call ≡ p.call
+same_call p m now open_yet ended = of m.body ended
+  where
+    first : (a b : Bool) → (a && b) ≡ true → a ≡ true
+    first true b is = refl
+    first false b is = absurd (cc)
+
+    of : (b : Body) → is_some (after_body p m.call m.phase m.member b now).end ≡ true → m.call ≡ p.call
+    of (body.Request q) e = absurd (let clash : false ≡ true = sym open_yet ∙ e in cc)
+    of (body.Reply k r) e = go (is_current p m.call m.phase) refl e
+      where
+        go : (mine : Bool) → is_current p m.call m.phase ≡ mine
+            → is_some (cond mine (cond (has_taken p.replies m.member) p (with_reply p m.member r now)) p).end ≡ true → m.call ≡ p.call
+        go false is e = absurd (let clash : false ≡ true = sym open_yet ∙ e in cc)
+        go true is e = eqb-true m.call p.call (first (m.call == p.call) _ is)
+
+-- where no phase ends, it does not matter which call passes it
+passed_by : (kind : CallKind) (a b : ℕ) (s : Stage) (end : Option ℕ) (replies : List Taken) (lacks : Bool) → (is_some end ≡ true → a ≡ b)
+    → passed kind a s end replies lacks ≡ passed kind b s end replies lacks
+passed_by kind a b s None replies lacks same = refl
+passed_by kind a b s (Some step) replies lacks same = ap (λ n. passed kind n s (Some step) replies lacks) (same refl)
+
+-- the stage of a call whose phase lacks a quorum is the one at which the phase began
+pub reached_yet : (call : OpenCall) → is_some call.phase.end ≡ false → reached call ≡ call.stage
+reached_yet call open_yet = go call.phase.end open_yet
+  where
+    go : (end : Option ℕ) → is_some end ≡ false
+        → passed call.kind call.id call.stage end call.phase.replies (lacks_pieces call.phase) ≡ call.stage
+    go None is = refl
+    go (Some step) is = absurd (cc)
+
+-- a call whose phase lacks a quorum takes a message
+module _ {ps : List Phase} {call : OpenCall} {stage : Stage} (tracked : IsTracked ps call stage) (lawful : IsCall call)
+    (open_yet : is_some call.phase.end ≡ false) (called : ℕ) (answered : Option ℕ) (m : Message) (now : ℕ) where
+  abbrev before : Tracked
+  before = tracked_of called answered ps call stage
+
+  began : stage ≡ call.stage
+  began = tracked.staged ∙ reached_yet call open_yet
+
+  begun_there : begun_at stage call.phase.position ≡ call.stage
+  begun_there = ap (λ s. begun_at s call.phase.position) began ∙ lawful.begun call.phase.position
+
+  pub reach_taken : IsBelowLimit (begun_at stage call.phase.position)
+      → HasNextTag call.kind (begun_at stage call.phase.position) (after_take call.phase m now).replies → CanReach (taken_call m now call)
+  reach_taken near tags = record {
+    room = subst IsBelowLimit begun_there near;
+    tags = subst (λ s. HasNextTag call.kind s (after_take call.phase m now).replies) begun_there tags;
+  }
+
+  taken_stage : stage_taken call.kind stage (current_phase before.call.phases) m now ≡ reached (taken_call m now call)
+  taken_stage =
+      let new = after_take call.phase m now in
+      ap (λ o. stage_taken call.kind stage o m now) (current_push ps call.phase) ∙ stage_open call.kind stage call.phase m now open_yet
+      ∙ ap (λ n. passed call.kind m.call (begun_at stage n) new.end new.replies (lacks_pieces new)) (take_position call.phase m now)
+      ∙ ap (λ s. passed call.kind m.call s new.end new.replies (lacks_pieces new)) begun_there
+      ∙ passed_by call.kind m.call call.id call.stage new.end new.replies (lacks_pieces new)
+      (λ ended. same_call call.phase m now open_yet ended ∙ lawful.named)
+
+  pub taken_is : {new : OpenCall} {s : Stage} → new ≡ taken_call m now call → s ≡ reached new
+      → tracked_of called answered ps new s ≡ taken_tracked m now before
+  taken_is {new = new} {s = s} is reaches =
+      ap (λ (c : OpenCall). tracked_of called answered ps c s) is
+      ∙ ap (tracked_of called answered ps (taken_call m now call)) (reaches ∙ ap reached is ∙ sym taken_stage)
+      ∙ ap (λ phases. record {
+        call = record before.call { phases = phases };
+        stage = stage_taken call.kind stage (current_phase before.call.phases) m now;
+      })
+      (sym (taking_push ps call.phase m now))
+
+-- a call whose phase is complete takes nothing
+pub ended_is : (called : ℕ) (answered : Option ℕ) (ps : List Phase) (call : OpenCall) (stage : Stage) (m : Message) (now : ℕ)
+    → is_some call.phase.end ≡ true
+    → tracked_of called answered ps call stage ≡ taken_tracked m now (tracked_of called answered ps call stage)
+ended_is called answered ps call stage m now ended =
+    taken_same (tracked_of called answered ps call stage) m now
+    (taking_push ps call.phase m now ∙ ap (λ p. ps ++ p ∷ []) (ended_same call.phase m now ended))
+    (ap (λ o. stage_taken call.kind stage o m now) (current_push ps call.phase) ∙ stage_ended call.kind stage call.phase m now ended)

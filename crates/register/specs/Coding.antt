@@ -1,15 +1,13 @@
 -- The contracts that docs/trusted.md lists do not depend on this file; other contracts and proofs do.
--- The pieces that a call sends, and those from which it decodes a value.
-use Rattle.std.specs.Prelude.{◌≡◌, ◌<◌, ℕ, suc, zero, nat_eq, Bool, true, false, ◌==◌, ◌&&◌, if◌then◌else◌, List, []}
+-- Where the pieces of a call go, and those from which it decodes a value.
+use Rattle.std.specs.Prelude.{ℕ, suc, zero, nat_eq, Bool, true, false, ◌==◌, ◌&&◌, if◌then◌else◌, List, []}
 use Rattle.std.specs.Prelude.{◌∷◌, ◌++◌, length, take, Option, Some, None, option_map}
 use Rattle.std.specs.List.{list_any, list_all}
 use Rattle.std.specs.Cmp.Lexicographic.{pointwise}
 use Rattle.layout.specs.Layout.{Layout}
-use Rattle.encoder.specs.Fragment.{piece_at_point}
 use Rattle.encoder.specs.Coded.{Coding}
 use Rattle.piece.specs.declared.piece.Piece.{Piece}
 use Rattle.decoder.specs.Decoded.{Decoding}
-use Rattle.bank.specs.Bank.{empty_piece}
 use Rattle.bank.specs.declared.kind.Kind.{Kind}
 use Rattle.bank.specs.declared.kind.Kind.TheVariants.{PreWrite}
 use Rattle.phase.specs.declared.phase.Taken.{Taken}
@@ -51,11 +49,6 @@ abbrev pub is_coded_for : Layout → (value : List ℕ) → Coding → Bool
 is_coded_for layout value coded = bytes_eq coded.value value &&
     (coded.k == layout.k && coded.n == length layout.members)
 
--- the piece of a member: of the encoded value if there is one, and else of the empty value
-abbrev pub piece_from : Option Coding → (member : ℕ) → Piece
-piece_from None member = empty_piece member
-piece_from (Some coded) member = piece_at_point coded.value coded.k member
-
 -- whether two pieces are the same
 abbrev pub same_piece : Piece → Piece → Bool
 same_piece a b = a.point == b.point && (a.len == b.len && bytes_eq a.bytes b.bytes)
@@ -96,15 +89,3 @@ least_pieces layout replies = take layout.k (pieces_below replies (length layout
 abbrev pub least_of : Object → Option Phase → List Piece
 least_of object None = []
 least_of object (Some phase) = least_pieces (layout_at object phase.position) phase.replies
-
--- if a phase of this kind sends pieces, there is an encoded value with a piece for each of this many members
-abbrev pub HavePieces : Kind → (members : ℕ) → Option Coding → Type 0
-HavePieces (PreWrite tag) members None = ⊥
-HavePieces (PreWrite tag) members (Some coded) = coded.n ≡ members
-HavePieces _ members coded = Unit {0}
-
--- if a request of this kind carries a piece, there is an encoded value with a piece for the member
-abbrev pub HavePieceOf : Kind → (member : ℕ) → Option Coding → Type 0
-HavePieceOf (PreWrite tag) member None = ⊥
-HavePieceOf (PreWrite tag) member (Some coded) = member < coded.n
-HavePieceOf _ member coded = Unit {0}

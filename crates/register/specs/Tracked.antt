@@ -17,11 +17,31 @@ use Rattle.record.specs.PhaseOrder.{begun_at, due, stage_past}
 use Rattle.record.specs.Steps.{taking_call, new_phase}
 use Rattle.record.specs.Sending.{missing, requests}
 use Rattle.record.specs.Wants.{current_phase, want_after}
+use Rattle.call.specs.Call.{OpenCall, reached}
 
 -- a call of the record, with the stage that its phases lead to
 pub record Tracked : Type 0 where
   pub call : Call
   pub stage : Stage
+
+-- a call made up of these parts: its steps, its finished phases, the call with its current phase, and its stage
+abbrev pub tracked_of : (called : ℕ) → (answered : Option ℕ) → (finished : List Phase) → OpenCall → Stage → Tracked
+tracked_of called answered finished call stage = record {
+  call = record {
+    id = call.id;
+    kind = call.kind;
+    called = called;
+    answered = answered;
+    settled = call.settled;
+    phases = finished ++ call.phase ∷ [];
+  };
+  stage = stage;
+}
+
+-- the invariant of `TrackedCall`: the current phase is numbered after the finished ones, and leads to the stage
+pub record IsTracked (finished : List Phase) (call : OpenCall) (stage : Stage) : Type 0 where
+  pub numbered : call.phase.number ≡ suc (length finished)
+  pub staged : stage ≡ reached call
 
 -- the calls, without their stages
 abbrev pub calls_of : List Tracked → List Call

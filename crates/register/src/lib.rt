@@ -11,10 +11,10 @@ pub use receipt::{CallView, Receipt};
 pub use register::Register;
 
 mod act;
-mod call;
 mod code;
 mod pieces;
 mod position;
 mod receipt;
 mod register;
 mod requests;
+mod tracked_call;

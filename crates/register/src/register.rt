@@ -1,8 +1,8 @@
 ghost use Rattle.std.specs.Prelude.{◌≡◌, IfOk, IfErr};
 ghost use Rattle.tag.specs.declared.refusal.Refusal.TheVariants.{NoMemory};
 
-use crate::call::Call;
 use crate::position::Position;
+use crate::tracked_call::TrackedCall;
 use layout::Layout;
 use mail::Mail;
 use std::alloc::Global;
@@ -34,7 +34,7 @@ pub struct Register {
     base: u32,
     mail: Mail,
     // In the order of their numbers, from 1.
-    calls: Vec<Call>,
+    calls: Vec<TrackedCall>,
     // Whether a move is open, which means not answered.
     is_moving: bool,
     // The number of bytes of all pieces in all banks.

@@ -1,41 +1,19 @@
-//! The requests of a phase.
+//! The requests of a phase that are resent.
 
 ghost use Rattle.std.specs.Prelude.{◌≡◌, ◌+◌, ◌==◌, ◌&&◌, ◌||◌, nat_le, ℕ, List, length, IfOk, IfErr, option_copied};
 ghost use Rattle.tag.specs.declared.limits.TheConstants.{MOST_MESSAGES};
 ghost use Rattle.tag.specs.declared.refusal.Refusal.TheVariants.{NoMemory};
 ghost use Rattle.piece.specs.declared.piece.Piece.{Piece};
-ghost use Rattle.mail.specs.declared.message.Body.TheVariants as body;
 ghost use Rattle.phase.specs.Phase.{has_taken, members_of};
-ghost use Rattle.record.specs.Sending.{request_to, requests, missing, waits};
-ghost use Rattle.register.specs.Coding.{piece_from, HavePieces, HavePieceOf};
+ghost use Rattle.record.specs.Sending.{requests, missing, waits};
+ghost use Rattle.call.specs.Pieces.{piece_from, HavePieces};
 
-use bank::{Kind, Request};
+use call::request_to;
 use encoder::Coded;
-use mail::{Body, Mail, Message};
+use mail::{Mail, Message};
 use phase::{Ask, Phase};
 use std::alloc::Global;
 use tag::{CallId, MOST_MESSAGES, Refusal};
-
-/// The requests of a phase to all members, member 0 first. For a phase that sends pieces, `coded` is the encoded value.
-pub(crate) fn requests(
-    alloc: Global,
-    ask: Ask,
-    members: u8,
-    coded: Option<&Coded>,
-) -> Result<Vec<Message>, Refusal>
-    requires { HavePieces ask.kind members (option_copied coded) }
-    ensures requests { (servers : List ℕ) → length servers ≡ members
-        → IfOk result (λ ms. ms.items ≡ requests ask.call ask.number ask.kind ask.position servers 0
-        (piece_from (option_copied coded.entry))) }
-
-    ensures refused { IfErr result (λ e. e ≡ NoMemory) }
-{
-    let mut messages = Vec::with_capacity(alloc, usize::from(members))?;
-    for member in 0..members {
-        messages.push(request_to(ask, member, coded)?)?;
-    }
-    Ok(messages)
-}
 
 /// The requests of a phase that are resent: those to members that have no recorded reply and no waiting message of it.
 pub(crate) fn missing(
@@ -107,45 +85,4 @@ fn is_of(message: &Message, call: CallId, phase: u32, member: u8) -> bool
     ensures { result ≡ (message.now.call == call && (message.now.phase == phase && message.now.member == member)) }
 {
     message.call == call && message.phase == phase && message.member == member
-}
-
-// The request of a phase to a member.
-fn request_to(ask: Ask, member: u8, coded: Option<&Coded>) -> Result<Message, Refusal>
-    requires { HavePieceOf ask.kind member (option_copied coded) }
-    ensures request { IfOk result (λ m. m ≡ record {
-      call = ask.call;
-      phase = ask.number;
-      position = ask.position;
-      member = member;
-      body = body.Request (request_to ask.kind (piece_from (option_copied coded.entry) member));
-    }) }
-
-    ensures refused { IfErr result (λ e. e ≡ NoMemory) }
-{
-    Ok(Message {
-        call: ask.call,
-        phase: ask.number,
-        position: ask.position,
-        member,
-        body: Body::Request(request_of(ask.kind, member, coded)?),
-    })
-}
-
-// The request that a phase of this kind sends to a member.
-fn request_of(kind: Kind, member: u8, coded: Option<&Coded>) -> Result<Request, Refusal>
-    requires { HavePieceOf kind member (option_copied coded) }
-    ensures request { IfOk result (λ q. q ≡ request_to kind (piece_from (option_copied coded.entry) member)) }
-    ensures refused { IfErr result (λ e. e ≡ NoMemory) }
-{
-    Ok(match kind {
-        Kind::Next => Request::Next,
-        Kind::Spread(status) => Request::Spread(status),
-        Kind::Query => Request::Query,
-        Kind::PreWrite(tag) => match coded {
-            Some(coded) => Request::PreWrite(tag, coded.piece_at(member).clone()?),
-            None => unreachable!(),
-        },
-        Kind::Finalize(tag) => Request::Finalize(tag),
-        Kind::Fetch(tag) => Request::Fetch(tag),
-    })
 }

@@ -14,14 +14,15 @@ ghost use Rattle.register.specs.State.{made, next_id};
 ghost use Rattle.register.specs.Causes.{unless, if_step, read_cause, write_cause, move_cause, answer_cause};
 ghost use Rattle.register.specs.View.{receipt_at};
 
-use crate::call::Call;
 use crate::position::Position;
 use crate::receipt::Receipt;
 use crate::register::Register;
 use crate::register::phases::{index_of, want_of};
+use crate::tracked_call::TrackedCall;
 use bank::{Kind, Status};
 use bytes::Bytes;
 use layout::Layout;
+use phase::Ask;
 use record::{CallKind, Operation, Want};
 use tag::{CallId, LONGEST_VALUE, MOST_STEPS, Refusal, Stamp};
 use transfer::first_stage;
@@ -73,14 +74,19 @@ impl Register {
         self.may_call(now)?;
         let stage = first_stage(&kind, 0);
         let number = self.calls.len() as u64 + 1;
-        let mut call = Call::new(*self.calls.allocator(), number, kind, stage, now);
+        let ask = Ask {
+            call: number,
+            number: 1,
+            kind: Kind::Next,
+            position: self.base,
+        };
         self.calls.reserve(1)?;
-        call.begin(
-            number,
-            Kind::Next,
-            self.base,
+        let call = TrackedCall::begin(
+            *self.calls.allocator(),
+            ask,
+            kind,
+            stage,
             self.positions[self.base as usize].layout(),
-            None,
             &mut self.mail,
             now,
         )?;
@@ -109,21 +115,21 @@ impl Register {
         let last = self.positions.len() - 1;
         let position = last as u32;
         let number = self.calls.len() as u64 + 1;
-        let mut call = Call::new(
-            alloc,
-            number,
-            CallKind::Move,
-            first_stage(&CallKind::Move, position),
-            now,
-        );
+        let stage = first_stage(&CallKind::Move, position);
+        let ask = Ask {
+            call: number,
+            number: 1,
+            kind: Kind::Spread(Status::Pending),
+            position,
+        };
         self.positions.reserve(1)?;
         self.calls.reserve(1)?;
-        call.begin(
-            number,
-            Kind::Spread(Status::Pending),
-            position,
+        let call = TrackedCall::begin(
+            alloc,
+            ask,
+            CallKind::Move,
+            stage,
             self.positions[last].layout(),
-            None,
             &mut self.mail,
             now,
         )?;

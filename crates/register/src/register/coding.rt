@@ -14,11 +14,11 @@ ghost use Rattle.register.specs.Coding.{pieces_position, sending_position};
 ghost use Rattle.register.specs.Causes.{unless, value_cause, supply_cause, supplying_cause, pieces_cause, settle_cause};
 ghost use Rattle.register.specs.View.{coding_at, fetched_pieces};
 
-use crate::call::Call;
 use crate::pieces::{is_coded_for, is_decoded_from, piece_by};
 use crate::position::Position;
 use crate::register::Register;
 use crate::register::phases::{index_of, is_pre_write, is_replied, want_of};
+use crate::tracked_call::TrackedCall;
 use bytes::Bytes;
 use decoder::Decoded;
 use encoder::Coded;
@@ -119,15 +119,7 @@ impl Register {
             let Some((kind, position)) = due(tracked.stage()) else {
                 unreachable!();
             };
-            self.calls[index].begin(
-                call,
-                kind,
-                position,
-                layout,
-                Some(coded),
-                &mut self.mail,
-                now,
-            )?;
+            self.calls[index].begin_next(kind, position, layout, Some(coded), &mut self.mail, now)?;
             self.last = now;
             Ok(())
         } else {
@@ -200,7 +192,7 @@ impl Register {
 }
 
 // The position whose members are to get the pieces of a call, if it sends any.
-fn pieces_position(positions: &[Position], call: &Call) -> Option<u32>
+fn pieces_position(positions: &[Position], call: &TrackedCall) -> Option<u32>
     requires count { length positions.now ≤ MOST_POSITIONS }
     requires below { HasPositionsBelow (length positions.now) call.now }
     ensures { result ≡ pieces_position (tracked_want (object_of None positions.now [] []) call.now) (due call.now.stage)

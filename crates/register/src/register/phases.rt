@@ -14,9 +14,9 @@ ghost use Rattle.register.specs.Causes.{number_cause, advance_cause, again_cause
 ghost use Rattle.register.specs.Causes.{due_step, due_cause, wants_due, is_replied};
 ghost use Rattle.register.specs.View.{want_at};
 
-use crate::call::Call;
 use crate::position::Position;
 use crate::register::Register;
+use crate::tracked_call::TrackedCall;
 use bank::{Answer, Kind};
 use phase::{Phase, Taken};
 use record::Want;
@@ -81,8 +81,7 @@ impl Register {
         let Some((kind, position)) = due(begun_at(self.calls[index].stage(), self.base)) else {
             unreachable!();
         };
-        self.calls[index].begin(
-            call,
+        self.calls[index].begin_next(
             kind,
             position,
             self.positions[position as usize].layout(),
@@ -123,7 +122,7 @@ impl Register {
 }
 
 // The index of the call of this number.
-pub fn index_of(calls: &[Call], call: CallId) -> Result<usize, Refusal>
+pub fn index_of(calls: &[TrackedCall], call: CallId) -> Result<usize, Refusal>
     ensures place { IfOk result (λ index. (suc index ≡ call) × (index < length calls.now)) }
     ensures refused { IfErr result (λ e. (e ≡ NoCall) × ((call ≡ 0) ⊎ (length calls.now < call))) }
 {
@@ -134,7 +133,7 @@ pub fn index_of(calls: &[Call], call: CallId) -> Result<usize, Refusal>
 }
 
 // What a call wants, where these are the object's positions.
-pub fn want_of(positions: &[Position], call: &Call) -> Want
+pub fn want_of(positions: &[Position], call: &TrackedCall) -> Want
     requires count { length positions.now ≤ MOST_POSITIONS }
     requires below { HasPositionsBelow (length positions.now) call.now }
     ensures { result ≡ tracked_want (object_of None positions.now [] []) call.now }

@@ -1,6 +1,6 @@
 //! What is read of an object without a step. Positions, members and servers count from 0, and calls from 1.
 
-ghost use Rattle.std.specs.Prelude.{◌≡◌, ◌≤◌, option_copied, option_map, slice_get, IfOk, IfErr, Some};
+ghost use Rattle.std.specs.Prelude.{◌≡◌, ◌≤◌, option_copied, length, option_map, slice_get, IfOk, IfErr, Some};
 ghost use Rattle.tag.specs.declared.limits.TheConstants.{MOST_BYTES};
 ghost use Rattle.tag.specs.declared.refusal.Refusal.TheVariants.{NoMemory};
 ghost use Rattle.tag.specs.Refusal.{IsByCause, IsExactlyByCause};
@@ -108,13 +108,23 @@ impl Register {
         })
     }
 
-    /// The phases of the call of this number, the first one first. There are none where there is no such call.
-    pub fn phases_view(&self, call: CallId) -> &[Phase]
-        ensures { result.now ≡ phases_at self.now.object call }
+    /// How many phases the call of this number has: 0 where there is no such call.
+    pub fn phase_count(&self, call: CallId) -> usize
+        ensures { result ≡ length (phases_at self.now.object call) }
     {
         match index_of(&self.calls, call) {
-            Ok(index) => self.calls[index].phases(),
-            Err(_) => &[],
+            Ok(index) => self.calls[index].count(),
+            Err(_) => 0,
+        }
+    }
+
+    /// The phase at an index, from 0, of the call of this number. None where there is no such call or phase.
+    pub fn phase_view(&self, call: CallId, index: usize) -> Option<&Phase>
+        ensures { option_copied result ≡ slice_get (phases_at self.now.object call) index }
+    {
+        match index_of(&self.calls, call) {
+            Ok(place) => self.calls[place].phase_at(index),
+            Err(_) => None,
         }
     }
 

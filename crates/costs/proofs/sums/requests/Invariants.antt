@@ -1,7 +1,8 @@
 use Rattle.std.proofs.Common.{◌≡◌, take, sum_by}
 use Rattle.phase.specs.Phase.{Phase}
 use Rattle.std.specs.Io.Iter.{u64_saturate}
+use Rattle.register.specs.View.{phases_at}
 use Rattle.costs.proofs.sums.requests.Given as goal
 
-abbrev pub invariant-loop-phase : goal.invariant-loop-phase
-invariant-loop-phase l = l.total ≡ u64_saturate (sum_by (λ (p : Phase). p.members) (take l.phase-index l.phases))
+abbrev pub invariant-loop-index : goal.invariant-loop-index
+invariant-loop-index l = l.total ≡ u64_saturate (sum_by (λ (p : Phase). p.members) (take l.index (phases_at l.register.object l.call)))

@@ -3,8 +3,9 @@ use Rattle.std.specs.Option.{option_copied}
 use Rattle.piece.specs.declared.piece.Piece.{Piece}
 use Rattle.mail.specs.declared.message.Message.{Message}
 use Rattle.record.specs.Sending.{waits}
-use Rattle.register.specs.Coding.{piece_from}
-use Rattle.register.proofs.MemberLoopLemmas.{first_of, is_there, missing_for, missing_first, missing_next, has_replied}
+use Rattle.call.specs.Pieces.{piece_from}
+use Rattle.call.proofs.MemberListLemmas.{first_of}
+use Rattle.register.proofs.MemberLoopLemmas.{is_there, missing_for, missing_first, missing_next, has_replied}
 use Rattle.register.proofs.requests.missing.Goals as goal
 use Rattle.register.proofs.requests.missing.Goals.{then-not-is_there+in_ok-request_to+in_ok-push, else-not-is_there}
 

@@ -1,7 +1,8 @@
 use Rattle.std.proofs.Common.{◌≡◌}
 use Rattle.std.specs.Option.{option_copied}
-use Rattle.register.specs.Coding.{piece_from}
-use Rattle.register.proofs.MemberLoopLemmas.{first_of, missing_for}
+use Rattle.call.specs.Pieces.{piece_from}
+use Rattle.call.proofs.MemberListLemmas.{first_of}
+use Rattle.register.proofs.MemberLoopLemmas.{missing_for}
 use Rattle.register.proofs.requests.missing.Given as goal
 
 -- the requests that are missing of the members so far

@@ -1,6 +1,7 @@
 use Rattle.std.proofs.Common.{◌≡◌, ◌||◌, true, false, length, sym, ap, ◌∙◌, arith}
 use Rattle.record.specs.Sending.{waits}
-use Rattle.register.proofs.MemberLoopLemmas.{first_of, is_there, missing_for, missing_first, missing_more, has_replied}
+use Rattle.call.proofs.MemberListLemmas.{first_of}
+use Rattle.register.proofs.MemberLoopLemmas.{is_there, missing_for, missing_first, missing_more, has_replied}
 use Rattle.register.proofs.requests.missing_count.Goals as goal
 use Rattle.register.proofs.requests.missing_count.Goals.{then-not-is_there, else-not-is_there}
 

@@ -1,6 +1,7 @@
 use Rattle.std.proofs.Common.{◌≡◌, ℕ, ◌≤◌, length}
 use Rattle.piece.specs.declared.piece.Piece.{Piece}
-use Rattle.register.proofs.MemberLoopLemmas.{first_of, missing_for}
+use Rattle.call.proofs.MemberListLemmas.{first_of}
+use Rattle.register.proofs.MemberLoopLemmas.{missing_for}
 use Rattle.register.proofs.requests.missing_count.Given as goal
 
 -- how many are missing of the members so far

@@ -2,7 +2,8 @@ use Rattle.std.proofs.Common.{◌≡◌, List, length, sym, ap, ◌∙◌, arith
 use Rattle.layout.specs.Layout.{Layout}
 use Rattle.bank.specs.Bank.{Bank}
 use Rattle.register.specs.Position.{Position}
-use Rattle.register.proofs.MemberLoopLemmas.{first_of, bank_for, opened_first}
+use Rattle.call.proofs.MemberListLemmas.{first_of}
+use Rattle.register.proofs.MemberLoopLemmas.{bank_for, opened_first}
 use Rattle.register.proofs.position.Position.new.Goals as goal
 
 abbrev with_banks : Layout → List Bank → Position

@@ -1,5 +1,6 @@
 use Rattle.std.proofs.Common.{◌≡◌}
-use Rattle.register.proofs.MemberLoopLemmas.{first_of, bank_for}
+use Rattle.call.proofs.MemberListLemmas.{first_of}
+use Rattle.register.proofs.MemberLoopLemmas.{bank_for}
 use Rattle.register.proofs.position.Position.new.Given as goal
 
 -- the banks of the members so far

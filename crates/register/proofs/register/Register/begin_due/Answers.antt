@@ -45,16 +45,16 @@ index-requires-3 c =
     let there = due_there f d in
     omega (arith, there, c.deref-2.ensures.len, ap length c.deref-2.ensures.value)
 
-pub begin-requires-clause-pieces : goal.begin-requires-clause-pieces
-begin-requires-clause-pieces c =
+pub begin_next-requires-clause-pieces : goal.begin_next-requires-clause-pieces
+begin_next-requires-clause-pieces c =
     let f = is_found c.self.invariant c.in_ok-index.ensures.place c.deref.ensures.value c.index.ensures in
     let w = wanting f c.want_of.ensures c.deref-2.ensures.value refl in
     let is = sym c.wants_due.ensures ∙ c.if-not-wants_due.false in
     let d = due_read f c.index-2.ensures c.stage.ensures c.begun_at.ensures c.due.ensures c.in-Some.is in
     needs_none c.args.anew w is d _
 
-pub begin-requires-clause-room : goal.begin-requires-clause-room
-begin-requires-clause-room c =
+pub begin_next-requires-clause-room : goal.begin_next-requires-clause-room
+begin_next-requires-clause-room c =
     let f = is_found c.self.invariant c.in_ok-index.ensures.place c.deref.ensures.value c.index.ensures in
     let w = wanting f c.want_of.ensures c.deref-2.ensures.value refl in
     let d = due_read f c.index-2.ensures c.stage.ensures c.begun_at.ensures c.due.ensures c.in-Some.is in
@@ -69,8 +69,8 @@ invariant_of-self-2 c =
     let d = due_read f c.index-2.ensures c.stage.ensures c.begun_at.ensures c.due.ensures c.in-Some.is in
     let is = sym c.wants_due.ensures ∙ c.if-not-wants_due.false in
     let b = beginning c.args.anew w is d c.index-3.ensures c.layout.ensures c.index_mut.ensures.value in
-    begin_kept b c.args.now c.in_ok-begin.ensures.mail c.in_ok-begin.ensures.call c.self.view_is c.requires.after
-    c.in_ok-begin.ensures.cause
+    begin_kept b c.args.now c.in_ok-begin_next.ensures.mail c.in_ok-begin_next.ensures.call c.self.view_is c.requires.after
+    c.in_ok-begin_next.ensures.cause
 
 pub returns-clause-step : goal.returns-clause-step
 returns-clause-step c =
@@ -79,7 +79,7 @@ returns-clause-step c =
     let d = due_read f c.index-2.ensures c.stage.ensures c.begun_at.ensures c.due.ensures c.in-Some.is in
     let is = sym c.wants_due.ensures ∙ c.if-not-wants_due.false in
     let b = beginning c.args.anew w is d c.index-3.ensures c.layout.ensures c.index_mut.ensures.value in
-    rw (← c.self.view_is) (begin_step b c.args.now c.in_ok-begin.ensures.mail c.in_ok-begin.ensures.call)
+    rw (← c.self.view_is) (begin_step b c.args.now c.in_ok-begin_next.ensures.mail c.in_ok-begin_next.ensures.call)
 
 pub returns-clause-cause : goal.returns-clause-cause
 returns-clause-cause c =
@@ -88,14 +88,14 @@ returns-clause-cause c =
     let d = due_read f c.index-2.ensures c.stage.ensures c.begun_at.ensures c.due.ensures c.in-Some.is in
     let is = sym c.wants_due.ensures ∙ c.if-not-wants_due.false in
     let b = beginning c.args.anew w is d c.index-3.ensures c.layout.ensures c.index_mut.ensures.value in
-    rw (← c.self.view_is) (begin_cause b c.args.now c.if-now-gt-MOST_STEPS.false ∙ c.in_ok-begin.ensures.cause)
+    rw (← c.self.view_is) (begin_cause b c.args.now c.if-now-gt-MOST_STEPS.false ∙ c.in_ok-begin_next.ensures.cause)
 
-pub returns-in_err-begin-clause-cause : goal.returns-in_err-begin-clause-cause
-returns-in_err-begin-clause-cause c =
+pub returns-in_err-begin_next-clause-cause : goal.returns-in_err-begin_next-clause-cause
+returns-in_err-begin_next-clause-cause c =
     let f = is_found c.self.invariant c.in_ok-index.ensures.place c.deref.ensures.value c.index.ensures in
     let w = wanting f c.want_of.ensures c.deref-2.ensures.value refl in
     let d = due_read f c.index-2.ensures c.stage.ensures c.begun_at.ensures c.due.ensures c.in-Some.is in
     let is = sym c.wants_due.ensures ∙ c.if-not-wants_due.false in
     let b = beginning c.args.anew w is d c.index-3.ensures c.layout.ensures c.index_mut.ensures.value in
-    same_cause _ c.from_residual-in_err-begin.result _ c.from_residual-in_err-begin.ensures.1
-    (rw (← c.self.view_is) (by_cause (begin_cause b c.args.now c.if-now-gt-MOST_STEPS.false) c.in_err-begin.ensures.cause))
+    same_cause _ c.from_residual-in_err-begin_next.result _ c.from_residual-in_err-begin_next.ensures.1
+    (rw (← c.self.view_is) (by_cause (begin_cause b c.args.now c.if-now-gt-MOST_STEPS.false) c.in_err-begin_next.ensures.cause))

@@ -67,8 +67,8 @@ due-requires c =
     let f = is_found c.self.invariant c.in_ok-index.ensures.place c.deref.ensures.value c.index-tracked.ensures in
     stage_near f c.stage.ensures
 
-pub begin-requires-clause-room : goal.begin-requires-clause-room
-begin-requires-clause-room c =
+pub begin_next-requires-clause-room : goal.begin_next-requires-clause-room
+begin_next-requires-clause-room c =
     let f = is_found c.self.invariant c.in_ok-index.ensures.place c.deref.ensures.value c.index-tracked.ensures in
     let s = sending f c.pieces_position.ensures c.deref-2.ensures.value c.in-Some.is in
     let p = supplied s c.index.ensures c.layout-layout.ensures c.in-Some-value.ensures c.is_coded_for.ensures c.if-not-is_coded_for.false in
@@ -83,41 +83,41 @@ invariant_of-self-then-is_replied c =
     let p = supplied s c.index.ensures c.layout-layout.ensures c.in-Some-value.ensures c.is_coded_for.ensures c.if-not-is_coded_for.false in
     let b = beginning p c.current.ensures c.is_replied.ensures c.index_mut.ensures.value
     c.if-is_replied.true c.stage.ensures c.due.ensures c.in-Some-due.is in
-    let e = c.in_ok-begin.ensures in
+    let e = c.in_ok-begin_next.ensures in
     begin_kept b c.args.now e.mail e.call c.self.view_is c.requires.after e.cause
 
-pub returns-in_ok-begin-clause-step : goal.returns-in_ok-begin-clause-step
-returns-in_ok-begin-clause-step c =
+pub returns-in_ok-begin_next-clause-step : goal.returns-in_ok-begin_next-clause-step
+returns-in_ok-begin_next-clause-step c =
     let f = is_found c.self.invariant c.in_ok-index.ensures.place c.deref.ensures.value c.index-tracked.ensures in
     let s = sending f c.pieces_position.ensures c.deref-2.ensures.value c.in-Some.is in
     let p = supplied s c.index.ensures c.layout-layout.ensures c.in-Some-value.ensures c.is_coded_for.ensures c.if-not-is_coded_for.false in
     let b = beginning p c.current.ensures c.is_replied.ensures c.index_mut.ensures.value
     c.if-is_replied.true c.stage.ensures c.due.ensures c.in-Some-due.is in
-    rw (← c.self.view_is) (begin_step b c.args.now c.in_ok-begin.ensures.mail c.in_ok-begin.ensures.call)
+    rw (← c.self.view_is) (begin_step b c.args.now c.in_ok-begin_next.ensures.mail c.in_ok-begin_next.ensures.call)
 
-pub returns-in_ok-begin-clause-cause : goal.returns-in_ok-begin-clause-cause
-returns-in_ok-begin-clause-cause c =
+pub returns-in_ok-begin_next-clause-cause : goal.returns-in_ok-begin_next-clause-cause
+returns-in_ok-begin_next-clause-cause c =
     let f = is_found c.self.invariant c.in_ok-index.ensures.place c.deref.ensures.value c.index-tracked.ensures in
     let s = sending f c.pieces_position.ensures c.deref-2.ensures.value c.in-Some.is in
     let p = supplied s c.index.ensures c.layout-layout.ensures c.in-Some-value.ensures c.is_coded_for.ensures c.if-not-is_coded_for.false in
     let b = beginning p c.current.ensures c.is_replied.ensures c.index_mut.ensures.value
     c.if-is_replied.true c.stage.ensures c.due.ensures c.in-Some-due.is in
-    rw (← c.self.view_is) (begin_cause b c.args.now c.if-now-gt-MOST_STEPS.false ∙ c.in_ok-begin.ensures.cause)
+    rw (← c.self.view_is) (begin_cause b c.args.now c.if-now-gt-MOST_STEPS.false ∙ c.in_ok-begin_next.ensures.cause)
 
-pub returns-in_err-begin-clause-cause : goal.returns-in_err-begin-clause-cause
-returns-in_err-begin-clause-cause c =
+pub returns-in_err-begin_next-clause-cause : goal.returns-in_err-begin_next-clause-cause
+returns-in_err-begin_next-clause-cause c =
     let f = is_found c.self.invariant c.in_ok-index.ensures.place c.deref.ensures.value c.index-tracked.ensures in
     let s = sending f c.pieces_position.ensures c.deref-2.ensures.value c.in-Some.is in
     let p = supplied s c.index.ensures c.layout-layout.ensures c.in-Some-value.ensures c.is_coded_for.ensures c.if-not-is_coded_for.false in
     let b = beginning p c.current.ensures c.is_replied.ensures c.index_mut.ensures.value
     c.if-is_replied.true c.stage.ensures c.due.ensures c.in-Some-due.is in
-    same_cause _ c.from_residual-in_err-begin.result _ c.from_residual-in_err-begin.ensures.1
-    (rw (← c.self.view_is) (by_cause (begin_cause b c.args.now c.if-now-gt-MOST_STEPS.false) c.in_err-begin.ensures.cause))
+    same_cause _ c.from_residual-in_err-begin_next.result _ c.from_residual-in_err-begin_next.ensures.1
+    (rw (← c.self.view_is) (by_cause (begin_cause b c.args.now c.if-now-gt-MOST_STEPS.false) c.in_err-begin_next.ensures.cause))
 
-pub returns-in_err-begin-clause-unchanged : goal.returns-in_err-begin-clause-unchanged
-returns-in_err-begin-clause-unchanged c =
-    let e = c.in_err-begin.ensures in
-    on_error c.from_residual-in_err-begin.result
+pub returns-in_err-begin_next-clause-unchanged : goal.returns-in_err-begin_next-clause-unchanged
+returns-in_err-begin_next-clause-unchanged c =
+    let e = c.in_err-begin_next.ensures in
+    on_error c.from_residual-in_err-begin_next.result
     (as_it_was c.self.invariant c.self.view_is refl e.kept
     (written_back c.self.inside.calls.items c.in_ok-index.index e.unchanged c.index_mut.ensures.value))
 

@@ -1,27 +1,23 @@
 //! Read access to a call.
 
-ghost use Rattle.std.specs.Prelude.{◌≡◌, ℕ, Option, is_some, option_copied, IfOk, IfErr};
+ghost use Rattle.std.specs.Prelude.{◌≡◌, ℕ, Option, is_some, length, option_copied, slice_get, IfOk, IfErr};
 ghost use Rattle.tag.specs.declared.refusal.Refusal.TheVariants.{NoMemory};
 ghost use Rattle.record.specs.Journals.{operation_of, entry_of, entry_value};
 ghost use Rattle.record.specs.Sending.{sent_value};
 ghost use Rattle.record.specs.Wants.{current_phase};
 
-use crate::call::Call;
+use crate::tracked_call::TrackedCall;
 use bytes::Bytes;
 use phase::Phase;
-use record::{CallKind, Entry, Operation, Stage};
+use record::{Entry, Operation, Stage};
 use tag::{Refusal, Stamp};
 
-impl Call {
+impl TrackedCall {
     /// The kind of the call, without its value.
     pub(crate) fn operation(&self) -> Operation
         ensures { result ≡ operation_of self.now.call.kind }
     {
-        match &self.kind {
-            CallKind::Read => Operation::Read,
-            CallKind::Write(_) => Operation::Write,
-            CallKind::Move => Operation::Move,
-        }
+        self.call.operation()
     }
 
     /// The number of the step that began the call.
@@ -42,45 +38,41 @@ impl Call {
     pub(crate) fn is_settled(&self) -> bool
         ensures { result ≡ is_some self.now.call.settled }
     {
-        self.settled.is_some()
+        self.call.is_settled()
     }
 
-    /// The phases, the first one first.
-    pub(crate) fn phases(&self) -> &[Phase]
-        ensures { result.now ≡ self.now.call.phases }
+    /// How many phases the call has.
+    pub(crate) fn count(&self) -> usize
+        ensures { result ≡ length self.now.call.phases }
     {
-        self.phases.as_slice()
+        self.finished.len() + 1
+    }
+
+    /// The phase at an index, from 0, if there is one.
+    pub(crate) fn phase_at(&self, index: usize) -> Option<&Phase>
+        ensures { option_copied result ≡ slice_get self.now.call.phases index }
+    {
+        if index == self.finished.len() {
+            return Some(self.call.phase());
+        }
+        self.finished.get(index)
     }
 
     /// The value that the call writes, or has settled so far.
     pub(crate) fn value(&self) -> Option<&Bytes>
         ensures { option_copied result ≡ sent_value self.now.call.kind self.now.call.settled }
     {
-        match &self.kind {
-            CallKind::Write(value) => Some(value),
-            CallKind::Read | CallKind::Move => self.settled.as_ref(),
-        }
+        self.call.value()
     }
 
     /// A copy of the value that the call writes, or that a read returns once it is answered. The copy shares its bytes.
     pub(crate) fn returned(&self, is_answered: bool) -> Result<Option<Bytes>, Refusal>
         ensures value { (answered : Option ℕ) → is_answered ≡ is_some answered
             → IfOk result (λ v. v ≡ entry_value self.now.call.kind answered self.now.call.settled) }
+
         ensures refused { IfErr result (λ e. e ≡ NoMemory) }
     {
-        match &self.kind {
-            CallKind::Write(value) => Ok(Some(value.clone()?)),
-            CallKind::Read => {
-                if !is_answered {
-                    return Ok(None);
-                }
-                match &self.settled {
-                    Some(value) => Ok(Some(value.clone()?)),
-                    None => Ok(None),
-                }
-            }
-            CallKind::Move => Ok(None),
-        }
+        self.call.returned(is_answered)
     }
 
     /// The entry of the call in the object's history.
@@ -90,7 +82,7 @@ impl Call {
     {
         let value = self.returned(self.answered.is_some())?;
         Ok(Entry {
-            call: self.id,
+            call: self.call.id(),
             kind: self.operation(),
             called: self.called,
             answered: self.answered,
@@ -102,7 +94,7 @@ impl Call {
     pub(crate) fn current(&self) -> Option<&Phase>
         ensures { option_copied result ≡ current_phase self.now.call.phases }
     {
-        self.phases.last()
+        Some(self.call.phase())
     }
 
     /// The stage to which the phases lead.

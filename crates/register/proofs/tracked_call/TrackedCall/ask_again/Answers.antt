@@ -1,4 +1,4 @@
-use Rattle.std.proofs.Common.{◌≡◌, ◌⊎◌, ℕ, ◌-◌, ◌++◌, List, length, slice_get, Some, None, sym, ap, subst, ◌∙◌, inl}
+use Rattle.std.proofs.Common.{◌≡◌, ◌⊎◌, ℕ, ◌++◌, List, length, Some, None, sym, ap, subst, ◌∙◌, inl}
 use Rattle.std.specs.Option.{option_copied}
 use Rattle.tag.specs.declared.refusal.Refusal.TheVariants.{Full, NoMemory}
 use Rattle.tag.specs.Refusal.{IsByCause}
@@ -7,24 +7,23 @@ use Rattle.mail.specs.declared.message.Message.{Message}
 use Rattle.mail.specs.Mail.{mail_cause}
 use Rattle.phase.specs.Phase.{Phase}
 use Rattle.record.specs.Wants.{current_phase}
-use Rattle.register.specs.Coding.{HavePieces, piece_from}
+use Rattle.call.specs.Pieces.{HavePieces, piece_from}
 use Rattle.register.specs.Tracked.{Tracked, asked_again}
 use Rattle.register.proofs.ListLemmas.{same_some, on_ok}
-use Rattle.register.proofs.TakenCallLemmas.{current_last}
+use Rattle.register.proofs.TakenCallLemmas.{current_push}
 use Rattle.register.proofs.MemberLoopLemmas.{same_requests}
 use Rattle.register.proofs.RoomLemmas.{few_room, many_full, more_few, handed_on}
-use Rattle.register.proofs.call.Call.ask_again.Goals as goal
+use Rattle.register.proofs.tracked_call.TrackedCall.ask_again.Goals as goal
 
 pub returns-then-not-has_room-clause-cause : goal.returns-then-not-has_room-clause-cause
 returns-then-not-has_room-clause-cause c p servers at count =
     let t = c.args.self.now in
     let mail = c.args.mail.now in
-    let phase = c.in-Some.phase.now in
+    let phase = c.phase-phase.result.now in
     let piece : ℕ → Piece = piece_from (option_copied c.args.coded) in
     let here : current_phase t.call.phases ≡ Some phase =
-    ap (λ (t : Tracked). current_phase t.call.phases) (sym c.self.view_is) ∙ sym (current_last c.self.inside.phases.items)
-    ∙ ap (λ (ps : List Phase). slice_get ps (length ps - 1)) (sym c.deref.ensures.value) ∙ sym c.last.ensures.value
-    ∙ ap option_copied c.in-Some.is in
+    ap (λ (t : Tracked). current_phase t.call.phases) (sym c.self.view_is)
+    ∙ current_push c.self.inside.finished.items c.self.inside.call.phase ∙ ap Some (sym c.phase-phase.ensures.value) in
     let same : phase ≡ p = same_some phase p (sym here ∙ at) in
     let members : length servers ≡ phase.members = count ∙ ap (λ (p : Phase). p.members) (sym same) in
     let asks = same_requests mail phase.replies c.args.number c.number.result phase.number c.kind.result phase.kind c.position.result
@@ -39,23 +38,21 @@ returns-then-not-has_room-clause-cause c p servers at count =
 pub missing-requires : goal.missing-requires
 missing-requires c =
     let t = c.args.self.now in
-    let phase = c.in-Some.phase.now in
+    let phase = c.phase-phase.result.now in
     let here : current_phase t.call.phases ≡ Some phase =
-    ap (λ (t : Tracked). current_phase t.call.phases) (sym c.self.view_is) ∙ sym (current_last c.self.inside.phases.items)
-    ∙ ap (λ (ps : List Phase). slice_get ps (length ps - 1)) (sym c.deref.ensures.value) ∙ sym c.last.ensures.value
-    ∙ ap option_copied c.in-Some.is in
+    ap (λ (t : Tracked). current_phase t.call.phases) (sym c.self.view_is)
+    ∙ current_push c.self.inside.finished.items c.self.inside.call.phase ∙ ap Some (sym c.phase-phase.ensures.value) in
     subst (λ k. HavePieces k phase.members (option_copied c.args.coded)) (sym c.kind.ensures) (c.requires.pieces phase here)
 
 pub returns-in_err-messages-clause-cause : goal.returns-in_err-messages-clause-cause
 returns-in_err-messages-clause-cause c p servers at count =
     let t = c.args.self.now in
     let mail = c.args.mail.now in
-    let phase = c.in-Some.phase.now in
+    let phase = c.phase-phase.result.now in
     let piece : ℕ → Piece = piece_from (option_copied c.args.coded) in
     let here : current_phase t.call.phases ≡ Some phase =
-    ap (λ (t : Tracked). current_phase t.call.phases) (sym c.self.view_is) ∙ sym (current_last c.self.inside.phases.items)
-    ∙ ap (λ (ps : List Phase). slice_get ps (length ps - 1)) (sym c.deref.ensures.value) ∙ sym c.last.ensures.value
-    ∙ ap option_copied c.in-Some.is in
+    ap (λ (t : Tracked). current_phase t.call.phases) (sym c.self.view_is)
+    ∙ current_push c.self.inside.finished.items c.self.inside.call.phase ∙ ap Some (sym c.phase-phase.ensures.value) in
     let same : phase ≡ p = same_some phase p (sym here ∙ at) in
     let members : length servers ≡ phase.members = count ∙ ap (λ (p : Phase). p.members) (sym same) in
     let asks = same_requests mail phase.replies c.args.number c.number.result phase.number c.kind.result phase.kind c.position.result
@@ -73,12 +70,11 @@ returns-clause-mail c =
     on_ok c.post_all.result (λ posted p servers at count.
     let t = c.args.self.now in
     let mail = c.args.mail.now in
-    let phase = c.in-Some.phase.now in
+    let phase = c.phase-phase.result.now in
     let piece : ℕ → Piece = piece_from (option_copied c.args.coded) in
     let here : current_phase t.call.phases ≡ Some phase =
-    ap (λ (t : Tracked). current_phase t.call.phases) (sym c.self.view_is) ∙ sym (current_last c.self.inside.phases.items)
-    ∙ ap (λ (ps : List Phase). slice_get ps (length ps - 1)) (sym c.deref.ensures.value) ∙ sym c.last.ensures.value
-    ∙ ap option_copied c.in-Some.is in
+    ap (λ (t : Tracked). current_phase t.call.phases) (sym c.self.view_is)
+    ∙ current_push c.self.inside.finished.items c.self.inside.call.phase ∙ ap Some (sym c.phase-phase.ensures.value) in
     let same : phase ≡ p = same_some phase p (sym here ∙ at) in
     let members : length servers ≡ phase.members = count ∙ ap (λ (p : Phase). p.members) (sym same) in
     let asks = same_requests mail phase.replies c.args.number c.number.result phase.number c.kind.result phase.kind c.position.result
@@ -93,12 +89,11 @@ pub returns-clause-cause : goal.returns-clause-cause
 returns-clause-cause c p servers at count =
     let t = c.args.self.now in
     let mail = c.args.mail.now in
-    let phase = c.in-Some.phase.now in
+    let phase = c.phase-phase.result.now in
     let piece : ℕ → Piece = piece_from (option_copied c.args.coded) in
     let here : current_phase t.call.phases ≡ Some phase =
-    ap (λ (t : Tracked). current_phase t.call.phases) (sym c.self.view_is) ∙ sym (current_last c.self.inside.phases.items)
-    ∙ ap (λ (ps : List Phase). slice_get ps (length ps - 1)) (sym c.deref.ensures.value) ∙ sym c.last.ensures.value
-    ∙ ap option_copied c.in-Some.is in
+    ap (λ (t : Tracked). current_phase t.call.phases) (sym c.self.view_is)
+    ∙ current_push c.self.inside.finished.items c.self.inside.call.phase ∙ ap Some (sym c.phase-phase.ensures.value) in
     let same : phase ≡ p = same_some phase p (sym here ∙ at) in
     let members : length servers ≡ phase.members = count ∙ ap (λ (p : Phase). p.members) (sym same) in
     let asks = same_requests mail phase.replies c.args.number c.number.result phase.number c.kind.result phase.kind c.position.result

@@ -1,24 +1,22 @@
-use Rattle.std.proofs.Common.{◌≡◌, ◌-◌, ◌++◌, List, length, slice_get, Some, nat_le, sym, ap, subst, ◌∙◌}
-use Rattle.std.specs.Option.{option_copied}
+use Rattle.std.proofs.Common.{◌≡◌, ◌++◌, length, Some, nat_le, sym, ap, subst, ◌∙◌}
 use Rattle.tag.specs.declared.limits.TheConstants.{MOST_MESSAGES}
 use Rattle.phase.specs.Phase.{Phase}
 use Rattle.record.specs.Wants.{current_phase}
 use Rattle.register.specs.Tracked.{Tracked, asked_again}
 use Rattle.register.proofs.ListLemmas.{same_some}
-use Rattle.register.proofs.TakenCallLemmas.{current_last}
+use Rattle.register.proofs.TakenCallLemmas.{current_push}
 use Rattle.register.proofs.MemberLoopLemmas.{same_requests}
 use Rattle.register.proofs.RoomLemmas.{more_few}
-use Rattle.register.proofs.call.Call.can_ask_again.Goals as goal
+use Rattle.register.proofs.tracked_call.TrackedCall.can_ask_again.Goals as goal
 
 pub returns : goal.returns
 returns c p servers piece at count =
     let t = c.args.self.now in
     let mail = c.args.mail.now in
-    let phase = c.in-Some.phase.now in
+    let phase = c.phase-phase.result.now in
     let here : current_phase t.call.phases ≡ Some phase =
-    ap (λ (t : Tracked). current_phase t.call.phases) (sym c.self.view_is) ∙ sym (current_last c.self.inside.phases.items)
-    ∙ ap (λ (ps : List Phase). slice_get ps (length ps - 1)) (sym c.deref.ensures.value) ∙ sym c.last.ensures.value
-    ∙ ap option_copied c.in-Some.is in
+    ap (λ (t : Tracked). current_phase t.call.phases) (sym c.self.view_is)
+    ∙ current_push c.self.inside.finished.items c.self.inside.call.phase ∙ ap Some (sym c.phase-phase.ensures.value) in
     let same : phase ≡ p = same_some phase p (sym here ∙ at) in
     let members : length servers ≡ phase.members = count ∙ ap (λ (p : Phase). p.members) (sym same) in
     let asks = same_requests mail phase.replies c.args.number c.number.result phase.number c.kind.result phase.kind c.position.result
