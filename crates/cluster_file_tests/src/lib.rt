@@ -8,3 +8,5 @@ mod digests;
 mod faults;
 #[cfg(test)]
 mod read;
+#[cfg(test)]
+mod rows;

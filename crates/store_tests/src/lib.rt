@@ -37,6 +37,8 @@ mod seats;
 #[cfg(test)]
 mod servers;
 #[cfg(test)]
+mod strangers;
+#[cfg(test)]
 mod tally;
 #[cfg(test)]
 mod turns;

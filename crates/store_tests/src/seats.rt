@@ -14,7 +14,7 @@ use std::sync::Wait;
 use std::thread::{Threads, join};
 use tag::{CallId, Refusal};
 
-fn writes<L: StoreName, R: Threads + Wait + Sync>(
+pub(crate) fn writes<L: StoreName, R: Threads + Wait + Sync>(
     rt: &R,
     store: &Store<L>,
     seat: &mut Seat<L>,
@@ -107,12 +107,12 @@ fn a_receipt_is_learnt(rt: HostRuntime) {
     );
 }
 
-const LEFT: &[u8] = b"left";
+pub(crate) const LEFT: &[u8] = b"left";
 
 const MADE: &[u8] = b"made";
 
 // A seat without a call has none to resume.
-fn resumes_nothing<L: StoreName, R: Threads + Wait + Abort + Sync>(
+pub(crate) fn resumes_nothing<L: StoreName, R: Threads + Wait + Abort + Sync>(
     rt: &R,
     store: &Store<L>,
     seat: &mut Seat<L>,
@@ -193,63 +193,3 @@ fn an_abandoned_call_stays_open(rt: HostRuntime) {
 }
 
 // A receipt that no store gave.
-fn made_up() -> Receipt {
-    Receipt {
-        object: 0,
-        kind: Operation::Write,
-        call: 1,
-        called: 1,
-        answered: 1_000_000,
-        value: None,
-    }
-}
-
-// A read is left open, and then the seat saw a step that was not made.
-fn is_a_stranger<L: StoreName, R: Threads + Wait + Abort + Sync>(
-    rt: &R,
-    store: &Store<L>,
-    seat: &mut Seat<L>,
-) {
-    is_refused(rt, read(rt, store, seat, &mut First, 0), Refusal::GaveUp);
-    seat.learn(&made_up());
-    let stranger = Refusal::Stranger;
-    is_refused(rt, writes(rt, store, seat, LEFT, ENOUGH_TURNS), stranger);
-    is_refused(
-        rt,
-        read(rt, store, seat, &mut First, ENOUGH_TURNS),
-        stranger,
-    );
-    is_refused(
-        rt,
-        resume(rt, store, seat, &mut First, ENOUGH_TURNS),
-        stranger,
-    );
-}
-
-// One of the two seats is a stranger, and is not there at the close.
-pub(crate) fn strangers<L: StoreName, R: Threads + Wait + Abort + Sync>(
-    rt: &R,
-    store: &Store<L>,
-    seats: &mut Vec<Seat<L>>,
-) {
-    let mut seat = take_seat(rt, seats);
-    is_a_stranger(rt, store, &mut seat);
-    seat.abandon();
-    resumes_nothing(rt, store, &mut seat, Refusal::Stranger);
-}
-
-#[test]
-fn strangers_are_refused(rt: HostRuntime) {
-    perform(
-        &rt,
-        rt.alloc(),
-        Play {
-            scene: Scene::Strangers,
-            servers: Servers::KeepAll,
-            seats: 2,
-            workers: 0,
-            closing: Err((Refusal::Stranger, 1)),
-            calls: 1,
-        },
-    );
-}
