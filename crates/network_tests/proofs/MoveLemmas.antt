@@ -7,7 +7,7 @@ use Rattle.network.specs.Worlds.{World}
 use Rattle.network.specs.Events.{run}
 use Rattle.network.specs.Premises.{MayRun}
 use Rattle.network_tests.specs.Scripts.{whole}
-use Rattle.network_tests.specs.Moving.{at_first, second_node, write_begun, move_begun, move_ended}
+use Rattle.network_tests.specs.Moving.{at_first, second_node, write_beginning, move_beginning, move_ending}
 use Rattle.network_tests.proofs.KeptRowLemmas.{opened_greatest, opened_piece}
 use Rattle.network_tests.proofs.EventRunLemmas.{letter_is_value, one_distinct, other_id, piece_told}
 use Rattle.network_tests.proofs.EventRunLemmas.{ready, ready_settled, tag_told}
@@ -22,15 +22,15 @@ second_lawful =
 -- The parts of the run
 
 abbrev pub after_begun : World
-after_begun = run whole write_begun at_first
+after_begun = run whole write_beginning at_first
 
 abbrev pub after_moving : World
-after_moving = run whole move_begun after_begun
+after_moving = run whole move_beginning after_begun
 
 abbrev pub after_move : World
-after_move = run whole move_ended after_moving
+after_move = run whole move_ending after_moving
 
-pub begins : MayRun whole write_begun at_first
+pub begins : MayRun whole write_beginning at_first
 begins = (
   letter_is_value,
   record { network = tt; log = tt; ids = tt },
@@ -53,7 +53,7 @@ begins = (
   ),
 )
 
-pub moves : MayRun whole move_begun after_begun
+pub moves : MayRun whole move_beginning after_begun
 moves = (
   (second_lawful, refl, (λ same. absurd (let clash : 0 ≡ 1 = same in omega arith), tt)),
   record { network = tt; log = tt; ids = other_id },
@@ -92,7 +92,7 @@ moves = (
   ),
 )
 
-pub move_ends : MayRun whole move_ended after_moving
+pub move_ends : MayRun whole move_ending after_moving
 move_ends = (
   (
     _,

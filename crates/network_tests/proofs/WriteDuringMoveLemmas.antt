@@ -4,7 +4,7 @@ use Rattle.network.specs.Worlds.{World}
 use Rattle.network.specs.Events.{run}
 use Rattle.network.specs.Premises.{MayRun}
 use Rattle.network_tests.specs.Scripts.{whole}
-use Rattle.network_tests.specs.Moving.{at_first, move_while_writing, write_begun, move_begun, move_ended}
+use Rattle.network_tests.specs.Moving.{at_first, move_while_writing, write_beginning, move_beginning, move_ending}
 use Rattle.network_tests.specs.Moving.{write_at_first, write_moved, write_at_second}
 use Rattle.network_tests.proofs.EventRunLemmas.{may_append, ready}
 use Rattle.network_tests.proofs.MoveLemmas.{after_begun, after_move, after_moving, begins, move_ends, moves}
@@ -114,8 +114,8 @@ writes_second = (
 
 pub every_event : MayRun whole move_while_writing at_first
 every_event =
-    may_append write_begun (move_begun ++ (move_ended ++ (write_at_first ++ (write_moved ++ write_at_second)))) at_first begins
-    (may_append move_begun (move_ended ++ (write_at_first ++ (write_moved ++ write_at_second))) after_begun moves
-    (may_append move_ended (write_at_first ++ (write_moved ++ write_at_second)) after_moving move_ends
+    may_append write_beginning (move_beginning ++ (move_ending ++ (write_at_first ++ (write_moved ++ write_at_second)))) at_first begins
+    (may_append move_beginning (move_ending ++ (write_at_first ++ (write_moved ++ write_at_second))) after_begun moves
+    (may_append move_ending (write_at_first ++ (write_moved ++ write_at_second)) after_moving move_ends
     (may_append write_at_first (write_moved ++ write_at_second) after_move writes_first
     (may_append write_moved write_at_second after_first finds_move writes_second))))

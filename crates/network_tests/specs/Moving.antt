@@ -31,22 +31,22 @@ abbrev pub at_first : World
 at_first = opened_world (λ node. first_file)
 
 -- node 0 begins to write: it knows of no later position, and of no tag but the opening tag
-abbrev pub write_begun : List Event
-write_begun =
+abbrev pub write_beginning : List Event
+write_beginning =
     Event.BeginWrite 0 7 letter ∷ (alone 7 1 0 (λ member. request.Next) (Pointer Unset)
     ++ (Event.Advance 7 ∷ alone 7 2 0 (λ member. request.Query) (Greatest opening_tag)))
 
 -- node 1 begins to move the object to itself: node 0 learns that there is a next position, and answers with the opening
 -- tag and its piece
-abbrev pub move_begun : List Event
-move_begun =
+abbrev pub move_beginning : List Event
+move_beginning =
     Event.BeginMove 1 3 second_node ∷ (alone 3 1 0 (λ member. request.Spread Pending) Done
     ++ (Event.Advance 3 ∷ (alone 3 2 0 (λ member. request.Query) (Greatest opening_tag)
     ++ (Event.Advance 3 ∷ alone 3 3 0 (λ member. request.Fetch opening_tag) (answer.Piece (Some (empty_piece 0)))))))
 
 -- the move puts the empty value at position 1, node 0 learns that it is there, and the move is answered
-abbrev pub move_ended : List Event
-move_ended =
+abbrev pub move_ending : List Event
+move_ending =
     Event.Settle 3 [] ∷ Event.Advance 3
     ∷ (alone 3 4 1 (λ member. request.PreWrite opening_tag (empty_piece member)) Done
     ++ (Event.Advance 3 ∷ (alone 3 5 1 (λ member. request.Finalize opening_tag) Done
@@ -74,7 +74,7 @@ write_at_second =
 
 -- a write, and a move from its first event to its last between the write's query and its first piece
 abbrev pub move_while_writing : List Event
-move_while_writing = write_begun ++ (move_begun ++ (move_ended ++ (write_at_first ++ (write_moved ++ write_at_second))))
+move_while_writing = write_beginning ++ (move_beginning ++ (move_ending ++ (write_at_first ++ (write_moved ++ write_at_second))))
 
 -- the entries of both calls: the write has the events 1 to 51, and the move has 7 to 26
 abbrev pub move_while_writing_entries : List Entry
