@@ -7,24 +7,24 @@ use Rattle.std.proofs.lemmas.List.{append-nil}
 use Rattle.std.proofs.lemmas.List.Folds.{concat-append}
 use Rattle.frames.specs.Frame.{IsShort, IsFrame, header, line_end}
 use Rattle.frames.specs.declared.limits.TheConstants.{MOST_STRINGS, LONGEST_STRING}
-use Rattle.client_commands.specs.Answers.{answer_bytes, answer_strings, error_line}
+use Rattle.client_commands.specs.Answers.{sent_bytes, sent_strings, error_line}
 use Rattle.client_commands.specs.Laws.{AnswersHaveFrames}
 use Rattle.client_commands.specs.Texts.{error_text}
 use Rattle.client_commands.specs.declared.answer.Answer.{Answer}
 use Rattle.client_commands.specs.declared.answer.Answer.TheVariants as answer
 use Rattle.client_commands.proofs.TextLemmas.{error_is_text}
 
-joined : (a : Answer) → concat (answer_strings a) ≡ answer_bytes a
+joined : (a : Answer) → concat (sent_strings a) ≡ sent_bytes a
 joined answer.Ok = refl
 joined answer.Pong = refl
 joined (answer.Value value) = refl
-joined (answer.Number n) = append-nil (answer_bytes (answer.Number n))
+joined (answer.Number n) = append-nil (sent_bytes (answer.Number n))
 joined answer.NoCommands = refl
-joined (answer.Error e) = append-nil (answer_bytes (answer.Error e))
+joined (answer.Error e) = append-nil (sent_bytes (answer.Error e))
 
-pub joined_behind : (old new : List (List ℕ)) (a : Answer) → new ≡ old ++ answer_strings a → concat new ≡ concat old ++ answer_bytes a
+pub joined_behind : (old new : List (List ℕ)) (a : Answer) → new ≡ old ++ sent_strings a → concat new ≡ concat old ++ sent_bytes a
 joined_behind old new a e =
-    ap concat e ∙ concat-append old (answer_strings a) ∙ ap (λ (bytes : List ℕ). concat old ++ bytes) (joined a)
+    ap concat e ∙ concat-append old (sent_strings a) ∙ ap (λ (bytes : List ℕ). concat old ++ bytes) (joined a)
 
 -- ---- frames
 
@@ -50,13 +50,13 @@ three address line value a l v =
     record { few = omega arith; short = (a, (l, (v, (small line_end (omega arith), tt)))) }
 
 pub framed : AnswersHaveFrames
-framed address answer.Ok a fits = one address (answer_bytes answer.Ok) a (small (answer_bytes answer.Ok) (omega arith))
-framed address answer.Pong a fits = one address (answer_bytes answer.Pong) a (small (answer_bytes answer.Pong) (omega arith))
+framed address answer.Ok a fits = one address (sent_bytes answer.Ok) a (small (sent_bytes answer.Ok) (omega arith))
+framed address answer.Pong a fits = one address (sent_bytes answer.Pong) a (small (sent_bytes answer.Pong) (omega arith))
 framed address (answer.Value value) a fits =
     let limit : LONGEST_STRING ≡ 16842752 = refl in
     three address (header 36 (length value)) value a (header_short 36 (length value) (omega arith)) fits
 framed address (answer.Number n) a fits = one address (header 58 n) a (header_short 58 n fits)
 framed address answer.NoCommands a fits =
-    one address (answer_bytes answer.NoCommands) a (small (answer_bytes answer.NoCommands) (omega arith))
+    one address (sent_bytes answer.NoCommands) a (small (sent_bytes answer.NoCommands) (omega arith))
 framed address (answer.Error e) a fits =
     one address (error_line (error_text e)) a (line_short (error_text e) (error_is_text e).short)

@@ -3,10 +3,10 @@ use Rattle.std.proofs.Common.{◌≡◌, ℕ, ltb, List, [], ◌∷◌, length, 
 use Rattle.std.proofs.lemmas.Bool.{ltb-false, le-ltb}
 use Rattle.tag.specs.declared.limits.TheConstants.{LONGEST_NAME, LONGEST_VALUE}
 use Rattle.client_commands.specs.Arguments.{checked_name, checked_value, only_argument, name_and_value}
-use Rattle.client_commands.specs.Command.{IsName, IsValue}
+use Rattle.client_commands.specs.Command.{IsShortName, IsShortValue}
 use Rattle.client_commands.specs.declared.command.CommandName.{CommandName}
 use Rattle.client_commands.specs.declared.fault.CommandFault.TheVariants.{NameTooLong, ValueTooLong}
-use Rattle.string_parts.proofs.PartLemmas.{guarded_above, ok_is}
+use Rattle.words.proofs.PartLemmas.{guarded_above, ok_is}
 
 abbrev Strings : Type 0
 Strings = List (List ℕ)
@@ -24,20 +24,20 @@ both_ok (x ∷ []) p e = absurd cc
 both_ok (x ∷ y ∷ []) p e = ap (λ (q : List ℕ × List ℕ). q.0 ∷ q.1 ∷ []) (ok_is (x, y) p e)
 both_ok (x ∷ y ∷ z ∷ zs) p e = absurd cc
 
-pub name_ok : (name x : List ℕ) → checked_name name ≡ Ok x → (name ≡ x) × IsName x
+pub name_ok : (name x : List ℕ) → checked_name name ≡ Ok x → (name ≡ x) × IsShortName x
 name_ok name x e =
     let a = guarded_above (ltb LONGEST_NAME (length name)) NameTooLong (Ok name) x e in
     let is = ok_is name x a.1 in
-    (is, subst IsName is (ltb-false LONGEST_NAME (length name) a.0))
+    (is, subst IsShortName is (ltb-false LONGEST_NAME (length name) a.0))
 
-pub value_ok : (value x : List ℕ) → checked_value value ≡ Ok x → (value ≡ x) × IsValue x
+pub value_ok : (value x : List ℕ) → checked_value value ≡ Ok x → (value ≡ x) × IsShortValue x
 value_ok value x e =
     let a = guarded_above (ltb LONGEST_VALUE (length value)) ValueTooLong (Ok value) x e in
     let is = ok_is value x a.1 in
-    (is, subst IsValue is (ltb-false LONGEST_VALUE (length value) a.0))
+    (is, subst IsShortValue is (ltb-false LONGEST_VALUE (length value) a.0))
 
-pub name_again : (name : List ℕ) → IsName name → checked_name name ≡ Ok name
+pub name_again : (name : List ℕ) → IsShortName name → checked_name name ≡ Ok name
 name_again name le = rw (le-ltb LONGEST_NAME (length name) le) refl
 
-pub value_again : (value : List ℕ) → IsValue value → checked_value value ≡ Ok value
+pub value_again : (value : List ℕ) → IsShortValue value → checked_value value ≡ Ok value
 value_again value le = rw (le-ltb LONGEST_VALUE (length value) le) refl

@@ -5,20 +5,20 @@ use Rattle.std.specs.Prelude.{codes, IsTrue, IfOk}
 use Rattle.std.specs.Str.{bytes_eq, str_to_ascii_lowercase}
 use Rattle.std.proofs.lemmas.Bool.{eqb-true}
 use Rattle.layout.specs.Layout.{Layout}
-use Rattle.string_parts.specs.Parts.{and_then}
+use Rattle.words.specs.Parts.{and_then}
 use Rattle.client_commands.specs.Arguments.{checked_name, checked_value, only_argument, name_and_value}
-use Rattle.client_commands.specs.Command.{Says, Begins, SaysOfClient, IsName, IsValue, Asks, layout_strings}
+use Rattle.client_commands.specs.Command.{AreWordAndRest, Begins, SaysOfClient, IsShortName, IsShortValue, AskFor, layout_strings}
 use Rattle.client_commands.specs.Layouts.{layout_from}
 use Rattle.client_commands.specs.Reading.{Found, get_from, set_from, move_from, ping_from, echo_from, counted, subcommand_from}
 use Rattle.client_commands.specs.Reading.{client_from, command_from, command_named, command_at}
-use Rattle.client_commands.specs.Words.{is_word, name_text, named}
+use Rattle.client_commands.specs.Words.{is_word, command_text, name_of_word}
 use Rattle.client_commands.specs.declared.command.Command.{Command}
 use Rattle.client_commands.specs.declared.command.Command.TheVariants as ask
 use Rattle.client_commands.specs.declared.command.CommandName.{CommandName}
 use Rattle.client_commands.specs.declared.command.CommandName.TheVariants as of
 use Rattle.client_commands.specs.declared.fault.CommandFault.{CommandFault}
 use Rattle.client_commands.specs.declared.fault.CommandFault.TheVariants.{UnknownSubcommand, WrongCount}
-use Rattle.string_parts.proofs.PartLemmas.{bind_ok, guarded, chosen, ok_is}
+use Rattle.words.proofs.PartLemmas.{bind_ok, guarded, chosen, ok_is}
 use Rattle.client_commands.proofs.WordLemmas.{named_ok, named_again, small_is}
 use Rattle.client_commands.proofs.ArgumentLemmas.{only_ok, both_ok, name_ok, value_ok, name_again, value_again}
 use Rattle.client_commands.proofs.MoveLemmas.{layout_from_ok, layout_from_again}
@@ -32,17 +32,17 @@ Read = Result (List ℕ) CommandFault
 -- ---- the frame asks for what is read
 
 get_ok : (word : List ℕ) (args : Strings) (c : Command) → IsTrue (is_word word (codes "get"))
-    → get_from args ≡ Ok c → Asks (word ∷ args) c
+    → get_from args ≡ Ok c → AskFor (word ∷ args) c
 unfolding get_from
 get_ok word args c w e =
     let a = bind_ok (only_argument of.Get args) (λ (name : List ℕ). and_then (checked_name name) (λ (n : List ℕ). Ok (ask.Get n))) c e in
     let b = bind_ok (checked_name a.0) (λ (n : List ℕ). Ok (ask.Get n)) c a.2 in
     let name = name_ok a.0 b.0 b.1 in
-    subst (Asks (word ∷ args)) (ok_is (ask.Get b.0) c b.2)
+    subst (AskFor (word ∷ args)) (ok_is (ask.Get b.0) c b.2)
     ((w, only_ok of.Get args a.0 a.1 ∙ ap (λ (n : List ℕ). n ∷ []) name.0), name.1)
 
 set_ok : (word : List ℕ) (args : Strings) (c : Command) → IsTrue (is_word word (codes "set"))
-    → set_from args ≡ Ok c → Asks (word ∷ args) c
+    → set_from args ≡ Ok c → AskFor (word ∷ args) c
 unfolding set_from
 set_ok word args c w e =
     let a = bind_ok (name_and_value args) (λ (both : List ℕ × List ℕ). and_then (checked_name both.0) (λ (n : List ℕ).
@@ -51,31 +51,31 @@ set_ok word args c w e =
     let d = bind_ok (checked_value a.0.1) (λ (v : List ℕ). Ok (ask.Set b.0 v)) c b.2 in
     let name = name_ok a.0.0 b.0 b.1 in
     let value = value_ok a.0.1 d.0 d.1 in
-    subst (Asks (word ∷ args)) (ok_is (ask.Set b.0 d.0) c d.2)
+    subst (AskFor (word ∷ args)) (ok_is (ask.Set b.0 d.0) c d.2)
     ((w, both_ok args a.0 a.1 ∙ ap (λ (n : List ℕ). n ∷ a.0.1 ∷ []) name.0 ∙ ap (λ (v : List ℕ). b.0 ∷ v ∷ []) value.0), name.1, value.1)
 
 move_ok : (word : List ℕ) (args : Strings) (c : Command) → IsTrue (is_word word (codes "move"))
-    → move_from args ≡ Ok c → Asks (word ∷ args) c
+    → move_from args ≡ Ok c → AskFor (word ∷ args) c
 unfolding move_from
 move_ok word args c w e =
     let a = bind_ok (layout_from args) (λ (l : Layout). Ok (ask.Move (get_or args 0 []) l)) c e in
     let h = layout_from_ok args a.0 a.1 in
-    subst (Asks (word ∷ args)) (ok_is (ask.Move (get_or args 0 []) a.0) c a.2) ((w, h.0), h.1, h.2, h.3)
+    subst (AskFor (word ∷ args)) (ok_is (ask.Move (get_or args 0 []) a.0) c a.2) ((w, h.0), h.1, h.2, h.3)
 
 ping_ok : (word : List ℕ) (args : Strings) (c : Command) → IsTrue (is_word word (codes "ping"))
-    → ping_from args ≡ Ok c → Asks (word ∷ args) c
+    → ping_from args ≡ Ok c → AskFor (word ∷ args) c
 unfolding ping_from
-ping_ok word [] c w e = subst (Asks (word ∷ [])) (ok_is (ask.Ping None) c e) (w, refl)
+ping_ok word [] c w e = subst (AskFor (word ∷ [])) (ok_is (ask.Ping None) c e) (w, refl)
 ping_ok word (text ∷ more) c w e =
     let a = bind_ok (only_argument of.Ping (text ∷ more)) (λ (t : List ℕ). Ok (ask.Ping (Some t))) c e in
-    subst (Asks (word ∷ text ∷ more)) (ok_is (ask.Ping (Some a.0)) c a.2) (w, only_ok of.Ping (text ∷ more) a.0 a.1)
+    subst (AskFor (word ∷ text ∷ more)) (ok_is (ask.Ping (Some a.0)) c a.2) (w, only_ok of.Ping (text ∷ more) a.0 a.1)
 
 echo_ok : (word : List ℕ) (args : Strings) (c : Command) → IsTrue (is_word word (codes "echo"))
-    → echo_from args ≡ Ok c → Asks (word ∷ args) c
+    → echo_from args ≡ Ok c → AskFor (word ∷ args) c
 unfolding echo_from
 echo_ok word args c w e =
     let a = bind_ok (only_argument of.Echo args) (λ (t : List ℕ). Ok (ask.Echo t)) c e in
-    subst (Asks (word ∷ args)) (ok_is (ask.Echo a.0) c a.2) (w, only_ok of.Echo args a.0 a.1)
+    subst (AskFor (word ∷ args)) (ok_is (ask.Echo a.0) c a.2) (w, only_ok of.Echo args a.0 a.1)
 
 counted_ok : (count wanted : ℕ) (command c : Command) → counted count wanted command ≡ Ok c → (count ≡ wanted) × (command ≡ c)
 counted_ok count wanted command c e =
@@ -90,56 +90,56 @@ abbrev after_id : List ℕ → ℕ → Found
 after_id what count = cond (is_word what (codes "setname")) (counted count 1 ask.DescribeClient) (after_name what count)
 
 client_ok : (word : List ℕ) (args : Strings) (c : Command) → IsTrue (is_word word (codes "client"))
-    → client_from args ≡ Ok c → Asks (word ∷ args) c
+    → client_from args ≡ Ok c → AskFor (word ∷ args) c
 unfolding client_from subcommand_from
 client_ok word [] c w e = absurd cc
 client_ok word (what ∷ rest) c w e =
     let n = length rest in
     elim (chosen (is_word what (codes "id")) (counted n 0 ask.ClientId) (after_id what n) c e) [
-      | inl h ↦ let k = counted_ok n 0 ask.ClientId c h.1 in subst (Asks (word ∷ what ∷ rest)) k.1 (w, h.0, k.0)
+      | inl h ↦ let k = counted_ok n 0 ask.ClientId c h.1 in subst (AskFor (word ∷ what ∷ rest)) k.1 (w, h.0, k.0)
       | inr f ↦ elim (chosen (is_word what (codes "setname")) (counted n 1 ask.DescribeClient) (after_name what n) c f) [
-        | inl h ↦ let k = counted_ok n 1 ask.DescribeClient c h.1 in subst (Asks (word ∷ what ∷ rest)) k.1 (inl (w, h.0, k.0))
+        | inl h ↦ let k = counted_ok n 1 ask.DescribeClient c h.1 in subst (AskFor (word ∷ what ∷ rest)) k.1 (inl (w, h.0, k.0))
         | inr g ↦
             let h = guarded (is_word what (codes "setinfo")) (counted n 2 ask.DescribeClient) UnknownSubcommand c g in
             let k = counted_ok n 2 ask.DescribeClient c h.1 in
-            subst (Asks (word ∷ what ∷ rest)) k.1 (inr (w, h.0, k.0))
+            subst (AskFor (word ∷ what ∷ rest)) k.1 (inr (w, h.0, k.0))
       ]
     ]
 
-from_ok : (name : CommandName) (word : List ℕ) (args : Strings) (c : Command) → IsTrue (is_word word (name_text name))
-    → command_from name args ≡ Ok c → Asks (word ∷ args) c
+from_ok : (name : CommandName) (word : List ℕ) (args : Strings) (c : Command) → IsTrue (is_word word (command_text name))
+    → command_from name args ≡ Ok c → AskFor (word ∷ args) c
 from_ok of.Get word args c w e = get_ok word args c w e
 from_ok of.Set word args c w e = set_ok word args c w e
 from_ok of.Move word args c w e = move_ok word args c w e
-from_ok of.Info word args c w e = subst (Asks (word ∷ args)) (ok_is ask.Info c e) w
+from_ok of.Info word args c w e = subst (AskFor (word ∷ args)) (ok_is ask.Info c e) w
 from_ok of.Ping word args c w e = ping_ok word args c w e
 from_ok of.Echo word args c w e = echo_ok word args c w e
-from_ok of.Command word args c w e = subst (Asks (word ∷ args)) (ok_is ask.ListCommands c e) w
+from_ok of.Command word args c w e = subst (AskFor (word ∷ args)) (ok_is ask.ListCommands c e) w
 from_ok of.Client word args c w e = client_ok word args c w e
-from_ok of.Quit word args c w e = subst (Asks (word ∷ args)) (ok_is ask.Quit c e) w
+from_ok of.Quit word args c w e = subst (AskFor (word ∷ args)) (ok_is ask.Quit c e) w
 
-named_case : (found : Option CommandName) (word : List ℕ) (args : Strings) (c : Command) → named word ≡ found
-    → command_named found args ≡ Ok c → Asks (word ∷ args) c
+named_case : (found : Option CommandName) (word : List ℕ) (args : Strings) (c : Command) → name_of_word word ≡ found
+    → command_named found args ≡ Ok c → AskFor (word ∷ args) c
 named_case None word args c w e = absurd cc
 named_case (Some name) word args c w e = from_ok name word args c (named_ok word name w) e
 
-pub command_ok : (strings : Strings) (c : Command) → command_at strings ≡ Ok c → Asks strings c
+pub command_ok : (strings : Strings) (c : Command) → command_at strings ≡ Ok c → AskFor strings c
 unfolding command_at
 command_ok [] c e = absurd cc
-command_ok (word ∷ args) c e = named_case (named word) word args c refl e
+command_ok (word ∷ args) c e = named_case (name_of_word word) word args c refl e
 
 -- ---- what asks for a command is read as that command
 
-by_name : (word : List ℕ) (args : Strings) (name : CommandName) → IsTrue (is_word word (name_text name))
+by_name : (word : List ℕ) (args : Strings) (name : CommandName) → IsTrue (is_word word (command_text name))
     → command_at (word ∷ args) ≡ command_from name args
 unfolding command_at
 by_name word args name w = ap (λ (found : Option CommandName). command_named found args) (named_again word name w)
 
-get_again : (name : List ℕ) → IsName name → get_from (name ∷ []) ≡ Ok (ask.Get name)
+get_again : (name : List ℕ) → IsShortName name → get_from (name ∷ []) ≡ Ok (ask.Get name)
 unfolding get_from
 get_again name h = ap (λ (r : Read). and_then r (λ (n : List ℕ). Ok (ask.Get n))) (name_again name h)
 
-set_again : (name value : List ℕ) → IsName name → IsValue value → set_from (name ∷ value ∷ []) ≡ Ok (ask.Set name value)
+set_again : (name value : List ℕ) → IsShortName name → IsShortValue value → set_from (name ∷ value ∷ []) ≡ Ok (ask.Set name value)
 unfolding set_from
 set_again name value h i =
     ap (λ (r : Read). and_then r (λ (n : List ℕ). and_then (checked_value value) (λ (v : List ℕ). Ok (ask.Set n v)))) (name_again name h)
@@ -186,17 +186,17 @@ client_answers text count (word ∷ []) c h e = absurd h
 client_answers text count (word ∷ what ∷ rest) c h e =
     by_name word (what ∷ rest) of.Client h.0 ∙ client_again what text rest count h.1 h.2 ∙ e
 
-says : (name : CommandName) (wanted strings : Strings) (c : Command) → Says (name_text name) wanted strings
+says : (name : CommandName) (wanted strings : Strings) (c : Command) → AreWordAndRest (command_text name) wanted strings
     → command_from name wanted ≡ Ok c → Answers strings c
 says name wanted [] c h e = absurd h
 says name wanted (word ∷ args) c h e = by_name word args name h.0 ∙ ap (λ (s : Strings). command_from name s) h.1 ∙ e
 
-begins : (name : CommandName) (strings : Strings) (c : Command) → Begins (name_text name) strings
+begins : (name : CommandName) (strings : Strings) (c : Command) → Begins (command_text name) strings
     → ((args : Strings) → command_from name args ≡ Ok c) → Answers strings c
 begins name [] c h e = absurd h
 begins name (word ∷ args) c h e = by_name word args name h ∙ e args
 
-pub command_again : (strings : Strings) (c : Command) → Asks strings c → command_at strings ≡ Ok c
+pub command_again : (strings : Strings) (c : Command) → AskFor strings c → command_at strings ≡ Ok c
 command_again strings (ask.Get name) h = says of.Get (name ∷ []) strings (ask.Get name) h.0 (get_again name h.1)
 command_again strings (ask.Set name value) h =
     says of.Set (name ∷ value ∷ []) strings (ask.Set name value) h.0 (set_again name value h.1 h.2)
@@ -214,9 +214,9 @@ command_again strings ask.Quit h = begins of.Quit strings ask.Quit h (λ args. r
 
 -- ---- what was read
 
-pub is_found : (strings : Strings) (result : Found) → result ≡ command_at strings → IfOk result (λ command. Asks strings command)
+pub is_found : (strings : Strings) (result : Found) → result ≡ command_at strings → IfOk result (λ command. AskFor strings command)
 is_found strings (Ok c) e = command_ok strings c (sym e)
 is_found strings (Err fault) e = tt
 
-pub is_only : (strings : Strings) (result : Found) → result ≡ command_at strings → (c : Command) → Asks strings c → result ≡ Ok c
+pub is_only : (strings : Strings) (result : Found) → result ≡ command_at strings → (c : Command) → AskFor strings c → result ≡ Ok c
 is_only strings result e c h = e ∙ command_again strings c h

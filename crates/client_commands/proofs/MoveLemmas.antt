@@ -6,15 +6,15 @@ use Rattle.std.proofs.lemmas.Bool.{ltb-false, le-ltb, ne_eqb, or_from}
 use Rattle.std.proofs.lemmas.List.{length-map}
 use Rattle.tag.specs.declared.limits.TheConstants.{LONGEST_NAME, MOST_MEMBERS}
 use Rattle.layout.specs.Layout.{Layout, IsLawful}
-use Rattle.string_parts.specs.Parts.{and_then}
-use Rattle.client_commands.specs.Numbers.{number_from}
+use Rattle.words.specs.Parts.{and_then}
+use Rattle.client_commands.specs.Numbers.{small_number}
 use Rattle.string_parts.specs.Layouts.{checked_layout}
-use Rattle.client_commands.specs.Layouts.{numbers_from, layout_of, layout_from}
-use Rattle.client_commands.specs.Command.{IsName, AreNodes, layout_strings}
+use Rattle.client_commands.specs.Layouts.{small_numbers, move_layout, layout_from}
+use Rattle.client_commands.specs.Command.{IsShortName, AreNodes, layout_strings}
 use Rattle.client_commands.specs.declared.command.CommandName.TheVariants as of
 use Rattle.client_commands.specs.declared.fault.CommandFault.{CommandFault}
 use Rattle.client_commands.specs.declared.fault.CommandFault.TheVariants.{WrongCount, NameTooLong, BadLayout}
-use Rattle.string_parts.proofs.PartLemmas.{bind_ok, guarded_above, ok_is}
+use Rattle.words.proofs.PartLemmas.{bind_ok, guarded_above, ok_is}
 use Rattle.string_parts.proofs.LayoutLemmas.{checked_ok, checked_again}
 use Rattle.client_commands.proofs.NumberLemmas.{number_ok, number_again}
 
@@ -23,11 +23,11 @@ Strings = List (List ℕ)
 
 -- ---- numbers
 
-pub numbers_ok : (strings : Strings) (ns : List ℕ) → numbers_from strings ≡ Ok ns → (strings ≡ map decimal ns) × AreNodes ns
+pub numbers_ok : (strings : Strings) (ns : List ℕ) → small_numbers strings ≡ Ok ns → (strings ≡ map decimal ns) × AreNodes ns
 numbers_ok [] ns e = subst (λ (ms : List ℕ). ([] ≡ map decimal ms) × AreNodes ms) (ok_is [] ns e) (refl, tt)
 numbers_ok (string ∷ strings) ns e =
-    let a = bind_ok (number_from string) (λ (n : ℕ). and_then (numbers_from strings) (λ (ms : List ℕ). Ok (n ∷ ms))) ns e in
-    let b = bind_ok (numbers_from strings) (λ (ms : List ℕ). Ok (a.0 ∷ ms)) ns a.2 in
+    let a = bind_ok (small_number string) (λ (n : ℕ). and_then (small_numbers strings) (λ (ms : List ℕ). Ok (n ∷ ms))) ns e in
+    let b = bind_ok (small_numbers strings) (λ (ms : List ℕ). Ok (a.0 ∷ ms)) ns a.2 in
     let first = number_ok string a.0 a.1 in
     let others = numbers_ok strings b.0 b.1 in
     subst (λ (ms : List ℕ). (string ∷ strings ≡ map decimal ms) × AreNodes ms) (ok_is (a.0 ∷ b.0) ns b.2)
@@ -37,10 +37,10 @@ cons_again : (first : Result ℕ CommandFault) (others : Result (List ℕ) Comma
     → and_then first (λ (k : ℕ). and_then others (λ (ms : List ℕ). Ok (k ∷ ms))) ≡ Ok (n ∷ ns)
 cons_again first others n ns e f = rw (e, f) refl
 
-pub numbers_again : (ns : List ℕ) → AreNodes ns → numbers_from (map decimal ns) ≡ Ok ns
+pub numbers_again : (ns : List ℕ) → AreNodes ns → small_numbers (map decimal ns) ≡ Ok ns
 numbers_again [] nodes = refl
 numbers_again (n ∷ ns) nodes =
-    cons_again (number_from (decimal n)) (numbers_from (map decimal ns)) n ns (number_again n nodes.0) (numbers_again ns nodes.1)
+    cons_again (small_number (decimal n)) (small_numbers (map decimal ns)) n ns (number_again n nodes.0) (numbers_again ns nodes.1)
 
 -- ---- as a loop reads numbers
 
@@ -51,19 +51,19 @@ behind ns read = and_then read (λ (ms : List ℕ). Ok (ns ++ ms))
 -- ---- layouts
 
 abbrev LayoutIs : List ℕ → Strings → Layout → Type 0
-LayoutIs name strings layout = (strings ≡ layout_strings layout) × IsName name × IsLawful layout × AreNodes layout.members
+LayoutIs name strings layout = (strings ≡ layout_strings layout) × IsShortName name × IsLawful layout × AreNodes layout.members
 
-layout_of_ok : (name k : List ℕ) (nodes : Strings) (l : Layout) → layout_of name k nodes ≡ Ok l → LayoutIs name (k ∷ nodes) l
-unfolding layout_of
+layout_of_ok : (name k : List ℕ) (nodes : Strings) (l : Layout) → move_layout name k nodes ≡ Ok l → LayoutIs name (k ∷ nodes) l
+unfolding move_layout
 layout_of_ok name k nodes l e =
     let after_k : ℕ → Result Layout CommandFault =
-    λ (n : ℕ). and_then (numbers_from nodes) (λ (ms : List ℕ). checked_layout BadLayout (record { k = n; members = ms })) in
-    let after_name = and_then (number_from k) after_k in
+    λ (n : ℕ). and_then (small_numbers nodes) (λ (ms : List ℕ). checked_layout BadLayout (record { k = n; members = ms })) in
+    let after_name = and_then (small_number k) after_k in
     let a = guarded_above (eqb (length nodes) 0 || ltb MOST_MEMBERS (length nodes)) (WrongCount of.Move)
     (cond (ltb LONGEST_NAME (length name)) (Err NameTooLong) after_name) l e in
     let b = guarded_above (ltb LONGEST_NAME (length name)) NameTooLong after_name l a.1 in
-    let c = bind_ok (number_from k) after_k l b.1 in
-    let d = bind_ok (numbers_from nodes) (λ (ms : List ℕ). checked_layout BadLayout (record { k = c.0; members = ms })) l c.2 in
+    let c = bind_ok (small_number k) after_k l b.1 in
+    let d = bind_ok (small_numbers nodes) (λ (ms : List ℕ). checked_layout BadLayout (record { k = c.0; members = ms })) l c.2 in
     let found : Layout = record { k = c.0; members = d.0 } in
     let f = checked_ok BadLayout found l d.2 in
     let first = number_ok k c.0 c.1 in
@@ -77,7 +77,7 @@ layout_of_ok name k nodes l e =
 
 -- the arguments are a name and the strings of a layout
 abbrev pub MoveIs : Strings → Layout → Type 0
-MoveIs arguments layout = (arguments ≡ get_or arguments 0 [] ∷ layout_strings layout) × IsName (get_or arguments 0 [])
+MoveIs arguments layout = (arguments ≡ get_or arguments 0 [] ∷ layout_strings layout) × IsShortName (get_or arguments 0 [])
     × IsLawful layout × AreNodes layout.members
 
 pub layout_from_ok : (arguments : Strings) (l : Layout) → layout_from arguments ≡ Ok l → MoveIs arguments l
@@ -91,10 +91,10 @@ layout_from_ok (name ∷ k ∷ nodes) l e =
 count_again : (n k : ℕ) → 1 ≤ k → k ≤ n → n ≤ MOST_MEMBERS → (eqb n 0 || ltb MOST_MEMBERS n) ≡ false
 count_again n k some enough few = or_from (eqb n 0) (ltb MOST_MEMBERS n) (ne_eqb n 0 (λ e. omega arith)) (le-ltb MOST_MEMBERS n few)
 
-layout_of_again : (name : List ℕ) (k : ℕ) (members : List ℕ) → IsName name → IsLawful (record { k = k; members = members })
-    → AreNodes members → layout_of name (decimal k) (map decimal members) ≡ Ok (record { k = k; members = members })
-unfolding layout_of
-layout_of_again name k members named lawful nodes =
+layout_of_again : (name : List ℕ) (k : ℕ) (members : List ℕ) → IsShortName name → IsLawful (record { k = k; members = members })
+    → AreNodes members → move_layout name (decimal k) (map decimal members) ≡ Ok (record { k = k; members = members })
+unfolding move_layout
+layout_of_again name k members name_of_word lawful nodes =
     let some : 1 ≤ k = lawful.some in
     let enough : k ≤ length members = lawful.enough in
     let few : length members ≤ MOST_MEMBERS = lawful.few in
@@ -102,13 +102,13 @@ layout_of_again name k members named lawful nodes =
     rw (
       length-map members decimal,
       count_again (length members) k some enough few,
-      le-ltb LONGEST_NAME (length name) named,
+      le-ltb LONGEST_NAME (length name) name_of_word,
       number_again k small,
       numbers_again members nodes,
       checked_again BadLayout (record { k = k; members = members }) lawful,
     ) refl
 
-pub layout_from_again : (name : List ℕ) (l : Layout) → IsName name → IsLawful l → AreNodes l.members
+pub layout_from_again : (name : List ℕ) (l : Layout) → IsShortName name → IsLawful l → AreNodes l.members
     → layout_from (name ∷ layout_strings l) ≡ Ok l
 unfolding layout_from
-layout_from_again name l named lawful nodes = layout_of_again name l.k l.members named lawful nodes
+layout_from_again name l name_of_word lawful nodes = layout_of_again name l.k l.members name_of_word lawful nodes

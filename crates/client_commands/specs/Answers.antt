@@ -10,20 +10,20 @@ use Rattle.client_commands.specs.declared.answer.Answer.TheVariants as answer
 abbrev pub error_line : List ℕ → List ℕ
 error_line text = codes "-ERR " ++ text ++ line_end
 
--- the bytes of an answer: `+OK`, `+PONG`, a bulk string, `:NUMBER`, `*0`, or an error
-abbrev pub answer_bytes : Answer → List ℕ
-answer_bytes answer.Ok = codes "+OK" ++ line_end
-answer_bytes answer.Pong = codes "+PONG" ++ line_end
-answer_bytes (answer.Value value) = string_bytes value
-answer_bytes (answer.Number n) = header 58 n
-answer_bytes answer.NoCommands = codes "*0" ++ line_end
-answer_bytes (answer.Error error) = error_line (error_text error)
+-- the bytes that are sent for an answer: `+OK`, `+PONG`, a bulk string, `:NUMBER`, `*0`, or an error
+abbrev pub sent_bytes : Answer → List ℕ
+sent_bytes answer.Ok = codes "+OK" ++ line_end
+sent_bytes answer.Pong = codes "+PONG" ++ line_end
+sent_bytes (answer.Value value) = string_bytes value
+sent_bytes (answer.Number n) = header 58 n
+sent_bytes answer.NoCommands = codes "*0" ++ line_end
+sent_bytes (answer.Error error) = error_line (error_text error)
 
--- the strings in which these bytes are: a value is in one of its own
-abbrev pub answer_strings : Answer → List (List ℕ)
-answer_strings answer.Ok = answer_bytes answer.Ok ∷ []
-answer_strings answer.Pong = answer_bytes answer.Pong ∷ []
-answer_strings (answer.Value value) = header 36 (length value) ∷ value ∷ line_end ∷ []
-answer_strings (answer.Number n) = answer_bytes (answer.Number n) ∷ []
-answer_strings answer.NoCommands = answer_bytes answer.NoCommands ∷ []
-answer_strings (answer.Error error) = answer_bytes (answer.Error error) ∷ []
+-- the strings in which these bytes are sent: a value is in one of its own
+abbrev pub sent_strings : Answer → List (List ℕ)
+sent_strings answer.Ok = sent_bytes answer.Ok ∷ []
+sent_strings answer.Pong = sent_bytes answer.Pong ∷ []
+sent_strings (answer.Value value) = header 36 (length value) ∷ value ∷ line_end ∷ []
+sent_strings (answer.Number n) = sent_bytes (answer.Number n) ∷ []
+sent_strings answer.NoCommands = sent_bytes answer.NoCommands ∷ []
+sent_strings (answer.Error error) = sent_bytes (answer.Error error) ∷ []

@@ -10,9 +10,9 @@ use Rattle.client_commands.specs.declared.command.Command.{Command}
 use Rattle.client_commands.specs.declared.command.Command.TheVariants as ask
 
 -- the first string is this word, in capital or small letters, and these are the strings behind it
-abbrev pub Says : List ℕ → List (List ℕ) → List (List ℕ) → Type 0
-Says text rest [] = ⊥
-Says text rest (word ∷ strings) = IsTrue (is_word word text) × (strings ≡ rest)
+abbrev pub AreWordAndRest : List ℕ → List (List ℕ) → List (List ℕ) → Type 0
+AreWordAndRest text rest [] = ⊥
+AreWordAndRest text rest (word ∷ strings) = IsTrue (is_word word text) × (strings ≡ rest)
 
 -- the first string is this word, in capital or small letters, and any strings stand behind it
 abbrev pub Begins : List ℕ → List (List ℕ) → Type 0
@@ -20,12 +20,12 @@ Begins text [] = ⊥
 Begins text (word ∷ strings) = IsTrue (is_word word text)
 
 -- a name is within its limit
-abbrev pub IsName : List ℕ → Type 0
-IsName name = length name ≤ LONGEST_NAME
+abbrev pub IsShortName : List ℕ → Type 0
+IsShortName name = length name ≤ LONGEST_NAME
 
 -- a value is within its limit
-abbrev pub IsValue : List ℕ → Type 0
-IsValue value = length value ≤ LONGEST_VALUE
+abbrev pub IsShortValue : List ℕ → Type 0
+IsShortValue value = length value ≤ LONGEST_VALUE
 
 -- all members are numbers from 0 to 255
 abbrev pub AreNodes : List ℕ → Type 0
@@ -48,15 +48,15 @@ SaysOfClient text count (word ∷ what ∷ strings) =
     IsTrue (is_word word (codes "client")) × IsTrue (is_word what text) × (length strings ≡ count)
 
 -- the strings ask for this command
-abbrev pub Asks : List (List ℕ) → Command → Type 0
-Asks strings (ask.Get name) = Says (codes "get") (name ∷ []) strings × IsName name
-Asks strings (ask.Set name value) = Says (codes "set") (name ∷ value ∷ []) strings × IsName name × IsValue value
-Asks strings (ask.Move name layout) =
-    Says (codes "move") (name ∷ layout_strings layout) strings × IsName name × IsLawful layout × AreNodes layout.members
-Asks strings ask.Info = Begins (codes "info") strings
-Asks strings (ask.Ping text) = Says (codes "ping") (text_strings text) strings
-Asks strings (ask.Echo text) = Says (codes "echo") (text ∷ []) strings
-Asks strings ask.ListCommands = Begins (codes "command") strings
-Asks strings ask.ClientId = SaysOfClient (codes "id") 0 strings
-Asks strings ask.DescribeClient = SaysOfClient (codes "setname") 1 strings ⊎ SaysOfClient (codes "setinfo") 2 strings
-Asks strings ask.Quit = Begins (codes "quit") strings
+abbrev pub AskFor : List (List ℕ) → Command → Type 0
+AskFor strings (ask.Get name) = AreWordAndRest (codes "get") (name ∷ []) strings × IsShortName name
+AskFor strings (ask.Set name value) = AreWordAndRest (codes "set") (name ∷ value ∷ []) strings × IsShortName name × IsShortValue value
+AskFor strings (ask.Move name layout) =
+    AreWordAndRest (codes "move") (name ∷ layout_strings layout) strings × IsShortName name × IsLawful layout × AreNodes layout.members
+AskFor strings ask.Info = Begins (codes "info") strings
+AskFor strings (ask.Ping text) = AreWordAndRest (codes "ping") (text_strings text) strings
+AskFor strings (ask.Echo text) = AreWordAndRest (codes "echo") (text ∷ []) strings
+AskFor strings ask.ListCommands = Begins (codes "command") strings
+AskFor strings ask.ClientId = SaysOfClient (codes "id") 0 strings
+AskFor strings ask.DescribeClient = SaysOfClient (codes "setname") 1 strings ⊎ SaysOfClient (codes "setinfo") 2 strings
+AskFor strings ask.Quit = Begins (codes "quit") strings

@@ -3,7 +3,7 @@
 use Rattle.std.specs.Prelude.{ℕ, ◌^◌, ◌<◌, List, ◌∷◌, Bool, IsTrue, nat_le, ◌&&◌, ⊤}
 use Rattle.std.specs.List.{list_all}
 use Rattle.frames.specs.Frame.{IsShort, IsFrame}
-use Rattle.client_commands.specs.Answers.{answer_strings}
+use Rattle.client_commands.specs.Answers.{sent_strings}
 use Rattle.client_commands.specs.Texts.{error_text}
 use Rattle.client_commands.specs.declared.answer.Answer.{Answer}
 use Rattle.client_commands.specs.declared.answer.Answer.TheVariants as answer
@@ -29,4 +29,4 @@ IsShortAnswer (answer.Error error) = ⊤
 -- an address and the strings of such an answer are a frame
 abbrev pub AnswersHaveFrames : Type 0
 AnswersHaveFrames = (address : List ℕ) (a : Answer) → IsShort address → IsShortAnswer a
-    → IsFrame (address ∷ answer_strings a)
+    → IsFrame (address ∷ sent_strings a)

@@ -1,7 +1,7 @@
 -- The contracts that docs/trusted.md lists do not depend on this file; other contracts and proofs do.
 -- Numbers from 0 to 255 in decimal digits.
 use Rattle.std.specs.Prelude.{ℕ, List, Result, Ok, Err}
-use Rattle.string_parts.specs.Numbers.{number_from as number_up_to}
+use Rattle.string_parts.specs.Numbers.{number_up_to}
 use Rattle.string_parts.specs.declared.number.NumberFault.{NumberFault}
 use Rattle.string_parts.specs.declared.number.NumberFault.TheVariants as number
 use Rattle.client_commands.specs.declared.fault.CommandFault.{CommandFault}
@@ -14,5 +14,5 @@ of_a_command (Err number.BadNumber) = Err BadNumber
 of_a_command (Err number.OutOfRange) = Err OutOfRange
 
 -- the number from 0 to 255 that the bytes write
-abbrev pub number_from : List ℕ → Result ℕ CommandFault
-number_from bytes = of_a_command (number_up_to 255 bytes)
+abbrev pub small_number : List ℕ → Result ℕ CommandFault
+small_number bytes = of_a_command (number_up_to 255 bytes)

@@ -2,10 +2,10 @@
 -- Which command the strings of a frame are, or what the first fault is.
 use Rattle.std.specs.Prelude.{ℕ, List, [], ◌∷◌, length, get_or, Option, Some, None, Result, Ok, Err, ◌==◌, codes}
 use Rattle.std.specs.Prelude.{if◌then◌else◌}
-use Rattle.string_parts.specs.Parts.{and_then}
+use Rattle.words.specs.Parts.{and_then}
 use Rattle.client_commands.specs.Arguments.{checked_name, checked_value, only_argument, name_and_value}
 use Rattle.client_commands.specs.Layouts.{layout_from}
-use Rattle.client_commands.specs.Words.{is_word, named}
+use Rattle.client_commands.specs.Words.{is_word, name_of_word}
 use Rattle.client_commands.specs.declared.command.Command.{Command}
 use Rattle.client_commands.specs.declared.command.Command.TheVariants as ask
 use Rattle.client_commands.specs.declared.command.CommandName.{CommandName}
@@ -83,4 +83,4 @@ command_named (Some name) arguments = command_from name arguments
 -- the command that strings are: its name, and its arguments behind it
 unfoldable pub command_at : List (List ℕ) → Found
 command_at [] = Err UnknownCommand
-command_at (word ∷ arguments) = command_named (named word) arguments
+command_at (word ∷ arguments) = command_named (name_of_word word) arguments

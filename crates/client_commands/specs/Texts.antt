@@ -2,7 +2,7 @@
 -- The texts of errors.
 use Rattle.std.specs.Prelude.{ℕ, List, ◌++◌, codes}
 use Rattle.tag.specs.Refusal.{refusal_text}
-use Rattle.client_commands.specs.Words.{name_text}
+use Rattle.client_commands.specs.Words.{command_text}
 use Rattle.client_commands.specs.declared.answer.AnswerError.{AnswerError}
 use Rattle.client_commands.specs.declared.answer.AnswerError.TheVariants as error
 use Rattle.client_commands.specs.declared.fault.CommandFault.{CommandFault}
@@ -12,7 +12,7 @@ use Rattle.client_commands.specs.declared.fault.CommandFault.TheVariants as faul
 abbrev pub fault_text : CommandFault → List ℕ
 fault_text fault.UnknownCommand = codes "unknown command"
 fault_text fault.UnknownSubcommand = codes "unknown subcommand"
-fault_text (fault.WrongCount name) = codes "wrong number of arguments for '" ++ name_text name ++ codes "' command"
+fault_text (fault.WrongCount name) = codes "wrong number of arguments for '" ++ command_text name ++ codes "' command"
 fault_text fault.SyntaxError = codes "syntax error"
 fault_text fault.NameTooLong = codes "name too long"
 fault_text fault.ValueTooLong = codes "value too long"

@@ -11,16 +11,16 @@ abbrev pub is_word : List ℕ → List ℕ → Bool
 is_word word text = str_eq_ignore_ascii_case word text
 
 -- the name of a command in small letters
-abbrev pub name_text : CommandName → List ℕ
-name_text of.Get = codes "get"
-name_text of.Set = codes "set"
-name_text of.Move = codes "move"
-name_text of.Info = codes "info"
-name_text of.Ping = codes "ping"
-name_text of.Echo = codes "echo"
-name_text of.Command = codes "command"
-name_text of.Client = codes "client"
-name_text of.Quit = codes "quit"
+abbrev pub command_text : CommandName → List ℕ
+command_text of.Get = codes "get"
+command_text of.Set = codes "set"
+command_text of.Move = codes "move"
+command_text of.Info = codes "info"
+command_text of.Ping = codes "ping"
+command_text of.Echo = codes "echo"
+command_text of.Command = codes "command"
+command_text of.Client = codes "client"
+command_text of.Quit = codes "quit"
 
 -- all names of commands
 abbrev pub all_names : List CommandName
@@ -28,5 +28,5 @@ all_names =
     of.Get ∷ of.Set ∷ of.Move ∷ of.Info ∷ of.Ping ∷ of.Echo ∷ of.Command ∷ of.Client ∷ of.Quit ∷ []
 
 -- the command that a word names
-unfoldable pub named : List ℕ → Option CommandName
-named word = find (λ name. is_word word (name_text name)) all_names
+unfoldable pub name_of_word : List ℕ → Option CommandName
+name_of_word word = find (λ name. is_word word (command_text name)) all_names

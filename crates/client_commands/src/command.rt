@@ -1,5 +1,5 @@
 ghost use Rattle.std.specs.Prelude.{◌≡◌, Some};
-ghost use Rattle.client_commands.specs.Words.{name_text};
+ghost use Rattle.client_commands.specs.Words.{command_text};
 
 use bytes::Bytes;
 use layout::Layout;
@@ -47,7 +47,7 @@ pub enum CommandName {
 impl CommandName {
     /// The name in small letters.
     pub fn text(self) -> &'static str
-        ensures { result.now ≡ name_text self }
+        ensures { result.now ≡ command_text self }
     {
         match self {
             CommandName::Get => "get",
@@ -65,7 +65,7 @@ impl CommandName {
 
 /// The name in small letters.
 impl fmt::Display for CommandName {
-    ghost output = { λ name. Some (name_text name) };
+    ghost output = { λ name. Some (command_text name) };
 
     fn fmt<W: fmt::Write>(&self, f: &mut fmt::Formatter<W>) -> fmt::Result {
         f.write_str(self.text())

@@ -1,12 +1,8 @@
 //! The arguments of a `MOVE`.
 ghost use Rattle.std.specs.Prelude.{◌≡◌, ◌≤◌, ◌<◌, length, IfOk};
 ghost use Rattle.tag.specs.declared.limits.TheConstants.{MOST_MEMBERS};
-ghost use Rattle.client_commands.specs.Layouts.{
-  Sees,
-  numbers_from,
-  layout_of,
-  layout_from,
-};
+ghost use Rattle.client_commands.specs.Layouts.{small_numbers, move_layout, layout_from};
+ghost use Rattle.words.specs.Parts.{Sees};
 
 use crate::command::CommandName;
 use crate::fault::CommandFault;
@@ -24,15 +20,15 @@ pub(crate) fn read_layout(arguments: &[Bytes]) -> Result<Layout, CommandFault>
     ensures exact { result ≡ layout_from arguments.now }
 {
     match arguments {
-        [name, k, nodes @ ..] => layout_of(name, k, nodes),
+        [name, k, nodes @ ..] => move_layout(name, k, nodes),
         [_] => Err(CommandFault::WrongCount(CommandName::Move)),
         [] => Err(CommandFault::WrongCount(CommandName::Move)),
     }
 }
 
-#[tactic(auto, unfolding(crate::specs::Layouts::layout_of))]
-fn layout_of(name: &[u8], k: &[u8], nodes: &[Bytes]) -> Result<Layout, CommandFault>
-    ensures { result ≡ layout_of name.now k.now nodes.now }
+#[tactic(auto, unfolding(crate::specs::Layouts::move_layout))]
+fn move_layout(name: &[u8], k: &[u8], nodes: &[Bytes]) -> Result<Layout, CommandFault>
+    ensures { result ≡ move_layout name.now k.now nodes.now }
 {
     if nodes.is_empty() || nodes.len() > MOST_MEMBERS {
         return Err(CommandFault::WrongCount(CommandName::Move));
@@ -48,7 +44,7 @@ fn layout_of(name: &[u8], k: &[u8], nodes: &[Bytes]) -> Result<Layout, CommandFa
 // The numbers that the strings write.
 fn read_numbers(strings: &[Bytes]) -> Result<ArrayVec<u8, MOST_MEMBERS>, CommandFault>
     requires { length strings.now ≤ MOST_MEMBERS }
-    ensures { Sees (λ numbers. numbers.items) result (numbers_from strings.now) }
+    ensures { Sees (λ numbers. numbers.items) result (small_numbers strings.now) }
 {
     let mut numbers = ArrayVec::new();
     for string in strings {

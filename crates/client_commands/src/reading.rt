@@ -1,7 +1,7 @@
 //! Commands from frames.
 ghost use Rattle.std.specs.Prelude.{◌≡◌, Ok, IfOk};
 ghost use Rattle.client_commands.specs.declared.command.Command.{Command as Asked};
-ghost use Rattle.client_commands.specs.Command.{Asks};
+ghost use Rattle.client_commands.specs.Command.{AskFor};
 ghost use Rattle.client_commands.specs.Reading.{
   command_at,
   command_from,
@@ -28,9 +28,9 @@ use frames::Frame;
 /// A fault is the first one in the order of `CommandFault`. It asks for no memory.
 pub fn read_command(frame: Frame) -> Result<Command, CommandFault>
     // The frame asks for what is read.
-    ensures found { IfOk result (λ command. Asks frame command) }
+    ensures found { IfOk result (λ command. AskFor frame command) }
     // A frame that asks for a command is read as that command.
-    ensures only { (command : Asked) → Asks frame command → result ≡ Ok command }
+    ensures only { (command : Asked) → AskFor frame command → result ≡ Ok command }
     // Which fault it is.
     ensures exact { result ≡ command_at frame }
 {

@@ -1,6 +1,6 @@
 //! The names of commands.
 ghost use Rattle.std.specs.Prelude.{◌≡◌};
-ghost use Rattle.client_commands.specs.Words.{is_word, named};
+ghost use Rattle.client_commands.specs.Words.{is_word, name_of_word};
 
 use crate::command::CommandName;
 
@@ -12,9 +12,9 @@ pub(crate) fn is_word(word: &[u8], text: &[u8]) -> bool
 }
 
 /// The command that a word names.
-#[tactic(auto, unfolding(crate::specs::Words::named))]
+#[tactic(auto, unfolding(crate::specs::Words::name_of_word))]
 pub(crate) fn name_of(word: &[u8]) -> Option<CommandName>
-    ensures { result ≡ named word.now }
+    ensures { result ≡ name_of_word word.now }
 {
     if is_word(word, b"get") {
         Some(CommandName::Get)

@@ -3,7 +3,7 @@ ghost use Rattle.std.specs.Prelude.{◌≡◌, ◌++◌, ◌∷◌, [], IfOk, On
 ghost use Rattle.std.specs.List.{concat};
 ghost use Rattle.frames.specs.Frame.{header};
 ghost use Rattle.client_commands.specs.Texts.{error_text};
-ghost use Rattle.client_commands.specs.Answers.{answer_bytes, answer_strings, error_line};
+ghost use Rattle.client_commands.specs.Answers.{sent_bytes, sent_strings, error_line};
 
 use crate::answer::{Answer, AnswerError};
 use bytes::Bytes;
@@ -19,9 +19,9 @@ pub fn push_answer(
     answer: Answer,
 ) -> Result<(), AllocError>
     // Which bytes are appended.
-    ensures bytes { OnOk result (concat strings.new.items ≡ concat strings.old.items ++ answer_bytes answer) }
+    ensures bytes { OnOk result (concat strings.new.items ≡ concat strings.old.items ++ sent_bytes answer) }
     // In which strings.
-    ensures pushed { OnOk result (strings.new.items ≡ strings.old.items ++ answer_strings answer) }
+    ensures pushed { OnOk result (strings.new.items ≡ strings.old.items ++ sent_strings answer) }
     ensures kept { OnErr result (strings.new.items ≡ strings.old.items) }
 {
     push_strings(alloc, strings, answer)
@@ -29,7 +29,7 @@ pub fn push_answer(
 
 // The same, without the clause on bytes.
 fn push_strings(alloc: Global, strings: &mut Vec<Bytes>, answer: Answer) -> Result<(), AllocError>
-    ensures pushed { OnOk result (strings.new.items ≡ strings.old.items ++ answer_strings answer) }
+    ensures pushed { OnOk result (strings.new.items ≡ strings.old.items ++ sent_strings answer) }
     ensures kept { OnErr result (strings.new.items ≡ strings.old.items) }
 {
     match answer {

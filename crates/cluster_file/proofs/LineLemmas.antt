@@ -6,7 +6,8 @@ use Rattle.std.specs.Prelude.{Option, position, nat_lt}
 use Rattle.std.specs.List.{position_or_len}
 use Rattle.std.proofs.lemmas.Bool.{ltb-false}
 use Rattle.std.proofs.lemmas.List.{append-nil, drop_all, take_all}
-use Rattle.cluster_file.specs.Lines.{Word, Line, words_of, without_comment, line_from, with_line, lines_from}
+use Rattle.cluster_file.specs.Lines.{Line, words_before_comment, without_comment, line_from, with_line, lines_from}
+use Rattle.words.specs.Word.{Word}
 
 -- the texts behind the references
 abbrev pub texts_of : List (Bor Word) → List Word
@@ -18,7 +19,7 @@ with_line-append (Some line) rest = refl
 
 -- the line of one more text
 pub lines_go_on : (texts : List (Bor Word)) (i : ℕ) (d : Bor Word) (so_far new whole : List Line) (line : Option Line)
-    → d.now ≡ [] → i < length texts → line ≡ line_from (i + 1) (words_of (get_or texts i d).now)
+    → d.now ≡ [] → i < length texts → line ≡ line_from (i + 1) (words_before_comment (get_or texts i d).now)
     → new ≡ so_far ++ with_line line [] → so_far ++ lines_from (i + 1) (texts_of (drop i texts)) ≡ whole
     → new ++ lines_from (i + 1 + 1) (texts_of (drop (i + 1) texts)) ≡ whole
 lines_go_on texts i d so_far new whole line empty lt is pushed before =

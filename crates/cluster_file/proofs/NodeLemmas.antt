@@ -11,9 +11,9 @@ use Rattle.layout.proofs.DistinctMemberLemmas.{distinct_push}
 use Rattle.tag.specs.declared.limits.TheConstants.{MOST_SERVERS}
 use Rattle.cluster_file.specs.declared.error.FileFault.{FileFault}
 use Rattle.cluster_file.specs.File.{AreApart}
-use Rattle.cluster_file.specs.Lines.{Word}
+use Rattle.words.specs.Word.{Word}
 use Rattle.cluster_file.specs.Numbers.{node_from}
-use Rattle.cluster_file.specs.Reading.{Parsed, placed_at, nodes_from}
+use Rattle.cluster_file.specs.Reading.{OrFault, placed_at, nodes_from}
 use Rattle.cluster_file.proofs.LineLemmas.{texts_of}
 
 -- one word after another
@@ -33,7 +33,7 @@ nodes_end : (others listed : List ℕ) (line : ℕ) → nodes_from others listed
 unfolding nodes_from
 nodes_end others listed line = refl
 
-pub nodes_go_on : (others listed new : List ℕ) (line node i : ℕ) (words : List (Bor Word)) (d : Bor Word) (whole : Parsed (List ℕ))
+pub nodes_go_on : (others listed new : List ℕ) (line node i : ℕ) (words : List (Bor Word)) (d : Bor Word) (whole : OrFault (List ℕ))
     → i < length words → Ok node ≡ placed_at line (length listed + 2) (node_from others listed (get_or words i d).now)
     → new ≡ listed ++ node ∷ [] → nodes_from others listed line (texts_of (drop i words)) ≡ whole
     → nodes_from others new line (texts_of (drop (i + 1) words)) ≡ whole
@@ -46,7 +46,7 @@ nodes_go_on others listed new line node i words d whole lt e pushed before =
     ∙ before
 
 pub nodes_stop_at : (others listed : List ℕ) (line i : ℕ) (fault : FileFault) (words : List (Bor Word)) (d : Bor Word)
-    (whole : Parsed (List ℕ)) → i < length words
+    (whole : OrFault (List ℕ)) → i < length words
     → Err fault ≡ placed_at line (length listed + 2) (node_from others listed (get_or words i d).now)
     → nodes_from others listed line (texts_of (drop i words)) ≡ whole → whole ≡ Err fault
 nodes_stop_at others listed line i fault words d whole lt e before =
@@ -54,7 +54,7 @@ nodes_stop_at others listed line i fault words d whole lt e before =
     ∙ ap (λ (ws : List (Bor Word)). nodes_from others listed line (texts_of ws)) (drop-cons words i d lt)
     ∙ nodes_stop others listed line fault (get_or words i d).now (texts_of (drop (suc i) words)) (sym e)
 
-pub nodes_end_at : (others listed : List ℕ) (line i : ℕ) (words : List (Bor Word)) (whole : Parsed (List ℕ)) → length words ≤ i
+pub nodes_end_at : (others listed : List ℕ) (line i : ℕ) (words : List (Bor Word)) (whole : OrFault (List ℕ)) → length words ≤ i
     → nodes_from others listed line (texts_of (drop i words)) ≡ whole → whole ≡ Ok listed
 nodes_end_at others listed line i words whole le before =
     sym before

@@ -10,7 +10,7 @@ use Rattle.std.specs.Str.Parse.{digits_value, ParsesUnsigned}
 use Rattle.std.proofs.lemmas.Fmt.{IsAscii-from_digits}
 use Rattle.std.proofs.lemmas.Str.{IsUtf8-from_ascii}
 use Rattle.std.proofs.lemmas.Str.Parse.{IsNumeralModel, numerals_by_value, tells_all_ascii_digits, parse_digits}
-use Rattle.cluster_file.specs.Lines.{Word}
+use Rattle.words.specs.Word.{Word}
 use Rattle.cluster_file.specs.Numbers.{is_decimal}
 
 -- words of digits, and what they write

@@ -14,14 +14,16 @@ use Rattle.cluster_file.specs.declared.error.Fault.{Fault}
 use Rattle.cluster_file.specs.declared.number.Range.{Range}
 use Rattle.cluster_file.specs.declared.setting.Setting.{Setting}
 use Rattle.cluster_file.specs.declared.setting.Setting.TheVariants as setting
-use Rattle.cluster_file.specs.File.{ClusterFile, AreApart, IsLawful}
-use Rattle.cluster_file.specs.Lines.{Word, Line, lines_of, end_of}
+use Rattle.cluster_file.specs.File.{FileContents, AreApart, IsLawfulFile}
+use Rattle.cluster_file.specs.Lines.{Line, lines_of, end_line}
+use Rattle.words.specs.Word.{Word}
 use Rattle.cluster_file.specs.Settings.{word_of, setting_from, due_fault}
-use Rattle.cluster_file.specs.Numbers.{and_then, is_decimal, number_from, delta_from, mover_from, node_from}
+use Rattle.cluster_file.specs.Numbers.{is_decimal, number_from, delta_from, mover_from, node_from}
+use Rattle.words.specs.Parts.{and_then}
 use Rattle.cluster_file.specs.Numbers.{of_a_byte, of_32_bits}
-use Rattle.cluster_file.specs.Reading.{placed_at, first_of, value_of, value_at, setting_at, nodes_from}
-use Rattle.cluster_file.specs.Reading.{nodes_at, later_at, of_n, of_k, of_ticks, fixed_at, ending, file_at}
-use Rattle.cluster_file.specs.Written.{Values, Writes, WriteEach, WritesDelta, WriteFile, settings_of, said, IsDelta, AreInRange}
+use Rattle.cluster_file.specs.Reading.{placed_at, first_value, value_of_line, setting_value, setting_at, nodes_from}
+use Rattle.cluster_file.specs.Reading.{nodes_at, later_at, of_n, of_k, of_ticks, fixed_at, unless_line_left, file_at}
+use Rattle.cluster_file.specs.Written.{Values, WritesNumber, WriteEach, WritesDelta, WriteFile, settings_of, said, IsDelta, AreInRange}
 use Rattle.cluster_file.specs.Written.{WrittenFilesAreRead}
 use Rattle.cluster_file.proofs.ValueLemmas.{neither_is}
 use Rattle.cluster_file.proofs.NodeLemmas.{neither}
@@ -37,7 +39,7 @@ less a b lt = grind (arith, nat_tests)
 
 -- ---- words
 
-number_there : (range : Range) (word : Word) (n : ℕ) → Writes word n → range.least ≤ n → n ≤ range.most
+number_there : (range : Range) (word : Word) (n : ℕ) → WritesNumber word n → range.least ≤ n → n ≤ range.most
     → number_from range word ≡ Ok n
 unfolding number_from
 number_there range word n written low high =
@@ -47,14 +49,14 @@ has_small : (nodes : List ℕ) (m : ℕ) → AllByRecursion (λ node. node < 2 ^
 has_small [] m small there = absurd cc
 has_small (node ∷ nodes) m small there = grind (arith, nat_tests, small.0, has_small nodes m small.1)
 
-mover_there : (nodes : List ℕ) (word : Word) (m : ℕ) → Writes word m → AllByRecursion (λ node. node < 2 ^ 8) nodes
+mover_there : (nodes : List ℕ) (word : Word) (m : ℕ) → WritesNumber word m → AllByRecursion (λ node. node < 2 ^ 8) nodes
     → has nodes m ≡ true → mover_from nodes word ≡ Ok m
 unfolding mover_from
 mover_there nodes word m written small there =
     let below = has_small nodes m small there in
     join (number_from of_a_byte word) _ m m (number_there of_a_byte word m written (omega arith) (omega arith)) (rw there refl)
 
-node_there : (others listed : List ℕ) (word : Word) (n : ℕ) → Writes word n → n < 2 ^ 8 → has others n ≡ false
+node_there : (others listed : List ℕ) (word : Word) (n : ℕ) → WritesNumber word n → n < 2 ^ 8 → has others n ≡ false
     → has listed n ≡ false → length others + length listed < MOST_SERVERS → node_from others listed word ≡ Ok n
 unfolding node_from
 node_there others listed word n written small none none_listed room =
@@ -103,8 +105,8 @@ setting_there due end (line ∷ rest) values entries e =
 
 value_there : {X : Type 0} (due : Setting) (from : Word → Result X Fault) (end : ℕ) (lines : List Line) (word : Word)
     (entries : List Entry) (v : X) → map said lines ≡ (word_of due, word ∷ []) ∷ entries → from word ≡ Ok v
-    → (rest : List Line) × (value_at due from end lines ≡ Ok (v, rest)) × (map said rest ≡ entries)
-unfolding value_at value_of
+    → (rest : List Line) × (setting_value due from end lines ≡ Ok (v, rest)) × (map said rest ≡ entries)
+unfolding setting_value value_of_line
 value_there due from end lines word entries v e writes =
     let line = setting_there due end lines (word ∷ []) entries e in (
       line.0.1,
@@ -142,7 +144,7 @@ nodes_there others listed line (word ∷ words) (n ∷ ns) written small apart =
     (rest ∙ ap (λ (ms : List ℕ). Ok ms) again)
 
 first_there : (line : ℕ) (words : List Word) (nodes : List ℕ) → WriteEach words nodes → 0 < length nodes
-    → (word : Word) × (first_of line words ≡ Ok word)
+    → (word : Word) × (first_value line words ≡ Ok word)
 first_there line [] [] written some = absurd (omega arith)
 first_there line [] (n ∷ ns) written some = absurd written
 first_there line (word ∷ words) nodes written some = (word, refl)
@@ -160,7 +162,7 @@ nodes_line end lines words nodes entries e written small apart some =
     ap (nodes_from [] [] number) line.2 ∙ nodes_there [] [] number words nodes written small apart in (
       line.0.1,
       join (setting_at setting.Nodes end lines) _ line.0 (nodes, line.0.1) line.1
-          (join (first_of number line.0.0.values) _ first.0 (nodes, line.0.1) (ap (first_of number) line.2 ∙ first.1)
+          (join (first_value number line.0.0.values) _ first.0 (nodes, line.0.1) (ap (first_value number) line.2 ∙ first.1)
           (join (nodes_from [] [] number line.0.0.values) _ nodes (nodes, line.0.1) each refl)),
       line.3,
     )
@@ -183,7 +185,7 @@ later_line others end lines words later entries e written small apart =
 
 -- ---- files
 
-alone_apart : (file : ClusterFile) → IsLawful file → AreApart [] file.fixed.nodes
+alone_apart : (file : FileContents) → IsLawfulFile file → AreApart [] file.fixed.nodes
 alone_apart file lawful =
     let few = lawful.nodes.few in
     record {
@@ -191,8 +193,8 @@ alone_apart file lawful =
       few = omega (arith, few, length-append file.fixed.nodes file.later);
     }
 
-fixed_lines : (end : ℕ) (lines : List Line) (values : Values) (file : ClusterFile) (entries : List Entry) → WriteFile values file
-    → IsLawful file → AreInRange file
+fixed_lines : (end : ℕ) (lines : List Line) (values : Values) (file : FileContents) (entries : List Entry) → WriteFile values file
+    → IsLawfulFile file → AreInRange file
     → map said lines ≡ (codes "nodes", values.nodes) ∷ (codes "n", values.n ∷ []) ∷ (codes "k", values.k ∷ [])
     ∷ (codes "delta", values.delta ∷ []) ∷ (codes "mover", values.mover ∷ []) ∷ entries
     → (rest : List Line) × (fixed_at end lines ≡ Ok (file.fixed, rest)) × (map said rest ≡ entries)
@@ -216,10 +218,10 @@ fixed_lines end lines values file entries written lawful small e =
     (mover_there fixed.nodes values.mover fixed.mover written.mover small.nodes lawful.fixed.mover) in (
       g.0,
       join (nodes_at end lines) _ (fixed.nodes, a.0) (fixed, g.0) a.1
-          (join (value_at setting.N (number_from (of_n (length fixed.nodes))) end a.0) _ (fixed.n, b.0) (fixed, g.0) b.1
-          (join (value_at setting.K (number_from (of_k fixed.n)) end b.0) _ (fixed.k, d.0) (fixed, g.0) d.1
-          (join (value_at setting.Delta delta_from end d.0) _ (fixed.delta, f.0) (fixed, g.0) f.1
-          (join (value_at setting.Mover (mover_from fixed.nodes) end f.0) _ (fixed.mover, g.0) (fixed, g.0) g.1 refl)))),
+          (join (setting_value setting.N (number_from (of_n (length fixed.nodes))) end a.0) _ (fixed.n, b.0) (fixed, g.0) b.1
+          (join (setting_value setting.K (number_from (of_k fixed.n)) end b.0) _ (fixed.k, d.0) (fixed, g.0) d.1
+          (join (setting_value setting.Delta delta_from end d.0) _ (fixed.delta, f.0) (fixed, g.0) f.1
+          (join (setting_value setting.Mover (mover_from fixed.nodes) end f.0) _ (fixed.mover, g.0) (fixed, g.0) g.1 refl)))),
       g.2,
     )
 
@@ -227,7 +229,7 @@ none_left : (lines : List Line) → map said lines ≡ [] → lines ≡ []
 none_left [] e = refl
 none_left (line ∷ rest) e = absurd cc
 
-file_lines : (end : ℕ) (lines : List Line) (values : Values) (file : ClusterFile) → WriteFile values file → IsLawful file
+file_lines : (end : ℕ) (lines : List Line) (values : Values) (file : FileContents) → WriteFile values file → IsLawfulFile file
     → AreInRange file → map said lines ≡ settings_of values → file_at end lines ≡ Ok file
 unfolding file_at
 file_lines end lines values file written lawful small e =
@@ -240,9 +242,9 @@ file_lines end lines values file written lawful small e =
     (number_there of_ticks values.ticks file.ticks written.ticks (omega arith) (omega arith)) in
     join (fixed_at end lines) _ (file.fixed, fixed.0) file fixed.1
     (join (later_at nodes end fixed.0) _ (file.later, later.0) file later.1
-    (join (value_at setting.Ticks (number_from of_ticks) end later.0) _ (file.ticks, ticks.0) file ticks.1
-    (ap (λ (ls : List Line). ending ls file) (none_left ticks.0 ticks.2))))
+    (join (setting_value setting.Ticks (number_from of_ticks) end later.0) _ (file.ticks, ticks.0) file ticks.1
+    (ap (λ (ls : List Line). unless_line_left ls file) (none_left ticks.0 ticks.2))))
 
 pub written_is_read : WrittenFilesAreRead
 written_is_read text file is_text lawful small =
-    file_lines (end_of text) (lines_of text) is_text.values file is_text.written lawful small is_text.lines
+    file_lines (end_line text) (lines_of text) is_text.values file is_text.written lawful small is_text.lines

@@ -7,7 +7,8 @@ use Rattle.std.proofs.lemmas.Slice.Eq.{bytes_eq-Decides}
 use Rattle.cluster_file.specs.declared.error.Fault.{Fault}
 use Rattle.cluster_file.specs.declared.setting.Setting.{Setting}
 use Rattle.cluster_file.specs.declared.setting.Setting.TheVariants as setting
-use Rattle.cluster_file.specs.Lines.{Word, Line}
+use Rattle.cluster_file.specs.Lines.{Line}
+use Rattle.words.specs.Word.{Word}
 use Rattle.cluster_file.specs.Settings.{order_of, word_of, setting_from, order_fault, named_fault, due_fault}
 use Rattle.cluster_file.specs.Reading.{unless_at, setting_at}
 use Rattle.cluster_file.specs.Written.{said}

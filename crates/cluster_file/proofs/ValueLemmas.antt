@@ -7,35 +7,17 @@ use Rattle.layout.specs.Quorum.{has}
 use Rattle.cluster_file.specs.declared.error.Fault.{Fault}
 use Rattle.cluster_file.specs.declared.error.Fault.TheVariants.{NoNode, NotANumber}
 use Rattle.cluster_file.specs.declared.number.Range.{Range}
-use Rattle.cluster_file.specs.Lines.{Word, Line}
-use Rattle.cluster_file.specs.Numbers.{and_then, is_decimal, within, number_from, mover_from, of_a_byte}
-use Rattle.cluster_file.specs.Reading.{placed_at, first_of, without_second, value_of}
-
--- the value of a part that is no fault
-pub bind_ok : {E A B : Type 0} (r : Result A E) (f : A → Result B E) (y : B) → and_then r f ≡ Ok y
-    → (x : A) × (r ≡ Ok x) × (f x ≡ Ok y)
-bind_ok (Ok x) f y e = (x, refl, e)
-bind_ok (Err d) f y e = absurd cc
-
--- a test that gave no fault
-pub passed : {A : Type 0} (b : Bool) (x : Result A Fault) (d : Fault) (y : A) → cond b x (Err d) ≡ Ok y → (b ≡ true) × (x ≡ Ok y)
-passed true x d y e = (refl, e)
-passed false x d y e = absurd cc
-
-pub not_passed : {A : Type 0} (b : Bool) (d : Fault) (x : Result A Fault) (y : A) → cond b (Err d) x ≡ Ok y → (b ≡ false) × (x ≡ Ok y)
-not_passed true d x y e = absurd cc
-not_passed false d x y e = (refl, e)
+use Rattle.cluster_file.specs.Lines.{Line}
+use Rattle.words.specs.Word.{Word}
+use Rattle.cluster_file.specs.Numbers.{is_decimal, within, number_from, mover_from, of_a_byte}
+use Rattle.words.specs.Parts.{and_then}
+use Rattle.words.proofs.PartLemmas.{bind_ok, guarded, guarded_above, ok_is}
+use Rattle.cluster_file.specs.Reading.{placed_at, first_value, without_second, value_of_line}
 
 pub neither_is : (a b : Bool) → (a || b) ≡ false → (a ≡ false) × (b ≡ false)
 neither_is false false e = (refl, refl)
 neither_is false true e = absurd cc
 neither_is true b e = absurd cc
-
-abbrev pub made : {A : Type 0} → A → Result A Fault
-made x = Ok x
-
-pub ok_is : {A : Type 0} (x y : A) → made x ≡ made y → x ≡ y
-ok_is x y e = cc
 
 -- a value that is placed, and one that stands alone
 pub placed_ok : {A : Type 0} (line word : ℕ) (r : Result A Fault) (x : A) → placed_at line word r ≡ Ok x → r ≡ Ok x
@@ -48,11 +30,11 @@ alone line (v ∷ []) x y e = cc
 alone line (v ∷ w ∷ ws) x y e = absurd cc
 
 -- some word writes the value of a line
-value_ok : {A : Type 0} (from : Word → Result A Fault) (line : Line) (x : A) → value_of from line ≡ Ok x
+value_ok : {A : Type 0} (from : Word → Result A Fault) (line : Line) (x : A) → value_of_line from line ≡ Ok x
     → (word : Word) × (from word ≡ Ok x)
-unfolding value_of
+unfolding value_of_line
 value_ok from line x e =
-    let a = bind_ok (first_of line.number line.values) (λ word. and_then (placed_at line.number 2 (from word))
+    let a = bind_ok (first_value line.number line.values) (λ word. and_then (placed_at line.number 2 (from word))
     (λ y. without_second line.number line.values y)) x e in
     let b = bind_ok (placed_at line.number 2 (from a.0)) (λ y. without_second line.number line.values y) x a.2 in
     let same : b.0 ≡ x = alone line.number line.values b.0 x b.2 in
@@ -63,15 +45,15 @@ in_range : (range : Range) (word : Word) (n : ℕ) → number_from range word �
 unfolding number_from
 in_range range word n e =
     let m = digits_value 10 word in
-    let a = passed (is_decimal word) (within range m) NotANumber n e in
-    let b = not_passed (ltb m range.least || ltb range.most m) range.outside (Ok m) n a.1 in
+    let a = guarded (is_decimal word) (within range m) NotANumber n e in
+    let b = guarded_above (ltb m range.least || ltb range.most m) range.outside (Ok m) n a.1 in
     let same : m ≡ n = ok_is m n b.1 in
     let outside = neither_is (ltb m range.least) (ltb range.most m) b.0 in
     let low = ltb-false _ _ outside.0 in
     let high = ltb-false _ _ outside.1 in
     (omega arith, omega arith)
 
-pub number_in_range : (range : Range) (line : Line) (n : ℕ) → value_of (number_from range) line ≡ Ok n
+pub number_in_range : (range : Range) (line : Line) (n : ℕ) → value_of_line (number_from range) line ≡ Ok n
     → (range.least ≤ n) × (n ≤ range.most)
 number_in_range range line n e = let found = value_ok (number_from range) line n e in in_range range found.0 n found.1
 
@@ -80,8 +62,8 @@ one_of : (nodes : List ℕ) (word : Word) (n : ℕ) → mover_from nodes word �
 unfolding mover_from
 one_of nodes word n e =
     let a = bind_ok (number_from of_a_byte word) (λ m. cond (has nodes m) (Ok m) (Err NoNode)) n e in
-    let b = passed (has nodes a.0) (Ok a.0) NoNode n a.2 in
+    let b = guarded (has nodes a.0) (Ok a.0) NoNode n a.2 in
     subst (λ m. has nodes m ≡ true) (ok_is a.0 n b.1) b.0
 
-pub mover_is_a_node : (nodes : List ℕ) (line : Line) (n : ℕ) → value_of (mover_from nodes) line ≡ Ok n → has nodes n ≡ true
+pub mover_is_a_node : (nodes : List ℕ) (line : Line) (n : ℕ) → value_of_line (mover_from nodes) line ≡ Ok n → has nodes n ≡ true
 mover_is_a_node nodes line n e = let found = value_ok (mover_from nodes) line n e in one_of nodes found.0 n found.1

@@ -11,44 +11,47 @@ use Rattle.cluster_file.specs.declared.error.Fault.TheVariants.{NotANumber}
 use Rattle.cluster_file.specs.declared.number.Range.{Range}
 use Rattle.cluster_file.specs.declared.setting.Setting.{Setting}
 use Rattle.cluster_file.specs.declared.setting.Setting.TheVariants as setting
-use Rattle.cluster_file.specs.File.{Fixed, ClusterFile}
-use Rattle.cluster_file.specs.Lines.{Word, Line, lines_of, end_of}
+use Rattle.cluster_file.specs.File.{Fixed, FileContents}
+use Rattle.cluster_file.specs.Lines.{Line, lines_of, end_line}
+use Rattle.words.specs.Word.{Word}
 use Rattle.cluster_file.specs.Settings.{word_of}
-use Rattle.cluster_file.specs.Numbers.{and_then, is_decimal, within, number_from, delta_from, mover_from, node_from}
+use Rattle.cluster_file.specs.Numbers.{is_decimal, within, number_from, delta_from, mover_from, node_from}
+use Rattle.words.specs.Parts.{and_then}
 use Rattle.cluster_file.specs.Numbers.{of_a_byte, of_32_bits}
-use Rattle.cluster_file.specs.Reading.{placed_at, first_of, without_second, value_of, value_at, nodes_from, nodes_at, later_at}
-use Rattle.cluster_file.specs.Reading.{of_n, of_k, of_ticks, fixed_at, ending, file_at}
-use Rattle.cluster_file.specs.Written.{Writes, WriteEach, WritesDelta, said, IsTextOf, ReadFilesAreWritten}
+use Rattle.cluster_file.specs.Reading.{placed_at, first_value, without_second, value_of_line, setting_value, nodes_from, nodes_at, later_at}
+use Rattle.cluster_file.specs.Reading.{of_n, of_k, of_ticks, fixed_at, unless_line_left, file_at}
+use Rattle.cluster_file.specs.Written.{WritesNumber, WriteEach, WritesDelta, said, IsTextOf, ReadFilesAreWritten}
 use Rattle.cluster_file.proofs.SettingLemmas.{setting_ok}
-use Rattle.cluster_file.proofs.ValueLemmas.{bind_ok, passed, not_passed, ok_is, placed_ok}
+use Rattle.cluster_file.proofs.ValueLemmas.{placed_ok}
+use Rattle.words.proofs.PartLemmas.{bind_ok, guarded, guarded_above, ok_is}
 
 -- ---- words
 
 ok_of : {X E : Type 0} (x y : X) → (let r : Result X E = Ok x in r) ≡ Ok y → x ≡ y
 ok_of x y e = cc
 
-number_writes : (range : Range) (word : Word) (n : ℕ) → number_from range word ≡ Ok n → Writes word n
+number_writes : (range : Range) (word : Word) (n : ℕ) → number_from range word ≡ Ok n → WritesNumber word n
 unfolding number_from
 number_writes range word n e =
     let m = digits_value 10 word in
-    let a = passed (is_decimal word) (within range m) NotANumber n e in
-    let b = not_passed (ltb m range.least || ltb range.most m) range.outside (Ok m) n a.1 in
+    let a = guarded (is_decimal word) (within range m) NotANumber n e in
+    let b = guarded_above (ltb m range.least || ltb range.most m) range.outside (Ok m) n a.1 in
     (a.0, ok_is m n b.1)
 
-mover_writes : (nodes : List ℕ) (word : Word) (n : ℕ) → mover_from nodes word ≡ Ok n → Writes word n
+mover_writes : (nodes : List ℕ) (word : Word) (n : ℕ) → mover_from nodes word ≡ Ok n → WritesNumber word n
 unfolding mover_from
 mover_writes nodes word n e =
     let a = bind_ok (number_from of_a_byte word) _ n e in
-    let b = passed (has nodes a.0) (Ok a.0) _ n a.2 in
-    subst (Writes word) (ok_is a.0 n b.1) (number_writes of_a_byte word a.0 a.1)
+    let b = guarded (has nodes a.0) (Ok a.0) _ n a.2 in
+    subst (WritesNumber word) (ok_is a.0 n b.1) (number_writes of_a_byte word a.0 a.1)
 
-node_writes : (others listed : List ℕ) (word : Word) (n : ℕ) → node_from others listed word ≡ Ok n → Writes word n
+node_writes : (others listed : List ℕ) (word : Word) (n : ℕ) → node_from others listed word ≡ Ok n → WritesNumber word n
 unfolding node_from
 node_writes others listed word n e =
     let a = bind_ok (number_from of_a_byte word) _ n e in
-    let b = not_passed (has others a.0 || has listed a.0) _ _ n a.2 in
-    let d = passed _ (Ok a.0) _ n b.1 in
-    subst (Writes word) (ok_is a.0 n d.1) (number_writes of_a_byte word a.0 a.1)
+    let b = guarded_above (has others a.0 || has listed a.0) _ _ n a.2 in
+    let d = guarded _ (Ok a.0) _ n b.1 in
+    subst (WritesNumber word) (ok_is a.0 n d.1) (number_writes of_a_byte word a.0 a.1)
 
 delta_by : (t : Bool) (word : Word) (delta : Option ℕ) → bytes_eq word (codes "none") ≡ t
     → cond t (Ok None) (and_then (number_from of_32_bits word) (λ n. Ok (Some n))) ≡ Ok delta → WritesDelta word delta
@@ -65,7 +68,7 @@ delta_writes word delta e = delta_by (bytes_eq word (codes "none")) word delta r
 
 -- ---- lines
 
-single : {X : Type 0} (line : ℕ) (values : List Word) (word : Word) (x y : X) → first_of line values ≡ Ok word
+single : {X : Type 0} (line : ℕ) (values : List Word) (word : Word) (x y : X) → first_value line values ≡ Ok word
     → without_second line values x ≡ Ok y → (values ≡ word ∷ []) × (x ≡ y)
 single line [] word x y first e = absurd cc
 single line (v ∷ []) word x y first e =
@@ -74,9 +77,9 @@ single line (v ∷ w ∷ ws) word x y first e = absurd cc
 
 -- a setting with one value
 read_value : {X : Type 0} (due : Setting) (from : Word → Result X Fault) (end : ℕ) (lines : List Line) (x : X × List Line)
-    → value_at due from end lines ≡ Ok x
+    → setting_value due from end lines ≡ Ok x
     → (word : Word) × (from word ≡ Ok x.0) × (map said lines ≡ (word_of due, word ∷ []) ∷ map said x.1)
-unfolding value_at value_of
+unfolding setting_value value_of_line
 read_value due from end lines x e =
     let line = bind_ok _ _ x e in
     let value = bind_ok _ _ x line.2 in
@@ -121,7 +124,7 @@ read_nodes : (end : ℕ) (lines : List Line) (x : List ℕ × List Line) → nod
 unfolding nodes_at
 read_nodes end lines x e =
     let line = bind_ok _ _ x e in
-    let first = bind_ok (first_of line.0.0.number line.0.0.values) _ x line.2 in
+    let first = bind_ok (first_value line.0.0.number line.0.0.values) _ x line.2 in
     let nodes = bind_ok (nodes_from [] [] line.0.0.number line.0.0.values) _ x first.2 in
     let new = nodes_write [] [] line.0.0.number line.0.0.values nodes.0 nodes.1 in
     let whole : (nodes.0, line.0.1) ≡ x = ok_of _ _ nodes.2 in (
@@ -133,7 +136,7 @@ read_nodes end lines x e =
 
 -- ---- files
 
-ended : {X : Type 0} (lines : List Line) (x y : X) → ending lines x ≡ Ok y → (lines ≡ []) × (x ≡ y)
+ended : {X : Type 0} (lines : List Line) (x y : X) → unless_line_left lines x ≡ Ok y → (lines ≡ []) × (x ≡ y)
 ended [] x y e = let same : x ≡ y = cc in (refl, same)
 ended (line ∷ rest) x y e = absurd cc
 
@@ -147,10 +150,10 @@ record FixedWritten (lines : List Line) (fixed : Fixed) (rest : List Line) : Typ
   entries : map said lines ≡ (codes "nodes", nodes) ∷ (codes "n", n ∷ []) ∷ (codes "k", k ∷ []) ∷ (codes "delta", delta ∷ [])
       ∷ (codes "mover", mover ∷ []) ∷ map said rest
   nodes_written : WriteEach nodes fixed.nodes
-  n_written : Writes n fixed.n
-  k_written : Writes k fixed.k
+  n_written : WritesNumber n fixed.n
+  k_written : WritesNumber k fixed.k
   delta_written : WritesDelta delta fixed.delta
-  mover_written : Writes mover fixed.mover
+  mover_written : WritesNumber mover fixed.mover
 
 behind : (entry : Word × List Word) (xs ys : List (Word × List Word)) → xs ≡ ys → entry ∷ xs ≡ entry ∷ ys
 behind entry xs ys e = ap (λ (r : List (Word × List Word)). entry ∷ r) e
@@ -159,10 +162,10 @@ fixed_write : (end : ℕ) (lines : List Line) (x : Fixed × List Line) → fixed
 unfolding fixed_at
 fixed_write end lines x e =
     let nodes = bind_ok (nodes_at end lines) _ x e in
-    let n = bind_ok (value_at setting.N (number_from (of_n (length nodes.0.0))) end nodes.0.1) _ x nodes.2 in
-    let k = bind_ok (value_at setting.K (number_from (of_k n.0.0)) end n.0.1) _ x n.2 in
-    let delta = bind_ok (value_at setting.Delta delta_from end k.0.1) _ x k.2 in
-    let mover = bind_ok (value_at setting.Mover (mover_from nodes.0.0) end delta.0.1) _ x delta.2 in
+    let n = bind_ok (setting_value setting.N (number_from (of_n (length nodes.0.0))) end nodes.0.1) _ x nodes.2 in
+    let k = bind_ok (setting_value setting.K (number_from (of_k n.0.0)) end n.0.1) _ x n.2 in
+    let delta = bind_ok (setting_value setting.Delta delta_from end k.0.1) _ x k.2 in
+    let mover = bind_ok (setting_value setting.Mover (mover_from nodes.0.0) end delta.0.1) _ x delta.2 in
     let a = read_nodes end lines nodes.0 nodes.1 in
     let b = read_value setting.N (number_from (of_n (length nodes.0.0))) end nodes.0.1 n.0 n.1 in
     let d = read_value setting.K (number_from (of_k n.0.0)) end n.0.1 k.0 k.1 in
@@ -185,16 +188,16 @@ fixed_write end lines x e =
     } in
     subst (λ (p : Fixed × List Line). FixedWritten lines p.0 p.1) whole written
 
-lines_write : (end : ℕ) (text : List ℕ) (file : ClusterFile) → file_at end (lines_of text) ≡ Ok file → IsTextOf text file
+lines_write : (end : ℕ) (text : List ℕ) (file : FileContents) → file_at end (lines_of text) ≡ Ok file → IsTextOf text file
 unfolding file_at
 lines_write end text file e =
     let fixed = bind_ok (fixed_at end (lines_of text)) _ file e in
     let later = bind_ok (later_at fixed.0.0.nodes end fixed.0.1) _ file fixed.2 in
-    let ticks = bind_ok (value_at setting.Ticks (number_from of_ticks) end later.0.1) _ file later.2 in
+    let ticks = bind_ok (setting_value setting.Ticks (number_from of_ticks) end later.0.1) _ file later.2 in
     let w = fixed_write end (lines_of text) fixed.0 fixed.1 in
     let a = read_later fixed.0.0.nodes end fixed.0.1 later.0 later.1 in
     let b = read_value setting.Ticks (number_from of_ticks) end later.0.1 ticks.0 ticks.1 in
-    let held : ClusterFile = record { fixed = fixed.0.0; later = later.0.0; ticks = ticks.0.0 } in
+    let held : FileContents = record { fixed = fixed.0.0; later = later.0.0; ticks = ticks.0.0 } in
     let last = ended ticks.0.1 held file ticks.2 in
     let none : map said ticks.0.1 ≡ [] = ap (λ (ls : List Line). map said ls) last.0 in
     let five = λ (more : List (Word × List Word)). (codes "nodes", w.nodes) ∷ (codes "n", w.n ∷ []) ∷ (codes "k", w.k ∷ [])
@@ -215,4 +218,4 @@ lines_write end text file e =
     subst (IsTextOf text) last.1 written
 
 pub read_again : ReadFilesAreWritten
-read_again text file e = lines_write (end_of text) text file e
+read_again text file e = lines_write (end_line text) text file e

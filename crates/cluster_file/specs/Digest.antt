@@ -11,9 +11,9 @@ delta_bytes None = 0 ∷ []
 delta_bytes (Some delta) = (1 ∷ []) ++ to_be_bytes w32 delta
 
 -- what is hashed: k, n and the mover as a byte each, the delta, and each node as a byte, in order
-abbrev pub hashed : Fixed → List ℕ
-hashed fixed = (fixed.k ∷ fixed.n ∷ fixed.mover ∷ []) ++ delta_bytes fixed.delta ++ fixed.nodes
+abbrev pub hashed_fixed : Fixed → List ℕ
+hashed_fixed fixed = (fixed.k ∷ fixed.n ∷ fixed.mover ∷ []) ++ delta_bytes fixed.delta ++ fixed.nodes
 
 -- the first 16 bytes of the SHA-256 digest
-unfoldable pub digest_of : Fixed → List ℕ
-digest_of fixed = take 16 (sha256 (hashed fixed))
+unfoldable pub fixed_digest : Fixed → List ℕ
+fixed_digest fixed = take 16 (sha256 (hashed_fixed fixed))

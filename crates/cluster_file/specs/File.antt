@@ -15,8 +15,8 @@ pub record Fixed : Type 0 where
   pub delta : Option ℕ
   pub mover : ℕ
 
--- what is fixed, the nodes that joined later, and the number of ticks after which a call is given up
-pub record ClusterFile : Type 0 where
+-- what a cluster file has: what is fixed, the nodes that joined later, and the ticks after which a call is given up
+pub record FileContents : Type 0 where
   pub fixed : Fixed
   pub later : List ℕ
   pub ticks : ℕ
@@ -36,7 +36,7 @@ pub record AreApart (nodes later : List ℕ) : Type 0 where
   pub few : length (nodes ++ later) ≤ MOST_SERVERS
 
 -- a file is lawful: what is fixed is, all nodes are apart, and a call gets a tick at least
-pub record IsLawful (file : ClusterFile) : Type 0 where
+pub record IsLawfulFile (file : FileContents) : Type 0 where
   pub fixed : IsLawfulFixed file.fixed
   pub nodes : AreApart file.fixed.nodes file.later
   pub ticks : 1 ≤ file.ticks

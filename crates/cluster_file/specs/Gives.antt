@@ -8,7 +8,8 @@ use Rattle.cluster_file.specs.declared.file.Fixed.{Fixed as HeldFixed}
 use Rattle.cluster_file.specs.declared.lines.Line.{Line as HeldLine}
 use Rattle.cluster_file.specs.File.{Fixed}
 use Rattle.cluster_file.specs.Lines.{Line}
-use Rattle.cluster_file.specs.Reading.{Parsed}
+use Rattle.cluster_file.specs.Reading.{OrFault}
+use Rattle.words.specs.Parts.{Sees}
 
 -- a line as the code holds it
 abbrev pub seen : HeldLine → Line
@@ -24,17 +25,12 @@ shown fixed = record {
   mover = fixed.mover;
 }
 
--- what a function returned, seen by `view`, is what reading gives
-abbrev pub GivesAs : {X Y : Type 0} → (X → Y) → Parsed X → Parsed Y → Type 0
-GivesAs view (Ok x) read = read ≡ Ok (view x)
-GivesAs view (Err fault) read = read ≡ Err fault
-
--- the same of a value and the lines behind it
-abbrev pub GivesAt : {X Y : Type 0} → (X → Y) → Parsed (X × Bor (List HeldLine)) → Parsed (Y × List Line) → Type 0
-GivesAt view result read = GivesAs (λ x. (view x.0, map seen x.1.now)) result read
+-- what a function returned, a value and the lines behind it, is what reading gives; the value is seen by `view`
+abbrev pub SeesLines : {X Y : Type 0} → (X → Y) → OrFault (X × Bor (List HeldLine)) → OrFault (Y × List Line) → Type 0
+SeesLines view result read = Sees (λ x. (view x.0, map seen x.1.now)) result read
 
 -- what a function returned is what reading gives; where memory was refused, nothing is said
-abbrev pub Gives : {X : Type 0} → Result X FileError → Parsed X → Type 0
-Gives (Ok x) read = read ≡ Ok x
-Gives (Err (errors.Fault fault)) read = read ≡ Err fault
-Gives (Err errors.NoMemory) read = Unit {0}
+abbrev pub GivesFile : {X : Type 0} → Result X FileError → OrFault X → Type 0
+GivesFile (Ok x) read = read ≡ Ok x
+GivesFile (Err (errors.Fault fault)) read = read ≡ Err fault
+GivesFile (Err errors.NoMemory) read = Unit {0}

@@ -3,15 +3,15 @@
 use Rattle.std.specs.Prelude.{◌≡◌, ℕ, List}
 use Rattle.layout.specs.Layout.{IsLawful as IsLawfulLayout}
 use Rattle.placement.specs.Placement.{placed}
-use Rattle.cluster_file.specs.File.{Fixed, ClusterFile, IsLawful, placement_of}
+use Rattle.cluster_file.specs.File.{Fixed, FileContents, IsLawfulFile, placement_of}
 use Rattle.cluster_file.specs.Written.{IsDelta}
-use Rattle.cluster_file.specs.Digest.{hashed}
+use Rattle.cluster_file.specs.Digest.{hashed_fixed}
 
 -- where the same bytes are hashed of two files, what is fixed in them is the same
 abbrev pub HashedBytesDiffer : Type 0
-HashedBytesDiffer = (a b : Fixed) → IsDelta a.delta → IsDelta b.delta → hashed a ≡ hashed b → a ≡ b
+HashedBytesDiffer = (a b : Fixed) → IsDelta a.delta → IsDelta b.delta → hashed_fixed a ≡ hashed_fixed b → a ≡ b
 
 -- the nodes of a lawful file give each name a lawful layout
 abbrev pub PlacedLayoutsAreLawful : Type 0
 PlacedLayoutsAreLawful =
-    (file : ClusterFile) (name : List ℕ) → IsLawful file → IsLawfulLayout (placed (placement_of file.fixed) name)
+    (file : FileContents) (name : List ℕ) → IsLawfulFile file → IsLawfulLayout (placed (placement_of file.fixed) name)

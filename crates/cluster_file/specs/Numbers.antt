@@ -11,12 +11,8 @@ use Rattle.tag.specs.declared.limits.TheConstants.{MOST_SERVERS}
 use Rattle.cluster_file.specs.declared.error.Fault.{Fault}
 use Rattle.cluster_file.specs.declared.error.Fault.TheVariants.{NotANumber, OutOfRange, NodeTwice, TooManyNodes, NoNode}
 use Rattle.cluster_file.specs.declared.number.Range.{Range}
-use Rattle.cluster_file.specs.Lines.{Word}
-
--- one part after another, up to the first fault
-abbrev pub and_then : {E A B : Type 0} → Result A E → (A → Result B E) → Result B E
-and_then (Ok x) next = next x
-and_then (Err fault) next = Err fault
+use Rattle.words.specs.Parts.{and_then}
+use Rattle.words.specs.Word.{Word}
 
 -- whether a word is decimal digits without a leading zero
 abbrev pub is_decimal : Word → Bool

@@ -6,7 +6,7 @@ use Rattle.cluster_file.specs.declared.error.Fault.{Fault}
 use Rattle.cluster_file.specs.declared.error.Fault.TheVariants.{UnknownSetting, SettingTwice, SettingMissing}
 use Rattle.cluster_file.specs.declared.setting.Setting.{Setting}
 use Rattle.cluster_file.specs.declared.setting.Setting.TheVariants as setting
-use Rattle.cluster_file.specs.Lines.{Word}
+use Rattle.words.specs.Word.{Word}
 
 -- the place of a setting in a file, from 0
 abbrev pub order_of : Setting → ℕ

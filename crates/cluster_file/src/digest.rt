@@ -1,15 +1,15 @@
 //! The digest of what is fixed.
 ghost use Rattle.std.specs.Prelude.{◌≡◌, ◌++◌, ℕ, List, take};
 ghost use Rattle.sha2.specs.Hashers.{Holds256};
-ghost use Rattle.cluster_file.specs.Digest.{delta_bytes, digest_of};
+ghost use Rattle.cluster_file.specs.Digest.{delta_bytes, fixed_digest};
 ghost use Rattle.cluster_file.specs.Gives.{shown};
 
 use crate::file::{DIGEST_LENGTH, Fixed};
 use sha2::{Digest, Sha256};
 
 /// The first 16 bytes of the SHA-256 digest of k, n and the mover, as a byte each, the delta, and the nodes.
-pub(crate) fn digest_of(fixed: &Fixed) -> [u8; DIGEST_LENGTH]
-    ensures { result ≡ digest_of (shown fixed.now) }
+pub(crate) fn fixed_digest(fixed: &Fixed) -> [u8; DIGEST_LENGTH]
+    ensures { result ≡ fixed_digest (shown fixed.now) }
 {
     let mut hasher = Sha256::new();
     hasher.update(&[fixed.k, fixed.n, fixed.mover]);

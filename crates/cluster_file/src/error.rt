@@ -21,7 +21,7 @@ pub enum Fault {
     /// The setting has one value, and this word stands behind it.
     #[error("word behind the value")]
     WordBehind,
-    /// The word is no number in decimal digits, nor `none` for `delta`.
+    /// The word is no number in decimal digits without a leading zero, nor `none` for `delta`.
     #[error("not a number")]
     NotANumber,
     /// The number is too small or too great for its setting.

@@ -1,11 +1,11 @@
 //! What all nodes of a cluster agree on.
 ghost use Rattle.std.specs.Prelude.{◌≡◌, ◌≤◌, ◌++◌, ◌||◌, [], length};
 ghost use Rattle.layout.specs.Quorum.{has};
-ghost use Rattle.cluster_file.specs.File.{AreApart, IsLawful, IsLawfulFixed, placement_of};
-ghost use Rattle.cluster_file.specs.Digest.{digest_of};
+ghost use Rattle.cluster_file.specs.File.{AreApart, IsLawfulFile, IsLawfulFixed, placement_of};
+ghost use Rattle.cluster_file.specs.Digest.{fixed_digest};
 ghost use Rattle.cluster_file.specs.Gives.{shown};
 
-use crate::digest::digest_of;
+use crate::digest::fixed_digest;
 use crate::nodes::has;
 use arrayvec::ArrayVec;
 use placement::ClusterNodes;
@@ -35,14 +35,14 @@ pub struct ClusterFile {
 }
 
 impl Model for ClusterFile {
-    ghost use Rattle.cluster_file.specs.File.{ClusterFile as File, IsLawful};
+    ghost use Rattle.cluster_file.specs.File.{FileContents as File, IsLawfulFile};
     ghost use Rattle.cluster_file.specs.Gives.{shown};
 
     ghost Value = { File };
 
     ghost view = { λ c. record { fixed = shown c.fixed; later = c.later.items; ticks = c.ticks } };
 
-    ghost invariant = { λ c. IsLawful (record { fixed = shown c.fixed; later = c.later.items; ticks = c.ticks }) };
+    ghost invariant = { λ c. IsLawfulFile (record { fixed = shown c.fixed; later = c.later.items; ticks = c.ticks }) };
 }
 
 impl ClusterFile {
@@ -63,7 +63,7 @@ impl ClusterFile {
     /// The nodes that placement uses, in order.
     pub fn nodes(&self) -> &[u8]
         ensures nodes { result.now ≡ self.now.fixed.nodes }
-        ensures lawful { IsLawful self.now }
+        ensures lawful { IsLawfulFile self.now }
     {
         &self.fixed.nodes
     }
@@ -129,8 +129,8 @@ impl ClusterFile {
 
     /// A digest of what is fixed: the first 16 bytes of a SHA-256 digest. Later nodes and ticks do not change it.
     pub fn digest(&self) -> [u8; DIGEST_LENGTH]
-        ensures { result ≡ digest_of self.now.fixed }
+        ensures { result ≡ fixed_digest self.now.fixed }
     {
-        digest_of(&self.fixed)
+        fixed_digest(&self.fixed)
     }
 }

@@ -3,8 +3,8 @@ ghost use Rattle.std.specs.Prelude.{◌≡◌, ◌==◌, ◌++◌, [], IfOk, map
 ghost use Rattle.cluster_file.specs.Lines.{
   is_blank,
   without_comment,
-  parts_of,
-  words_of,
+  words_between_blanks,
+  words_before_comment,
   line_from,
   with_line,
   lines_from,
@@ -47,9 +47,9 @@ fn push_line<'a>(lines: &mut Vec<Line<'a>>, line: Option<Line<'a>>) -> Result<()
 
 // The line of this text, or none where the text has no word.
 fn line_of(alloc: Global, number: u64, text: &[u8]) -> Result<Option<Line<'_>>, AllocError>
-    ensures { IfOk result (λ line. option_map seen line ≡ line_from number (words_of text.now)) }
+    ensures { IfOk result (λ line. option_map seen line ≡ line_from number (words_before_comment text.now)) }
 {
-    let mut values = words_of(alloc, without_comment(text))?;
+    let mut values = words_between_blanks(alloc, without_comment(text))?;
     if values.is_empty() {
         return Ok(None);
     }
@@ -62,8 +62,8 @@ fn line_of(alloc: Global, number: u64, text: &[u8]) -> Result<Option<Line<'_>>, 
 }
 
 // The words of a text without a comment.
-fn words_of(alloc: Global, text: &[u8]) -> Result<Vec<&[u8]>, AllocError>
-    ensures { IfOk result (λ words. map (λ w. w.now) words.items ≡ parts_of text.now) }
+fn words_between_blanks(alloc: Global, text: &[u8]) -> Result<Vec<&[u8]>, AllocError>
+    ensures { IfOk result (λ words. map (λ w. w.now) words.items ≡ words_between_blanks text.now) }
 {
     text.split(|byte| is_blank(*byte))
         .filter(|word| !word.is_empty())

@@ -3,7 +3,7 @@ ghost use Rattle.std.specs.Prelude.{◌≡◌, ◌<◌, ◌+◌, [], IfOk, lengt
 ghost use Rattle.layout.specs.Quorum.{has};
 ghost use Rattle.tag.specs.declared.limits.TheConstants.{MOST_SERVERS};
 ghost use Rattle.cluster_file.specs.File.{AreApart};
-ghost use Rattle.cluster_file.specs.Gives.{GivesAs};
+ghost use Rattle.words.specs.Parts.{Sees};
 ghost use Rattle.cluster_file.specs.Numbers.{number_from, node_from, of_a_byte};
 ghost use Rattle.cluster_file.specs.Reading.{placed_at, nodes_from};
 
@@ -20,7 +20,7 @@ pub(crate) fn nodes_of(
 ) -> Result<ArrayVec<u8, MOST_SERVERS>, FileFault>
     requires { AreApart others.now [] }
     ensures apart { IfOk result (λ nodes. AreApart others.now nodes.items) }
-    ensures exact { GivesAs (λ nodes. nodes.items) result
+    ensures exact { Sees (λ nodes. nodes.items) result
         (nodes_from others.now [] line (map (λ word. word.now) words.now)) }
 {
     let mut nodes = ArrayVec::new();

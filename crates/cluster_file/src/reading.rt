@@ -2,17 +2,17 @@
 ghost use Rattle.std.specs.Prelude.{◌≡◌, ◌≤◌, [], IfOk, IsTrue, length, map};
 ghost use Rattle.layout.specs.Quorum.{has};
 ghost use Rattle.cluster_file.specs.File.{AreApart, IsLawfulFixed};
-ghost use Rattle.cluster_file.specs.Gives.{Gives, GivesAt, seen, shown};
+ghost use Rattle.cluster_file.specs.Gives.{GivesFile, SeesLines, seen, shown};
 ghost use Rattle.cluster_file.specs.Numbers.{number_from, delta_from, mover_from};
 ghost use Rattle.cluster_file.specs.Reading.{
   setting_at,
-  value_at,
+  setting_value,
   nodes_at,
   later_at,
   fixed_at,
   file_at,
   file_of,
-  ending,
+  unless_line_left,
 };
 ghost use Rattle.cluster_file.specs.declared.setting.Setting.TheVariants as setting;
 
@@ -22,18 +22,18 @@ use crate::lines::{Line, lines_of};
 use crate::nodes::nodes_of;
 use crate::number::Range;
 use crate::setting::{Setting, behind_fault, due_fault};
-use crate::values::{delta_in, first_of, mover_in, number_in};
+use crate::values::{delta_in, first_value, mover_in, number_in};
 use arrayvec::ArrayVec;
-use script::split_lines;
 use std::alloc::Global;
 use tag::MOST_SERVERS;
+use words::split_lines;
 
 /// The file that a text writes.
 ///
 /// A `Fault` is the first one from top to bottom and, in a line, from left to right. `NoMemory` where memory is refused
 /// for the lists of lines and words.
 pub fn read_cluster_file(alloc: Global, text: &[u8]) -> Result<ClusterFile, FileError>
-    ensures { Gives result (file_of text.now) }
+    ensures { GivesFile result (file_of text.now) }
 {
     let texts = split_lines(alloc, text)?;
     let lines = lines_of(alloc, &texts)?;
@@ -58,7 +58,7 @@ fn file_of(lines: &[Line<'_>], end: u64) -> Result<ClusterFile, FileFault>
 
 // The file, unless a line is left.
 fn ended(file: ClusterFile, lines: &[Line<'_>]) -> Result<ClusterFile, FileFault>
-    ensures { result ≡ ending (map seen lines.now) file }
+    ensures { result ≡ unless_line_left (map seen lines.now) file }
 {
     match lines {
         [] => Ok(file),
@@ -75,7 +75,7 @@ fn ended(file: ClusterFile, lines: &[Line<'_>]) -> Result<ClusterFile, FileFault
 fn fixed_at<'a, 'b>(lines: &'b [Line<'a>], end: u64) -> Result<(Fixed, &'b [Line<'a>]), FileFault>
     ensures lawful { IfOk result (λ x. IsLawfulFixed (shown x.0)) }
     ensures apart { IfOk result (λ x. AreApart x.0.nodes.items []) }
-    ensures exact { GivesAt shown result (fixed_at end (map seen lines.now)) }
+    ensures exact { SeesLines shown result (fixed_at end (map seen lines.now)) }
 {
     let (nodes, rest) = nodes_at(lines, end)?;
     let range = Range {
@@ -109,10 +109,10 @@ fn nodes_at<'a, 'b>(
     end: u64,
 ) -> Result<(ArrayVec<u8, MOST_SERVERS>, &'b [Line<'a>]), FileFault>
     ensures apart { IfOk result (λ x. AreApart [] x.0.items) }
-    ensures exact { GivesAt (λ nodes. nodes.items) result (nodes_at end (map seen lines.now)) }
+    ensures exact { SeesLines (λ nodes. nodes.items) result (nodes_at end (map seen lines.now)) }
 {
     let (line, rest) = setting_at(Setting::Nodes, lines, end)?;
-    first_of(line)?;
+    first_value(line)?;
     let nodes = nodes_of(&line.values, line.number, &[])?;
     Ok((nodes, rest))
 }
@@ -126,7 +126,7 @@ fn later_at<'a, 'b>(
 ) -> Result<(ArrayVec<u8, MOST_SERVERS>, &'b [Line<'a>]), FileFault>
     requires { AreApart others.now [] }
     ensures apart { IfOk result (λ x. AreApart others.now x.0.items) }
-    ensures exact { GivesAt (λ nodes. nodes.items) result (later_at others.now end (map seen lines.now)) }
+    ensures exact { SeesLines (λ nodes. nodes.items) result (later_at others.now end (map seen lines.now)) }
 {
     let (line, rest) = setting_at(Setting::Later, lines, end)?;
     let nodes = nodes_of(&line.values, line.number, others)?;
@@ -134,7 +134,7 @@ fn later_at<'a, 'b>(
 }
 
 // The number of the setting that is due.
-#[tactic(auto, unfolding(crate::specs::Reading::value_at))]
+#[tactic(auto, unfolding(crate::specs::Reading::setting_value))]
 fn number_at<'a, 'b>(
     due: Setting,
     range: Range,
@@ -143,8 +143,8 @@ fn number_at<'a, 'b>(
 ) -> Result<(u32, &'b [Line<'a>]), FileFault>
     ensures least { IfOk result (λ x. range.least ≤ x.0) }
     ensures most { IfOk result (λ x. x.0 ≤ range.most) }
-    ensures exact { GivesAt (λ number. number) result
-        (value_at due (number_from range) end (map seen lines.now)) }
+    ensures exact { SeesLines (λ number. number) result
+        (setting_value due (number_from range) end (map seen lines.now)) }
 {
     let (line, rest) = setting_at(due, lines, end)?;
     let number = number_in(line, range)?;
@@ -152,12 +152,12 @@ fn number_at<'a, 'b>(
 }
 
 // The bound delta.
-#[tactic(auto, unfolding(crate::specs::Reading::value_at))]
+#[tactic(auto, unfolding(crate::specs::Reading::setting_value))]
 fn delta_at<'a, 'b>(
     lines: &'b [Line<'a>],
     end: u64,
 ) -> Result<(Option<u32>, &'b [Line<'a>]), FileFault>
-    ensures { GivesAt (λ delta. delta) result (value_at setting.Delta delta_from end (map seen lines.now)) }
+    ensures { SeesLines (λ delta. delta) result (setting_value setting.Delta delta_from end (map seen lines.now)) }
 {
     let (line, rest) = setting_at(Setting::Delta, lines, end)?;
     let delta = delta_in(line)?;
@@ -165,15 +165,15 @@ fn delta_at<'a, 'b>(
 }
 
 // The node that moves objects.
-#[tactic(auto, unfolding(crate::specs::Reading::value_at))]
+#[tactic(auto, unfolding(crate::specs::Reading::setting_value))]
 fn mover_at<'a, 'b>(
     nodes: &[u8],
     lines: &'b [Line<'a>],
     end: u64,
 ) -> Result<(u8, &'b [Line<'a>]), FileFault>
     ensures found { IfOk result (λ x. IsTrue (has nodes.now x.0)) }
-    ensures exact { GivesAt (λ node. node) result
-        (value_at setting.Mover (mover_from nodes.now) end (map seen lines.now)) }
+    ensures exact { SeesLines (λ node. node) result
+        (setting_value setting.Mover (mover_from nodes.now) end (map seen lines.now)) }
 {
     let (line, rest) = setting_at(Setting::Mover, lines, end)?;
     let mover = mover_in(line, nodes)?;
@@ -187,7 +187,7 @@ fn setting_at<'a, 'b>(
     lines: &'b [Line<'a>],
     end: u64,
 ) -> Result<(&'b Line<'a>, &'b [Line<'a>]), FileFault>
-    ensures { GivesAt (λ line. seen line.now) result (setting_at due end (map seen lines.now)) }
+    ensures { SeesLines (λ line. seen line.now) result (setting_at due end (map seen lines.now)) }
 {
     let [line, rest @ ..] = lines else {
         return Err(FileFault {

@@ -1,8 +1,9 @@
 //! The values of one line.
 ghost use Rattle.std.specs.Prelude.{◌≡◌, map};
-ghost use Rattle.cluster_file.specs.Gives.{GivesAs, seen};
+ghost use Rattle.cluster_file.specs.Gives.{seen};
+ghost use Rattle.words.specs.Parts.{Sees};
 ghost use Rattle.cluster_file.specs.Numbers.{number_from, delta_from, mover_from};
-ghost use Rattle.cluster_file.specs.Reading.{placed_at, first_of, without_second, value_of};
+ghost use Rattle.cluster_file.specs.Reading.{placed_at, first_value, without_second, value_of_line};
 
 use crate::error::{Fault, FileFault};
 use crate::lines::Line;
@@ -21,9 +22,9 @@ pub(crate) fn placed_at<T>(line: u64, word: u64, found: Result<T, Fault>) -> Res
 }
 
 /// The first value of a line.
-pub(crate) fn first_of<'a>(line: &Line<'a>) -> Result<&'a [u8], FileFault>
-    ensures { GivesAs (λ value. value.now) result
-        (first_of line.now.number (map (λ value. value.now) line.now.values.items)) }
+pub(crate) fn first_value<'a>(line: &Line<'a>) -> Result<&'a [u8], FileFault>
+    ensures { Sees (λ value. value.now) result
+        (first_value line.now.number (map (λ value. value.now) line.now.values.items)) }
 {
     match line.values.as_slice() {
         [] => Err(FileFault {
@@ -51,31 +52,31 @@ fn without_second<T: Drop>(line: &Line<'_>, value: T) -> Result<T, FileFault>
 }
 
 /// The one value of a line, a number in this range.
-#[tactic(auto, unfolding(crate::specs::Reading::value_of))]
+#[tactic(auto, unfolding(crate::specs::Reading::value_of_line))]
 pub(crate) fn number_in(line: &Line<'_>, range: Range) -> Result<u32, FileFault>
-    ensures { result ≡ value_of (number_from range) (seen line.now) }
+    ensures { result ≡ value_of_line (number_from range) (seen line.now) }
 {
-    let word = first_of(line)?;
+    let word = first_value(line)?;
     let number = placed_at(line.number, 2, number_of(word, range))?;
     without_second(line, number)
 }
 
 /// The one value of a line, a bound delta or `none`.
-#[tactic(auto, unfolding(crate::specs::Reading::value_of))]
+#[tactic(auto, unfolding(crate::specs::Reading::value_of_line))]
 pub(crate) fn delta_in(line: &Line<'_>) -> Result<Option<u32>, FileFault>
-    ensures { result ≡ value_of delta_from (seen line.now) }
+    ensures { result ≡ value_of_line delta_from (seen line.now) }
 {
-    let word = first_of(line)?;
+    let word = first_value(line)?;
     let delta = placed_at(line.number, 2, delta_of(word))?;
     without_second(line, delta)
 }
 
 /// The one value of a line, one of these nodes.
-#[tactic(auto, unfolding(crate::specs::Reading::value_of))]
+#[tactic(auto, unfolding(crate::specs::Reading::value_of_line))]
 pub(crate) fn mover_in(line: &Line<'_>, nodes: &[u8]) -> Result<u8, FileFault>
-    ensures { result ≡ value_of (mover_from nodes.now) (seen line.now) }
+    ensures { result ≡ value_of_line (mover_from nodes.now) (seen line.now) }
 {
-    let word = first_of(line)?;
+    let word = first_value(line)?;
     let mover = placed_at(line.number, 2, mover_of(word, nodes))?;
     without_second(line, mover)
 }

@@ -4,17 +4,18 @@ use Rattle.std.specs.Prelude.{Result, get_or, drop, take}
 use Rattle.std.proofs.lemmas.List.{length-drop, take_all}
 use Rattle.coding_commands.specs.declared.request.CodingRequest.{CodingRequest}
 use Rattle.coding_commands.specs.declared.fault.Fault.{Fault}
-use Rattle.coding_commands.specs.Request.{ParsesTo, Word}
+use Rattle.coding_commands.specs.Request.{ParsesToCoding}
+use Rattle.words.specs.Word.{Word}
 
 -- the texts of borrowed words
 abbrev pub texts : List (Bor Word) → List Word
 texts words = map (λ w. w.now) words
 
 -- the first word and the words behind it
-pub ParsesTo-first : (words rest : List (Bor Word)) (command : Bor Word) (text : Word) (r : Result CodingRequest Fault)
-    → words ≡ command ∷ rest → command.now ≡ text → ParsesTo (text ∷ texts rest) r → ParsesTo (texts words) r
-ParsesTo-first words rest command text r parted is reads =
-    subst (λ ws. ParsesTo ws r) (sym (ap texts parted ∙ ap (λ w. w ∷ texts rest) is)) reads
+pub ParsesToCoding-first : (words rest : List (Bor Word)) (command : Bor Word) (text : Word) (r : Result CodingRequest Fault)
+    → words ≡ command ∷ rest → command.now ≡ text → ParsesToCoding (text ∷ texts rest) r → ParsesToCoding (texts words) r
+ParsesToCoding-first words rest command text r parted is reads =
+    subst (λ ws. ParsesToCoding ws r) (sym (ap texts parted ∙ ap (λ w. w ∷ texts rest) is)) reads
 
 -- three words
 three : (words : List (Bor Word)) (d : Bor Word) → 3 ≤ length words → length words < 4
@@ -25,12 +26,12 @@ three (a ∷ b ∷ []) d least most = absurd (omega arith)
 three (a ∷ b ∷ c ∷ []) d least most = refl
 three (a ∷ b ∷ c ∷ e ∷ more) d least most = absurd (omega arith)
 
-pub ParsesTo-three : (words : List (Bor Word)) (d : Bor Word) (r : Result CodingRequest Fault)
+pub ParsesToCoding-three : (words : List (Bor Word)) (d : Bor Word) (r : Result CodingRequest Fault)
     → 3 ≤ length words → length words < 4
-    → ParsesTo (codes "fragments" ∷ (get_or words 0 d).now ∷ (get_or words 1 d).now ∷ (get_or words 2 d).now ∷ []) r
-    → ParsesTo (codes "fragments" ∷ texts words) r
-ParsesTo-three words d r least most reads =
-    subst (λ ws. ParsesTo (codes "fragments" ∷ ws) r) (sym (three words d least most)) reads
+    → ParsesToCoding (codes "fragments" ∷ (get_or words 0 d).now ∷ (get_or words 1 d).now ∷ (get_or words 2 d).now ∷ []) r
+    → ParsesToCoding (codes "fragments" ∷ texts words) r
+ParsesToCoding-three words d r least most reads =
+    subst (λ ws. ParsesToCoding (codes "fragments" ∷ ws) r) (sym (three words d least most)) reads
 
 -- two words and the words behind them
 two : (words : List (Bor Word)) (d : Bor Word) → 2 ≤ length words
@@ -39,11 +40,11 @@ two [] d least = absurd (omega arith)
 two (a ∷ []) d least = absurd (omega arith)
 two (a ∷ b ∷ more) d least = refl
 
-pub ParsesTo-two : (words : List (Bor Word)) (d : Bor Word) (r : Result CodingRequest Fault) → 2 ≤ length words
-    → ParsesTo (codes "decode" ∷ (get_or words 0 d).now ∷ (get_or words 1 d).now
+pub ParsesToCoding-two : (words : List (Bor Word)) (d : Bor Word) (r : Result CodingRequest Fault) → 2 ≤ length words
+    → ParsesToCoding (codes "decode" ∷ (get_or words 0 d).now ∷ (get_or words 1 d).now
     ∷ texts (take (length words - 2) (drop 2 words))) r
-    → ParsesTo (codes "decode" ∷ texts words) r
-ParsesTo-two words d r least reads =
+    → ParsesToCoding (codes "decode" ∷ texts words) r
+ParsesToCoding-two words d r least reads =
     let all : take (length words - 2) (drop 2 words) ≡ drop 2 words = take_all _ _ (simp length-drop (omega arith)) in
-    subst (λ ws. ParsesTo (codes "decode" ∷ ws) r)
+    subst (λ ws. ParsesToCoding (codes "decode" ∷ ws) r)
     (ap (λ more. (get_or words 0 d).now ∷ (get_or words 1 d).now ∷ texts more) all ∙ sym (two words d least)) reads

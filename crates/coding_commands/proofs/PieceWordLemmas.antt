@@ -10,10 +10,11 @@ use Rattle.coding_commands.specs.declared.request.CodingRequest.{CodingRequest}
 use Rattle.coding_commands.specs.declared.request.CodingRequest.TheVariants as of
 use Rattle.coding_commands.specs.declared.fault.Fault.{Fault}
 use Rattle.coding_commands.specs.declared.fault.Fault.TheVariants.{BadArgument, Refused}
-use Rattle.coding_commands.specs.Request.{SpellPieces, IsPiece, Word, HasForm, Spells, IsFaultOf}
+use Rattle.coding_commands.specs.Request.{SpellPieces, SpellsPiece, HasCodingForm, SpellsCoding, IsCodingFaultOf}
+use Rattle.words.specs.Word.{Word}
 
 -- one more word and its piece
-pub SpellPieces-snoc : (len : ℕ) (ws : List Word) (ps : List Piece) (w : Word) (p : Piece) → SpellPieces len ws ps → IsPiece len w p
+pub SpellPieces-snoc : (len : ℕ) (ws : List Word) (ps : List Piece) (w : Word) (p : Piece) → SpellPieces len ws ps → SpellsPiece len w p
     → SpellPieces len (ws ++ w ∷ []) (ps ++ p ∷ [])
 SpellPieces-snoc len [] [] w p are is = (is, tt)
 SpellPieces-snoc len [] (q ∷ ps) w p are is = absurd are
@@ -23,7 +24,7 @@ SpellPieces-snoc len (v ∷ ws) (q ∷ ps) w p are is = (are.0, SpellPieces-snoc
 -- each of the words has its piece
 pub SpellPieces-at : (len : ℕ) (ws : List (Bor Word)) (ps : List Piece) (i : ℕ) (d : Bor Word)
     → SpellPieces len (map (λ w. w.now) ws) ps → i < length ws
-    → (p : Piece) × IsPiece len (get_or ws i d).now p
+    → (p : Piece) × SpellsPiece len (get_or ws i d).now p
 SpellPieces-at len [] ps i d are below = absurd (omega arith)
 SpellPieces-at len (w ∷ ws) [] i d are below = absurd are
 SpellPieces-at len (w ∷ ws) (p ∷ ps) zero d are below = (p, are.0)
@@ -31,7 +32,7 @@ SpellPieces-at len (w ∷ ws) (p ∷ ps) (suc i) d are below = SpellPieces-at le
 
 -- one more word that is a piece
 pub SpellPieces-more : (len : ℕ) (ws : List (Bor Word)) (i : ℕ) (d : Bor Word) (ps : List Piece) (p : Piece) → i < length ws
-    → SpellPieces len (map (λ w. w.now) (take i ws)) ps → IsPiece len (get_or ws i d).now p
+    → SpellPieces len (map (λ w. w.now) (take i ws)) ps → SpellsPiece len (get_or ws i d).now p
     → SpellPieces len (map (λ w. w.now) (take (i + 1) ws)) (ps ++ p ∷ [])
 SpellPieces-more len ws i d ps p below are is =
     let P : List Word → Type 0 = λ xs. SpellPieces len xs (ps ++ p ∷ []) in
@@ -48,13 +49,13 @@ err_of (Err y) e P Q is holds = subst Q (sym is) holds
 
 -- a fault of memory, or of words that have the form and spell nothing
 pub fault_of : (words : List Word) (e : Fault) (A : Type 0) → (e ≡ Refused NoMemory) ⊎ ((e ≡ BadArgument) × A)
-    → HasForm words → (A → (r : CodingRequest) → ¬ (Spells words r)) → IsFaultOf words e
-fault_of words e A (inl memory) form none = subst (IsFaultOf words) (sym memory) refl
-fault_of words e A (inr bad) form none = subst (IsFaultOf words) (sym bad.0) (form, none bad.1)
+    → HasCodingForm words → (A → (r : CodingRequest) → ¬ (SpellsCoding words r)) → IsCodingFaultOf words e
+fault_of words e A (inl memory) form none = subst (IsCodingFaultOf words) (sym memory) refl
+fault_of words e A (inr bad) form none = subst (IsCodingFaultOf words) (sym bad.0) (form, none bad.1)
 
 -- words of `fragments` whose last word writes no bytes
 pub no_bytes : (a b c : Word) → ((bytes : List ℕ) → ¬ (IsHexadecimal c bytes)) → (r : CodingRequest)
-    → ¬ (Spells (codes "fragments" ∷ a ∷ b ∷ c ∷ []) r)
+    → ¬ (SpellsCoding (codes "fragments" ∷ a ∷ b ∷ c ∷ []) r)
 no_bytes a b c none (of.Fragments k n value) s =
     let same : s.2 ≡ c = sym (ap (λ (ws : List Word). get_or ws 3 []) s.3) in
     let P : Word → Type 0 = λ w. IsHexadecimal w value in

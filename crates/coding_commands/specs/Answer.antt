@@ -12,18 +12,18 @@ use Rattle.coding_commands.specs.declared.output.Output.{Output}
 use Rattle.coding_commands.specs.declared.output.Output.TheVariants as output
 
 -- the pieces are lawful, and this is the only value that they interpolate
-pub record IsValueOf (k len : ℕ) (pieces : List Piece) (value : List ℕ) : Type 0 where
+pub record IsDecodedValue (k len : ℕ) (pieces : List Piece) (value : List ℕ) : Type 0 where
   pub lawful : AreLawful k len pieces
   pub interpolated : IsInterpolated k len pieces value
   pub only : (v : List ℕ) → IsInterpolated k len pieces v → v ≡ value
 
 -- the output answers the request: the fragments of its value, which can be encoded, or the value of its pieces
-abbrev pub IsAnswer : CodingRequest → Output → Type 0
-IsAnswer (request.Fragments k n value) (output.Fragments coded) =
+abbrev pub IsAnswerTo : CodingRequest → Output → Type 0
+IsAnswerTo (request.Fragments k n value) (output.Fragments coded) =
     (encode_cause k n (length value) ≡ None) × (coded ≡ record { k = k; n = n; value = value })
-IsAnswer (request.Fragments k n value) (output.Value decoded) = ⊥
-IsAnswer (request.Decode k len pieces) (output.Fragments coded) = ⊥
-IsAnswer (request.Decode k len pieces) (output.Value decoded) = IsValueOf k len pieces.items decoded.value
+IsAnswerTo (request.Fragments k n value) (output.Value decoded) = ⊥
+IsAnswerTo (request.Decode k len pieces) (output.Fragments coded) = ⊥
+IsAnswerTo (request.Decode k len pieces) (output.Value decoded) = IsDecodedValue k len pieces.items decoded.value
 
 -- this refusal applies to the request
 abbrev pub IsRefusedFor : CodingRequest → Refusal → Type 0

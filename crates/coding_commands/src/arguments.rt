@@ -1,6 +1,6 @@
 //! The words of a command line that encodes or decodes.
 ghost use Rattle.std.specs.Prelude.{◌∷◌, codes, map};
-ghost use Rattle.coding_commands.specs.Request.{ParsesTo};
+ghost use Rattle.coding_commands.specs.Request.{ParsesToCoding};
 
 use crate::fault::Fault;
 use crate::request::{CodingRequest, decode_request, fragments_request};
@@ -8,7 +8,7 @@ use std::alloc::Global;
 
 /// The request that the words after the program's name spell.
 pub(crate) fn parse_request(alloc: Global, words: &[&str]) -> Result<CodingRequest, Fault>
-    ensures { ParsesTo (map (λ w. w.now) words.now) result }
+    ensures { ParsesToCoding (map (λ w. w.now) words.now) result }
 {
     let Some((command, rest)) = words.split_first() else {
         return Err(Fault::Usage);
@@ -21,7 +21,7 @@ pub(crate) fn parse_request(alloc: Global, words: &[&str]) -> Result<CodingReque
 }
 
 fn parse_fragments(alloc: Global, words: &[&str]) -> Result<CodingRequest, Fault>
-    ensures { ParsesTo (codes "fragments" ∷ map (λ w. w.now) words.now) result }
+    ensures { ParsesToCoding (codes "fragments" ∷ map (λ w. w.now) words.now) result }
 {
     match words {
         [k, n, digits] => fragments_request(alloc, k, n, digits),
@@ -30,7 +30,7 @@ fn parse_fragments(alloc: Global, words: &[&str]) -> Result<CodingRequest, Fault
 }
 
 fn parse_decode(alloc: Global, words: &[&str]) -> Result<CodingRequest, Fault>
-    ensures { ParsesTo (codes "decode" ∷ map (λ w. w.now) words.now) result }
+    ensures { ParsesToCoding (codes "decode" ∷ map (λ w. w.now) words.now) result }
 {
     match words {
         [_] => Err(Fault::Usage),

@@ -3,9 +3,9 @@ ghost use Rattle.std.specs.Prelude.{◌≡◌, ◌⊎◌, ◌++◌, [], ◌∷�
 ghost use Rattle.std.specs.Io.KnownBytes.{Appends, Keeps};
 ghost use Rattle.tag.specs.declared.refusal.Refusal.{Refusal};
 ghost use Rattle.tag.specs.declared.refusal.Refusal.TheVariants.{NoMemory};
-ghost use Rattle.coding_commands.specs.Answer.{IsAnswer, IsRefusedFor};
+ghost use Rattle.coding_commands.specs.Answer.{IsAnswerTo, IsRefusedFor};
 ghost use Rattle.coding_commands.specs.Output.{output_text};
-ghost use Rattle.coding_commands.specs.Program.{AnswersRequest, EndsBy, IsPrinted};
+ghost use Rattle.coding_commands.specs.Program.{AnswersRequest, CodingEndsBy, IsPrinted};
 ghost use Rattle.coding_commands.specs.declared.request.CodingRequest.TheVariants as request;
 ghost use Rattle.coding_commands.specs.declared.fault.Fault.TheVariants.{OutputLost, Refused};
 
@@ -25,7 +25,7 @@ use tag::Refusal;
 /// written, 1 for a refusal or lost output, 2 for words that spell no request. Where the status is not 0, a text on
 /// `err` says why.
 pub fn run_words<O: Write, E: Write>(alloc: Global, words: &[&str], out: &mut O, err: &mut E) -> u8
-    ensures { EndsBy (map (λ w. w.now) words.now) (O.contents out.old) (O.contents out.new) result }
+    ensures { CodingEndsBy (map (λ w. w.now) words.now) (O.contents out.old) (O.contents out.new) result }
 {
     match parse_request(alloc, words) {
         Ok(request) => answer_request(alloc, request, out, err),
@@ -54,7 +54,7 @@ pub fn answer_request<O: Write, E: Write>(
 }
 
 fn answer_fragments(alloc: Global, k: u64, n: u64, value: Bytes) -> Result<Output, Refusal>
-    ensures answered { IfOk result (IsAnswer (request.Fragments k n value)) }
+    ensures answered { IfOk result (IsAnswerTo (request.Fragments k n value)) }
     ensures refused { IfErr result (λ r. (r ≡ NoMemory) ⊎ IsRefusedFor (request.Fragments k n value) r) }
     ensures by_cause { (r : Refusal) → IsRefusedFor (request.Fragments k n value) r → result ≡ Err r }
 {
@@ -63,7 +63,7 @@ fn answer_fragments(alloc: Global, k: u64, n: u64, value: Bytes) -> Result<Outpu
 }
 
 fn answer_decode(alloc: Global, k: u64, len: u64, pieces: Vec<Piece>) -> Result<Output, Refusal>
-    ensures answered { IfOk result (IsAnswer (request.Decode k len pieces)) }
+    ensures answered { IfOk result (IsAnswerTo (request.Decode k len pieces)) }
     ensures refused { IfErr result (λ r. (r ≡ NoMemory) ⊎ IsRefusedFor (request.Decode k len pieces) r) }
     ensures by_cause { (r : Refusal) → IsRefusedFor (request.Decode k len pieces) r → result ≡ Err r }
 {

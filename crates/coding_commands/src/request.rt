@@ -4,7 +4,7 @@ ghost use Rattle.piece.specs.declared.piece.Piece.{Piece};
 ghost use Rattle.tag.specs.declared.refusal.Refusal.TheVariants.{NoMemory};
 ghost use Rattle.words.specs.Hexadecimal.{IsHexadecimal};
 ghost use Rattle.words.specs.Number.{IsNumber};
-ghost use Rattle.coding_commands.specs.Request.{SpellPieces, IsPiece, ParsesTo};
+ghost use Rattle.coding_commands.specs.Request.{SpellPieces, SpellsPiece, ParsesToCoding};
 ghost use Rattle.coding_commands.specs.declared.fault.Fault.TheVariants.{BadArgument, Refused};
 
 use crate::fault::Fault;
@@ -38,7 +38,7 @@ pub fn fragments_request(
     n: &str,
     digits: &str,
 ) -> Result<CodingRequest, Fault>
-    ensures { ParsesTo (codes "fragments" ∷ k.now ∷ n.now ∷ digits.now ∷ []) result }
+    ensures { ParsesToCoding (codes "fragments" ∷ k.now ∷ n.now ∷ digits.now ∷ []) result }
 {
     let k = number(k)?;
     let n = number(n)?;
@@ -54,7 +54,7 @@ pub fn decode_request(
     len: &str,
     words: &[&str],
 ) -> Result<CodingRequest, Fault>
-    ensures { ParsesTo (codes "decode" ∷ k.now ∷ len.now ∷ map (λ w. w.now) words.now) result }
+    ensures { ParsesToCoding (codes "decode" ∷ k.now ∷ len.now ∷ map (λ w. w.now) words.now) result }
 {
     let k = number(k)?;
     let len = number(len)?;
@@ -75,8 +75,8 @@ fn parse_pieces(alloc: Global, len: u64, words: &[&str]) -> Result<Vec<Piece>, F
 }
 
 fn parse_piece(alloc: Global, len: u64, word: &str) -> Result<Piece, Fault>
-    ensures { MatchResult result (IsPiece len word.now)
-        (λ e. (e ≡ Refused NoMemory) ⊎ ((e ≡ BadArgument) × ((p : Piece) → ¬ (IsPiece len word.now p)))) }
+    ensures { MatchResult result (SpellsPiece len word.now)
+        (λ e. (e ≡ Refused NoMemory) ⊎ ((e ≡ BadArgument) × ((p : Piece) → ¬ (SpellsPiece len word.now p)))) }
 {
     let Some((point, digits)) = word.split_once(':') else {
         return Err(Fault::BadArgument);

@@ -1,7 +1,7 @@
 //! Decoding the value of pieces.
 ghost use Rattle.std.specs.Prelude.{◌≡◌, ◌↔◌, ◌⊎◌, IfErr, IfOk};
 ghost use Rattle.decoder.specs.Pieces.{AreLawful, HaveNoValue};
-ghost use Rattle.coding_commands.specs.Answer.{IsValueOf};
+ghost use Rattle.coding_commands.specs.Answer.{IsDecodedValue};
 
 use decoder::{Decoded, decode};
 use piece::Piece;
@@ -16,7 +16,7 @@ pub(crate) fn value_of(
     len: u64,
     pieces: Vec<Piece>,
 ) -> Result<Decoded, Refusal>
-    ensures value { IfOk result (λ d. IsValueOf k len pieces.items d.value) }
+    ensures value { IfOk result (λ d. IsDecodedValue k len pieces.items d.value) }
     ensures bad_pieces { (result ≡ Err Refusal.BadPieces)
         ↔ ((¬ AreLawful k len pieces.items) ⊎ HaveNoValue k len pieces.items) }
     ensures refused { IfErr result (λ r. (r ≡ Refusal.BadPieces) ⊎ (r ≡ Refusal.NoMemory)) }

@@ -23,7 +23,7 @@ use Rattle.clap.specs.declared.error.kind.ErrorKind.{ErrorKind}
 use Rattle.clap.specs.declared.error.kind.ErrorKind.TheVariants.{OutOfMemory}
 use Rattle.tag.specs.declared.refusal.Refusal.TheVariants.{NoMemory}
 use Rattle.commands.specs.CommandLine.{cas_form, marked_words}
-use Rattle.coding_commands.specs.Request.{Word}
+use Rattle.words.specs.Word.{Word}
 use Rattle.commands.specs.Request.{HasForm, IsFaultOf, ParsesTo}
 use Rattle.commands.specs.declared.request.Request.{Request}
 use Rattle.coding_commands.specs.declared.fault.Fault.{Fault}

@@ -2,8 +2,8 @@
 use Rattle.std.proofs.Common.{◌≡◌, ◌∙◌, ℕ, List, [], ◌∷◌, get_or, refl, ap, sym, arith, subst, inl, inr, codes}
 use Rattle.words.specs.Number.{IsNumber}
 use Rattle.soak.specs.declared.plan.Plan.{Plan}
-use Rattle.coding_commands.specs.Request.{Word}
-use Rattle.coding_commands.specs.Request.{HasForm as HasCodingForm, Spells as SpellsCoding}
+use Rattle.words.specs.Word.{Word}
+use Rattle.coding_commands.specs.Request.{HasCodingForm, SpellsCoding}
 use Rattle.coding_commands.specs.declared.fault.Fault.{Fault}
 use Rattle.coding_commands.specs.declared.fault.Fault.TheVariants.{BadArgument}
 use Rattle.coding_commands.specs.declared.request.CodingRequest.{CodingRequest}

@@ -4,8 +4,8 @@ use Rattle.std.specs.Prelude.{◌≡◌, ◌⊎◌, List, [], ◌∷◌, codes, 
 use Rattle.tag.specs.declared.refusal.Refusal.TheVariants.{NoMemory}
 use Rattle.words.specs.Number.{IsNumber}
 use Rattle.soak.specs.Plan.{IsWithin}
-use Rattle.coding_commands.specs.Request.{Word}
-use Rattle.coding_commands.specs.Request.{HasForm as HasCodingForm, Spells as SpellsCoding}
+use Rattle.words.specs.Word.{Word}
+use Rattle.coding_commands.specs.Request.{HasCodingForm, SpellsCoding}
 use Rattle.coding_commands.specs.declared.fault.Fault.{Fault}
 use Rattle.coding_commands.specs.declared.fault.Fault.TheVariants.{NotText, Usage, BadArgument, Refused, OutputLost}
 use Rattle.commands.specs.declared.request.Request.{Request}

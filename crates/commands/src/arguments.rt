@@ -7,7 +7,7 @@ ghost use Rattle.tag.specs.declared.refusal.Refusal.TheVariants.{NoMemory};
 ghost use Rattle.commands.specs.CommandLine.{IsForm, cas_form, decode_form, fragments_form, marked_words, positional};
 ghost use Rattle.commands.specs.CommandLine.{run_form, several, soak_form};
 ghost use Rattle.commands.specs.Request.{ParsesTo};
-ghost use Rattle.coding_commands.specs.Request.{Word};
+ghost use Rattle.words.specs.Word.{Word};
 ghost use Rattle.coding_commands.specs.declared.fault.Fault.TheVariants.{Refused, Usage};
 
 use crate::request::{Request, decode_request, fragments_request, run_request, soak_request};

@@ -1,6 +1,6 @@
 //! The program, generic over its writers.
 ghost use Rattle.std.specs.Prelude.{List, map, string_bytes};
-ghost use Rattle.coding_commands.specs.Request.{Word};
+ghost use Rattle.words.specs.Word.{Word};
 ghost use Rattle.commands.specs.Program.{EndsBy};
 ghost use Rattle.commands.specs.Request.{Spells};
 

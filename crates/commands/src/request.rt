@@ -1,8 +1,8 @@
 //! The requests of the program, read from the words of a command line.
 ghost use Rattle.std.specs.Prelude.{◌≡◌, ◌∷◌, [], ℕ, List, MatchResult, codes, map};
 ghost use Rattle.words.specs.Number.{IsNumber};
-ghost use Rattle.coding_commands.specs.Request.{Word};
-ghost use Rattle.coding_commands.specs.Request.{HasForm as HasCodingForm, ParsesTo as ParsesToCoding};
+ghost use Rattle.words.specs.Word.{Word};
+ghost use Rattle.coding_commands.specs.Request.{HasCodingForm, ParsesToCoding};
 ghost use Rattle.coding_commands.specs.declared.fault.Fault.TheVariants.{BadArgument};
 ghost use Rattle.commands.specs.Request.{ParsesTo};
 

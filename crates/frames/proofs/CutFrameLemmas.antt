@@ -5,16 +5,19 @@ use Rattle.std.proofs.Common.{append_assoc, arith, inl, inr}
 use Rattle.std.proofs.lemmas.Bool.{ltb-true, ltb-false, le-ltb, lt-ltb}
 use Rattle.std.proofs.lemmas.List.{append-nil, length-append, take-append-le, drop-append-le}
 use Rattle.frames.specs.declared.error.Fault.{Fault}
-use Rattle.frames.specs.declared.error.Fault.TheVariants.{NoLineEnd, UnexpectedEnd, StringTooLong, TooManyStrings, BadType}
+use Rattle.frames.specs.declared.error.Fault.TheVariants.{BadNumber, NoLineEnd, UnexpectedEnd, StringTooLong, TooManyStrings, BadType}
 use Rattle.frames.specs.declared.limits.TheConstants.{MOST_STRINGS, LONGEST_STRING}
 use Rattle.frames.specs.Frame.{IsFrame, frame_bytes}
 use Rattle.frames.specs.Laws.{CutEndsEarly}
-use Rattle.frames.specs.Reading.{Parsed, and_then, leaving, byte_at, expected_at, line_end_at, bytes_at, first_digit}
-use Rattle.frames.specs.Reading.{with_digit, digits_at, number_at, string_at, strings_at, array_at, frame_at}
+use Rattle.frames.specs.Reading.{Parsed, leaving, byte_at, expected_at, line_end_at, bytes_at}
+use Rattle.frames.specs.Reading.{digits_at, number_at, string_at, strings_at, array_at, frame_at}
 use Rattle.frames.proofs.FrameRoundTripLemmas.{frame_again}
-use Rattle.frames.proofs.ReadPartLemmas.{and_then_ok, ok_is}
+use Rattle.frames.proofs.ReadPartLemmas.{ok_is}
 use Rattle.frames.proofs.RestAfterPartLemmas.{after_digits, after_first, after_byte, after_string, after_length, after_mark}
 use Rattle.frames.proofs.RestAfterPartLemmas.{after_one, after_count, as_frame}
+use Rattle.words.specs.Digits.{first_digit, with_digit}
+use Rattle.words.specs.Parts.{and_then}
+use Rattle.words.proofs.PartLemmas.{bind_ok}
 
 -- what is read of a front of some bytes, of which `v` is read in all: `v` too, with the same bytes behind it, or their end
 abbrev OfFront : {A : Type 0} → Parsed A → (ys : List ℕ) → A → (rest : List ℕ) → Type 0
@@ -34,7 +37,7 @@ err_and_then r f d e = rw e refl
 in_turn : {A B : Type 0} (part : List ℕ → Parsed A) (f : A × List ℕ → Parsed B) → ReadsInOrder part
     → ((v : A) → ReadsInOrder (λ bytes. f (v, bytes))) → ReadsInOrder (λ bytes. and_then (part bytes) f)
 in_turn {A = A} {B = B} part f first next xs ys v rest e =
-    let x = and_then_ok (part (xs ++ ys)) f (v, rest) e in
+    let x = bind_ok (part (xs ++ ys)) f (v, rest) e in
     here x.0.0 x.0.1 x.2 (first xs ys x.0.0 x.0.1 x.1)
   where
     here : (w : A) (more : List ℕ) → f (w, more) ≡ Ok (v, rest) → OfFront (part xs) ys w more → OfFront (and_then (part xs) f) ys v rest
@@ -111,14 +114,14 @@ digits_in_order : (most : ℕ) (above : Fault) (n : ℕ) (xs ys : List ℕ) (v :
 unfolding digits_at
 digits_in_order most above n [] ys v rest e = inr refl
 digits_in_order most above n (byte ∷ xs) ys v rest e =
-    ends_or_goes_on (eqb byte 13) n (with_digit most above n byte) (λ m. digits_at most above m.0 (xs ++ ys))
+    ends_or_goes_on (eqb byte 13) n (with_digit BadNumber most above n byte) (λ m. digits_at most above m.0 (xs ++ ys))
     (λ m. digits_at most above m.0 xs) xs ys v rest (λ m. digits_in_order most above m xs ys v rest) e
 
 number_in_order : (most : ℕ) (above : Fault) → ReadsInOrder (number_at most above)
 unfolding number_at
 number_in_order most above =
     in_turn byte_at (after_byte most above) byte_in_order
-    (λ byte. in_turn (leaving (first_digit byte)) (after_first most above) (tested (first_digit byte))
+    (λ byte. in_turn (leaving (first_digit BadNumber byte)) (after_first most above) (tested (first_digit BadNumber byte))
     (λ first. in_turn (digits_at most above first) after_digits (digits_in_order most above first)
     (λ n. in_turn (expected_at 10 NoLineEnd) (λ lf. Ok (n, lf.1)) (expected_in_order 10 NoLineEnd) (λ _. at_once n))))
 

@@ -8,11 +8,13 @@ use Rattle.frames.specs.declared.error.Fault.TheVariants.{BadType, TooManyString
 use Rattle.frames.specs.declared.limits.TheConstants.{MOST_STRINGS}
 use Rattle.frames.specs.Frame.{IsFrame, line_end, string_bytes, frame_bytes}
 use Rattle.frames.specs.Laws.{WrittenIsRead, ReadWasWritten, BeginsOneFrame}
-use Rattle.frames.specs.Reading.{Parsed, and_then, number_at, array_at, frame_at}
+use Rattle.frames.specs.Reading.{Parsed, number_at, array_at, frame_at}
 use Rattle.frames.proofs.RestAfterPartLemmas.{after_count, as_frame}
-use Rattle.frames.proofs.ReadPartLemmas.{and_then_ok, guarded, ok_is}
+use Rattle.frames.proofs.ReadPartLemmas.{ok_is}
 use Rattle.frames.proofs.NumberRoundTripLemmas.{number_ok, number_again}
 use Rattle.frames.proofs.StringRoundTripLemmas.{strings_ok, strings_again}
+use Rattle.words.specs.Parts.{and_then}
+use Rattle.words.proofs.PartLemmas.{bind_ok, guarded}
 
 -- the limit is below 2^64
 limit : (n : ℕ) → n ≡ 1024 → (9 ≤ n) × (n < 2 ^ 64)
@@ -33,7 +35,7 @@ some_none x e = absurd cc
 array_ok : (bytes : List ℕ) (x : List (List ℕ) × List ℕ) → array_at bytes ≡ Ok x → IsFrame x.0 × (42 ∷ bytes ≡ frame_bytes x.0 ++ x.1)
 unfolding array_at
 array_ok bytes x e =
-    let n = and_then_ok (number_at MOST_STRINGS TooManyStrings bytes) after_count x e in
+    let n = bind_ok (number_at MOST_STRINGS TooManyStrings bytes) after_count x e in
     let within = limit MOST_STRINGS refl in
     let number = number_ok MOST_STRINGS TooManyStrings bytes n.0 within.0 within.1 n.1 in
     let strings = strings_ok n.0.0 n.0.1 x n.2 in
@@ -53,7 +55,7 @@ marked : (byte : ℕ) (bytes : List ℕ) (found : Found) → frame_at (byte ∷ 
 unfolding frame_at
 marked byte bytes found e =
     let g = guarded (eqb byte 42) (and_then (array_at bytes) as_frame) (BadType, bytes) found e in
-    let a = and_then_ok (array_at bytes) as_frame found g.1 in
+    let a = bind_ok (array_at bytes) as_frame found g.1 in
     (eqb-true byte 42 g.0, a.0, a.1, ok_is (Some a.0.0, a.0.1) found a.2)
 
 pub frame_ok : ReadWasWritten

@@ -8,35 +8,27 @@ use Rattle.std.proofs.lemmas.Fmt.{decimal_digit, decimal_by_steps}
 use Rattle.frames.specs.declared.error.Fault.{Fault}
 use Rattle.frames.specs.declared.error.Fault.TheVariants.{BadNumber, NoLineEnd}
 use Rattle.frames.specs.Frame.{line_end}
-use Rattle.frames.specs.Reading.{Parsed, and_then, leaving, byte_at, expected_at, digits_at, first_digit, number_at}
+use Rattle.frames.specs.Reading.{Parsed, leaving, byte_at, expected_at, digits_at, number_at}
 use Rattle.frames.proofs.RestAfterPartLemmas.{after_digits, after_first, after_byte}
-use Rattle.frames.proofs.ReadPartLemmas.{and_then_ok, guarded, ok_is, made_is, leaving_ok, byte_ok, expected_ok}
-use Rattle.frames.proofs.DigitLemmas.{Follows, is_digit, digits_ok, digits_step}
+use Rattle.frames.proofs.ReadPartLemmas.{ok_is, leaving_ok, byte_ok, expected_ok}
+use Rattle.words.specs.Digits.{first_digit}
+use Rattle.words.specs.Parts.{and_then}
+use Rattle.words.proofs.DigitLemmas.{Follows, is_digit, first_ok}
+use Rattle.words.proofs.PartLemmas.{bind_ok}
+use Rattle.frames.proofs.DigitLemmas.{digits_ok, digits_step}
 
 -- ---- what is read was written
-
--- a first digit is the number that it writes
-first_ok : (byte first : ℕ) → first_digit byte ≡ Ok first → (decimal first ≡ byte ∷ []) × (first ≤ 9)
-unfolding first_digit
-first_ok byte first e =
-    let digit = guarded (is_ascii_digit byte) (Ok (byte - 48)) BadNumber first e in
-    let range = and_parts (leb 48 byte) (leb byte 57) digit.0 in
-    let low : 48 ≤ byte = leb-true 48 byte range.0 in
-    let high : byte ≤ 57 = leb-true byte 57 range.1 in
-    let value : byte - 48 ≡ first = made_is (byte - 48) first digit.1 in
-    let back : 48 + first ≡ byte = omega arith in
-    (decimal_digit first (omega arith) ∙ ap (λ (b : ℕ). b ∷ []) back, omega arith)
 
 pub number_ok : (most : ℕ) (above : Fault) (bytes : List ℕ) (x : ℕ × List ℕ) → 9 ≤ most → most < 2 ^ 64
     → number_at most above bytes ≡ Ok x → (bytes ≡ (decimal x.0 ++ line_end) ++ x.1) × (x.0 ≤ most)
 unfolding number_at
 number_ok most above bytes x nine lt e =
-    let byte = and_then_ok (byte_at bytes) (after_byte most above) x e in
-    let first = and_then_ok (leaving (first_digit byte.0.0) byte.0.1) (after_first most above) x byte.2 in
-    let n = and_then_ok (digits_at most above first.0.0 first.0.1) after_digits x first.2 in
-    let lf = and_then_ok (expected_at 10 NoLineEnd n.0.1) (λ lf. Ok (n.0.0, lf.1)) x n.2 in
-    let left = leaving_ok (first_digit byte.0.0) byte.0.1 first.0 first.1 in
-    let digit = first_ok byte.0.0 first.0.0 left.0 in
+    let byte = bind_ok (byte_at bytes) (after_byte most above) x e in
+    let first = bind_ok (leaving (first_digit BadNumber byte.0.0) byte.0.1) (after_first most above) x byte.2 in
+    let n = bind_ok (digits_at most above first.0.0 first.0.1) after_digits x first.2 in
+    let lf = bind_ok (expected_at 10 NoLineEnd n.0.1) (λ lf. Ok (n.0.0, lf.1)) x n.2 in
+    let left = leaving_ok (first_digit BadNumber byte.0.0) byte.0.1 first.0 first.1 in
+    let digit = first_ok BadNumber byte.0.0 first.0.0 left.0 in
     let small = digit.1 in
     let rest = digits_ok most above first.0.1 first.0.0 n.0 lt (omega arith) n.1 in
     let whole : bytes ≡ (decimal n.0.0 ++ line_end) ++ lf.0.1 = byte_ok bytes byte.0 byte.1
@@ -52,7 +44,7 @@ number_ok most above bytes x nine lt e =
 -- a number, but for its line end
 abbrev start_at : ℕ → Fault → List ℕ → Parsed ℕ
 start_at most above bytes =
-    and_then (byte_at bytes) (λ byte. and_then (leaving (first_digit byte.0) byte.1) (λ first. digits_at most above first.0 first.1))
+    and_then (byte_at bytes) (λ byte. and_then (leaving (first_digit BadNumber byte.0) byte.1) (λ first. digits_at most above first.0 first.1))
 
 abbrev Starts : ℕ → Fault → ℕ → List ℕ → Type 0
 Starts most above n ds = n ≤ most → (tail : List ℕ) → start_at most above (ds ++ tail) ≡ digits_at most above n tail
@@ -91,5 +83,5 @@ unfolding number_at digits_at expected_at byte_at
 number_again most above n rest le lt =
     let text = decimal n ++ (13 ∷ 10 ∷ rest) in
     ap (number_at most above) (append_assoc (decimal n) line_end rest)
-    ∙ regroup (byte_at text) (λ byte. leaving (first_digit byte.0) byte.1) (λ first. digits_at most above first.0 first.1) after_digits
+    ∙ regroup (byte_at text) (λ byte. leaving (first_digit BadNumber byte.0) byte.1) (λ first. digits_at most above first.0 first.1) after_digits
     ∙ ap (λ (r : Parsed ℕ). and_then r after_digits) (starts most above n (omega arith) le (13 ∷ 10 ∷ rest))

@@ -8,9 +8,10 @@ use Rattle.frames.specs.declared.error.Fault.{Fault}
 use Rattle.frames.specs.declared.error.Fault.TheVariants.{NoLineEnd, UnexpectedEnd}
 use Rattle.frames.specs.declared.error.FrameError.{FrameError}
 use Rattle.frames.specs.declared.error.FrameError.TheVariants as errors
-use Rattle.frames.specs.Reading.{Parsed, and_then, GivesAs, Returns, byte_at, expected_at, line_end_at, bytes_at}
+use Rattle.frames.specs.Reading.{Parsed, GivesAs, Returns, byte_at, expected_at, line_end_at, bytes_at}
 use Rattle.frames.proofs.ReadPartLemmas.{bytes_again}
 use Rattle.frames.proofs.ReadSequenceLemmas.{Left, Between_as, then_ok, then_err, fails, succeeds, GivesAs_err}
+use Rattle.words.specs.Parts.{and_then}
 
 -- ---- one byte
 

@@ -8,10 +8,11 @@ use Rattle.frames.specs.declared.error.FrameError.{FrameError}
 use Rattle.frames.specs.declared.error.FrameError.TheVariants as errors
 use Rattle.frames.specs.declared.limits.TheConstants.{MOST_STRINGS}
 use Rattle.frames.specs.Frame.{IsFrame, frame_bytes}
-use Rattle.frames.specs.Reading.{Parsed, and_then, GivesAs, Returns, number_at, strings_at, array_at, frame_at}
+use Rattle.frames.specs.Reading.{Parsed, GivesAs, Returns, number_at, strings_at, array_at, frame_at}
 use Rattle.frames.proofs.FrameRoundTripLemmas.{frame_ok, none_ok, frame_again}
 use Rattle.frames.proofs.ReadSequenceLemmas.{Left, Between_then, Between_as, Between_taken, then_ok, then_err, fails, succeeds, GivesAs_err}
 use Rattle.frames.proofs.RestAfterPartLemmas.{after_count, as_frame}
+use Rattle.words.specs.Parts.{and_then}
 
 -- ---- what follows the `*`
 

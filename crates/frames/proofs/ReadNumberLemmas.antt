@@ -2,14 +2,16 @@
 use Rattle.std.proofs.Common.{◌≡◌, ℕ, List, [], ◌∷◌, Result, Ok, Err, refl, ap, ◌∙◌}
 use Rattle.std.proofs.lemmas.Bool.{eq-eqb, ne_eqb}
 use Rattle.frames.specs.declared.error.Fault.{Fault}
-use Rattle.frames.specs.declared.error.Fault.TheVariants.{NoLineEnd}
+use Rattle.frames.specs.declared.error.Fault.TheVariants.{BadNumber, NoLineEnd}
 use Rattle.frames.specs.declared.error.FrameError.{FrameError}
 use Rattle.frames.specs.declared.error.FrameError.TheVariants as errors
-use Rattle.frames.specs.Reading.{Parsed, and_then, leaving, Between, Returns, byte_at, expected_at}
-use Rattle.frames.specs.Reading.{with_digit, digits_at, first_digit, number_at}
+use Rattle.frames.specs.Reading.{Parsed, leaving, Between, Returns, byte_at, expected_at}
+use Rattle.frames.specs.Reading.{digits_at, number_at}
 use Rattle.frames.proofs.ReadPartLemmas.{byte_ok}
 use Rattle.frames.proofs.ReadSequenceLemmas.{Left, Between_then, Between_as, then_ok, then_last, then_err, fails, succeeds, Returns_as}
 use Rattle.frames.proofs.RestAfterPartLemmas.{after_digits, after_first, after_byte}
+use Rattle.words.specs.Digits.{first_digit, with_digit}
+use Rattle.words.specs.Parts.{and_then}
 
 -- ---- digits
 
@@ -19,13 +21,13 @@ unfolding byte_at digits_at
 digits_ended most above n [] p e = cc
 digits_ended most above n (b ∷ xs) p e = absurd cc
 
-digits_go : (most : ℕ) (above : Fault) (n byte m : ℕ) (ys : List ℕ) → (byte ≡ 13 → ⊥) → with_digit most above n byte ≡ Ok m
+digits_go : (most : ℕ) (above : Fault) (n byte m : ℕ) (ys : List ℕ) → (byte ≡ 13 → ⊥) → with_digit BadNumber most above n byte ≡ Ok m
     → digits_at most above n (byte ∷ ys) ≡ digits_at most above m ys
 unfolding digits_at
 digits_go most above n byte m ys other h = rw (ne_eqb byte 13 other, h) refl
 
 digits_fault : (most : ℕ) (above : Fault) (n byte : ℕ) (fault : Fault) (ys : List ℕ) → (byte ≡ 13 → ⊥)
-    → with_digit most above n byte ≡ Err fault → digits_at most above n (byte ∷ ys) ≡ Err (fault, ys)
+    → with_digit BadNumber most above n byte ≡ Err fault → digits_at most above n (byte ∷ ys) ≡ Err (fault, ys)
 unfolding digits_at
 digits_fault most above n byte fault ys other h = rw (ne_eqb byte 13 other, h) refl
 
@@ -49,7 +51,7 @@ digits_first_err most above first old new errors.NoMemory p = tt
 digits_first_err most above first old new (errors.Failed error) p = tt
 
 pub digits_preserved : (most : ℕ) (above : Fault) (first n byte m next : ℕ) (old mid new : Left) → IsSoFar most above first n byte old mid
-    → (byte ≡ 13 → ⊥) → with_digit most above n byte ≡ Ok m → Returns byte_at mid new (succeeds next)
+    → (byte ≡ 13 → ⊥) → with_digit BadNumber most above n byte ≡ Ok m → Returns byte_at mid new (succeeds next)
     → IsSoFar most above first m next old new
 digits_preserved most above first n byte m next old mid new p other h q =
     Between_then old mid new (λ xs ys zs a b. a
@@ -57,7 +59,7 @@ digits_preserved most above first n byte m next old mid new p other h q =
     ∙ ap (digits_at most above m) (byte_ok ys (next, zs) b)) p q
 
 pub digits_next_err : (most : ℕ) (above : Fault) (first n byte m : ℕ) (old mid new : Left) (e : FrameError)
-    → IsSoFar most above first n byte old mid → (byte ≡ 13 → ⊥) → with_digit most above n byte ≡ Ok m
+    → IsSoFar most above first n byte old mid → (byte ≡ 13 → ⊥) → with_digit BadNumber most above n byte ≡ Ok m
     → Returns byte_at mid new (fails ℕ e) → Returns (digits_at most above first) old new (fails ℕ e)
 digits_next_err most above first n byte m old mid new (errors.Fault fault) p other h q =
     Between_then old mid new (λ xs ys zs a b. a
@@ -67,7 +69,7 @@ digits_next_err most above first n byte m old mid new errors.NoMemory p other h 
 digits_next_err most above first n byte m old mid new (errors.Failed error) p other h q = tt
 
 pub digits_bad : (most : ℕ) (above : Fault) (first n byte : ℕ) (fault : Fault) (old new : Left) → IsSoFar most above first n byte old new
-    → (byte ≡ 13 → ⊥) → with_digit most above n byte ≡ Err fault
+    → (byte ≡ 13 → ⊥) → with_digit BadNumber most above n byte ≡ Err fault
     → Returns (digits_at most above first) old new (fails ℕ (errors.Fault fault))
 digits_bad most above first n byte fault old new p other h =
     Between_as old new (λ xs ys a. a ∙ digits_fault most above n byte fault ys other h) p
@@ -84,14 +86,14 @@ unfolding number_at
 number_err most above old new e p = then_err byte_at (after_byte most above) old new e p
 
 pub number_bad : (most : ℕ) (above : Fault) (old new : Left) (byte : ℕ) (fault : Fault) → Returns byte_at old new (succeeds byte)
-    → first_digit byte ≡ Err fault → Returns (number_at most above) old new (fails ℕ (errors.Fault fault))
+    → first_digit BadNumber byte ≡ Err fault → Returns (number_at most above) old new (fails ℕ (errors.Fault fault))
 unfolding number_at
 number_bad most above old new byte fault p h = Between_as old new (λ xs ys a. ap (λ (r : Parsed ℕ). and_then r (after_byte most above)) a
     ∙ ap (λ (r : Result ℕ Fault). and_then (leaving r ys) (after_first most above)) h) p
 
 -- a first digit, and what follows it
 pub number_from : (most : ℕ) (above : Fault) (old mid new : Left) (byte first : ℕ) (r : Result ℕ FrameError)
-    → Returns byte_at old mid (succeeds byte) → first_digit byte ≡ Ok first → Returns (λ ys. after_first most above (first, ys)) mid new r
+    → Returns byte_at old mid (succeeds byte) → first_digit BadNumber byte ≡ Ok first → Returns (λ ys. after_first most above (first, ys)) mid new r
     → Returns (number_at most above) old new r
 unfolding number_at
 number_from most above old mid new byte first r p h q = then_ok byte_at (after_byte most above) old mid new byte r p

@@ -5,22 +5,8 @@ use Rattle.std.proofs.lemmas.Bool.{ltb-false, le-ltb, eqb-true}
 use Rattle.std.proofs.lemmas.List.{take_at, drop_at, take-append-drop, length-append, length-take}
 use Rattle.frames.specs.declared.error.Fault.{Fault}
 use Rattle.frames.specs.declared.error.Fault.TheVariants.{UnexpectedEnd, NoLineEnd}
-use Rattle.frames.specs.Reading.{Parsed, and_then, leaving, byte_at, expected_at, line_end_at, bytes_at}
-
--- the value of a part that is no fault
-pub and_then_ok : {A B : Type 0} (r : Parsed A) (f : A × List ℕ → Parsed B) (y : B × List ℕ) → and_then r f ≡ Ok y
-    → (x : A × List ℕ) × (r ≡ Ok x) × (f x ≡ Ok y)
-and_then_ok (Ok x) f y e = (x, refl, e)
-and_then_ok (Err d) f y e = absurd cc
-
--- a test that gave no fault
-pub guarded : {A E : Type 0} (b : Bool) (x : Result A E) (d : E) (y : A) → cond b x (Err d) ≡ Ok y → (b ≡ true) × (x ≡ Ok y)
-guarded true x d y e = (refl, e)
-guarded false x d y e = absurd cc
-
-pub guarded_above : {A E : Type 0} (b : Bool) (d : E) (x : Result A E) (y : A) → cond b (Err d) x ≡ Ok y → (b ≡ false) × (x ≡ Ok y)
-guarded_above true d x y e = absurd cc
-guarded_above false d x y e = (refl, e)
+use Rattle.words.proofs.PartLemmas.{bind_ok, guarded, guarded_above}
+use Rattle.frames.specs.Reading.{Parsed, leaving, byte_at, expected_at, line_end_at, bytes_at}
 
 -- which way a test went
 pub chosen : {A : Type 0} (b : Bool) (x y z : A) → cond b x y ≡ z → ((b ≡ true) × (x ≡ z)) ⊎ ((b ≡ false) × (y ≡ z))
@@ -32,12 +18,6 @@ parsed x = Ok x
 
 pub ok_is : {A : Type 0} (x y : A) → parsed x ≡ parsed y → x ≡ y
 ok_is x y e = cc
-
-abbrev made : {A : Type 0} → A → Result A Fault
-made x = Ok x
-
-pub made_is : {A : Type 0} (x y : A) → made x ≡ made y → x ≡ y
-made_is x y e = cc
 
 pub leaving_ok : {A : Type 0} (r : Result A Fault) (rest : List ℕ) (x : A × List ℕ) → leaving r rest ≡ Ok x → (r ≡ Ok x.0) × (rest ≡ x.1)
 leaving_ok {A = A} (Ok a) rest x e =
@@ -54,7 +34,7 @@ pub expected_ok : (expected : ℕ) (fault : Fault) (bytes : List ℕ) (x : ℕ �
     → bytes ≡ expected ∷ x.1
 unfolding expected_at
 expected_ok expected fault bytes x e =
-    let b = and_then_ok (byte_at bytes) (λ b. cond (eqb b.0 expected) (Ok b) (Err (fault, b.1))) x e in
+    let b = bind_ok (byte_at bytes) (λ b. cond (eqb b.0 expected) (Ok b) (Err (fault, b.1))) x e in
     let g = guarded (eqb b.0.0 expected) (Ok b.0) (fault, b.0.1) x b.2 in
     byte_ok bytes b.0 b.1
     ∙ ap (λ (n : ℕ). n ∷ b.0.1) (eqb-true b.0.0 expected g.0)
@@ -63,7 +43,7 @@ expected_ok expected fault bytes x e =
 pub line_end_ok : (bytes : List ℕ) (x : ℕ × List ℕ) → line_end_at bytes ≡ Ok x → bytes ≡ 13 ∷ 10 ∷ x.1
 unfolding line_end_at
 line_end_ok bytes x e =
-    let cr = and_then_ok (expected_at 13 NoLineEnd bytes) (λ cr. expected_at 10 NoLineEnd cr.1) x e in
+    let cr = bind_ok (expected_at 13 NoLineEnd bytes) (λ cr. expected_at 10 NoLineEnd cr.1) x e in
     expected_ok 13 NoLineEnd bytes cr.0 cr.1 ∙ ap (λ (rest : List ℕ). 13 ∷ rest) (expected_ok 10 NoLineEnd cr.0.1 x cr.2)
 
 pub bytes_ok : (n : ℕ) (bytes : List ℕ) (x : List ℕ × List ℕ) → bytes_at n bytes ≡ Ok x → (bytes ≡ x.0 ++ x.1) × (length x.0 ≡ n)

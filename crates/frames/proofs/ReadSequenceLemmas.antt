@@ -3,7 +3,8 @@ use Rattle.std.proofs.Common.{◌≡◌, List, ℕ, ◌++◌, Option, Some, None
 use Rattle.std.specs.Io.KnownBytes.{Consumes}
 use Rattle.frames.specs.declared.error.FrameError.{FrameError}
 use Rattle.frames.specs.declared.error.FrameError.TheVariants as errors
-use Rattle.frames.specs.Reading.{Parsed, and_then, Between, GivesAs, Returns}
+use Rattle.frames.specs.Reading.{Parsed, Between, GivesAs, Returns}
+use Rattle.words.specs.Parts.{and_then}
 
 -- what a reader has left, where that is known
 abbrev pub Left : Type 0

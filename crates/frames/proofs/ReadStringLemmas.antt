@@ -9,11 +9,12 @@ use Rattle.frames.specs.declared.error.FrameError.{FrameError}
 use Rattle.frames.specs.declared.error.FrameError.TheVariants as errors
 use Rattle.frames.specs.declared.limits.TheConstants.{LONGEST_STRING}
 use Rattle.frames.specs.Frame.{IsShort}
-use Rattle.frames.specs.Reading.{Parsed, and_then, Between, GivesAs, Returns, expected_at, line_end_at, bytes_at}
+use Rattle.frames.specs.Reading.{Parsed, Between, GivesAs, Returns, expected_at, line_end_at, bytes_at}
 use Rattle.frames.specs.Reading.{number_at, string_at, strings_at}
 use Rattle.frames.proofs.ReadSequenceLemmas.{Left, Between_then, Between_as, Between_same, fails, succeeds}
 use Rattle.frames.proofs.ReadSequenceLemmas.{then_ok_as, then_ok, then_last, then_err_as, then_err}
 use Rattle.frames.proofs.RestAfterPartLemmas.{after_string, after_length, after_mark}
+use Rattle.words.specs.Parts.{and_then}
 
 -- ---- a string
 

@@ -1,10 +1,12 @@
 -- What is read behind each part of a number, of a string and of a frame.
 use Rattle.std.proofs.Common.{ℕ, List, ◌∷◌, Option, Some, Ok}
 use Rattle.frames.specs.declared.error.Fault.{Fault}
-use Rattle.frames.specs.declared.error.Fault.TheVariants.{NoLineEnd, StringTooLong}
+use Rattle.frames.specs.declared.error.Fault.TheVariants.{BadNumber, NoLineEnd, StringTooLong}
 use Rattle.frames.specs.declared.limits.TheConstants.{LONGEST_STRING}
-use Rattle.frames.specs.Reading.{Parsed, and_then, leaving, expected_at, line_end_at, bytes_at}
-use Rattle.frames.specs.Reading.{first_digit, digits_at, number_at, strings_at}
+use Rattle.frames.specs.Reading.{Parsed, leaving, expected_at, line_end_at, bytes_at}
+use Rattle.frames.specs.Reading.{digits_at, number_at, strings_at}
+use Rattle.words.specs.Digits.{first_digit}
+use Rattle.words.specs.Parts.{and_then}
 
 -- ---- a number: its first byte, the first digit, all digits
 
@@ -15,7 +17,7 @@ abbrev pub after_first : ℕ → Fault → ℕ × List ℕ → Parsed ℕ
 after_first most above first = and_then (digits_at most above first.0 first.1) after_digits
 
 abbrev pub after_byte : ℕ → Fault → ℕ × List ℕ → Parsed ℕ
-after_byte most above byte = and_then (leaving (first_digit byte.0) byte.1) (after_first most above)
+after_byte most above byte = and_then (leaving (first_digit BadNumber byte.0) byte.1) (after_first most above)
 
 -- ---- a string: its `$`, its length, its bytes
 

@@ -9,8 +9,9 @@ use Rattle.frames.specs.declared.limits.TheConstants.{LONGEST_STRING}
 use Rattle.frames.specs.Frame.{IsShort, line_end, string_bytes}
 use Rattle.frames.specs.Reading.{byte_at, expected_at, line_end_at, bytes_at, number_at, string_at, strings_at}
 use Rattle.frames.proofs.RestAfterPartLemmas.{after_mark, after_length, after_string, after_one}
-use Rattle.frames.proofs.ReadPartLemmas.{and_then_ok, ok_is, expected_ok, line_end_ok, bytes_ok, line_end_again, bytes_again}
+use Rattle.frames.proofs.ReadPartLemmas.{ok_is, expected_ok, line_end_ok, bytes_ok, line_end_again, bytes_again}
 use Rattle.frames.proofs.NumberRoundTripLemmas.{number_ok, number_again}
+use Rattle.words.proofs.PartLemmas.{bind_ok}
 
 -- the limit is below 2^64
 limit : (n : ℕ) → n ≡ 16842752 → (9 ≤ n) × (n < 2 ^ 64)
@@ -24,10 +25,10 @@ IsString bytes x = (bytes ≡ string_bytes x.0 ++ x.1) × IsShort x.0
 string_ok : (bytes : List ℕ) (x : List ℕ × List ℕ) → string_at bytes ≡ Ok x → IsString bytes x
 unfolding string_at
 string_ok bytes x e =
-    let mark = and_then_ok (expected_at 36 BadType bytes) after_mark x e in
-    let n = and_then_ok (number_at LONGEST_STRING StringTooLong mark.0.1) after_length x mark.2 in
-    let s = and_then_ok (bytes_at n.0.0 n.0.1) after_string x n.2 in
-    let lf = and_then_ok (line_end_at s.0.1) (λ lf. Ok (s.0.0, lf.1)) x s.2 in
+    let mark = bind_ok (expected_at 36 BadType bytes) after_mark x e in
+    let n = bind_ok (number_at LONGEST_STRING StringTooLong mark.0.1) after_length x mark.2 in
+    let s = bind_ok (bytes_at n.0.0 n.0.1) after_string x n.2 in
+    let lf = bind_ok (line_end_at s.0.1) (λ lf. Ok (s.0.0, lf.1)) x s.2 in
     let within = limit LONGEST_STRING refl in
     let number = number_ok LONGEST_STRING StringTooLong mark.0.1 n.0 within.0 within.1 n.1 in
     let text = bytes_ok n.0.0 n.0.1 s.0 s.1 in
@@ -64,8 +65,8 @@ pub strings_ok : (n : ℕ) (bytes : List ℕ) (x : List (List ℕ) × List ℕ) 
 unfolding strings_at
 strings_ok zero bytes x e = subst (AreStrings 0 bytes) (ok_is ([], bytes) x e) (refl, refl, tt)
 strings_ok (suc n) bytes x e =
-    let a = and_then_ok (string_at bytes) (after_one n) x e in
-    let b = and_then_ok (strings_at n a.0.1) (λ others. Ok (a.0.0 ∷ others.0, others.1)) x a.2 in
+    let a = bind_ok (string_at bytes) (after_one n) x e in
+    let b = bind_ok (strings_at n a.0.1) (λ others. Ok (a.0.0 ∷ others.0, others.1)) x a.2 in
     let first = string_ok bytes a.0 a.1 in
     let second = strings_ok n a.0.1 b.0 b.1 in
     let whole : bytes ≡ flat_map string_bytes (a.0.0 ∷ b.0.0) ++ b.0.1 = first.0

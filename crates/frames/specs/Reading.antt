@@ -1,8 +1,9 @@
 -- The contracts that docs/trusted.md lists do not depend on this file; other contracts and proofs do.
 -- Reading a frame from left to right, up to the first fault.
-use Rattle.std.specs.Prelude.{◌≡◌, ◌+◌, ◌-◌, ◌*◌, ◌==◌, ℕ, zero, suc, List, [], ◌∷◌, length, take, drop, ⊤}
+use Rattle.std.specs.Prelude.{◌≡◌, ◌==◌, ℕ, zero, suc, List, [], ◌∷◌, length, take, drop, ⊤}
 use Rattle.std.specs.Prelude.{Option, Some, None, Result, Ok, Err, nat_lt, if◌then◌else◌}
-use Rattle.std.specs.Char.{is_ascii_digit}
+use Rattle.words.specs.Digits.{first_digit, with_digit}
+use Rattle.words.specs.Parts.{and_then}
 use Rattle.frames.specs.declared.error.Fault.{Fault}
 use Rattle.frames.specs.declared.error.Fault.TheVariants.{BadType, BadNumber, NoLineEnd, TooManyStrings}
 use Rattle.frames.specs.declared.error.Fault.TheVariants.{StringTooLong, UnexpectedEnd}
@@ -13,11 +14,6 @@ use Rattle.frames.specs.declared.limits.TheConstants.{MOST_STRINGS, LONGEST_STRI
 -- what stands at the front of some bytes, or the first fault there; and the bytes that are left behind it
 abbrev pub Parsed : Type 0 → Type 0
 Parsed X = Result (X × List ℕ) (Fault × List ℕ)
-
--- one part after another, up to the first fault
-abbrev pub and_then : {A B : Type 0} → Parsed A → (A × List ℕ → Parsed B) → Parsed B
-and_then (Ok x) next = next x
-and_then (Err e) next = Err e
 
 -- a value or a fault, with these bytes left
 abbrev pub leaving : {A : Type 0} → Result A Fault → List ℕ → Parsed A
@@ -42,30 +38,18 @@ line_end_at bytes = and_then (expected_at 13 NoLineEnd bytes) (λ cr. expected_a
 unfoldable pub bytes_at : ℕ → List ℕ → Parsed (List ℕ)
 bytes_at n bytes = if nat_lt (length bytes) n then Err (UnexpectedEnd, []) else Ok (take n bytes, drop n bytes)
 
--- the first digit of a number
-unfoldable pub first_digit : ℕ → Result ℕ Fault
-first_digit byte = if is_ascii_digit byte then Ok (byte - 48) else Err BadNumber
-
--- one more digit behind those of n: the number of all of them, unless n is a leading 0 or the number is above `most`
-unfoldable pub with_digit : ℕ → Fault → ℕ → ℕ → Result ℕ Fault
-with_digit most above n byte =
-    if is_ascii_digit byte
-    then (if n == 0 then Err BadNumber
-    else (if nat_lt most (10 * n + (byte - 48)) then Err above else Ok (10 * n + (byte - 48))))
-    else Err BadNumber
-
 -- the rest of a number that begins with the digits of n: more digits, and CR
 unfoldable pub digits_at : ℕ → Fault → ℕ → List ℕ → Parsed ℕ
 digits_at most above n [] = Err (UnexpectedEnd, [])
 digits_at most above n (byte ∷ rest) =
     if byte == 13 then Ok (n, rest)
-    else and_then (leaving (with_digit most above n byte) rest) (λ more. digits_at most above more.0 rest)
+    else and_then (leaving (with_digit BadNumber most above n byte) rest) (λ more. digits_at most above more.0 rest)
 
 -- a number up to `most`, or the fault `above` at a greater one; and CR LF
 unfoldable pub number_at : ℕ → Fault → List ℕ → Parsed ℕ
 number_at most above bytes =
     and_then (byte_at bytes) (λ byte.
-    and_then (leaving (first_digit byte.0) byte.1) (λ first.
+    and_then (leaving (first_digit BadNumber byte.0) byte.1) (λ first.
     and_then (digits_at most above first.0 first.1) (λ n.
     and_then (expected_at 10 NoLineEnd n.1) (λ lf.
     Ok (n.0, lf.1)))))

@@ -32,9 +32,9 @@ IsSealed frame = (strings : List (List ℕ)) × (frame ≡ sealed strings)
 abbrev pub IsEntry : List (List ℕ) → Type 0
 IsEntry strings = IsFrame (sealed strings)
 
--- the bytes of an entry
-abbrev pub entry_bytes : List (List ℕ) → List ℕ
-entry_bytes strings = frame_bytes (sealed strings)
+-- the bytes of an entry: those of a frame of its strings with their digest behind them
+abbrev pub sealed_bytes : List (List ℕ) → List ℕ
+sealed_bytes strings = frame_bytes (sealed strings)
 
 -- why strings become no entry: with their digest they are no frame, or memory is refused
 abbrev pub IsNoEntry : List (List ℕ) → FrameError → Type 0

@@ -1,6 +1,6 @@
 //! Entries from a reader.
 ghost use Rattle.std.specs.Prelude.{◌≡◌, ◌++◌, ℕ, List, Some};
-ghost use Rattle.node_log.specs.Entry.{IsEntry, entry_bytes};
+ghost use Rattle.node_log.specs.Entry.{IsEntry, sealed_bytes};
 ghost use Rattle.node_log.specs.Reading.{ReadsEntry, ReadsThis};
 
 use crate::entry::Entry;
@@ -19,7 +19,7 @@ pub fn read_entry<R: Read>(alloc: Global, reader: &mut R) -> Result<Option<Entry
     ensures read { ReadsEntry (R.remaining reader.old) (R.remaining reader.new) result }
     // An entry that stands at the front is read, unless memory is refused or the reader fails.
     ensures only { (strings : List (List ℕ)) (rest : List ℕ) → IsEntry strings
-        → R.remaining reader.old ≡ Some (entry_bytes strings ++ rest)
+        → R.remaining reader.old ≡ Some (sealed_bytes strings ++ rest)
         → ReadsThis strings rest (R.remaining reader.new) result }
 {
     match read_frame(alloc, reader) {

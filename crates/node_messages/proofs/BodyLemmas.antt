@@ -14,13 +14,13 @@ use Rattle.mail.specs.declared.message.Body.{Body}
 use Rattle.mail.specs.declared.message.Body.TheVariants as body
 use Rattle.node_messages.specs.declared.error.Fault.{Fault}
 use Rattle.node_messages.specs.Message.{is_answer_to, IsKind, IsAnswer, IsPiece, IsBody}
-use Rattle.string_parts.specs.Parts.{and_then}
+use Rattle.words.specs.Parts.{and_then}
 use Rattle.node_messages.specs.Strings.{Strings, piece_strings, kind_strings, request_rest, held_strings, answer_strings, body_strings}
-use Rattle.node_messages.specs.Reading.{string_at, number_at, tag_at, piece_at, status_at, kind_at}
-use Rattle.node_messages.specs.Reading.{request_at, held_at, answer_at}
-use Rattle.node_messages.specs.Reading.{reply_at, body_from, body_at}
+use Rattle.node_messages.specs.Reading.{first_string, first_number, first_tag, first_piece, first_status, first_kind}
+use Rattle.node_messages.specs.Reading.{first_request, first_held, first_answer}
+use Rattle.node_messages.specs.Reading.{first_reply, body_from, first_body}
 use Rattle.node_messages.specs.Words.{is_request_from, is_piece_from}
-use Rattle.string_parts.proofs.PartLemmas.{bind_ok, ok_is}
+use Rattle.words.proofs.PartLemmas.{bind_ok, ok_is}
 use Rattle.node_messages.proofs.WordLemmas.{role_word, role_ok, role_again, piece_word, is_piece_ok, is_piece_again}
 use Rattle.node_messages.proofs.FieldLemmas.{string_ok, string_again, number_at_ok, number_at_again, tag_ok, tag_again}
 use Rattle.node_messages.proofs.FieldLemmas.{piece_ok, piece_again, status_at_ok, status_at_again}
@@ -33,25 +33,25 @@ HeldIs strings x = (strings ≡ held_strings x.0 ++ x.1) × IfSome x.0 IsPiece
 
 -- what stands behind the word for a piece, or for none
 abbrev after_piece_word : Bool → Strings → Result (Option Piece × Strings) Fault
-after_piece_word b rest = cond b (and_then (piece_at rest) (λ piece. Ok (Some piece.0, piece.1))) (Ok (None, rest))
+after_piece_word b rest = cond b (and_then (first_piece rest) (λ piece. Ok (Some piece.0, piece.1))) (Ok (None, rest))
 
 held_behind : (b : Bool) (rest : Strings) (x : Option Piece × Strings) → after_piece_word b rest ≡ Ok x → HeldIs (piece_word b ∷ rest) x
 held_behind true rest x e =
-    let a = bind_ok (piece_at rest) (λ piece. Ok (Some piece.0, piece.1)) x e in
+    let a = bind_ok (first_piece rest) (λ piece. Ok (Some piece.0, piece.1)) x e in
     let p = piece_ok rest a.0 a.1 in
     subst (HeldIs (codes "piece" ∷ rest)) (ok_is (Some a.0.0, a.0.1) x a.2) (ap (λ (r : Strings). codes "piece" ∷ r) p.0, p.1)
 held_behind false rest x e = subst (HeldIs (codes "none" ∷ rest)) (ok_is (None, rest) x e) (refl, tt)
 
-held_ok : (strings : Strings) (x : Option Piece × Strings) → held_at strings ≡ Ok x → HeldIs strings x
-unfolding held_at
+held_ok : (strings : Strings) (x : Option Piece × Strings) → first_held strings ≡ Ok x → HeldIs strings x
+unfolding first_held
 held_ok strings x e =
-    let a = bind_ok (string_at strings) (λ word. and_then (is_piece_from word.0) (λ b. after_piece_word b word.1)) x e in
+    let a = bind_ok (first_string strings) (λ word. and_then (is_piece_from word.0) (λ b. after_piece_word b word.1)) x e in
     let b = bind_ok (is_piece_from a.0.0) (λ b. after_piece_word b a.0.1) x a.2 in
     let h = held_behind b.0 a.0.1 x b.2 in
     (string_ok strings a.0 a.1 ∙ ap (λ (w : List ℕ). w ∷ a.0.1) (is_piece_ok a.0.0 b.0 b.1) ∙ h.0, h.1)
 
-held_again : (held : Option Piece) (rest : Strings) → IfSome held IsPiece → held_at (held_strings held ++ rest) ≡ Ok (held, rest)
-unfolding held_at
+held_again : (held : Option Piece) (rest : Strings) → IfSome held IsPiece → first_held (held_strings held ++ rest) ≡ Ok (held, rest)
+unfolding first_held
 held_again None rest fits = rw (string_again (codes "none") rest, is_piece_again false) refl
 held_again (Some piece) rest fits =
     rw (string_again (codes "piece") (piece_strings piece ++ rest), is_piece_again true, piece_again piece rest fits) refl
@@ -59,15 +59,15 @@ held_again (Some piece) rest fits =
 abbrev AnswerIs : Kind → Strings → Answer × Strings → Type 0
 AnswerIs k rest x = (rest ≡ answer_strings x.0 ++ x.1) × IsAnswer x.0 × (is_answer_to k x.0 ≡ true)
 
-answer_ok : (k : Kind) (rest : Strings) (x : Answer × Strings) → answer_at k rest ≡ Ok x → AnswerIs k rest x
-unfolding answer_at
+answer_ok : (k : Kind) (rest : Strings) (x : Answer × Strings) → first_answer k rest ≡ Ok x → AnswerIs k rest x
+unfolding first_answer
 answer_ok kind.Next rest x e =
-    let a = bind_ok (status_at rest) (λ found. Ok (answer.Pointer found.0, found.1)) x e in
+    let a = bind_ok (first_status rest) (λ found. Ok (answer.Pointer found.0, found.1)) x e in
     subst (AnswerIs kind.Next rest) (ok_is (answer.Pointer a.0.0, a.0.1) x a.2) (status_at_ok rest a.0 a.1, tt, refl)
 answer_ok (kind.Spread found) rest x e =
     subst (AnswerIs (kind.Spread found) rest) (ok_is (answer.Done, rest) x e) (refl, tt, refl)
 answer_ok kind.Query rest x e =
-    let a = bind_ok (tag_at rest) (λ tag. Ok (answer.Greatest tag.0, tag.1)) x e in
+    let a = bind_ok (first_tag rest) (λ tag. Ok (answer.Greatest tag.0, tag.1)) x e in
     let t = tag_ok rest a.0 a.1 in
     subst (AnswerIs kind.Query rest) (ok_is (answer.Greatest a.0.0, a.0.1) x a.2) (t.0, t.1, refl)
 answer_ok (kind.PreWrite tag) rest x e =
@@ -75,13 +75,13 @@ answer_ok (kind.PreWrite tag) rest x e =
 answer_ok (kind.Finalize tag) rest x e =
     subst (AnswerIs (kind.Finalize tag) rest) (ok_is (answer.Done, rest) x e) (refl, tt, refl)
 answer_ok (kind.Fetch tag) rest x e =
-    let a = bind_ok (held_at rest) (λ piece. Ok (answer.Piece piece.0, piece.1)) x e in
+    let a = bind_ok (first_held rest) (λ piece. Ok (answer.Piece piece.0, piece.1)) x e in
     let h = held_ok rest a.0 a.1 in
     subst (AnswerIs (kind.Fetch tag) rest) (ok_is (answer.Piece a.0.0, a.0.1) x a.2) (h.0, h.1, refl)
 
 answer_again : (k : Kind) (a : Answer) (rest : Strings) → IsAnswer a → is_answer_to k a ≡ true
-    → answer_at k (answer_strings a ++ rest) ≡ Ok (a, rest)
-unfolding answer_at
+    → first_answer k (answer_strings a ++ rest) ≡ Ok (a, rest)
+unfolding first_answer
 answer_again kind.Next answer.Done rest fits to = absurd cc
 answer_again kind.Next (answer.Pointer found) rest fits to = rw (status_at_again found rest) refl
 answer_again kind.Next (answer.Greatest tag) rest fits to = absurd cc
@@ -113,12 +113,12 @@ abbrev ReplyIs : Kind → Strings → Reply × Strings → Type 0
 ReplyIs k rest x = (rest ≡ (decimal x.0.step ∷ answer_strings x.0.answer) ++ x.1) × (x.0.step < 2 ^ 64) × IsAnswer x.0.answer
     × (is_answer_to k x.0.answer ≡ true)
 
-reply_ok : (k : Kind) (rest : Strings) (x : Reply × Strings) → reply_at k rest ≡ Ok x → ReplyIs k rest x
-unfolding reply_at
+reply_ok : (k : Kind) (rest : Strings) (x : Reply × Strings) → first_reply k rest ≡ Ok x → ReplyIs k rest x
+unfolding first_reply
 reply_ok k rest x e =
-    let a = bind_ok (number_at (2 ^ 64 - 1) rest) (λ step. and_then (answer_at k step.1) (λ answer.
+    let a = bind_ok (first_number (2 ^ 64 - 1) rest) (λ step. and_then (first_answer k step.1) (λ answer.
     Ok (record { step = step.0; answer = answer.0 }, answer.1))) x e in
-    let b = bind_ok (answer_at k a.0.1) (λ answer. Ok (record { step = a.0.0; answer = answer.0 }, answer.1)) x a.2 in
+    let b = bind_ok (first_answer k a.0.1) (λ answer. Ok (record { step = a.0.0; answer = answer.0 }, answer.1)) x a.2 in
     let step = number_at_ok (2 ^ 64 - 1) rest a.0 (omega arith) (omega arith) a.1 in
     let found = answer_ok k a.0.1 b.0 b.1 in
     let made : Reply × Strings = (record { step = a.0.0; answer = b.0.0 }, b.0.1) in
@@ -126,8 +126,8 @@ reply_ok k rest x e =
     (step.0 ∙ ap (λ (r : Strings). decimal a.0.0 ∷ r) found.0, omega (arith, step.1), found.1, found.2)
 
 reply_again : (k : Kind) (r : Reply) (rest : Strings) → r.step < 2 ^ 64 → IsAnswer r.answer → is_answer_to k r.answer ≡ true
-    → reply_at k ((decimal r.step ∷ answer_strings r.answer) ++ rest) ≡ Ok (r, rest)
-unfolding reply_at
+    → first_reply k ((decimal r.step ∷ answer_strings r.answer) ++ rest) ≡ Ok (r, rest)
+unfolding first_reply
 reply_again k r rest step fits to =
     rw (
       number_at_again (2 ^ 64 - 1) r.step (answer_strings r.answer ++ rest) (omega arith) (omega arith),
@@ -143,7 +143,7 @@ body_from_ok : (b : Bool) (k : Kind) (rest : Strings) (x : Body × Strings) → 
     → BodyIs (role_word b ∷ (kind_strings k ++ rest)) x
 unfolding body_from
 body_from_ok true k rest x fits e =
-    let a = bind_ok (request_at k rest) (λ q. Ok (body.Request q.0, q.1)) x e in
+    let a = bind_ok (first_request k rest) (λ q. Ok (body.Request q.0, q.1)) x e in
     let q = request_ok k rest a.0 fits a.1 in
     let whole : codes "request" ∷ (kind_strings k ++ rest) ≡ body_strings (body.Request a.0.0) ++ a.0.1 =
     ap (λ (r : Strings). codes "request" ∷ r) (ap (λ (h : Kind). kind_strings h ++ rest) (sym q.0)
@@ -151,20 +151,20 @@ body_from_ok true k rest x fits e =
     ∙ sym (append_assoc (kind_strings (kind_of a.0.0)) (request_rest a.0.0) a.0.1)) in
     subst (BodyIs (codes "request" ∷ (kind_strings k ++ rest))) (ok_is (body.Request a.0.0, a.0.1) x a.2) (whole, q.2)
 body_from_ok false k rest x fits e =
-    let a = bind_ok (reply_at k rest) (λ r. Ok (body.Reply k r.0, r.1)) x e in
+    let a = bind_ok (first_reply k rest) (λ r. Ok (body.Reply k r.0, r.1)) x e in
     let r = reply_ok k rest a.0 a.1 in
     let whole : codes "reply" ∷ (kind_strings k ++ rest) ≡ body_strings (body.Reply k a.0.0) ++ a.0.1 =
     ap (λ (r : Strings). codes "reply" ∷ r) (ap (λ (r : Strings). kind_strings k ++ r) r.0
     ∙ sym (append_assoc (kind_strings k) (decimal a.0.0.step ∷ answer_strings a.0.0.answer) a.0.1)) in
     subst (BodyIs (codes "reply" ∷ (kind_strings k ++ rest))) (ok_is (body.Reply k a.0.0, a.0.1) x a.2) (whole, (fits, r.1, r.2, r.3))
 
-pub body_ok : (strings : Strings) (x : Body × Strings) → body_at strings ≡ Ok x → (strings ≡ body_strings x.0 ++ x.1) × IsBody x.0
-unfolding body_at
+pub body_ok : (strings : Strings) (x : Body × Strings) → first_body strings ≡ Ok x → (strings ≡ body_strings x.0 ++ x.1) × IsBody x.0
+unfolding first_body
 body_ok strings x e =
-    let a = bind_ok (string_at strings) (λ word. and_then (is_request_from word.0) (λ b. and_then (kind_at word.1) (λ k.
+    let a = bind_ok (first_string strings) (λ word. and_then (is_request_from word.0) (λ b. and_then (first_kind word.1) (λ k.
     body_from b k.0 k.1))) x e in
-    let b = bind_ok (is_request_from a.0.0) (λ b. and_then (kind_at a.0.1) (λ k. body_from b k.0 k.1)) x a.2 in
-    let k = bind_ok (kind_at a.0.1) (λ k. body_from b.0 k.0 k.1) x b.2 in
+    let b = bind_ok (is_request_from a.0.0) (λ b. and_then (first_kind a.0.1) (λ k. body_from b k.0 k.1)) x a.2 in
+    let k = bind_ok (first_kind a.0.1) (λ k. body_from b.0 k.0 k.1) x b.2 in
     let found = kind_ok a.0.1 k.0 k.1 in
     let whole = body_from_ok b.0 k.0.0 k.0.1 x found.1 k.2 in
     let front : strings ≡ role_word b.0 ∷ (kind_strings k.0.0 ++ k.0.1) = string_ok strings a.0 a.1
@@ -172,12 +172,12 @@ body_ok strings x e =
     ∙ ap (λ (r : Strings). role_word b.0 ∷ r) found.0 in
     (front ∙ whole.0, whole.1)
 
-pub body_again : (found : Body) (rest : Strings) → IsBody found → body_at (body_strings found ++ rest) ≡ Ok (found, rest)
-unfolding body_at body_from
+pub body_again : (found : Body) (rest : Strings) → IsBody found → first_body (body_strings found ++ rest) ≡ Ok (found, rest)
+unfolding first_body body_from
 body_again (body.Request q) rest fits =
     let regrouped : body_strings (body.Request q) ++ rest ≡ codes "request" ∷ (kind_strings (kind_of q) ++ (request_rest q ++ rest)) =
     ap (λ (r : Strings). codes "request" ∷ r) (append_assoc (kind_strings (kind_of q)) (request_rest q) rest) in
-    ap body_at regrouped
+    ap first_body regrouped
     ∙ rw (
       string_again (codes "request") (kind_strings (kind_of q) ++ (request_rest q ++ rest)),
       role_again true,
@@ -188,7 +188,7 @@ body_again (body.Reply k r) rest fits =
     let behind = (decimal r.step ∷ answer_strings r.answer) ++ rest in
     let regrouped : body_strings (body.Reply k r) ++ rest ≡ codes "reply" ∷ (kind_strings k ++ behind) =
     ap (λ (r : Strings). codes "reply" ∷ r) (append_assoc (kind_strings k) (decimal r.step ∷ answer_strings r.answer) rest) in
-    ap body_at regrouped
+    ap first_body regrouped
     ∙ rw (
       string_again (codes "reply") (kind_strings k ++ behind),
       role_again false,

@@ -11,14 +11,14 @@ use Rattle.node_messages.specs.declared.fields.Subject.{Subject}
 use Rattle.node_messages.specs.declared.fields.Numbers.{Numbers}
 use Rattle.node_messages.specs.declared.message.NodeMessage.{NodeMessage}
 use Rattle.node_messages.specs.declared.message.TheConstants.{DIGEST_LENGTH}
-use Rattle.node_messages.specs.Laws.{WrittenIsRead, ReadWasWritten, StringsNameOneMessage}
+use Rattle.node_messages.specs.Laws.{WrittenMessageIsRead, ReadMessageWasWritten, StringsNameOneMessage}
 use Rattle.node_messages.specs.Message.{names_next, IsMessage}
-use Rattle.string_parts.specs.Parts.{and_then}
+use Rattle.words.specs.Parts.{and_then}
 use Rattle.node_messages.specs.Strings.{Strings, layout_string, body_strings, next_strings, strings_of}
-use Rattle.node_messages.specs.Gives.{Gives}
-use Rattle.node_messages.specs.Reading.{number_at, layout_at, digest_at, name_at, subject_at, member_at, numbers_at, body_at, next_at}
-use Rattle.node_messages.specs.Reading.{made_of, ending, message_at}
-use Rattle.string_parts.proofs.PartLemmas.{bind_ok, ok_is}
+use Rattle.node_messages.specs.Gives.{Agrees}
+use Rattle.node_messages.specs.Reading.{first_number, first_layout, first_digest, first_name, first_subject, first_member, first_numbers, first_body, first_next}
+use Rattle.node_messages.specs.Reading.{made_of, ending, message_from}
+use Rattle.words.proofs.PartLemmas.{bind_ok, ok_is}
 use Rattle.node_messages.proofs.FieldLemmas.{number_at_ok, number_at_again, layout_ok, layout_again, next_ok, next_again}
 use Rattle.node_messages.proofs.FieldLemmas.{digest_ok, digest_again, name_ok, name_again, member_ok, member_again}
 use Rattle.node_messages.proofs.BodyLemmas.{body_ok, body_again}
@@ -33,14 +33,14 @@ record IsSubject (s : Subject) : Type 0 where
   name : length s.name ≤ LONGEST_NAME
   layout : IsLawful s.layout
 
-subject_ok : (strings : Strings) (x : Subject × Strings) → subject_at strings ≡ Ok x → (strings ≡ with_subject x.0 x.1) × IsSubject x.0
-unfolding subject_at
+subject_ok : (strings : Strings) (x : Subject × Strings) → first_subject strings ≡ Ok x → (strings ≡ with_subject x.0 x.1) × IsSubject x.0
+unfolding first_subject
 subject_ok strings x e =
-    let a = bind_ok (digest_at strings) (λ digest. and_then (name_at digest.1) (λ name. and_then (layout_at name.1) (λ layout.
+    let a = bind_ok (first_digest strings) (λ digest. and_then (first_name digest.1) (λ name. and_then (first_layout name.1) (λ layout.
     Ok (record { digest = digest.0; name = name.0; layout = layout.0 }, layout.1)))) x e in
-    let b = bind_ok (name_at a.0.1) (λ name. and_then (layout_at name.1) (λ layout.
+    let b = bind_ok (first_name a.0.1) (λ name. and_then (first_layout name.1) (λ layout.
     Ok (record { digest = a.0.0; name = name.0; layout = layout.0 }, layout.1))) x a.2 in
-    let c = bind_ok (layout_at b.0.1) (λ layout. Ok (record { digest = a.0.0; name = b.0.0; layout = layout.0 }, layout.1)) x b.2 in
+    let c = bind_ok (first_layout b.0.1) (λ layout. Ok (record { digest = a.0.0; name = b.0.0; layout = layout.0 }, layout.1)) x b.2 in
     let digest = digest_ok strings a.0 a.1 in
     let name = name_ok a.0.1 b.0 b.1 in
     let layout = layout_ok b.0.1 c.0 c.1 in
@@ -50,8 +50,8 @@ subject_ok strings x e =
       record { digest = digest.1; name = name.1; layout = layout.1 },
     )
 
-subject_again : (s : Subject) (rest : Strings) → IsSubject s → subject_at (with_subject s rest) ≡ Ok (s, rest)
-unfolding subject_at
+subject_again : (s : Subject) (rest : Strings) → IsSubject s → first_subject (with_subject s rest) ≡ Ok (s, rest)
+unfolding first_subject
 subject_again s rest fits =
     rw (
       digest_again s.digest (s.name ∷ layout_string s.layout ∷ rest) fits.digest,
@@ -70,19 +70,19 @@ record AreNumbers (n : ℕ) (numbers : Numbers) : Type 0 where
   position : numbers.position < 2 ^ 32
   member : numbers.member < n
 
-numbers_ok : (n : ℕ) (strings : Strings) (x : Numbers × Strings) → numbers_at n strings ≡ Ok x
+numbers_ok : (n : ℕ) (strings : Strings) (x : Numbers × Strings) → first_numbers n strings ≡ Ok x
     → (strings ≡ with_numbers x.0 x.1) × AreNumbers n x.0
-unfolding numbers_at
+unfolding first_numbers
 numbers_ok n strings x e =
-    let a = bind_ok (number_at (2 ^ 64 - 1) strings) (λ call. and_then (number_at (2 ^ 32 - 1) call.1) (λ phase.
-    and_then (number_at (2 ^ 32 - 1) phase.1) (λ position. and_then (member_at n position.1) (λ member.
+    let a = bind_ok (first_number (2 ^ 64 - 1) strings) (λ call. and_then (first_number (2 ^ 32 - 1) call.1) (λ phase.
+    and_then (first_number (2 ^ 32 - 1) phase.1) (λ position. and_then (first_member n position.1) (λ member.
     Ok (record { call = call.0; phase = phase.0; position = position.0; member = member.0 }, member.1))))) x e in
-    let b = bind_ok (number_at (2 ^ 32 - 1) a.0.1) (λ phase.
-    and_then (number_at (2 ^ 32 - 1) phase.1) (λ position. and_then (member_at n position.1) (λ member.
+    let b = bind_ok (first_number (2 ^ 32 - 1) a.0.1) (λ phase.
+    and_then (first_number (2 ^ 32 - 1) phase.1) (λ position. and_then (first_member n position.1) (λ member.
     Ok (record { call = a.0.0; phase = phase.0; position = position.0; member = member.0 }, member.1)))) x a.2 in
-    let c = bind_ok (number_at (2 ^ 32 - 1) b.0.1) (λ position. and_then (member_at n position.1) (λ member.
+    let c = bind_ok (first_number (2 ^ 32 - 1) b.0.1) (λ position. and_then (first_member n position.1) (λ member.
     Ok (record { call = a.0.0; phase = b.0.0; position = position.0; member = member.0 }, member.1))) x b.2 in
-    let d = bind_ok (member_at n c.0.1) (λ member.
+    let d = bind_ok (first_member n c.0.1) (λ member.
     Ok (record { call = a.0.0; phase = b.0.0; position = c.0.0; member = member.0 }, member.1)) x c.2 in
     let call = number_at_ok (2 ^ 64 - 1) strings a.0 (omega arith) (omega arith) a.1 in
     let phase = number_at_ok (2 ^ 32 - 1) a.0.1 b.0 (omega arith) (omega arith) b.1 in
@@ -101,8 +101,8 @@ numbers_ok n strings x e =
     )
 
 numbers_again : (n : ℕ) (numbers : Numbers) (rest : Strings) → AreNumbers n numbers → n < 2 ^ 8
-    → numbers_at n (with_numbers numbers rest) ≡ Ok (numbers, rest)
-unfolding numbers_at
+    → first_numbers n (with_numbers numbers rest) ≡ Ok (numbers, rest)
+unfolding first_numbers
 numbers_again n numbers rest fits few =
     let x = numbers in
     let call : x.call ≤ 2 ^ 64 - 1 = omega (arith, fits.call) in
@@ -121,18 +121,18 @@ ended : {X : Type 0} (x : X) (rest : Strings) (y : X) → ending x rest ≡ Ok y
 ended x [] y e = (refl, ok_is x y e)
 ended x (s ∷ rest) y e = absurd cc
 
-pub message_ok : ReadWasWritten
-unfolding message_at
+pub message_ok : ReadMessageWasWritten
+unfolding message_from
 message_ok strings m e =
-    let a = bind_ok (subject_at strings) (λ subject. and_then (numbers_at (length subject.0.layout.members) subject.1) (λ numbers.
-    and_then (body_at numbers.1) (λ found. and_then (next_at (names_next found.0) found.1) (λ next.
+    let a = bind_ok (first_subject strings) (λ subject. and_then (first_numbers (length subject.0.layout.members) subject.1) (λ numbers.
+    and_then (first_body numbers.1) (λ found. and_then (first_next (names_next found.0) found.1) (λ next.
     ending (made_of subject.0 numbers.0 found.0 next.0) next.1)))) m e in
     let n = length a.0.0.layout.members in
-    let b = bind_ok (numbers_at n a.0.1) (λ numbers. and_then (body_at numbers.1) (λ found.
-    and_then (next_at (names_next found.0) found.1) (λ next. ending (made_of a.0.0 numbers.0 found.0 next.0) next.1))) m a.2 in
-    let c = bind_ok (body_at b.0.1) (λ found. and_then (next_at (names_next found.0) found.1) (λ next.
+    let b = bind_ok (first_numbers n a.0.1) (λ numbers. and_then (first_body numbers.1) (λ found.
+    and_then (first_next (names_next found.0) found.1) (λ next. ending (made_of a.0.0 numbers.0 found.0 next.0) next.1))) m a.2 in
+    let c = bind_ok (first_body b.0.1) (λ found. and_then (first_next (names_next found.0) found.1) (λ next.
     ending (made_of a.0.0 b.0.0 found.0 next.0) next.1)) m b.2 in
-    let d = bind_ok (next_at (names_next c.0.0) c.0.1) (λ next. ending (made_of a.0.0 b.0.0 c.0.0 next.0) next.1) m c.2 in
+    let d = bind_ok (first_next (names_next c.0.0) c.0.1) (λ next. ending (made_of a.0.0 b.0.0 c.0.0 next.0) next.1) m c.2 in
     let end = ended (made_of a.0.0 b.0.0 c.0.0 d.0.0) d.0.1 m d.2 in
     let subject = subject_ok strings a.0 a.1 in
     let numbers = numbers_ok n a.0.1 b.0 b.1 in
@@ -162,22 +162,22 @@ message_ok strings m e =
 few_members : (layout : Layout) → IsLawful layout → length layout.members < 2 ^ 8
 few_members layout lawful = let limit : MOST_MEMBERS ≡ 255 = refl in omega (arith, lawful.few)
 
-pub message_again : WrittenIsRead
-unfolding message_at
+pub message_again : WrittenMessageIsRead
+unfolding message_from
 message_again m is =
     let s : Subject = record { digest = m.digest; name = m.name; layout = m.layout } in
     let x = m.message in
     let numbers : Numbers = record { call = x.call; phase = x.phase; position = x.position; member = x.member } in
     let n = length m.layout.members in
     let behind = body_strings x.body ++ next_strings m.next in
-    let read_subject : subject_at (strings_of m) ≡ Ok (s, with_numbers numbers behind) =
+    let read_subject : first_subject (strings_of m) ≡ Ok (s, with_numbers numbers behind) =
     subject_again s (with_numbers numbers behind) (record { digest = is.digest; name = is.name; layout = is.layout }) in
-    let read_numbers : numbers_at n (with_numbers numbers behind) ≡ Ok (numbers, behind) =
+    let read_numbers : first_numbers n (with_numbers numbers behind) ≡ Ok (numbers, behind) =
     numbers_again n numbers behind (record { call = is.call; phase = is.phase; position = is.position; member = is.member })
     (few_members m.layout is.layout) in
-    let read_next : next_at (names_next x.body) (next_strings m.next) ≡ Ok (m.next, []) =
-    ap (λ b. next_at b (next_strings m.next)) (sym is.named)
-    ∙ ap (next_at (is_some m.next)) (sym (append-nil (next_strings m.next)))
+    let read_next : first_next (names_next x.body) (next_strings m.next) ≡ Ok (m.next, []) =
+    ap (λ b. first_next b (next_strings m.next)) (sym is.named)
+    ∙ ap (first_next (is_some m.next)) (sym (append-nil (next_strings m.next)))
     ∙ next_again m.next [] is.next in
     rw (read_subject, read_numbers, body_again x.body (next_strings m.next) is.body, read_next) refl
 
@@ -186,16 +186,16 @@ read_as m = Ok m
 
 pub one_message : StringsNameOneMessage
 one_message l m is_l is_m e =
-    let same : read_as l ≡ read_as m = sym (message_again l is_l) ∙ ap message_at e ∙ message_again m is_m in
+    let same : read_as l ≡ read_as m = sym (message_again l is_l) ∙ ap message_from e ∙ message_again m is_m in
     ok_is l m same
 
 -- ---- what the clauses of `read_message` say
 
-pub is_found : (strings : Strings) (r : Result NodeMessage MessageError) → Gives r (message_at strings)
+pub is_found : (strings : Strings) (r : Result NodeMessage MessageError) → Agrees r (message_from strings)
     → IfOk r (λ m. IsMessage m × (strings ≡ strings_of m))
 is_found strings (Ok m) given = message_ok strings m given
 is_found strings (Err e) given = tt
 
-pub is_only : (strings : Strings) (r : Result NodeMessage MessageError) → Gives r (message_at strings)
-    → (m : NodeMessage) → IsMessage m → strings ≡ strings_of m → Gives r (read_as m)
-is_only strings r given m is e = subst (λ read. Gives r read) (ap message_at e ∙ message_again m is) given
+pub is_only : (strings : Strings) (r : Result NodeMessage MessageError) → Agrees r (message_from strings)
+    → (m : NodeMessage) → IsMessage m → strings ≡ strings_of m → Agrees r (read_as m)
+is_only strings r given m is e = subst (λ read. Agrees r read) (ap message_from e ∙ message_again m is) given

@@ -4,7 +4,7 @@ use Rattle.std.specs.Prelude.{codes}
 use Rattle.bank.specs.declared.status.Status.{Status}
 use Rattle.bank.specs.declared.status.Status.TheVariants as status
 use Rattle.node_messages.specs.Words.{status_word, status_from, is_request_from, is_piece_from}
-use Rattle.string_parts.proofs.PartLemmas.{is_word, ok_is}
+use Rattle.words.proofs.PartLemmas.{is_word, ok_is}
 
 pub status_ok : (word : List ℕ) (s : Status) → status_from word ≡ Ok s → word ≡ status_word s
 unfolding status_from

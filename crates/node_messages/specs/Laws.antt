@@ -5,17 +5,17 @@ use Rattle.frames.specs.declared.limits.TheConstants.{LONGEST_STRING}
 use Rattle.mail.specs.Message.{message_bytes}
 use Rattle.node_messages.specs.declared.message.NodeMessage.{NodeMessage}
 use Rattle.node_messages.specs.Message.{IsMessage}
-use Rattle.node_messages.specs.Reading.{message_at}
+use Rattle.node_messages.specs.Reading.{message_from}
 use Rattle.node_messages.specs.Strings.{Strings, strings_of}
-use Rattle.node_messages.specs.Writing.{written}
+use Rattle.node_messages.specs.Writing.{strings_or_fault}
 
 -- the strings of a message are read as that message
-abbrev pub WrittenIsRead : Type 0
-WrittenIsRead = (m : NodeMessage) → IsMessage m → message_at (strings_of m) ≡ Ok m
+abbrev pub WrittenMessageIsRead : Type 0
+WrittenMessageIsRead = (m : NodeMessage) → IsMessage m → message_from (strings_of m) ≡ Ok m
 
 -- what is read as a message is one, and the strings are those of that message
-abbrev pub ReadWasWritten : Type 0
-ReadWasWritten = (strings : Strings) (m : NodeMessage) → message_at strings ≡ Ok m
+abbrev pub ReadMessageWasWritten : Type 0
+ReadMessageWasWritten = (strings : Strings) (m : NodeMessage) → message_from strings ≡ Ok m
     → IsMessage m × (strings ≡ strings_of m)
 
 -- two messages with the same strings are the same message
@@ -26,4 +26,4 @@ StringsNameOneMessage =
 -- a message has a frame if its piece is not longer than a string of a frame
 abbrev pub ShortPiecesHaveFrames : Type 0
 ShortPiecesHaveFrames = (m : NodeMessage) → IsMessage m → message_bytes m.message ≤ LONGEST_STRING
-    → written m ≡ Ok (strings_of m)
+    → strings_or_fault m ≡ Ok (strings_of m)

@@ -1,7 +1,7 @@
 -- The contracts that docs/trusted.md lists do not depend on this file; other contracts and proofs do.
 -- Numbers in decimal digits, with the faults of a message.
 use Rattle.std.specs.Prelude.{ℕ, List, Result, Ok, Err}
-use Rattle.string_parts.specs.Numbers.{number_from as number_up_to}
+use Rattle.string_parts.specs.Numbers.{number_up_to}
 use Rattle.string_parts.specs.declared.number.NumberFault.{NumberFault}
 use Rattle.string_parts.specs.declared.number.NumberFault.TheVariants as number
 use Rattle.node_messages.specs.declared.error.Fault.{Fault}
@@ -13,6 +13,6 @@ of_a_message (Ok n) = Ok n
 of_a_message (Err number.BadNumber) = Err BadNumber
 of_a_message (Err number.OutOfRange) = Err OutOfRange
 
--- the number up to `most` that a whole string writes
-abbrev pub number_from : ℕ → List ℕ → Result ℕ Fault
-number_from most bytes = of_a_message (number_up_to most bytes)
+-- the number up to `most` that a whole string of a message writes
+abbrev pub message_number : ℕ → List ℕ → Result ℕ Fault
+message_number most bytes = of_a_message (number_up_to most bytes)

@@ -9,7 +9,7 @@ use Rattle.node_messages.specs.declared.error.Fault.TheVariants.{NameTooLong, No
 use Rattle.node_messages.specs.declared.error.Fault.TheVariants.{PieceTooLong}
 use Rattle.node_messages.specs.declared.message.NodeMessage.{NodeMessage}
 use Rattle.node_messages.specs.Message.{names_next, is_fitting}
-use Rattle.string_parts.specs.Parts.{and_then}
+use Rattle.words.specs.Parts.{and_then}
 use Rattle.node_messages.specs.Strings.{Strings, strings_of}
 
 -- whether two answers to a question are the same
@@ -36,5 +36,5 @@ abbrev pub framed : Strings → Result Strings Fault
 framed strings = if is_frame strings then Ok strings else Err PieceTooLong
 
 -- the strings of a message, or its first fault
-abbrev pub written : NodeMessage → Result Strings Fault
-written m = and_then (checked m) (λ _. framed (strings_of m))
+abbrev pub strings_or_fault : NodeMessage → Result Strings Fault
+strings_or_fault m = and_then (checked m) (λ _. framed (strings_of m))

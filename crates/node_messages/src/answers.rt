@@ -1,7 +1,7 @@
 //! Replies.
 ghost use Rattle.std.specs.Prelude.{Ok};
-ghost use Rattle.node_messages.specs.Gives.{GivesAs, GivesAt};
-ghost use Rattle.node_messages.specs.Reading.{held_at, answer_at, reply_at};
+ghost use Rattle.node_messages.specs.Gives.{AgreesAs, AgreesAt};
+ghost use Rattle.node_messages.specs.Reading.{first_held, first_answer, first_reply};
 
 use crate::error::MessageError;
 use crate::fields::{long_of, piece_of, status_of, string_of, tag_of};
@@ -13,7 +13,7 @@ use std::alloc::Global;
 
 // A piece on the heap.
 fn held(alloc: Global, piece: Piece) -> Result<HeldPiece, MessageError>
-    ensures { GivesAs (λ h. h) result (Ok piece) }
+    ensures { AgreesAs (λ h. h) result (Ok piece) }
 {
     match HeldPiece::new(alloc, piece) {
         Ok(held) => Ok(held),
@@ -22,9 +22,9 @@ fn held(alloc: Global, piece: Piece) -> Result<HeldPiece, MessageError>
 }
 
 // A piece that a bank keeps, or that there is none.
-#[tactic(auto, unfolding(crate::specs::Reading::held_at))]
+#[tactic(auto, unfolding(crate::specs::Reading::first_held))]
 fn held_of(alloc: Global, strings: &[Bytes]) -> Result<(Option<HeldPiece>, &[Bytes]), MessageError>
-    ensures { GivesAt result (held_at strings.now) }
+    ensures { AgreesAt result (first_held strings.now) }
 {
     let (word, rest) = string_of(strings)?;
     if !read_is_piece(word)? {
@@ -36,13 +36,13 @@ fn held_of(alloc: Global, strings: &[Bytes]) -> Result<(Option<HeldPiece>, &[Byt
 }
 
 // An answer to a request of this kind.
-#[tactic(auto, unfolding(crate::specs::Reading::answer_at))]
+#[tactic(auto, unfolding(crate::specs::Reading::first_answer))]
 fn answer_of(
     alloc: Global,
     kind: Kind,
     strings: &[Bytes],
 ) -> Result<(Answer, &[Bytes]), MessageError>
-    ensures { GivesAt result (answer_at kind strings.now) }
+    ensures { AgreesAt result (first_answer kind strings.now) }
 {
     match kind {
         Kind::Next => {
@@ -62,13 +62,13 @@ fn answer_of(
 }
 
 /// A reply to a request of this kind.
-#[tactic(auto, unfolding(crate::specs::Reading::reply_at))]
+#[tactic(auto, unfolding(crate::specs::Reading::first_reply))]
 pub(crate) fn reply_of(
     alloc: Global,
     kind: Kind,
     strings: &[Bytes],
 ) -> Result<(Reply, &[Bytes]), MessageError>
-    ensures { GivesAt result (reply_at kind strings.now) }
+    ensures { AgreesAt result (first_reply kind strings.now) }
 {
     let (step, rest) = long_of(strings)?;
     let (answer, rest) = answer_of(alloc, kind, rest)?;

@@ -1,6 +1,6 @@
 //! The kind of a request, and requests.
-ghost use Rattle.node_messages.specs.Gives.{GivesAt};
-ghost use Rattle.node_messages.specs.Reading.{kind_tagged, kind_from, kind_at, request_at, body_from, body_at};
+ghost use Rattle.node_messages.specs.Gives.{AgreesAt};
+ghost use Rattle.node_messages.specs.Reading.{kind_tagged, kind_from, first_kind, first_request, body_from, first_body};
 
 use crate::answers::reply_of;
 use crate::error::{Fault, MessageError};
@@ -14,7 +14,7 @@ use std::alloc::Global;
 // A kind that has a tag.
 #[tactic(auto, unfolding(crate::specs::Reading::kind_tagged))]
 fn read_tagged<'a>(word: &[u8], rest: &'a [Bytes]) -> Result<(Kind, &'a [Bytes]), MessageError>
-    ensures { GivesAt result (kind_tagged word.now rest.now) }
+    ensures { AgreesAt result (kind_tagged word.now rest.now) }
 {
     if is_text(word, b"pre-write") {
         let (tag, rest) = tag_of(rest)?;
@@ -33,7 +33,7 @@ fn read_tagged<'a>(word: &[u8], rest: &'a [Bytes]) -> Result<(Kind, &'a [Bytes])
 // A kind whose word this is.
 #[tactic(auto, unfolding(crate::specs::Reading::kind_from))]
 fn read_kind<'a>(word: &[u8], rest: &'a [Bytes]) -> Result<(Kind, &'a [Bytes]), MessageError>
-    ensures { GivesAt result (kind_from word.now rest.now) }
+    ensures { AgreesAt result (kind_from word.now rest.now) }
 {
     if is_text(word, b"next") {
         Ok((Kind::Next, rest))
@@ -47,18 +47,18 @@ fn read_kind<'a>(word: &[u8], rest: &'a [Bytes]) -> Result<(Kind, &'a [Bytes]), 
     }
 }
 
-#[tactic(auto, unfolding(crate::specs::Reading::kind_at))]
+#[tactic(auto, unfolding(crate::specs::Reading::first_kind))]
 fn kind_of(strings: &[Bytes]) -> Result<(Kind, &[Bytes]), MessageError>
-    ensures { GivesAt result (kind_at strings.now) }
+    ensures { AgreesAt result (first_kind strings.now) }
 {
     let (word, rest) = string_of(strings)?;
     read_kind(word, rest)
 }
 
 // A request of this kind.
-#[tactic(auto, unfolding(crate::specs::Reading::request_at))]
+#[tactic(auto, unfolding(crate::specs::Reading::first_request))]
 fn request_of(kind: Kind, strings: &[Bytes]) -> Result<(Request, &[Bytes]), MessageError>
-    ensures { GivesAt result (request_at kind strings.now) }
+    ensures { AgreesAt result (first_request kind strings.now) }
 {
     match kind {
         Kind::Next => Ok((Request::Next, strings)),
@@ -81,7 +81,7 @@ fn body_of_kind(
     kind: Kind,
     strings: &[Bytes],
 ) -> Result<(Body, &[Bytes]), MessageError>
-    ensures { GivesAt result (body_from is_request kind strings.now) }
+    ensures { AgreesAt result (body_from is_request kind strings.now) }
 {
     if is_request {
         let (request, rest) = request_of(kind, strings)?;
@@ -93,9 +93,9 @@ fn body_of_kind(
 }
 
 /// The body of a message.
-#[tactic(auto, unfolding(crate::specs::Reading::body_at))]
+#[tactic(auto, unfolding(crate::specs::Reading::first_body))]
 pub(crate) fn body_of(alloc: Global, strings: &[Bytes]) -> Result<(Body, &[Bytes]), MessageError>
-    ensures { GivesAt result (body_at strings.now) }
+    ensures { AgreesAt result (first_body strings.now) }
 {
     let (word, rest) = string_of(strings)?;
     let is_request = read_is_request(word)?;

@@ -1,20 +1,20 @@
 //! The parts of a message that stand in its frame's first strings, and the parts of which the others are made.
 ghost use Rattle.std.specs.Prelude.{◌≡◌, ◌≤◌, ◌^◌, ◌-◌, ◌<◌, IfOk, length};
-ghost use Rattle.node_messages.specs.Gives.{GivesAs, GivesAt};
+ghost use Rattle.node_messages.specs.Gives.{AgreesAs, AgreesAt};
 ghost use Rattle.node_messages.specs.Reading.{
-  string_at,
-  number_at,
-  tag_at,
-  piece_at,
-  status_at,
-  layout_from,
-  layout_at,
+  first_string,
+  first_number,
+  first_tag,
+  first_piece,
+  first_status,
+  layout_of_bytes,
+  first_layout,
   digest_from,
-  digest_at,
-  name_at,
-  subject_at,
-  member_at,
-  numbers_at,
+  first_digest,
+  first_name,
+  first_subject,
+  first_member,
+  first_numbers,
 };
 
 use crate::error::{Fault, MessageError};
@@ -46,9 +46,9 @@ pub struct Numbers {
 }
 
 /// The first string.
-#[tactic(auto, unfolding(crate::specs::Reading::string_at))]
+#[tactic(auto, unfolding(crate::specs::Reading::first_string))]
 pub(crate) fn string_of(strings: &[Bytes]) -> Result<(&Bytes, &[Bytes]), MessageError>
-    ensures { GivesAs (λ x. (x.0.now, x.1.now)) result (string_at strings.now) }
+    ensures { AgreesAs (λ x. (x.0.now, x.1.now)) result (first_string strings.now) }
 {
     match strings {
         [first, rest @ ..] => Ok((first, rest)),
@@ -57,11 +57,11 @@ pub(crate) fn string_of(strings: &[Bytes]) -> Result<(&Bytes, &[Bytes]), Message
 }
 
 /// A number up to `most`.
-#[tactic(auto, unfolding(crate::specs::Reading::number_at))]
+#[tactic(auto, unfolding(crate::specs::Reading::first_number))]
 pub(crate) fn number_of(strings: &[Bytes], most: u64) -> Result<(u64, &[Bytes]), MessageError>
     requires { 9 ≤ most }
     ensures within { IfOk result (λ x. x.0 ≤ most) }
-    ensures exact { GivesAt result (number_at most strings.now) }
+    ensures exact { AgreesAt result (first_number most strings.now) }
 {
     let (string, rest) = string_of(strings)?;
     let number = read_number(string, most)?;
@@ -70,14 +70,14 @@ pub(crate) fn number_of(strings: &[Bytes], most: u64) -> Result<(u64, &[Bytes]),
 
 /// A number of 64 bits.
 pub(crate) fn long_of(strings: &[Bytes]) -> Result<(u64, &[Bytes]), MessageError>
-    ensures { GivesAt result (number_at (2 ^ 64 - 1) strings.now) }
+    ensures { AgreesAt result (first_number (2 ^ 64 - 1) strings.now) }
 {
     number_of(strings, u64::MAX)
 }
 
 /// A number of 32 bits.
 pub(crate) fn number_of_32(strings: &[Bytes]) -> Result<(u32, &[Bytes]), MessageError>
-    ensures { GivesAt result (number_at (2 ^ 32 - 1) strings.now) }
+    ensures { AgreesAt result (first_number (2 ^ 32 - 1) strings.now) }
 {
     let (number, rest) = number_of(strings, u64::from(u32::MAX))?;
     Ok((number as u32, rest))
@@ -85,16 +85,16 @@ pub(crate) fn number_of_32(strings: &[Bytes]) -> Result<(u32, &[Bytes]), Message
 
 /// A number of 8 bits.
 pub(crate) fn number_of_8(strings: &[Bytes]) -> Result<(u8, &[Bytes]), MessageError>
-    ensures { GivesAt result (number_at (2 ^ 8 - 1) strings.now) }
+    ensures { AgreesAt result (first_number (2 ^ 8 - 1) strings.now) }
 {
     let (number, rest) = number_of(strings, u64::from(u8::MAX))?;
     Ok((number as u8, rest))
 }
 
 /// A tag.
-#[tactic(auto, unfolding(crate::specs::Reading::tag_at))]
+#[tactic(auto, unfolding(crate::specs::Reading::first_tag))]
 pub(crate) fn tag_of(strings: &[Bytes]) -> Result<(Tag, &[Bytes]), MessageError>
-    ensures { GivesAt result (tag_at strings.now) }
+    ensures { AgreesAt result (first_tag strings.now) }
 {
     let (number, rest) = long_of(strings)?;
     let (call, rest) = long_of(rest)?;
@@ -102,9 +102,9 @@ pub(crate) fn tag_of(strings: &[Bytes]) -> Result<(Tag, &[Bytes]), MessageError>
 }
 
 /// A piece.
-#[tactic(auto, unfolding(crate::specs::Reading::piece_at))]
+#[tactic(auto, unfolding(crate::specs::Reading::first_piece))]
 pub(crate) fn piece_of(strings: &[Bytes]) -> Result<(Piece, &[Bytes]), MessageError>
-    ensures { GivesAt result (piece_at strings.now) }
+    ensures { AgreesAt result (first_piece strings.now) }
 {
     let (point, rest) = number_of_8(strings)?;
     let (len, rest) = number_of_32(rest)?;
@@ -114,18 +114,18 @@ pub(crate) fn piece_of(strings: &[Bytes]) -> Result<(Piece, &[Bytes]), MessageEr
 }
 
 /// A status.
-#[tactic(auto, unfolding(crate::specs::Reading::status_at))]
+#[tactic(auto, unfolding(crate::specs::Reading::first_status))]
 pub(crate) fn status_of(strings: &[Bytes]) -> Result<(Status, &[Bytes]), MessageError>
-    ensures { GivesAt result (status_at strings.now) }
+    ensures { AgreesAt result (first_status strings.now) }
 {
     let (word, rest) = string_of(strings)?;
     let status = read_status(word)?;
     Ok((status, rest))
 }
 
-#[tactic(auto, unfolding(crate::specs::Reading::layout_from))]
+#[tactic(auto, unfolding(crate::specs::Reading::layout_of_bytes))]
 fn read_layout(string: &[u8]) -> Result<Layout, Fault>
-    ensures { result ≡ layout_from string.now }
+    ensures { result ≡ layout_of_bytes string.now }
 {
     match string {
         [k, members @ ..] => checked_layout(*k, members, Fault::BadLayout),
@@ -134,9 +134,9 @@ fn read_layout(string: &[u8]) -> Result<Layout, Fault>
 }
 
 /// A layout.
-#[tactic(auto, unfolding(crate::specs::Reading::layout_at))]
+#[tactic(auto, unfolding(crate::specs::Reading::first_layout))]
 pub(crate) fn layout_of(strings: &[Bytes]) -> Result<(Layout, &[Bytes]), MessageError>
-    ensures { GivesAt result (layout_at strings.now) }
+    ensures { AgreesAt result (first_layout strings.now) }
 {
     let (string, rest) = string_of(strings)?;
     let layout = read_layout(string)?;
@@ -153,9 +153,9 @@ fn read_digest(string: &[u8]) -> Result<[u8; DIGEST_LENGTH], Fault>
 }
 
 // The digest of a cluster file.
-#[tactic(auto, unfolding(crate::specs::Reading::digest_at))]
+#[tactic(auto, unfolding(crate::specs::Reading::first_digest))]
 fn digest_of(strings: &[Bytes]) -> Result<([u8; DIGEST_LENGTH], &[Bytes]), MessageError>
-    ensures { GivesAt result (digest_at strings.now) }
+    ensures { AgreesAt result (first_digest strings.now) }
 {
     let (string, rest) = string_of(strings)?;
     let digest = read_digest(string)?;
@@ -163,9 +163,9 @@ fn digest_of(strings: &[Bytes]) -> Result<([u8; DIGEST_LENGTH], &[Bytes]), Messa
 }
 
 // A name.
-#[tactic(auto, unfolding(crate::specs::Reading::name_at))]
+#[tactic(auto, unfolding(crate::specs::Reading::first_name))]
 fn name_of(strings: &[Bytes]) -> Result<(&Bytes, &[Bytes]), MessageError>
-    ensures { GivesAs (λ x. (x.0.now, x.1.now)) result (name_at strings.now) }
+    ensures { AgreesAs (λ x. (x.0.now, x.1.now)) result (first_name strings.now) }
 {
     let (string, rest) = string_of(strings)?;
     if string.len() > LONGEST_NAME {
@@ -175,9 +175,9 @@ fn name_of(strings: &[Bytes]) -> Result<(&Bytes, &[Bytes]), MessageError>
 }
 
 /// What a message is about.
-#[tactic(auto, unfolding(crate::specs::Reading::subject_at))]
+#[tactic(auto, unfolding(crate::specs::Reading::first_subject))]
 pub(crate) fn subject_of(strings: &[Bytes]) -> Result<(Subject, &[Bytes]), MessageError>
-    ensures { GivesAt result (subject_at strings.now) }
+    ensures { AgreesAt result (first_subject strings.now) }
 {
     let (digest, rest) = digest_of(strings)?;
     let (name, rest) = name_of(rest)?;
@@ -194,9 +194,9 @@ pub(crate) fn subject_of(strings: &[Bytes]) -> Result<(Subject, &[Bytes]), Messa
 }
 
 // A member of a layout with n members.
-#[tactic(auto, unfolding(crate::specs::Reading::member_at))]
+#[tactic(auto, unfolding(crate::specs::Reading::first_member))]
 fn member_of(strings: &[Bytes], n: u8) -> Result<(u8, &[Bytes]), MessageError>
-    ensures { GivesAt result (member_at n strings.now) }
+    ensures { AgreesAt result (first_member n strings.now) }
 {
     let (member, rest) = number_of_8(strings)?;
     if member >= n {
@@ -206,9 +206,9 @@ fn member_of(strings: &[Bytes], n: u8) -> Result<(u8, &[Bytes]), MessageError>
 }
 
 /// The numbers of a message to or from a member of a layout with n members.
-#[tactic(auto, unfolding(crate::specs::Reading::numbers_at))]
+#[tactic(auto, unfolding(crate::specs::Reading::first_numbers))]
 pub(crate) fn numbers_of(strings: &[Bytes], n: u8) -> Result<(Numbers, &[Bytes]), MessageError>
-    ensures { GivesAt result (numbers_at n strings.now) }
+    ensures { AgreesAt result (first_numbers n strings.now) }
 {
     let (call, rest) = long_of(strings)?;
     let (phase, rest) = number_of_32(rest)?;

@@ -1,6 +1,6 @@
 ghost use Rattle.node_messages.specs.Laws.{
-  WrittenIsRead,
-  ReadWasWritten,
+  WrittenMessageIsRead,
+  ReadMessageWasWritten,
   StringsNameOneMessage,
   ShortPiecesHaveFrames,
 };
@@ -8,8 +8,8 @@ ghost use Rattle.node_messages.specs.Laws.{
 /// A law: the strings of a message are read as that message; what is read as a message is one, and the strings are
 /// those of that message; and two messages with the same strings are the same message.
 pub fn messages_are_read_back()
-    ensures written { WrittenIsRead }
-    ensures read { ReadWasWritten }
+    ensures written { WrittenMessageIsRead }
+    ensures read { ReadMessageWasWritten }
     ensures one { StringsNameOneMessage }
 {}
 

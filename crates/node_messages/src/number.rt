@@ -1,6 +1,6 @@
 //! Numbers in decimal digits.
 ghost use Rattle.std.specs.Prelude.{◌≡◌, ◌≤◌, IfOk};
-ghost use Rattle.node_messages.specs.Numbers.{number_from};
+ghost use Rattle.node_messages.specs.Numbers.{message_number};
 
 use crate::error::Fault;
 use string_parts::NumberFault;
@@ -9,7 +9,7 @@ use string_parts::NumberFault;
 pub(crate) fn read_number(bytes: &[u8], most: u64) -> Result<u64, Fault>
     requires { 9 ≤ most }
     ensures within { IfOk result (λ number. number ≤ most) }
-    ensures exact { result ≡ number_from most bytes.now }
+    ensures exact { result ≡ message_number most bytes.now }
 {
     match string_parts::read_number(bytes, most) {
         Ok(number) => Ok(number),

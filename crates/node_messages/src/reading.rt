@@ -3,8 +3,8 @@ ghost use Rattle.std.specs.Prelude.{◌≡◌, Ok, IfOk};
 ghost use Rattle.node_messages.specs.declared.message.NodeMessage.{NodeMessage as Sent};
 ghost use Rattle.node_messages.specs.Message.{IsMessage};
 ghost use Rattle.node_messages.specs.Strings.{strings_of};
-ghost use Rattle.node_messages.specs.Gives.{Gives, GivesAt};
-ghost use Rattle.node_messages.specs.Reading.{ending, made_of, next_at, message_at};
+ghost use Rattle.node_messages.specs.Gives.{Agrees, AgreesAt};
+ghost use Rattle.node_messages.specs.Reading.{ending, made_of, first_next, message_from};
 
 use crate::bodies::body_of;
 use crate::checks::names_next;
@@ -24,17 +24,17 @@ pub fn read_message(alloc: Global, frame: Frame) -> Result<NodeMessage, MessageE
     // What is read is a message, and the frame is that of the message.
     ensures found { IfOk result (λ m. IsMessage m × (frame ≡ strings_of m)) }
     // The frame of a message is read, unless memory is refused.
-    ensures only { (m : Sent) → IsMessage m → frame ≡ strings_of m → Gives result (Ok m) }
+    ensures only { (m : Sent) → IsMessage m → frame ≡ strings_of m → Agrees result (Ok m) }
     // Which fault it is.
-    ensures exact { Gives result (message_at frame) }
+    ensures exact { Agrees result (message_from frame) }
 {
     read_strings(alloc, frame.strings())
 }
 
 // The message of these strings.
-#[tactic(auto, unfolding(crate::specs::Reading::message_at))]
+#[tactic(auto, unfolding(crate::specs::Reading::message_from))]
 fn read_strings(alloc: Global, strings: &[Bytes]) -> Result<NodeMessage, MessageError>
-    ensures { Gives result (message_at strings.now) }
+    ensures { Agrees result (message_from strings.now) }
 {
     let (subject, rest) = subject_of(strings)?;
     let (numbers, rest) = numbers_of(rest, subject.layout.n())?;
@@ -45,7 +45,7 @@ fn read_strings(alloc: Global, strings: &[Bytes]) -> Result<NodeMessage, Message
 
 // The message, unless strings are left behind it.
 fn ended(message: NodeMessage, rest: &[Bytes]) -> Result<NodeMessage, MessageError>
-    ensures { Gives result (ending message rest.now) }
+    ensures { Agrees result (ending message rest.now) }
 {
     match rest {
         [] => Ok(message),
@@ -54,9 +54,9 @@ fn ended(message: NodeMessage, rest: &[Bytes]) -> Result<NodeMessage, MessageErr
 }
 
 // The layout of the next position, where there is to be one.
-#[tactic(auto, unfolding(crate::specs::Reading::next_at))]
+#[tactic(auto, unfolding(crate::specs::Reading::first_next))]
 fn next_of(is_named: bool, strings: &[Bytes]) -> Result<(Option<Layout>, &[Bytes]), MessageError>
-    ensures { GivesAt result (next_at is_named strings.now) }
+    ensures { AgreesAt result (first_next is_named strings.now) }
 {
     if !is_named {
         return Ok((None, strings));

@@ -1,8 +1,8 @@
 //! Messages to frames.
 ghost use Rattle.std.specs.Prelude.{◌≡◌, ◌++◌, IfOk, OnOk, Ok, Err, if◌then◌else◌};
-ghost use Rattle.node_messages.specs.Gives.{Gives, GivesAs};
+ghost use Rattle.node_messages.specs.Gives.{Agrees, AgreesAs};
 ghost use Rattle.node_messages.specs.Strings.{strings_of, subject_strings, number_strings, next_strings};
-ghost use Rattle.node_messages.specs.Writing.{written, checked, framed};
+ghost use Rattle.node_messages.specs.Writing.{strings_or_fault, checked, framed};
 
 use crate::checks::{is_fitting, names_next};
 use crate::error::{Fault, MessageError};
@@ -26,7 +26,7 @@ pub fn frame_of(alloc: Global, message: &NodeMessage) -> Result<Frame, MessageEr
     // The frame is that of the message.
     ensures made { IfOk result (λ frame. frame ≡ strings_of message.now) }
     // Which fault it is.
-    ensures exact { Gives result (written message.now) }
+    ensures exact { Agrees result (strings_or_fault message.now) }
 {
     check(message)?;
     let strings = strings_of(alloc, message)?;

@@ -8,10 +8,11 @@ ghost use Rattle.player.specs.Script.{IsPlayedFrom, IsPlayedThrough, exit_status
 
 use crate::player::{Stop, play};
 use cluster::Cluster;
-use script::{Line, LineError, parse_line, split_lines};
+use script::{Line, LineError, parse_line};
 use std::alloc::Global;
 use std::io::{ErrorKind, Read, Write};
 use std::{fmt, io};
+use words::split_lines;
 
 /// Why a run ends before the end of the script.
 #[derive(Clone, Copy, Debug, PartialEq, Eq)]

@@ -1,4 +1,3 @@
-pub mod LineSplitLemmas
 pub mod LineWordLemmas
 pub mod NoCommandLemmas
 pub mod NumberWordLemmas

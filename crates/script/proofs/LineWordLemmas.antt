@@ -3,7 +3,7 @@ use Rattle.std.proofs.Common.{◌≡◌, ◌==◌, ℕ, Bool, true, false, List,
 use Rattle.std.specs.Prelude.{Some, None, IsTrue, ◌↔◌, not, filter, find, nat_lt}
 use Rattle.std.specs.List.{slice_split, onto_first}
 use Rattle.std.proofs.lemmas.Bool.{eq-eqb, eqb-true, lt-ltb}
-use Rattle.script.specs.Arguments.{Word}
+use Rattle.words.specs.Word.{Word}
 use Rattle.script.specs.Line.{IsSkipped, is_space, words_of}
 
 -- the part has a byte

@@ -4,7 +4,8 @@ use Rattle.std.proofs.Common.{◌∙◌, arith, subst, Bor}
 use Rattle.std.proofs.lemmas.List.{take_more, map-append, length-map}
 use Rattle.std.specs.Prelude.{Result, Ok, Err, IfErr, IsErrAnd}
 use Rattle.words.specs.Number.{IsNumber}
-use Rattle.script.specs.Arguments.{AreNumbers, Word}
+use Rattle.script.specs.Arguments.{AreNumbers}
+use Rattle.words.specs.Word.{Word}
 
 -- one more word and its number
 AreNumbers-snoc : (ns : List ℕ) (ws : List Word) (n : ℕ) (w : Word) → AreNumbers ns ws → IsNumber w n

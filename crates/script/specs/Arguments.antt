@@ -3,10 +3,7 @@
 use Rattle.std.specs.Prelude.{◌≡◌, ◌<◌, ◌^◌, ℕ, List, [], ◌∷◌, ⊤, Option, Some, None}
 use Rattle.words.specs.Number.{IsNumber}
 use Rattle.words.specs.Hexadecimal.{IsHexadecimal}
-
--- the bytes of a word
-abbrev pub Word : Type 0
-Word = List ℕ
+use Rattle.words.specs.Word.{Word}
 
 -- each word spells the number at its index, and there are as many words as numbers
 abbrev pub AreNumbers : List ℕ → List Word → Type 0

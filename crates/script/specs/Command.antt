@@ -1,7 +1,8 @@
 -- The contracts that docs/trusted.md lists do not depend on this file; other contracts and proofs do.
 -- Which words spell which command.
 use Rattle.std.specs.Prelude.{◌≡◌, List, [], ◌∷◌, ⊤, codes, Result, MatchResult}
-use Rattle.script.specs.Arguments.{Word, AreNone, AreNumber, AreServers, AreNumberAndMembers, AreName, AreNameAndNumber}
+use Rattle.script.specs.Arguments.{AreNone, AreNumber, AreServers, AreNumberAndMembers, AreName, AreNameAndNumber}
+use Rattle.words.specs.Word.{Word}
 use Rattle.script.specs.Arguments.{AreNameAndTwoNumbers, AreNameAndNumbers, AreNameAndBytes, AreNameNumberAndBytes}
 use Rattle.script.specs.Arguments.{AreNameAndTurns, AreNameBytesAndTurns, AreNameNumberAndDelta, AreNameNumberAndTurns}
 use Rattle.script.specs.declared.change.Change.{Change}
@@ -51,22 +52,22 @@ SpellsChange words (change.Resume name call turns) =
     Says (codes "resume") (AreNameNumberAndTurns name.now call turns) words
 
 -- the words spell this command
-abbrev pub Spells : List Word → Command → Type 0
-Spells words (of.Servers count) = Says (codes "servers") (AreServers count) words
-Spells words (of.Change asked) = SpellsChange words asked
-Spells words (of.Show name call) = Says (codes "show") (AreNameAndNumber name.now call) words
-Spells words (of.Mail name) = Says (codes "mail") (AreName name.now) words
-Spells words (of.Bank name position member) = Says (codes "bank") (AreNameAndTwoNumbers name.now position member) words
-Spells words of.Account = Says (codes "account") AreNone words
-Spells words (of.History name) = Says (codes "history") (AreName name.now) words
-Spells words (of.Sequence name) = Says (codes "sequence") (AreName name.now) words
-Spells words (of.Check name calls) = Says (codes "check") (AreNameAndNumbers name.now calls.items) words
+abbrev pub SpellsCommand : List Word → Command → Type 0
+SpellsCommand words (of.Servers count) = Says (codes "servers") (AreServers count) words
+SpellsCommand words (of.Change asked) = SpellsChange words asked
+SpellsCommand words (of.Show name call) = Says (codes "show") (AreNameAndNumber name.now call) words
+SpellsCommand words (of.Mail name) = Says (codes "mail") (AreName name.now) words
+SpellsCommand words (of.Bank name position member) = Says (codes "bank") (AreNameAndTwoNumbers name.now position member) words
+SpellsCommand words of.Account = Says (codes "account") AreNone words
+SpellsCommand words (of.History name) = Says (codes "history") (AreName name.now) words
+SpellsCommand words (of.Sequence name) = Says (codes "sequence") (AreName name.now) words
+SpellsCommand words (of.Check name calls) = Says (codes "check") (AreNameAndNumbers name.now calls.items) words
 
 -- why the words give no command: they spell none, or memory is refused
 abbrev pub IsErrorOf : List Word → LineError → Type 0
-IsErrorOf words Bad = (c : Command) → ¬ (Spells words c)
+IsErrorOf words Bad = (c : Command) → ¬ (SpellsCommand words c)
 IsErrorOf words NoMemory = ⊤
 
 -- the result is the command that the words spell, or why they give none
-abbrev pub ParsesTo : List Word → Result Command LineError → Type 0
-ParsesTo words result = MatchResult result (Spells words) (IsErrorOf words)
+abbrev pub ParsesToCommand : List Word → Result Command LineError → Type 0
+ParsesToCommand words result = MatchResult result (SpellsCommand words) (IsErrorOf words)

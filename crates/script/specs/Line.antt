@@ -4,8 +4,8 @@ use Rattle.std.specs.Prelude.{◌≡◌, ◌==◌, ℕ, List, [], ◌∷◌, ⊤
 use Rattle.std.specs.Prelude.{MatchResult}
 use Rattle.std.specs.List.{slice_split}
 use Rattle.std.specs.Str.{IsAscii}
-use Rattle.script.specs.Arguments.{Word}
-use Rattle.script.specs.Command.{Spells}
+use Rattle.words.specs.Word.{Word}
+use Rattle.script.specs.Command.{SpellsCommand}
 use Rattle.script.specs.declared.command.Command.{Command}
 use Rattle.script.specs.declared.line.Line.{Line}
 use Rattle.script.specs.declared.line.Line.TheVariants as of
@@ -28,11 +28,11 @@ IsSkipped (first ∷ rest) = slice_index first 0 ≡ 35
 -- the line is skipped, or it is ASCII and its words spell the command
 abbrev pub IsLine : List ℕ → Line → Type 0
 IsLine line of.Skipped = IsSkipped (words_of line)
-IsLine line (of.Command command) = ¬ (IsSkipped (words_of line)) × IsAscii line × Spells (words_of line) command
+IsLine line (of.Command command) = ¬ (IsSkipped (words_of line)) × IsAscii line × SpellsCommand (words_of line) command
 
 -- why a line that is not skipped gives no command: it is not ASCII or spells no command, or memory is refused
 abbrev pub IsErrorOfLine : List ℕ → LineError → Type 0
-IsErrorOfLine line Bad = ¬ (IsSkipped (words_of line)) × (IsAscii line → (c : Command) → ¬ (Spells (words_of line) c))
+IsErrorOfLine line Bad = ¬ (IsSkipped (words_of line)) × (IsAscii line → (c : Command) → ¬ (SpellsCommand (words_of line) c))
 IsErrorOfLine line NoMemory = ¬ (IsSkipped (words_of line))
 
 -- the result is what the line says, or why it gives no command

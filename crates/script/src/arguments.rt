@@ -4,7 +4,8 @@ ghost use Rattle.std.specs.Prelude.{◌≡◌, ◌⊎◌, ℕ, List, Option, IfE
 ghost use Rattle.script.specs.Arguments.{AreName, AreNameAndBytes, AreNameAndNumber, AreNameAndNumbers};
 ghost use Rattle.script.specs.Arguments.{AreNameAndTurns, AreNameAndTwoNumbers, AreNameBytesAndTurns};
 ghost use Rattle.script.specs.Arguments.{AreNameNumberAndBytes, AreNameNumberAndDelta, AreNameNumberAndTurns};
-ghost use Rattle.script.specs.Arguments.{AreNone, AreNumber, AreNumberAndMembers, AreServers, Word};
+ghost use Rattle.script.specs.Arguments.{AreNone, AreNumber, AreNumberAndMembers, AreServers};
+ghost use Rattle.words.specs.Word.{Word};
 ghost use Rattle.script.specs.declared.error.LineError.TheVariants.{Bad, NoMemory};
 
 use crate::error::LineError;

@@ -1,7 +1,7 @@
 //! Commands that begin a call, or make one step of a call. Each function reads the words after those that name its
 //! command.
 ghost use Rattle.std.specs.Prelude.{◌∷◌, codes, map};
-ghost use Rattle.script.specs.Command.{ParsesTo};
+ghost use Rattle.script.specs.Command.{ParsesToCommand};
 
 use crate::arguments::{name_and_bytes, name_and_number, name_number_and_bytes, one_name};
 use crate::change::Change;
@@ -11,7 +11,7 @@ use std::alloc::Global;
 
 /// `call read`, `call write` or `call move`, from the words after `call`.
 pub(crate) fn call<'a>(alloc: Global, words: &[&'a str]) -> Result<Command<'a>, LineError>
-    ensures { ParsesTo (codes "call" ∷ map (λ w. w.now) words.now) result }
+    ensures { ParsesToCommand (codes "call" ∷ map (λ w. w.now) words.now) result }
 {
     let Some((kind, rest)) = words.split_first() else {
         return Err(LineError::Bad);
@@ -25,77 +25,77 @@ pub(crate) fn call<'a>(alloc: Global, words: &[&'a str]) -> Result<Command<'a>, 
 }
 
 fn call_read<'a>(words: &[&'a str]) -> Result<Command<'a>, LineError>
-    ensures { ParsesTo (codes "call" ∷ codes "read" ∷ map (λ w. w.now) words.now) result }
+    ensures { ParsesToCommand (codes "call" ∷ codes "read" ∷ map (λ w. w.now) words.now) result }
 {
     let name = one_name(words)?;
     Ok(Command::Change(Change::CallRead { name }))
 }
 
 fn call_write<'a>(alloc: Global, words: &[&'a str]) -> Result<Command<'a>, LineError>
-    ensures { ParsesTo (codes "call" ∷ codes "write" ∷ map (λ w. w.now) words.now) result }
+    ensures { ParsesToCommand (codes "call" ∷ codes "write" ∷ map (λ w. w.now) words.now) result }
 {
     let (name, value) = name_and_bytes(alloc, words)?;
     Ok(Command::Change(Change::CallWrite { name, value }))
 }
 
 fn call_move<'a>(words: &[&'a str]) -> Result<Command<'a>, LineError>
-    ensures { ParsesTo (codes "call" ∷ codes "move" ∷ map (λ w. w.now) words.now) result }
+    ensures { ParsesToCommand (codes "call" ∷ codes "move" ∷ map (λ w. w.now) words.now) result }
 {
     let (name, layout) = name_and_number(words)?;
     Ok(Command::Change(Change::CallMove { name, layout }))
 }
 
 pub(crate) fn advance<'a>(words: &[&'a str]) -> Result<Command<'a>, LineError>
-    ensures { ParsesTo (codes "advance" ∷ map (λ w. w.now) words.now) result }
+    ensures { ParsesToCommand (codes "advance" ∷ map (λ w. w.now) words.now) result }
 {
     let (name, call) = name_and_number(words)?;
     Ok(Command::Change(Change::Advance { name, call }))
 }
 
 pub(crate) fn supply<'a>(words: &[&'a str]) -> Result<Command<'a>, LineError>
-    ensures { ParsesTo (codes "supply" ∷ map (λ w. w.now) words.now) result }
+    ensures { ParsesToCommand (codes "supply" ∷ map (λ w. w.now) words.now) result }
 {
     let (name, call) = name_and_number(words)?;
     Ok(Command::Change(Change::Supply { name, call }))
 }
 
 pub(crate) fn supply_as<'a>(alloc: Global, words: &[&'a str]) -> Result<Command<'a>, LineError>
-    ensures { ParsesTo (codes "supply-as" ∷ map (λ w. w.now) words.now) result }
+    ensures { ParsesToCommand (codes "supply-as" ∷ map (λ w. w.now) words.now) result }
 {
     let (name, call, value) = name_number_and_bytes(alloc, words)?;
     Ok(Command::Change(Change::SupplyAs { name, call, value }))
 }
 
 pub(crate) fn settle<'a>(words: &[&'a str]) -> Result<Command<'a>, LineError>
-    ensures { ParsesTo (codes "settle" ∷ map (λ w. w.now) words.now) result }
+    ensures { ParsesToCommand (codes "settle" ∷ map (λ w. w.now) words.now) result }
 {
     let (name, call) = name_and_number(words)?;
     Ok(Command::Change(Change::Settle { name, call }))
 }
 
 pub(crate) fn post<'a>(words: &[&'a str]) -> Result<Command<'a>, LineError>
-    ensures { ParsesTo (codes "post" ∷ map (λ w. w.now) words.now) result }
+    ensures { ParsesToCommand (codes "post" ∷ map (λ w. w.now) words.now) result }
 {
     let (name, call) = name_and_number(words)?;
     Ok(Command::Change(Change::Post { name, call }))
 }
 
 pub(crate) fn again<'a>(words: &[&'a str]) -> Result<Command<'a>, LineError>
-    ensures { ParsesTo (codes "again" ∷ map (λ w. w.now) words.now) result }
+    ensures { ParsesToCommand (codes "again" ∷ map (λ w. w.now) words.now) result }
 {
     let (name, call) = name_and_number(words)?;
     Ok(Command::Change(Change::Again { name, call }))
 }
 
 pub(crate) fn answer<'a>(words: &[&'a str]) -> Result<Command<'a>, LineError>
-    ensures { ParsesTo (codes "answer" ∷ map (λ w. w.now) words.now) result }
+    ensures { ParsesToCommand (codes "answer" ∷ map (λ w. w.now) words.now) result }
 {
     let (name, call) = name_and_number(words)?;
     Ok(Command::Change(Change::Answer { name, call }))
 }
 
 pub(crate) fn show<'a>(words: &[&'a str]) -> Result<Command<'a>, LineError>
-    ensures { ParsesTo (codes "show" ∷ map (λ w. w.now) words.now) result }
+    ensures { ParsesToCommand (codes "show" ∷ map (λ w. w.now) words.now) result }
 {
     let (name, call) = name_and_number(words)?;
     Ok(Command::Show { name, call })

@@ -1,6 +1,6 @@
 //! Commands about the cluster as a whole. Each function reads the words after those that name its command.
 ghost use Rattle.std.specs.Prelude.{◌∷◌, codes, map};
-ghost use Rattle.script.specs.Command.{ParsesTo};
+ghost use Rattle.script.specs.Command.{ParsesToCommand};
 
 use crate::arguments::{
     name_and_number, name_number_and_delta, no_words, number_and_members, one_number, servers_count,
@@ -11,21 +11,21 @@ use crate::error::LineError;
 use std::alloc::Global;
 
 pub(crate) fn servers(words: &[&str]) -> Result<Command<'static>, LineError>
-    ensures { ParsesTo (codes "servers" ∷ map (λ w. w.now) words.now) result }
+    ensures { ParsesToCommand (codes "servers" ∷ map (λ w. w.now) words.now) result }
 {
     let count = servers_count(words)?;
     Ok(Command::Servers { count })
 }
 
 pub(crate) fn layout(alloc: Global, words: &[&str]) -> Result<Command<'static>, LineError>
-    ensures { ParsesTo (codes "layout" ∷ map (λ w. w.now) words.now) result }
+    ensures { ParsesToCommand (codes "layout" ∷ map (λ w. w.now) words.now) result }
 {
     let (k, members) = number_and_members(alloc, words)?;
     Ok(Command::Change(Change::Layout { k, members }))
 }
 
 pub(crate) fn object<'a>(words: &[&'a str]) -> Result<Command<'a>, LineError>
-    ensures { ParsesTo (codes "object" ∷ map (λ w. w.now) words.now) result }
+    ensures { ParsesToCommand (codes "object" ∷ map (λ w. w.now) words.now) result }
 {
     let (name, layout, delta) = name_number_and_delta(words)?;
     Ok(Command::Change(Change::Object {
@@ -36,28 +36,28 @@ pub(crate) fn object<'a>(words: &[&'a str]) -> Result<Command<'a>, LineError>
 }
 
 pub(crate) fn retire<'a>(words: &[&'a str]) -> Result<Command<'a>, LineError>
-    ensures { ParsesTo (codes "retire" ∷ map (λ w. w.now) words.now) result }
+    ensures { ParsesToCommand (codes "retire" ∷ map (λ w. w.now) words.now) result }
 {
     let (name, position) = name_and_number(words)?;
     Ok(Command::Change(Change::Retire { name, position }))
 }
 
 pub(crate) fn down(words: &[&str]) -> Result<Command<'static>, LineError>
-    ensures { ParsesTo (codes "down" ∷ map (λ w. w.now) words.now) result }
+    ensures { ParsesToCommand (codes "down" ∷ map (λ w. w.now) words.now) result }
 {
     let server = one_number(words)?;
     Ok(Command::Change(Change::Down { server }))
 }
 
 pub(crate) fn up(words: &[&str]) -> Result<Command<'static>, LineError>
-    ensures { ParsesTo (codes "up" ∷ map (λ w. w.now) words.now) result }
+    ensures { ParsesToCommand (codes "up" ∷ map (λ w. w.now) words.now) result }
 {
     let server = one_number(words)?;
     Ok(Command::Change(Change::Up { server }))
 }
 
 pub(crate) fn account(words: &[&str]) -> Result<Command<'static>, LineError>
-    ensures { ParsesTo (codes "account" ∷ map (λ w. w.now) words.now) result }
+    ensures { ParsesToCommand (codes "account" ∷ map (λ w. w.now) words.now) result }
 {
     no_words(words)?;
     Ok(Command::Account)

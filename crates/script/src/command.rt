@@ -1,6 +1,6 @@
 //! The commands of a script, and the words that spell them.
 ghost use Rattle.std.specs.Prelude.{map};
-ghost use Rattle.script.specs.Command.{ParsesTo};
+ghost use Rattle.script.specs.Command.{ParsesToCommand};
 
 use crate::change::Change;
 use crate::error::LineError;
@@ -53,7 +53,7 @@ pub enum Command<'a> {
 /// The command that the words of a line spell. It fails with `Bad` where they spell none, and with `NoMemory` where
 /// memory is refused for the command's bytes or numbers.
 pub fn parse_command<'a>(alloc: Global, words: &[&'a str]) -> Result<Command<'a>, LineError>
-    ensures { ParsesTo (map (λ w. w.now) words.now) result }
+    ensures { ParsesToCommand (map (λ w. w.now) words.now) result }
 {
     let Some((first, rest)) = words.split_first() else {
         return Err(LineError::Bad);

@@ -5,7 +5,6 @@ pub use change::Change;
 pub use command::{Command, parse_command};
 pub use error::LineError;
 pub use line::{Line, parse_line};
-pub use lines::split_lines;
 
 mod arguments;
 mod call_commands;
@@ -14,7 +13,6 @@ mod cluster_commands;
 mod command;
 mod error;
 mod line;
-mod lines;
 mod mail_commands;
 mod object_commands;
 mod values;

@@ -1,6 +1,6 @@
 //! Commands about the mail and the banks of an object. Each function reads the words after those that name its command.
 ghost use Rattle.std.specs.Prelude.{◌∷◌, codes, map};
-ghost use Rattle.script.specs.Command.{ParsesTo};
+ghost use Rattle.script.specs.Command.{ParsesToCommand};
 
 use crate::arguments::{name_and_number, name_and_two_numbers, one_name};
 use crate::change::Change;
@@ -8,49 +8,49 @@ use crate::command::Command;
 use crate::error::LineError;
 
 pub(crate) fn serve<'a>(words: &[&'a str]) -> Result<Command<'a>, LineError>
-    ensures { ParsesTo (codes "serve" ∷ map (λ w. w.now) words.now) result }
+    ensures { ParsesToCommand (codes "serve" ∷ map (λ w. w.now) words.now) result }
 {
     let (name, place) = name_and_number(words)?;
     Ok(Command::Change(Change::Serve { name, place }))
 }
 
 pub(crate) fn take<'a>(words: &[&'a str]) -> Result<Command<'a>, LineError>
-    ensures { ParsesTo (codes "take" ∷ map (λ w. w.now) words.now) result }
+    ensures { ParsesToCommand (codes "take" ∷ map (λ w. w.now) words.now) result }
 {
     let (name, place) = name_and_number(words)?;
     Ok(Command::Change(Change::Take { name, place }))
 }
 
 pub(crate) fn lose<'a>(words: &[&'a str]) -> Result<Command<'a>, LineError>
-    ensures { ParsesTo (codes "lose" ∷ map (λ w. w.now) words.now) result }
+    ensures { ParsesToCommand (codes "lose" ∷ map (λ w. w.now) words.now) result }
 {
     let (name, place) = name_and_number(words)?;
     Ok(Command::Change(Change::Lose { name, place }))
 }
 
 pub(crate) fn repeat<'a>(words: &[&'a str]) -> Result<Command<'a>, LineError>
-    ensures { ParsesTo (codes "repeat" ∷ map (λ w. w.now) words.now) result }
+    ensures { ParsesToCommand (codes "repeat" ∷ map (λ w. w.now) words.now) result }
 {
     let (name, place) = name_and_number(words)?;
     Ok(Command::Change(Change::Repeat { name, place }))
 }
 
 pub(crate) fn deliver<'a>(words: &[&'a str]) -> Result<Command<'a>, LineError>
-    ensures { ParsesTo (codes "deliver" ∷ map (λ w. w.now) words.now) result }
+    ensures { ParsesToCommand (codes "deliver" ∷ map (λ w. w.now) words.now) result }
 {
     let name = one_name(words)?;
     Ok(Command::Change(Change::Deliver { name }))
 }
 
 pub(crate) fn mail<'a>(words: &[&'a str]) -> Result<Command<'a>, LineError>
-    ensures { ParsesTo (codes "mail" ∷ map (λ w. w.now) words.now) result }
+    ensures { ParsesToCommand (codes "mail" ∷ map (λ w. w.now) words.now) result }
 {
     let name = one_name(words)?;
     Ok(Command::Mail { name })
 }
 
 pub(crate) fn bank<'a>(words: &[&'a str]) -> Result<Command<'a>, LineError>
-    ensures { ParsesTo (codes "bank" ∷ map (λ w. w.now) words.now) result }
+    ensures { ParsesToCommand (codes "bank" ∷ map (λ w. w.now) words.now) result }
 {
     let (name, position, member) = name_and_two_numbers(words)?;
     Ok(Command::Bank {

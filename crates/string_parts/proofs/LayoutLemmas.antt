@@ -5,8 +5,8 @@ use Rattle.std.proofs.lemmas.Bool.{leb-true, le-leb, and_parts, and_from}
 use Rattle.std.proofs.lemmas.Bool.Decides.{nat_tests}
 use Rattle.tag.specs.declared.limits.TheConstants.{MOST_MEMBERS}
 use Rattle.layout.specs.Layout.{Layout, IsLawful}
-use Rattle.string_parts.proofs.PartLemmas.{guarded, ok_is}
-use Rattle.string_parts.specs.Layouts.{are_distinct, is_lawful, checked_layout}
+use Rattle.words.proofs.PartLemmas.{guarded, ok_is}
+use Rattle.string_parts.specs.Layouts.{are_named_once, is_lawful, checked_layout}
 
 apart_ok : (x : ℕ) (xs : List ℕ) → list_any (nat_eq x) xs ≡ false → AllByRecursion (λ y. nat_eq x y ≡ false) xs
 apart_ok x [] none = tt
@@ -20,14 +20,14 @@ not_false : (b : Bool) → not b ≡ true → b ≡ false
 not_false true e = absurd cc
 not_false false e = refl
 
-distinct_ok : (xs : List ℕ) → are_distinct xs ≡ true → IsDistinct nat_eq xs
+distinct_ok : (xs : List ℕ) → are_named_once xs ≡ true → IsDistinct nat_eq xs
 unfolding IsDistinct
 distinct_ok [] e = tt
 distinct_ok (x ∷ xs) e =
-    let p = and_parts (not (list_any (nat_eq x) xs)) (are_distinct xs) e in
+    let p = and_parts (not (list_any (nat_eq x) xs)) (are_named_once xs) e in
     (apart_ok x xs (not_false (list_any (nat_eq x) xs) p.0), distinct_ok xs p.1)
 
-distinct_again : (xs : List ℕ) → IsDistinct nat_eq xs → are_distinct xs ≡ true
+distinct_again : (xs : List ℕ) → IsDistinct nat_eq xs → are_named_once xs ≡ true
 unfolding IsDistinct
 distinct_again [] d = refl
 distinct_again (x ∷ xs) d = rw (apart_again x xs d.0, distinct_again xs d.1) refl
@@ -36,9 +36,9 @@ pub lawful_ok : (layout : Layout) → is_lawful layout ≡ true → IsLawful lay
 lawful_ok layout e =
     let k = layout.k in
     let n = length layout.members in
-    let a = and_parts (leb 1 k) (leb k n && (leb n MOST_MEMBERS && are_distinct layout.members)) e in
-    let b = and_parts (leb k n) (leb n MOST_MEMBERS && are_distinct layout.members) a.1 in
-    let c = and_parts (leb n MOST_MEMBERS) (are_distinct layout.members) b.1 in
+    let a = and_parts (leb 1 k) (leb k n && (leb n MOST_MEMBERS && are_named_once layout.members)) e in
+    let b = and_parts (leb k n) (leb n MOST_MEMBERS && are_named_once layout.members) a.1 in
+    let c = and_parts (leb n MOST_MEMBERS) (are_named_once layout.members) b.1 in
     record {
       some = leb-true 1 k a.0;
       enough = leb-true k n b.0;

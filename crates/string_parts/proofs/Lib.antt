@@ -1,3 +1,2 @@
-pub mod PartLemmas
 pub mod NumberLemmas
 pub mod LayoutLemmas

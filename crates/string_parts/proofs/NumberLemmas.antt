@@ -9,60 +9,10 @@ use Rattle.std.proofs.lemmas.Fmt.{decimal_digit, decimal_step, decimal_by_steps}
 use Rattle.std.proofs.lemmas.List.{append-nil, drop_all}
 use Rattle.string_parts.specs.declared.number.NumberFault.{NumberFault}
 use Rattle.string_parts.specs.declared.number.NumberFault.TheVariants.{BadNumber, OutOfRange}
-use Rattle.string_parts.specs.Numbers.{first_digit, with_digit, digits_from, number_from}
-use Rattle.string_parts.proofs.PartLemmas.{bind_ok, guarded, guarded_above, ok_is}
-
--- a digit behind those of m, in the value and in the text
-pub record Follows (m byte n : ℕ) : Type 0 where
-  pub some : 0 < m
-  pub low : 48 ≤ byte
-  pub high : byte ≤ 57
-  pub value : n ≡ 10 * m + (byte - 48)
-
-positive : (m : ℕ) → (m ≡ 0 → ⊥) → 0 < m
-positive zero h = absurd (h refl)
-positive (suc m) h = omega arith
-
--- what a digit makes of a number, if it is within the limit
-abbrev within : ℕ → ℕ → Result ℕ NumberFault
-within most value = cond (ltb most value) (Err OutOfRange) (Ok value)
-
-with_digit_ok : (most m byte n : ℕ) → with_digit most m byte ≡ Ok n → Follows m byte n × (n ≤ most)
-unfolding with_digit
-with_digit_ok most m byte n e =
-    let value = 10 * m + (byte - 48) in
-    let a = guarded (is_ascii_digit byte) (cond (eqb m 0) (Err BadNumber) (within most value)) BadNumber n e in
-    let b = guarded_above (eqb m 0) BadNumber (within most value) n a.1 in
-    let d = guarded_above (ltb most value) OutOfRange (Ok value) n b.1 in
-    let is : 10 * m + (byte - 48) ≡ n = ok_is (10 * m + (byte - 48)) n d.1 in
-    let digit = and_parts _ _ a.0 in
-    let below = ltb-false _ _ d.0 in
-    let other = eqb-false m 0 b.0 in
-    (record { some = positive m other; low = leb-true _ _ digit.0; high = leb-true _ _ digit.1; value = sym is }, omega arith)
-
-is_digit : (byte : ℕ) → 48 ≤ byte → byte ≤ 57 → is_ascii_digit byte ≡ true
-is_digit byte low high = and_from _ _ (le-leb _ _ low) (le-leb _ _ high)
-
-with_digit_again : (most m byte n : ℕ) → Follows m byte n → n ≤ most → with_digit most m byte ≡ Ok n
-unfolding with_digit
-with_digit_again most m byte n f le =
-    let some = f.some in
-    let other : eqb m 0 ≡ false = ne_eqb m 0 (λ e. omega arith) in
-    let below : ltb most (10 * m + (byte - 48)) ≡ false = le-ltb _ _ (omega (arith, f.value)) in
-    rw (is_digit byte f.low f.high, other, below) (ap (λ (k : ℕ). Ok k) (sym f.value))
-
-decimal_more : (m byte n : ℕ) (bytes : List ℕ) → Follows m byte n → n < 2 ^ 64 → decimal m ++ byte ∷ bytes ≡ decimal n ++ bytes
-decimal_more m byte n bytes f lt =
-    let some = f.some in
-    let low = f.low in
-    let high = f.high in
-    let value = f.value in
-    let front : n / 10 ≡ m = omega arith in
-    let last : 48 + n % 10 ≡ byte = omega arith in
-    let step : decimal n ≡ decimal m ++ byte ∷ [] = decimal_step n (omega arith) lt
-    ∙ ap (λ (k : ℕ). decimal k ++ (48 + n % 10) ∷ []) front
-    ∙ ap (λ (k : ℕ). decimal m ++ k ∷ []) last in
-    sym (ap (λ (ds : List ℕ). ds ++ bytes) step ∙ append_assoc (decimal m) (byte ∷ []) bytes)
+use Rattle.string_parts.specs.Numbers.{digits_from, number_up_to}
+use Rattle.words.specs.Digits.{first_digit, with_digit}
+use Rattle.words.proofs.DigitLemmas.{Follows, with_digit_ok, is_digit, with_digit_again, decimal_more, first_ok}
+use Rattle.words.proofs.PartLemmas.{bind_ok, ok_is}
 
 -- ---- what is read was written
 
@@ -72,30 +22,18 @@ unfolding digits_from
 digits_ok most [] m n lt le e =
     subst (λ (k : ℕ). (decimal m ++ [] ≡ decimal k) × (k ≤ most)) (ok_is m n e) (append-nil (decimal m), le)
 digits_ok most (byte ∷ bytes) m n lt le e =
-    let a = bind_ok (with_digit most m byte) (λ (more : ℕ). digits_from most more bytes) n e in
-    let f = with_digit_ok most m byte a.0 a.1 in
+    let a = bind_ok (with_digit BadNumber most OutOfRange m byte) (λ (more : ℕ). digits_from most more bytes) n e in
+    let f = with_digit_ok BadNumber most OutOfRange m byte a.0 a.1 in
     let rest = digits_ok most bytes a.0 n lt f.1 a.2 in
     (decimal_more m byte a.0 bytes f.0 (omega (arith, f.1)) ∙ rest.0, rest.1)
 
--- a first digit is the number that it writes
-first_ok : (byte first : ℕ) → first_digit byte ≡ Ok first → (decimal first ≡ byte ∷ []) × (first ≤ 9)
-unfolding first_digit
-first_ok byte first e =
-    let digit = guarded (is_ascii_digit byte) (Ok (byte - 48)) BadNumber first e in
-    let range = and_parts (leb 48 byte) (leb byte 57) digit.0 in
-    let low : 48 ≤ byte = leb-true 48 byte range.0 in
-    let high : byte ≤ 57 = leb-true byte 57 range.1 in
-    let value : byte - 48 ≡ first = ok_is (byte - 48) first digit.1 in
-    let back : 48 + first ≡ byte = omega arith in
-    (decimal_digit first (omega arith) ∙ ap (λ (b : ℕ). b ∷ []) back, omega arith)
-
-pub number_ok : (most : ℕ) (bytes : List ℕ) (n : ℕ) → 9 ≤ most → most < 2 ^ 64 → number_from most bytes ≡ Ok n
+pub number_ok : (most : ℕ) (bytes : List ℕ) (n : ℕ) → 9 ≤ most → most < 2 ^ 64 → number_up_to most bytes ≡ Ok n
     → (bytes ≡ decimal n) × (n ≤ most)
-unfolding number_from
+unfolding number_up_to
 number_ok most [] n nine lt e = absurd cc
 number_ok most (byte ∷ bytes) n nine lt e =
-    let a = bind_ok (first_digit byte) (λ (first : ℕ). digits_from most first bytes) n e in
-    let digit = first_ok byte a.0 a.1 in
+    let a = bind_ok (first_digit BadNumber byte) (λ (first : ℕ). digits_from most first bytes) n e in
+    let digit = first_ok BadNumber byte a.0 a.1 in
     let small = digit.1 in
     let rest = digits_ok most bytes a.0 n lt (omega arith) a.2 in
     (sym (ap (λ (ds : List ℕ). ds ++ bytes) digit.0) ∙ rest.0, rest.1)
@@ -103,10 +41,10 @@ number_ok most (byte ∷ bytes) n nine lt e =
 -- ---- what was written is read
 
 abbrev Starts : ℕ → ℕ → List ℕ → Type 0
-Starts most n ds = n ≤ most → (tail : List ℕ) → number_from most (ds ++ tail) ≡ digits_from most n tail
+Starts most n ds = n ≤ most → (tail : List ℕ) → number_up_to most (ds ++ tail) ≡ digits_from most n tail
 
 start_one : (most n : ℕ) → n < 10 → Starts most n ((48 + n) ∷ [])
-unfolding number_from first_digit
+unfolding number_up_to first_digit
 start_one most n lt le tail =
     let value : 48 + n - 48 ≡ n = omega arith in
     rw (is_digit (48 + n) (omega arith) (omega arith), value) refl
@@ -114,29 +52,29 @@ start_one most n lt le tail =
 digits_step : (most m byte n : ℕ) (tail : List ℕ) → Follows m byte n → n ≤ most
     → digits_from most m (byte ∷ tail) ≡ digits_from most n tail
 unfolding digits_from
-digits_step most m byte n tail f le = rw (with_digit_again most m byte n f le) refl
+digits_step most m byte n tail f le = rw (with_digit_again BadNumber most OutOfRange m byte n f le) refl
 
 start_more : (most n : ℕ) (ds : List ℕ) → 10 ≤ n → Starts most (n / 10) ds → Starts most n (ds ++ (48 + n % 10) ∷ [])
 start_more most n ds ge before le tail =
     let f : Follows (n / 10) (48 + n % 10) n = record { some = omega arith; low = omega arith; high = omega arith; value = omega arith } in
-    ap (number_from most) (append_assoc ds ((48 + n % 10) ∷ []) tail)
+    ap (number_up_to most) (append_assoc ds ((48 + n % 10) ∷ []) tail)
     ∙ before (omega arith) ((48 + n % 10) ∷ tail)
     ∙ digits_step most (n / 10) (48 + n % 10) n tail f le
 
-pub number_again : (most n : ℕ) → n ≤ most → most < 2 ^ 64 → number_from most (decimal n) ≡ Ok n
+pub number_again : (most n : ℕ) → n ≤ most → most < 2 ^ 64 → number_up_to most (decimal n) ≡ Ok n
 unfolding digits_from
 number_again most n le lt =
-    ap (number_from most) (sym (append-nil (decimal n)))
+    ap (number_up_to most) (sym (append-nil (decimal n)))
     ∙ decimal_by_steps (Starts most) (start_one most) (start_more most) n (omega arith) le []
 
 -- ---- as a loop reads digits
 
-digits_go : (most n byte more : ℕ) (rest : List ℕ) → with_digit most n byte ≡ Ok more
+digits_go : (most n byte more : ℕ) (rest : List ℕ) → with_digit BadNumber most OutOfRange n byte ≡ Ok more
     → digits_from most n (byte ∷ rest) ≡ digits_from most more rest
 unfolding digits_from
 digits_go most n byte more rest e = rw e refl
 
-digits_stop : (most n byte : ℕ) (fault : NumberFault) (rest : List ℕ) → with_digit most n byte ≡ Err fault
+digits_stop : (most n byte : ℕ) (fault : NumberFault) (rest : List ℕ) → with_digit BadNumber most OutOfRange n byte ≡ Err fault
     → digits_from most n (byte ∷ rest) ≡ Err fault
 unfolding digits_from
 digits_stop most n byte fault rest e = rw e refl
@@ -145,7 +83,7 @@ digits_end : (most n : ℕ) → digits_from most n [] ≡ Ok n
 unfolding digits_from
 digits_end most n = refl
 
-pub digits_go_on : (most first n more i : ℕ) (bytes : List ℕ) → i < length bytes → Ok more ≡ with_digit most n (get_or bytes i 0)
+pub digits_go_on : (most first n more i : ℕ) (bytes : List ℕ) → i < length bytes → Ok more ≡ with_digit BadNumber most OutOfRange n (get_or bytes i 0)
     → digits_from most n (drop i bytes) ≡ digits_from most first bytes
     → digits_from most more (drop (i + 1) bytes) ≡ digits_from most first bytes
 digits_go_on most first n more i bytes lt e so_far =
@@ -156,7 +94,7 @@ digits_go_on most first n more i bytes lt e so_far =
     ∙ so_far
 
 pub digits_stop_at : (most first n i : ℕ) (fault : NumberFault) (bytes : List ℕ) → i < length bytes
-    → Err fault ≡ with_digit most n (get_or bytes i 0)
+    → Err fault ≡ with_digit BadNumber most OutOfRange n (get_or bytes i 0)
     → digits_from most n (drop i bytes) ≡ digits_from most first bytes → Err fault ≡ digits_from most first bytes
 digits_stop_at most first n i fault bytes lt e so_far =
     sym (ap (digits_from most n) (drop-cons bytes i 0 lt)
@@ -171,10 +109,10 @@ digits_end_at most first n i bytes le so_far =
 -- ---- what was read
 
 pub is_found : (most : ℕ) (bytes : List ℕ) (result : Result ℕ NumberFault) → 9 ≤ most → most < 2 ^ 64
-    → result ≡ number_from most bytes → IfOk result (λ n. bytes ≡ decimal n)
+    → result ≡ number_up_to most bytes → IfOk result (λ n. bytes ≡ decimal n)
 is_found most bytes (Ok n) nine lt e = (number_ok most bytes n nine lt (sym e)).0
 is_found most bytes (Err fault) nine lt e = tt
 
 pub is_only : (most : ℕ) (bytes : List ℕ) (result : Result ℕ NumberFault) → most < 2 ^ 64
-    → result ≡ number_from most bytes → (n : ℕ) → n ≤ most → bytes ≡ decimal n → result ≡ Ok n
-is_only most bytes result lt e n le is = e ∙ ap (number_from most) is ∙ number_again most n le lt
+    → result ≡ number_up_to most bytes → (n : ℕ) → n ≤ most → bytes ≡ decimal n → result ≡ Ok n
+is_only most bytes result lt e n le is = e ∙ ap (number_up_to most) is ∙ number_again most n le lt

@@ -6,15 +6,15 @@ use Rattle.std.specs.List.{list_any}
 use Rattle.tag.specs.declared.limits.TheConstants.{MOST_MEMBERS}
 use Rattle.layout.specs.Layout.{Layout}
 
--- whether no member is named twice
-abbrev pub are_distinct : List ℕ → Bool
-are_distinct [] = true
-are_distinct (member ∷ others) = not (list_any (nat_eq member) others) && are_distinct others
+-- whether each member is named once
+abbrev pub are_named_once : List ℕ → Bool
+are_named_once [] = true
+are_named_once (member ∷ others) = not (list_any (nat_eq member) others) && are_named_once others
 
 -- whether a layout is lawful: 1 ≤ k ≤ n ≤ MOST_MEMBERS, and no member is named twice
 abbrev pub is_lawful : Layout → Bool
 is_lawful layout = nat_le 1 layout.k && (nat_le layout.k (length layout.members)
-    && (nat_le (length layout.members) MOST_MEMBERS && are_distinct layout.members))
+    && (nat_le (length layout.members) MOST_MEMBERS && are_named_once layout.members))
 
 -- this layout, or this fault where it is not lawful
 abbrev pub checked_layout : {E : Type 0} → E → Layout → Result Layout E

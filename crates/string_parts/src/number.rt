@@ -1,7 +1,9 @@
 //! Numbers in decimal digits.
 ghost use Rattle.std.specs.Prelude.{◌≡◌, ◌≤◌, ◌<◌, ℕ, Ok, IfOk};
 ghost use Rattle.std.specs.Fmt.{decimal};
-ghost use Rattle.string_parts.specs.Numbers.{number_from, digits_from, with_digit, first_digit};
+ghost use Rattle.string_parts.specs.Numbers.{number_up_to, digits_from};
+
+use words::{first_digit, with_digit};
 
 /// Why bytes write no number: the first fault, from left to right.
 #[derive(Clone, Copy, Debug, PartialEq, Eq)]
@@ -21,20 +23,20 @@ pub fn read_number(bytes: &[u8], most: u64) -> Result<u64, NumberFault>
     // The digits of a number within the limit are read as that number.
     ensures only { (number : ℕ) → number ≤ most → bytes.now ≡ decimal number → result ≡ Ok number }
     // Which fault it is.
-    ensures exact { result ≡ number_from most bytes.now }
+    ensures exact { result ≡ number_up_to most bytes.now }
 {
     read_bytes(bytes, most)
 }
 
-#[tactic(auto, unfolding(crate::specs::Numbers::number_from))]
+#[tactic(auto, unfolding(crate::specs::Numbers::number_up_to))]
 fn read_bytes(bytes: &[u8], most: u64) -> Result<u64, NumberFault>
     requires { 9 ≤ most }
     ensures within { IfOk result (λ number. number ≤ most) }
-    ensures exact { result ≡ number_from most bytes.now }
+    ensures exact { result ≡ number_up_to most bytes.now }
 {
     match bytes {
         [first, rest @ ..] => {
-            let first = first_digit(*first)?;
+            let first = first_digit(*first, NumberFault::BadNumber)?;
             read_digits(rest, most, first)
         }
         [] => Err(NumberFault::BadNumber),
@@ -49,37 +51,13 @@ fn read_digits(bytes: &[u8], most: u64, first: u64) -> Result<u64, NumberFault>
 {
     let mut number = first;
     for byte in bytes {
-        number = with_digit(most, number, *byte)?;
+        number = with_digit(
+            number,
+            *byte,
+            most,
+            NumberFault::BadNumber,
+            NumberFault::OutOfRange,
+        )?;
     }
     Ok(number)
-}
-
-#[tactic(auto, unfolding(crate::specs::Numbers::first_digit))]
-fn first_digit(byte: u8) -> Result<u64, NumberFault>
-    ensures small { IfOk result (λ number. number ≤ 9) }
-    ensures exact { result ≡ first_digit byte }
-{
-    if !byte.is_ascii_digit() {
-        return Err(NumberFault::BadNumber);
-    }
-    Ok(u64::from(byte - b'0'))
-}
-
-// A digit after those of `number`.
-#[tactic(auto, unfolding(crate::specs::Numbers::with_digit))]
-fn with_digit(most: u64, number: u64, byte: u8) -> Result<u64, NumberFault>
-    ensures within { IfOk result (λ more. more ≤ most) }
-    ensures exact { result ≡ with_digit most number byte }
-{
-    if !byte.is_ascii_digit() {
-        return Err(NumberFault::BadNumber);
-    }
-    if number == 0 {
-        return Err(NumberFault::BadNumber);
-    }
-    let more = 10 * u128::from(number) + u128::from(byte - b'0');
-    if more > u128::from(most) {
-        return Err(NumberFault::OutOfRange);
-    }
-    Ok(more as u64)
 }

@@ -4,13 +4,13 @@ use Rattle.std.specs.Prelude.{◌≡◌, ◌⊎◌, ℕ, List, Option, None, Res
 use Rattle.std.specs.Io.KnownBytes.{Keeps}
 use Rattle.cluster.specs.Cluster.{Cluster}
 use Rattle.player.specs.declared.run.End.TheVariants.{NoRoom, Unread}
-use Rattle.script.specs.Arguments.{Word}
+use Rattle.words.specs.Word.{Word}
 use Rattle.trace.specs.declared.fault.Fault.{Fault}
 use Rattle.trace.specs.declared.fault.Fault.TheVariants as fault
 use Rattle.trace.specs.declared.request.Form.{Form}
-use Rattle.trace.specs.Fault.{exit_status_of}
+use Rattle.trace.specs.Fault.{exit_status_of_fault}
 use Rattle.trace.specs.Played.{IsUnplayed, LeadsTo}
-use Rattle.trace.specs.Request.{ParsesTo, words_asking_for}
+use Rattle.trace.specs.Request.{SpellsOrNone, words_asking_for}
 use Rattle.trace.specs.Shown.{Shows}
 
 -- the file could not be opened, and nothing is written
@@ -33,11 +33,11 @@ ShowsOfFile asked name old new result =
 -- this is the exit status of a result of which `Is` holds
 abbrev pub IsStatusOf : (Result Unit Fault → Type 0) → (status : ℕ) → Type 0
 IsStatusOf Is status =
-    ((status ≡ 0) × (Is (Ok tt))) ⊎ ((why : Fault) × (status ≡ exit_status_of why) × Is (Err why))
+    ((status ≡ 0) × (Is (Ok tt))) ⊎ ((why : Fault) × (status ≡ exit_status_of_fault why) × Is (Err why))
 
 -- the words spell no request, and nothing is written; or they spell one, and the status is that of its result
-abbrev pub EndsBy : List Word → (old new : Option (List ℕ)) → (status : ℕ) → Type 0
-EndsBy words old new status =
-    (ParsesTo words None × (status ≡ 2) × Keeps old new)
+abbrev pub TraceEndsBy : List Word → (old new : Option (List ℕ)) → (status : ℕ) → Type 0
+TraceEndsBy words old new status =
+    (SpellsOrNone words None × (status ≡ 2) × Keeps old new)
     ⊎ ((asked : Form) × (script : Word) × (name : Word) × (words ≡ words_asking_for asked script name)
     × IsStatusOf (ShowsOfFile asked name old new) status)

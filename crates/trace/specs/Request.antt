@@ -1,7 +1,7 @@
 -- The contracts that docs/trusted.md lists do not depend on this file; other contracts and proofs do.
 -- What the words of a command line ask for.
 use Rattle.std.specs.Prelude.{◌≡◌, List, [], ◌∷◌, Option, Some, None, codes}
-use Rattle.script.specs.Arguments.{Word}
+use Rattle.words.specs.Word.{Word}
 use Rattle.trace.specs.declared.request.Form.{Form}
 use Rattle.trace.specs.declared.request.Form.TheVariants as form
 use Rattle.trace.specs.declared.request.Request.{Request}
@@ -14,6 +14,6 @@ words_asking_for form.Json script name = codes "history" ∷ script ∷ name ∷
 words_asking_for form.Costs script name = codes "costs" ∷ script ∷ name ∷ []
 
 -- the words spell this request, or no request at all
-abbrev pub ParsesTo : List Word → Option Request → Type 0
-ParsesTo words None = (asked : Form) (script name : Word) → ¬ (words ≡ words_asking_for asked script name)
-ParsesTo words (Some request) = words ≡ words_asking_for request.form request.script.now request.name.now
+abbrev pub SpellsOrNone : List Word → Option Request → Type 0
+SpellsOrNone words None = (asked : Form) (script name : Word) → ¬ (words ≡ words_asking_for asked script name)
+SpellsOrNone words (Some request) = words ≡ words_asking_for request.form request.script.now request.name.now

@@ -2,7 +2,7 @@
 ghost use Rattle.std.specs.Prelude.{◌≡◌, ◌≢◌};
 ghost use Rattle.std.specs.IoError.{error_kind};
 ghost use Rattle.tag.specs.declared.refusal.Refusal.TheVariants.{NoMemory};
-ghost use Rattle.trace.specs.Fault.{exit_status_of};
+ghost use Rattle.trace.specs.Fault.{exit_status_of_fault};
 ghost use Rattle.trace.specs.declared.fault.Fault.TheVariants as fault;
 
 use player::{End, report_end};
@@ -57,7 +57,7 @@ impl Fault {
     /// Prints the reason on `err`, for a script of this name, and returns the exit status: 1 for a refusal or lost
     /// output, 2 for the command line or the script. A write that fails is ignored.
     pub fn report<W: Write>(self, script: &str, err: &mut W) -> u8
-        ensures { result ≡ exit_status_of self }
+        ensures { result ≡ exit_status_of_fault self }
     {
         match self {
             Fault::NotText => 2,

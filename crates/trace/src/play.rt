@@ -10,10 +10,11 @@ use crate::fault::Fault;
 use cluster::Cluster;
 use picture::Loss;
 use player::{End, play_line, read_script};
-use script::{Change, Command, Line, parse_line, split_lines};
+use script::{Change, Command, Line, parse_line};
 use std::alloc::Global;
 use std::io;
 use std::io::Read;
+use words::split_lines;
 
 /// What a script leaves behind.
 #[derive(Drop)]

@@ -1,6 +1,6 @@
 //! The program, generic over its writers.
 ghost use Rattle.std.specs.Prelude.{map, string_bytes};
-ghost use Rattle.trace.specs.Program.{Carries, EndsBy, IsStatusOf, ShowsOfFile};
+ghost use Rattle.trace.specs.Program.{Carries, TraceEndsBy, IsStatusOf, ShowsOfFile};
 
 use crate::fault::Fault;
 use crate::play::play_script;
@@ -21,7 +21,7 @@ pub fn run_words<R: Files + AllocGlobal, O: Write, E: Write>(
     out: &mut O,
     err: &mut E,
 ) -> u8
-    ensures { EndsBy (map string_bytes words.now) (O.contents out.old) (O.contents out.new) result }
+    ensures { TraceEndsBy (map string_bytes words.now) (O.contents out.old) (O.contents out.new) result }
 {
     match parse_request(words) {
         Some(request) => run_request(rt, request, out, err),

@@ -1,6 +1,6 @@
 //! What the words of the command line ask for.
 ghost use Rattle.std.specs.Prelude.{◌∷◌, [], map, string_bytes};
-ghost use Rattle.trace.specs.Request.{ParsesTo};
+ghost use Rattle.trace.specs.Request.{SpellsOrNone};
 
 /// The form in which an object is shown.
 #[derive(Clone, Copy)]
@@ -28,7 +28,7 @@ pub struct Request<'a> {
 
 /// The request that the words after the program's name spell; none where they spell none.
 pub fn parse_request(words: &[String]) -> Option<Request<'_>>
-    ensures { ParsesTo (map string_bytes words.entry.now) result }
+    ensures { SpellsOrNone (map string_bytes words.entry.now) result }
 {
     match words {
         [first, script, name] => three(first.as_str(), script.as_str(), name.as_str()),
@@ -43,7 +43,7 @@ pub fn parse_request(words: &[String]) -> Option<Request<'_>>
 }
 
 fn three<'a>(first: &str, script: &'a str, name: &'a str) -> Option<Request<'a>>
-    ensures { ParsesTo (first.now ∷ script.entry.now ∷ name.entry.now ∷ []) result }
+    ensures { SpellsOrNone (first.now ∷ script.entry.now ∷ name.entry.now ∷ []) result }
 {
     let form = match first {
         "picture" => Form::Picture,
@@ -54,7 +54,7 @@ fn three<'a>(first: &str, script: &'a str, name: &'a str) -> Option<Request<'a>>
 }
 
 fn four<'a>(first: &str, script: &'a str, name: &'a str, last: &str) -> Option<Request<'a>>
-    ensures { ParsesTo (first.now ∷ script.entry.now ∷ name.entry.now ∷ last.now ∷ []) result }
+    ensures { SpellsOrNone (first.now ∷ script.entry.now ∷ name.entry.now ∷ last.now ∷ []) result }
 {
     let "history" = first else {
         return None;

@@ -1,8 +1,8 @@
-//! Words that are just inside or outside the form of numbers or bytes.
+//! Words that are just inside or outside the form of numbers or bytes, and lines with each kind of end.
 use crate::same::assert_same;
 use std::alloc::Global;
 use std::process::Abort;
-use words::{Hexadecimal, parse_bytes, parse_number};
+use words::{Hexadecimal, first_digit, parse_bytes, parse_number, split_lines, with_digit};
 
 static NUMBERS: [(&str, Option<u64>); 14] = [
     ("0", Some(0)),
@@ -61,4 +61,34 @@ fn bytes_of_words(rt: HostRuntime) {
     for &(word, expected) in &BYTES {
         assert_prints(&rt, rt.alloc(), word, expected);
     }
+}
+
+static TEXTS: [(&str, &[&str]); 5] = [
+    ("", &[]),
+    ("one", &["one"]),
+    ("one\n\ntwo\r\n", &["one", "", "two"]),
+    ("one\r", &["one\r"]),
+    ("\r\n\n", &["", ""]),
+];
+
+#[test]
+fn lines_of_texts(rt: HostRuntime) {
+    for &(text, lines) in &TEXTS {
+        let found = split_lines(rt.alloc(), text.as_bytes()).expect(&rt, "lines");
+        assert_same(&rt, text, found.len(), lines.len());
+        for (line, expected) in found.iter().zip(lines) {
+            assert_same(&rt, text, *line, expected.as_bytes());
+        }
+    }
+}
+
+#[test]
+fn digits(rt: HostRuntime) {
+    assert_same(&rt, "9", first_digit(b'9', "bad"), Ok(9));
+    assert_same(&rt, "+", first_digit(b'+', "bad"), Err("bad"));
+    let up_to_255 = |number, byte| with_digit(number, byte, 255, "bad", "above");
+    assert_same(&rt, "255", up_to_255(25, b'5'), Ok(255));
+    assert_same(&rt, "256", up_to_255(25, b'6'), Err("above"));
+    assert_same(&rt, "01", up_to_255(0, b'1'), Err("bad"));
+    assert_same(&rt, "1x", up_to_255(1, b'x'), Err("bad"));
 }

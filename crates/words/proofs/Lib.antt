@@ -1,1 +1,4 @@
 pub mod HexadecimalLemmas
+pub mod PartLemmas
+pub mod DigitLemmas
+pub mod LineSplitLemmas

@@ -2,7 +2,7 @@
 use Rattle.std.proofs.Common.{◌≡◌, ◌⊎◌, ℕ, Bool, true, false, cond, List, Result, Ok, Err, refl, inl, inr}
 use Rattle.std.specs.Str.{bytes_eq}
 use Rattle.std.proofs.lemmas.Slice.Eq.{bytes_eq-Decides}
-use Rattle.string_parts.specs.Parts.{and_then}
+use Rattle.words.specs.Parts.{and_then}
 
 -- the value of a part that is no fault
 pub bind_ok : {E A B : Type 0} (r : Result A E) (f : A → Result B E) (y : B) → and_then r f ≡ Ok y

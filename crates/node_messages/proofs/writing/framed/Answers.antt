@@ -1,5 +1,5 @@
 use Rattle.std.proofs.Common.{refl}
-use Rattle.string_parts.proofs.PartLemmas.{no_success}
+use Rattle.words.proofs.PartLemmas.{no_success}
 use Rattle.node_messages.proofs.FrameLemmas.{frame_made, frame_refused}
 use Rattle.node_messages.proofs.writing.framed.Goals as goal
 

@@ -1,5 +1,5 @@
 use Rattle.std.proofs.Common.{refl}
-use Rattle.string_parts.proofs.PartLemmas.{no_success}
+use Rattle.words.proofs.PartLemmas.{no_success}
 use Rattle.string_parts.proofs.LayoutLemmas.{layout_made, layout_refused}
 use Rattle.string_parts.proofs.layouts.checked_layout.Goals as goal
 

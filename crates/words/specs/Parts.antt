@@ -1,0 +1,13 @@
+-- The contracts that docs/trusted.md lists do not depend on this file; other contracts and proofs do.
+-- What is read, part by part.
+use Rattle.std.specs.Prelude.{◌≡◌, Result, Ok, Err}
+
+-- one part after another, up to the first fault
+abbrev pub and_then : {E A B : Type 0} → Result A E → (A → Result B E) → Result B E
+and_then (Ok x) next = next x
+and_then (Err fault) next = Err fault
+
+-- what a function returned, seen by `view`, is what reading gives
+abbrev pub Sees : {E X Y : Type 0} → (X → Y) → Result X E → Result Y E → Type 0
+Sees view (Ok x) read = read ≡ Ok (view x)
+Sees view (Err fault) read = read ≡ Err fault
