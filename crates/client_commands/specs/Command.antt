@@ -50,9 +50,11 @@ SaysOfClient text count (word ∷ what ∷ strings) =
 -- the strings ask for this command
 abbrev pub AskFor : List (List ℕ) → Command → Type 0
 AskFor strings (ask.Get name) = AreWordAndRest (codes "get") (name ∷ []) strings × IsShortName name
-AskFor strings (ask.Set name value) = AreWordAndRest (codes "set") (name ∷ value ∷ []) strings × IsShortName name × IsShortValue value
+AskFor strings (ask.Set name value) =
+    AreWordAndRest (codes "set") (name ∷ value ∷ []) strings × IsShortName name × IsShortValue value
 AskFor strings (ask.Move name layout) =
-    AreWordAndRest (codes "move") (name ∷ layout_strings layout) strings × IsShortName name × IsLawful layout × AreNodes layout.members
+    AreWordAndRest (codes "move") (name ∷ layout_strings layout) strings × IsShortName name × IsLawful layout
+    × AreNodes layout.members
 AskFor strings ask.Info = Begins (codes "info") strings
 AskFor strings (ask.Ping text) = AreWordAndRest (codes "ping") (text_strings text) strings
 AskFor strings (ask.Echo text) = AreWordAndRest (codes "echo") (text ∷ []) strings

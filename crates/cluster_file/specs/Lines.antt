@@ -40,7 +40,8 @@ with_line (Some line) lines = line ∷ lines
 -- the lines that have a word among these texts, of which the first one has this number
 abbrev pub lines_from : ℕ → List (List ℕ) → List Line
 lines_from number [] = []
-lines_from number (text ∷ texts) = with_line (line_from number (words_before_comment text)) (lines_from (number + 1) texts)
+lines_from number (text ∷ texts) =
+    with_line (line_from number (words_before_comment text)) (lines_from (number + 1) texts)
 
 -- the lines of a text that have a word, where the first line has the number 1
 abbrev pub lines_of : List ℕ → List Line

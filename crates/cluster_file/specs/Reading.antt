@@ -57,7 +57,8 @@ value_of_line from line =
     without_second line.number line.values x))
 
 -- the one value of the setting that is due
-unfoldable pub setting_value : {X : Type 0} → Setting → (Word → Result X Fault) → ℕ → List Line → OrFault (X × List Line)
+unfoldable pub setting_value : {X : Type 0} → Setting → (Word → Result X Fault) → ℕ → List Line
+    → OrFault (X × List Line)
 setting_value due from end lines =
     and_then (setting_at due end lines) (λ line.
     and_then (value_of_line from line.0) (λ x.

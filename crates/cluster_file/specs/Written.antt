@@ -86,4 +86,5 @@ pub record AreInRange (file : FileContents) : Type 0 where
 -- a text of a lawful file is read as that file
 abbrev pub WrittenFilesAreRead : Type 0
 WrittenFilesAreRead =
-    (text : List ℕ) (file : FileContents) → IsTextOf text file → IsLawfulFile file → AreInRange file → file_of text ≡ Ok file
+    (text : List ℕ) (file : FileContents) → IsTextOf text file → IsLawfulFile file → AreInRange file
+    → file_of text ≡ Ok file

@@ -21,10 +21,12 @@ IsPrinted output old new status = ((status ≡ 0) × Appends old new (output_tex
 -- the line of the request's answer is written or lost; or the request is refused, by its cause or for want of memory,
 -- with status 1 and nothing written
 abbrev pub AnswersRequest : CodingRequest → Written → Written → ℕ → Type 0
-AnswersRequest request old new status = ((output : Output) × IsAnswerTo request output × IsPrinted output old new status)
+AnswersRequest request old new status =
+    ((output : Output) × IsAnswerTo request output × IsPrinted output old new status)
     ⊎ ((refusal : Refusal) × ((refusal ≡ NoMemory) ⊎ IsRefusedFor request refusal) × (status ≡ 1) × Keeps old new)
 
 -- the words spell a request, and it is answered; or they spell none, the status says why, and nothing is written
 abbrev pub CodingEndsBy : List Word → Written → Written → ℕ → Type 0
-CodingEndsBy words old new status = ((request : CodingRequest) × SpellsCoding words request × AnswersRequest request old new status)
+CodingEndsBy words old new status =
+    ((request : CodingRequest) × SpellsCoding words request × AnswersRequest request old new status)
     ⊎ ((fault : Fault) × IsCodingFaultOf words fault × (status ≡ exit_status_of fault) × Keeps old new)

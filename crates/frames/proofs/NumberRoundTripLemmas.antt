@@ -44,7 +44,8 @@ number_ok most above bytes x nine lt e =
 -- a number, but for its line end
 abbrev start_at : ℕ → Fault → List ℕ → Parsed ℕ
 start_at most above bytes =
-    and_then (byte_at bytes) (λ byte. and_then (leaving (first_digit BadNumber byte.0) byte.1) (λ first. digits_at most above first.0 first.1))
+    and_then (byte_at bytes) (λ byte.
+    and_then (leaving (first_digit BadNumber byte.0) byte.1) (λ first. digits_at most above first.0 first.1))
 
 abbrev Starts : ℕ → Fault → ℕ → List ℕ → Type 0
 Starts most above n ds = n ≤ most → (tail : List ℕ) → start_at most above (ds ++ tail) ≡ digits_at most above n tail
@@ -83,5 +84,6 @@ unfolding number_at digits_at expected_at byte_at
 number_again most above n rest le lt =
     let text = decimal n ++ (13 ∷ 10 ∷ rest) in
     ap (number_at most above) (append_assoc (decimal n) line_end rest)
-    ∙ regroup (byte_at text) (λ byte. leaving (first_digit BadNumber byte.0) byte.1) (λ first. digits_at most above first.0 first.1) after_digits
+    ∙ regroup (byte_at text) (λ byte. leaving (first_digit BadNumber byte.0) byte.1)
+    (λ first. digits_at most above first.0 first.1) after_digits
     ∙ ap (λ (r : Parsed ℕ). and_then r after_digits) (starts most above n (omega arith) le (13 ∷ 10 ∷ rest))

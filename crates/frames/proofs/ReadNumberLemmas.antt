@@ -93,7 +93,8 @@ number_bad most above old new byte fault p h = Between_as old new (λ xs ys a. a
 
 -- a first digit, and what follows it
 pub number_from : (most : ℕ) (above : Fault) (old mid new : Left) (byte first : ℕ) (r : Result ℕ FrameError)
-    → Returns byte_at old mid (succeeds byte) → first_digit BadNumber byte ≡ Ok first → Returns (λ ys. after_first most above (first, ys)) mid new r
+    → Returns byte_at old mid (succeeds byte) → first_digit BadNumber byte ≡ Ok first
+    → Returns (λ ys. after_first most above (first, ys)) mid new r
     → Returns (number_at most above) old new r
 unfolding number_at
 number_from most above old mid new byte first r p h q = then_ok byte_at (after_byte most above) old mid new byte r p

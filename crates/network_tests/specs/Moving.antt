@@ -74,7 +74,8 @@ write_at_second =
 
 -- a write, and a move from its first event to its last between the write's query and its first piece
 abbrev pub move_while_writing : List Event
-move_while_writing = write_beginning ++ (move_beginning ++ (move_ending ++ (write_at_first ++ (write_moved ++ write_at_second))))
+move_while_writing =
+    write_beginning ++ (move_beginning ++ (move_ending ++ (write_at_first ++ (write_moved ++ write_at_second))))
 
 -- the entries of both calls: the write has the events 1 to 51, and the move has 7 to 26
 abbrev pub move_while_writing_entries : List Entry

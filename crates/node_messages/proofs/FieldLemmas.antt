@@ -111,7 +111,8 @@ status_at_again s rest = rw (status_again s) refl
 
 -- ---- a layout
 
-layout_from_ok : (string : List ℕ) (layout : Layout) → layout_of_bytes string ≡ Ok layout → (string ≡ layout_string layout) × IsLawful layout
+layout_from_ok : (string : List ℕ) (layout : Layout) → layout_of_bytes string ≡ Ok layout
+    → (string ≡ layout_string layout) × IsLawful layout
 unfolding layout_of_bytes
 layout_from_ok [] layout e = absurd cc
 layout_from_ok (k ∷ members) layout e =
@@ -123,7 +124,8 @@ layout_from_again : (layout : Layout) → IsLawful layout → layout_of_bytes (l
 unfolding layout_of_bytes
 layout_from_again layout lawful = checked_again BadLayout layout lawful
 
-pub layout_ok : (strings : Strings) (x : Layout × Strings) → first_layout strings ≡ Ok x → (strings ≡ layout_string x.0 ∷ x.1) × IsLawful x.0
+pub layout_ok : (strings : Strings) (x : Layout × Strings) → first_layout strings ≡ Ok x
+    → (strings ≡ layout_string x.0 ∷ x.1) × IsLawful x.0
 unfolding first_layout
 layout_ok strings x e =
     let a = bind_ok (first_string strings) (λ string. and_then (layout_of_bytes string.0) (λ layout. Ok (layout, string.1))) x e in
@@ -156,7 +158,8 @@ next_again (Some layout) rest lawful = rw (layout_again layout rest lawful) refl
 
 -- ---- a digest, a name, a member
 
-pub digest_ok : (strings : Strings) (x : List ℕ × Strings) → first_digest strings ≡ Ok x → (strings ≡ x.0 ∷ x.1) × (length x.0 ≡ DIGEST_LENGTH)
+pub digest_ok : (strings : Strings) (x : List ℕ × Strings) → first_digest strings ≡ Ok x
+    → (strings ≡ x.0 ∷ x.1) × (length x.0 ≡ DIGEST_LENGTH)
 unfolding first_digest
 digest_ok strings x e =
     let a = bind_ok (first_string strings) (λ string. and_then (digest_from string.0) (λ digest. Ok (digest, string.1))) x e in

@@ -16,7 +16,8 @@ use Rattle.node_messages.specs.Message.{names_next, IsMessage}
 use Rattle.words.specs.Parts.{and_then}
 use Rattle.node_messages.specs.Strings.{Strings, layout_string, body_strings, next_strings, strings_of}
 use Rattle.node_messages.specs.Gives.{Agrees}
-use Rattle.node_messages.specs.Reading.{first_number, first_layout, first_digest, first_name, first_subject, first_member, first_numbers, first_body, first_next}
+use Rattle.node_messages.specs.Reading.{first_number, first_layout, first_digest, first_name, first_subject, first_member}
+use Rattle.node_messages.specs.Reading.{first_numbers, first_body, first_next}
 use Rattle.node_messages.specs.Reading.{made_of, ending, message_from}
 use Rattle.words.proofs.PartLemmas.{bind_ok, ok_is}
 use Rattle.node_messages.proofs.FieldLemmas.{number_at_ok, number_at_again, layout_ok, layout_again, next_ok, next_again}

@@ -149,7 +149,8 @@ unfoldable pub first_request : Kind → Strings → FirstAndRest Request
 first_request kind.Next rest = Ok (request.Next, rest)
 first_request (kind.Spread found) rest = Ok (request.Spread found, rest)
 first_request kind.Query rest = Ok (request.Query, rest)
-first_request (kind.PreWrite tag) rest = and_then (first_piece rest) (λ piece. Ok (request.PreWrite tag piece.0, piece.1))
+first_request (kind.PreWrite tag) rest =
+    and_then (first_piece rest) (λ piece. Ok (request.PreWrite tag piece.0, piece.1))
 first_request (kind.Finalize tag) rest = Ok (request.Finalize tag, rest)
 first_request (kind.Fetch tag) rest = Ok (request.Fetch tag, rest)
 

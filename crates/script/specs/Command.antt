@@ -57,7 +57,8 @@ SpellsCommand words (of.Servers count) = Says (codes "servers") (AreServers coun
 SpellsCommand words (of.Change asked) = SpellsChange words asked
 SpellsCommand words (of.Show name call) = Says (codes "show") (AreNameAndNumber name.now call) words
 SpellsCommand words (of.Mail name) = Says (codes "mail") (AreName name.now) words
-SpellsCommand words (of.Bank name position member) = Says (codes "bank") (AreNameAndTwoNumbers name.now position member) words
+SpellsCommand words (of.Bank name position member) =
+    Says (codes "bank") (AreNameAndTwoNumbers name.now position member) words
 SpellsCommand words of.Account = Says (codes "account") AreNone words
 SpellsCommand words (of.History name) = Says (codes "history") (AreName name.now) words
 SpellsCommand words (of.Sequence name) = Says (codes "sequence") (AreName name.now) words

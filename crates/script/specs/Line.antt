@@ -32,7 +32,8 @@ IsLine line (of.Command command) = ¬ (IsSkipped (words_of line)) × IsAscii lin
 
 -- why a line that is not skipped gives no command: it is not ASCII or spells no command, or memory is refused
 abbrev pub IsErrorOfLine : List ℕ → LineError → Type 0
-IsErrorOfLine line Bad = ¬ (IsSkipped (words_of line)) × (IsAscii line → (c : Command) → ¬ (SpellsCommand (words_of line) c))
+IsErrorOfLine line Bad =
+    ¬ (IsSkipped (words_of line)) × (IsAscii line → (c : Command) → ¬ (SpellsCommand (words_of line) c))
 IsErrorOfLine line NoMemory = ¬ (IsSkipped (words_of line))
 
 -- the result is what the line says, or why it gives no command

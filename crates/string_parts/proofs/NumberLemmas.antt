@@ -83,7 +83,8 @@ digits_end : (most n : ℕ) → digits_from most n [] ≡ Ok n
 unfolding digits_from
 digits_end most n = refl
 
-pub digits_go_on : (most first n more i : ℕ) (bytes : List ℕ) → i < length bytes → Ok more ≡ with_digit BadNumber most OutOfRange n (get_or bytes i 0)
+pub digits_go_on : (most first n more i : ℕ) (bytes : List ℕ) → i < length bytes
+    → Ok more ≡ with_digit BadNumber most OutOfRange n (get_or bytes i 0)
     → digits_from most n (drop i bytes) ≡ digits_from most first bytes
     → digits_from most more (drop (i + 1) bytes) ≡ digits_from most first bytes
 digits_go_on most first n more i bytes lt e so_far =

@@ -9,7 +9,8 @@ use Rattle.string_parts.specs.declared.number.NumberFault.TheVariants.{BadNumber
 -- the digits behind those of n: the number of all of them
 unfoldable pub digits_from : ℕ → ℕ → List ℕ → Result ℕ NumberFault
 digits_from most n [] = Ok n
-digits_from most n (byte ∷ bytes) = and_then (with_digit BadNumber most OutOfRange n byte) (λ more. digits_from most more bytes)
+digits_from most n (byte ∷ bytes) =
+    and_then (with_digit BadNumber most OutOfRange n byte) (λ more. digits_from most more bytes)
 
 -- the number up to `most` that a whole string writes
 unfoldable pub number_up_to : ℕ → List ℕ → Result ℕ NumberFault
