@@ -45,8 +45,8 @@ CarriesOut first cause makes old answer new =
     × MatchResult answer (λ x. new ≡ ordered_by old (makes cluster)) (λ r. new ≡ old)))
 
 -- in some state of the cluster the layout is added and gets the next number, or it is refused
-abbrev pub AddsLayout : (first : Cluster) → AdminState → Layout → Result ℕ Refusal → AdminState → Type 0
-AddsLayout first old layout answer new =
+abbrev pub AddsLayoutThen : (first : Cluster) → AdminState → Layout → Result ℕ Refusal → AdminState → Type 0
+AddsLayoutThen first old layout answer new =
     (cluster : Cluster)
     × (IsStateOf first cluster
     × (IsByCause (layout_cause cluster layout) answer
@@ -55,16 +55,16 @@ AddsLayout first old layout answer new =
     (λ r. new ≡ old)))
 
 -- in some state of the cluster an object is created, or the creation is refused
-abbrev pub Creates : {T : Type 0} → (first : Cluster) → AdminState → (name : List ℕ) → (id : ℕ) → (delta : Option ℕ)
+abbrev pub CreatesThen : {T : Type 0} → (first : Cluster) → AdminState → (name : List ℕ) → (id : ℕ) → (delta : Option ℕ)
     → Result T Refusal → AdminState → Type 0
-Creates first old name id delta answer new =
+CreatesThen first old name id delta answer new =
     CarriesOut first (λ c. create_cause c name id) (λ c. created c name id delta) old answer new
 
 -- in some state of the cluster this position of an object is retired, and all servers store this many bytes less; or
 -- the retiring is refused, and never for want of memory
-abbrev pub Retires : (first : Cluster) → AdminState → (name : List ℕ) → (position : ℕ) → Result ℕ Refusal → AdminState
-    → Type 0
-Retires first old name position answer new =
+abbrev pub RetiresThen : (first : Cluster) → AdminState → (name : List ℕ) → (position : ℕ) → Result ℕ Refusal
+    → AdminState → Type 0
+RetiresThen first old name position answer new =
     (cluster : Cluster)
     × (IsStateOf first cluster
     × (IsExactlyByCause (retiring_cause cluster name position) answer
@@ -74,27 +74,27 @@ Retires first old name position answer new =
     (λ r. new ≡ old)))
 
 -- in some state of the cluster a server goes up or down, or that is refused
-abbrev pub SetsServer : {T : Type 0} → (first : Cluster) → AdminState → (server : ℕ) → (up : Bool) → Result T Refusal
-    → AdminState → Type 0
-SetsServer first old server up answer new =
+abbrev pub SetsServerThen : {T : Type 0} → (first : Cluster) → AdminState → (server : ℕ) → (up : Bool)
+    → Result T Refusal → AdminState → Type 0
+SetsServerThen first old server up answer new =
     CarriesOut first (λ c. server_cause c server) (λ c. with_server c server up) old answer new
 
 -- no move was pending; in some state of the cluster a move to this layout began, and it ended with this receipt
-abbrev pub Moves : (first : Cluster) → AdminState → (name : List ℕ) → (layout : ℕ) → Receipt → AdminState → Type 0
-Moves first old name layout receipt new =
+abbrev pub MovesThen : (first : Cluster) → AdminState → (name : List ℕ) → (layout : ℕ) → Receipt → AdminState → Type 0
+MovesThen first old name layout receipt new =
     (old.moving ≡ None)
     × ((cluster : Cluster) × (IsStateOf first cluster × (begin_move_cause cluster old.moving name layout ≡ None)
     × Ends (move_begun cluster old name layout) receipt new))
 
 -- no move was pending; in some state of the cluster a move to this layout began, and it stays open
-abbrev pub BeginsMove : (first : Cluster) → AdminState → (name : List ℕ) → (layout : ℕ) → AdminState → Type 0
-BeginsMove first old name layout new =
+abbrev pub BeginsMoveThen : (first : Cluster) → AdminState → (name : List ℕ) → (layout : ℕ) → AdminState → Type 0
+BeginsMoveThen first old name layout new =
     (old.moving ≡ None)
     × ((cluster : Cluster) × (IsStateOf first cluster × (begin_move_cause cluster old.moving name layout ≡ None)
     × (new ≡ move_begun cluster old name layout)))
 
 -- in some state of the cluster the move is refused with this refusal, by its cause or for want of memory
-abbrev pub MovesNot : (first : Cluster) → AdminState → (name : List ℕ) → (layout : ℕ) → Refusal → Type 0
-MovesNot first old name layout r =
+abbrev pub MovesNotThen : (first : Cluster) → AdminState → (name : List ℕ) → (layout : ℕ) → Refusal → Type 0
+MovesNotThen first old name layout r =
     (cluster : Cluster)
     × (IsStateOf first cluster × IsRefusalBy (begin_move_cause cluster old.moving name layout) r)

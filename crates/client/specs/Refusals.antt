@@ -10,7 +10,7 @@ use Rattle.register.specs.Causes.{number_cause}
 use Rattle.cluster.specs.Causes.{object_cause}
 use Rattle.cluster.specs.Cluster.{Cluster, if_named}
 use Rattle.driver.specs.Choices.{choices}
-use Rattle.driver.specs.Driver.{wanted, turn_cause, IsDue, IsOpen}
+use Rattle.driver.specs.Driver.{wanted, turn_cause, IsDue, IsNotAnswered}
 use Rattle.driver.specs.Rounds.{IsToEncode, IsToDecode}
 use Rattle.locked_steps.specs.Course.{IsStateOf}
 use Rattle.locked_steps.specs.Moves.{AdminState, Moving}
@@ -20,7 +20,7 @@ use Rattle.locked_steps.specs.Seats.{SeatState, Pending, AddsPending}
 use Rattle.locked_steps.specs.declared.call_record.Begin.{Begin}
 use Rattle.locked_steps.specs.declared.handed_in.HandedIn.{HandedIn}
 use Rattle.locked_steps.specs.declared.handed_in.HandedIn.TheVariants as hand
-use Rattle.client.specs.Locked.{BeginsMove}
+use Rattle.client.specs.Locked.{BeginsMoveThen}
 
 -- a chooser that may choose anything
 abbrev pub Anyhow : Unit {0} → ℕ → ℕ → Unit {0} → Type 0
@@ -42,7 +42,7 @@ module _ (name : List ℕ) (call : ℕ) where
 
   -- why a round of the call is refused in this state, where nothing is handed in
   abbrev pub IsHeldUp : Cluster → Refusal → Type 0
-  IsHeldUp cluster GaveUp = IsOpen cluster name call
+  IsHeldUp cluster GaveUp = IsNotAnswered cluster name call
   IsHeldUp cluster Stuck = IsWaitingWithoutMessages cluster
   IsHeldUp cluster Collected = wanted cluster name call ≡ Some want.Again
   IsHeldUp cluster Full = IsLimited cluster
@@ -126,4 +126,4 @@ LeavesPending first s name what new r = AddsPending first s name what new × Sea
 -- so
 abbrev pub LeavesMoving : (first : Cluster) → AdminState → (name : List ℕ) → (layout : ℕ) → AdminState → Refusal
     → Type 0
-LeavesMoving first old name layout new r = BeginsMove first old name layout new × MoveIsRefused first new r
+LeavesMoving first old name layout new r = BeginsMoveThen first old name layout new × MoveIsRefused first new r

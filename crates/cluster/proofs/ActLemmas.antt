@@ -12,7 +12,7 @@ use Rattle.register.specs.Act.{IsActCause, IsCausedBy, act_cause, step_of, takes
 use Rattle.register.specs.State.{State, made, next_id}
 use Rattle.register.specs.declared.act.Act.{Act}
 use Rattle.register.specs.declared.act.Act.TheVariants as act
-use Rattle.cluster.specs.Acts.{IsReady, begun_by}
+use Rattle.cluster.specs.Acts.{ServersAllow, begun_by}
 use Rattle.cluster.specs.Cluster.{Cluster}
 use Rattle.cluster.specs.Kept.{IsKeptCluster}
 use Rattle.cluster.proofs.LookupLemmas.{Entry, IsAt}
@@ -45,12 +45,12 @@ pub act_by : {T : Type 0} {cause own : Option Refusal} (answer : Result T Refusa
 act_by answer a same by = subst (λ c. IsActCause a c answer) (sym same) by
 
 -- no server stores more, or less
-pub no_more : (servers number : ℕ) (object : Object) (a : Act) → IsReady servers a → (server : ℕ) →
+pub no_more : (servers number : ℕ) (object : Object) (a : Act) → ServersAllow servers a → (server : ℕ) →
     of.stored_by object (step_of number a) server ≡ 0
 no_more servers number object (act.Serve place) ready server = absurd ready
 no_more servers number object _ ready server = refl
 
-pub no_less : (servers number : ℕ) (object : Object) (a : Act) → IsReady servers a → (now server : ℕ) →
+pub no_less : (servers number : ℕ) (object : Object) (a : Act) → ServersAllow servers a → (now server : ℕ) →
     of.freed_by object (step_of number a) now server ≡ 0
 no_less servers number object (act.Serve place) ready now server = absurd ready
 no_less servers number object _ ready now server = refl
@@ -62,7 +62,7 @@ no_call {cluster} {bytes} {count} kept = subst (λ n. IsKeptCluster cluster byte
 module _ {servers : List Bool} {layouts : List Layout} {counter : ℕ} {entries : List Entry} {name : List ℕ}
     {place : ℕ} {old : State} where
   kept_at : {bytes count : ℕ} {new : State} → IsKeptCluster (cluster_of servers layouts entries counter) bytes count →
-      IsAt entries name place old → (a : Act) → IsReady (length servers) a →
+      IsAt entries name place old → (a : Act) → ServersAllow (length servers) a →
       new ≡ made (step_of (next_id old.object) a) (counter + 1) old → counter + 1 ≤ MOST_STEPS →
       IsKeptCluster (cluster_of servers layouts (set_value_at entries place new) (counter + 1)) bytes (count + begun_by a)
   kept_at kept at act.CallRead ready is few = call_at kept at (Step.CallRead (next_id old.object)) is few (read_called (next_id old.object))
@@ -83,7 +83,7 @@ module _ {servers : List Bool} {layouts : List Layout} {counter : ℕ} {entries 
   kept_at kept at (act.Repeat p) ready is few = no_call (quiet_at kept at (Step.Repeat p) is few (repeat_quiet p))
 
   pub act_at : {bytes count begun : ℕ} {new : State} → IsKeptCluster (cluster_of servers layouts entries counter) bytes count →
-      IsAt entries name place old → (a : Act) → IsReady (length servers) a →
+      IsAt entries name place old → (a : Act) → ServersAllow (length servers) a →
       new ≡ made (step_of (next_id old.object) a) (counter + 1) old → act_cause a (counter + 1) old.object ≡ None → begun ≡ begun_by a →
       IsKeptCluster (cluster_of servers layouts (set_value_at entries place new) (counter + 1)) bytes (count + begun)
   act_at {bytes} {count} {begun} {new} kept at a ready is none all =

@@ -8,7 +8,7 @@ use Rattle.std.proofs.lemmas.List.Quantifiers.{position-Some}
 use Rattle.indexmap.specs.IndexMap.{set_value_at}
 use Rattle.register.specs.State.{State}
 use Rattle.register.proofs.ListLemmas.{same_some}
-use Rattle.cluster.specs.Cluster.{Named, named, changed, place_of}
+use Rattle.cluster.specs.Cluster.{Named, named, with_changed, place_of}
 
 abbrev pub Entry : Type 0
 Entry = String Global × State
@@ -90,19 +90,19 @@ place_at {entries} {name} {place} {old} at = place_first entries name place at.f
 -- the objects with one of them changed at its place
 changed_first : (entries : List Entry) (name : List ℕ) (place : ℕ) (old : State) (change : State → State) →
     IsFirst name entries place → slice_get (values_of entries) place ≡ Some old →
-    objects_of (set_value_at entries place (change old)) ≡ changed (objects_of entries) name change
+    objects_of (set_value_at entries place (change old)) ≡ with_changed (objects_of entries) name change
 changed_first [] name place old change first value = absurd first
 changed_first (e ∷ es) name zero old change first value =
     ap (λ (s : State). object_of (e.0, change s) ∷ objects_of es) (sym (same_some e.1 old value))
     ∙ sym
-    (ap (λ b. if b then object_of (e.0, change e.1) ∷ objects_of es else object_of e ∷ changed (objects_of es) name change) first)
+    (ap (λ b. if b then object_of (e.0, change e.1) ∷ objects_of es else object_of e ∷ with_changed (objects_of es) name change) first)
 changed_first (e ∷ es) name (suc place) old change first value =
     ap (λ os. object_of e ∷ os) (changed_first es name place old change first.1 value)
-    ∙ sym (ap (λ b. if b then object_of (e.0, change e.1) ∷ objects_of es else object_of e ∷ changed (objects_of es) name change)
+    ∙ sym (ap (λ b. if b then object_of (e.0, change e.1) ∷ objects_of es else object_of e ∷ with_changed (objects_of es) name change)
     first.0)
 
 pub changed_at : {entries : List Entry} {name : List ℕ} {place : ℕ} {old : State} → IsAt entries name place old →
-    (change : State → State) → objects_of (set_value_at entries place (change old)) ≡ changed (objects_of entries) name change
+    (change : State → State) → objects_of (set_value_at entries place (change old)) ≡ with_changed (objects_of entries) name change
 changed_at {entries} {name} {place} {old} at change = changed_first entries name place old change at.first at.value
 
 -- what was there may be written back

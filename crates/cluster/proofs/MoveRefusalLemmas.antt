@@ -9,7 +9,7 @@ use Rattle.register.specs.Kept.{has_open_move}
 use Rattle.register.specs.Causes.{unless, move_cause}
 use Rattle.register.proofs.ListLemmas.{found_or}
 use Rattle.cluster.specs.Causes.{if_layout, moving_cause}
-use Rattle.cluster.specs.Cluster.{Named, Cluster, layout_of}
+use Rattle.cluster.specs.Cluster.{Named, Cluster, layout_numbered}
 
 -- the layout that a look-up gave
 pub record IsLayout (layouts : List Layout) (id : ℕ) (layout : Layout) : Type 0 where
@@ -27,9 +27,9 @@ is_layout {layouts} {xs} {id} {layout} {copy} all within read copied =
 pub layout_found :
     {servers : List Bool} {layouts : List Layout} {objects : List Named} {counter id : ℕ} {now : Cluster} {layout : Layout} →
     record { servers = servers; layouts = layouts; objects = objects; counter = counter } ≡ now → IsLayout layouts id layout →
-    layout_of now id ≡ layout
+    layout_numbered now id ≡ layout
 layout_found {layouts = layouts} {id = id} {layout = layout} same found =
-    ap (λ (k : Cluster). layout_of k id) (sym same) ∙ found_or layouts id layout no_layout found.here
+    ap (λ (k : Cluster). layout_numbered k id) (sym same) ∙ found_or layouts id layout no_layout found.here
 
 module _ {servers : List Bool} {layouts : List Layout} {objects : List Named} {counter : ℕ} {now : Cluster}
     (same : record { servers = servers; layouts = layouts; objects = objects; counter = counter } ≡ now) (id : ℕ)

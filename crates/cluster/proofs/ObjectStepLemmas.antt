@@ -17,7 +17,7 @@ use Rattle.register.specs.State.{State, made, next_id}
 use Rattle.cluster.specs.Causes.{next, if_object, object_cause}
 use Rattle.cluster.specs.Cluster.{Cluster, next_call_id, if_some, if_named, next_id_in}
 use Rattle.cluster.specs.Kept.{HasMembersBelow, IsKeptCluster}
-use Rattle.cluster.specs.Steps.{stepped}
+use Rattle.cluster.specs.Steps.{with_step}
 use Rattle.cluster.proofs.LookupLemmas.{Entry, objects_of, is_name, IsAt, named_none, named_at, changed_at, same_at}
 use Rattle.cluster.proofs.StepEffectLemmas.{IsQuiet, IsCalled, IsMoved, IsServed}
 use Rattle.cluster.proofs.StepInvariantLemmas.{placed, quiet_kept, call_kept, move_kept, serve_kept}
@@ -46,7 +46,7 @@ module _ {servers : List Bool} {layouts : List Layout} {counter : ℕ} {entries 
   -- the cluster once the step is written back
   pub step_at : {new : State} → IsAt entries name place old → (step : Step) →
       new ≡ made step (counter + 1) old → cluster_of servers layouts (set_value_at entries place new) (counter + 1)
-      ≡ stepped (cluster_of servers layouts entries counter) name step
+      ≡ with_step (cluster_of servers layouts entries counter) name step
   step_at at step is =
       ap (λ s. cluster_of servers layouts (set_value_at entries place s) (counter + 1)) is
       ∙ ap (λ n. cluster_of servers layouts (set_value_at entries place (made step n old)) n) (add-one counter)
@@ -55,8 +55,8 @@ module _ {servers : List Bool} {layouts : List Layout} {counter : ℕ} {entries 
 
   pub stepped_at : {new : State} {now : Cluster} → cluster_of servers layouts entries counter ≡ now →
       IsAt entries name place old → (step : Step) → new ≡ made step (counter + 1) old →
-      cluster_of servers layouts (set_value_at entries place new) (counter + 1) ≡ stepped now name step
-  stepped_at same at step is = step_at at step is ∙ ap (λ k. stepped k name step) same
+      cluster_of servers layouts (set_value_at entries place new) (counter + 1) ≡ with_step now name step
+  stepped_at same at step is = step_at at step is ∙ ap (λ k. with_step k name step) same
 
   -- where the step is refused the cluster is as it was
   pub unchanged_at : {new : State} → IsAt entries name place old → new ≡ old

@@ -19,8 +19,8 @@ use Rattle.register.specs.declared.act.Act.{Act}
 use Rattle.register.proofs.ListLemmas.{all_found, found_or, same_some}
 use Rattle.register.proofs.NewMoveLemmas.{none_open}
 use Rattle.register.proofs.PreconditionLemmas.{not_true, passed, some_message}
-use Rattle.cluster.specs.Causes.{if_layout, if_object, moving_cause, next, object_cause, served_cause, serving_cause}
-use Rattle.cluster.specs.Cluster.{Cluster, Named, next_call_id, layout_of, named, next_id_in}
+use Rattle.cluster.specs.Causes.{if_layout, if_object, moving_cause, next, object_cause, message_cause, serving_cause}
+use Rattle.cluster.specs.Cluster.{Cluster, Named, next_call_id, layout_numbered, named, next_id_in}
 use Rattle.cluster.specs.Preconditions.{MayMake}
 use Rattle.cluster.proofs.LookupLemmas.{Entry, IsAt, named_at}
 use Rattle.cluster.proofs.ObjectStepLemmas.{cluster_of}
@@ -80,7 +80,7 @@ module _ (cluster : Cluster) (name : List ℕ) where
       (found.0, found.1, held.retire position (next cluster) found.2)
 
   may_move : AllByRecursion IsLawful cluster.layouts → (id number : ℕ) (object : Object) → IsNewId object number
-      → moving_cause cluster id object ≡ None → MayStep fragment object (Step.CallMove number (layout_of cluster id))
+      → moving_cause cluster id object ≡ None → MayStep fragment object (Step.CallMove number (layout_numbered cluster id))
   may_move lawful id number object is_new none =
       let open_none = passed (not (has_open_move object.calls)) _ _ none in
       let there = some_layout (slice_get cluster.layouts id) _ open_none.1 in (
@@ -92,18 +92,18 @@ module _ (cluster : Cluster) (name : List ℕ) where
 
   pub allowed_move : AllByRecursion (λ o. IsAllowing o.state) cluster.objects → AllByRecursion IsLawful cluster.layouts → (id : ℕ)
       → object_cause cluster name (moving_cause cluster id) ≡ None
-      → MayMake cluster name (Step.CallMove (next_call_id cluster name) (layout_of cluster id))
+      → MayMake cluster name (Step.CallMove (next_call_id cluster name) (layout_numbered cluster id))
   allowed_move all lawful id none =
       let found = some_object (named cluster.objects name) _ none in
       let held = held_named IsAllowing cluster.objects name found.0 all found.1 in (
         found.0,
         found.1,
-        subst (λ n. MayStep fragment found.0.object (Step.CallMove n (layout_of cluster id))) (sym (ap next_id_in found.1))
+        subst (λ n. MayStep fragment found.0.object (Step.CallMove n (layout_numbered cluster id))) (sym (ap next_id_in found.1))
             (may_move lawful id (next_id found.0.object) found.0.object held.next found.2),
       )
 
   may_serve : (place : ℕ) (object : Object) (message : Message) (it : Body) → slice_get object.mail place ≡ Some message
-      → message.body ≡ it → served_cause cluster object message it ≡ None → MayStep fragment object (Step.Serve place)
+      → message.body ≡ it → message_cause cluster object message it ≡ None → MayStep fragment object (Step.Serve place)
   may_serve place object message (body.Request asked) at is none = (message, (at, (asked, is)))
   may_serve place object message (body.Reply kind made) at is none = absurd (cc)
 

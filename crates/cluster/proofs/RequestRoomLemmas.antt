@@ -17,7 +17,7 @@ use Rattle.register.specs.Causes as own
 use Rattle.register.specs.Position.{all_bytes}
 use Rattle.register.proofs.RoomLemmas.{is_le, le_of, step_within}
 use Rattle.cluster.specs.Accounts.{banks_all}
-use Rattle.cluster.specs.Causes.{next, served_cause, serving_cause, can_handle, place_cause, handled_at}
+use Rattle.cluster.specs.Causes.{next, message_cause, serving_cause, can_handle, place_cause, handled_at}
 use Rattle.cluster.specs.Cluster.{Cluster, is_reached}
 use Rattle.cluster.specs.Kept.{IsKeptCluster}
 use Rattle.cluster.specs.Serving.{IsOf}
@@ -45,7 +45,7 @@ pub has_room : (cluster : Cluster) (place : ℕ) (object : Object) → serving_c
 has_room cluster place object none = go (slice_get object.mail place) refl none
   where
     in_body : (m : Message) → slice_get object.mail place ≡ Some m → (b : Body) → m.body ≡ b →
-        served_cause cluster object m b ≡ None → HasRoom cluster place object
+        message_cause cluster object m b ≡ None → HasRoom cluster place object
     in_body m waits (body.Request asked) is none =
         let room : Option Refusal = unless (nat_le (banks_all cluster.objects + request_bytes asked) MOST_BYTES) Full None in
         let later : if_step (next cluster) room ≡ None = past_unless (is_reached cluster object m) Down
@@ -64,7 +64,7 @@ has_room cluster place object none = go (slice_get object.mail place) refl none
     in_body m waits (body.Reply kind made) is none = absurd (cc)
 
     go : (found : Option Message) → slice_get object.mail place ≡ found
-        → if_message found (λ message. served_cause cluster object message message.body) ≡ None → HasRoom cluster place object
+        → if_message found (λ message. message_cause cluster object message message.body) ≡ None → HasRoom cluster place object
     go None is none = absurd (cc)
     go (Some m) is none = in_body m is m.body refl none
 

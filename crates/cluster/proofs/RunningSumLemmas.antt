@@ -15,7 +15,7 @@ use Rattle.register.specs.State.{State, made}
 use Rattle.register.proofs.ListLemmas.{all_pushed}
 use Rattle.cluster.specs.Accounts.{object_sum}
 use Rattle.cluster.specs.Cluster.{Named, Cluster, all_up, named}
-use Rattle.cluster.specs.Steps.{stepped, with_object}
+use Rattle.cluster.specs.Steps.{with_step, with_object}
 use Rattle.cluster.specs.Summed.{AreSummed, IsCounted, all_none}
 use Rattle.cluster.proofs.ChangedObjectLemmas.{sum_changed, all_changed}
 use Rattle.cluster.proofs.CreationInvariantLemmas.{sum_pushed}
@@ -53,7 +53,7 @@ module _ (cluster : Cluster) (waiting : ℕ) (loads : List ℕ) (name : List ℕ
       of.mailed new.object ≤ MOST_MESSAGES * LONGEST_VALUE → (more : List ℕ) → length more ≡ length loads → ((server : ℕ) →
       server < length cluster.servers → get_or more server 0 + of.freed_by old.object step (suc cluster.counter) server
       ≡ get_or loads server 0 + of.stored_by old.object step server) →
-      AreSummed (stepped cluster name step) later more
+      AreSummed (with_step cluster name step) later more
   step_summed later same few more servers grown = record {
     mailed = let all = sum_changed name (made step (suc cluster.counter)) old (λ s. of.mailed s.object) cluster.objects here in
         let before = summed.mailed in

@@ -8,19 +8,19 @@ use Rattle.record.specs.Steps.{Step}
 use Rattle.register.specs.Position.{all_bytes}
 use Rattle.register.specs.State.{State, made}
 use Rattle.register.proofs.ListLemmas.{all_pushed, all_weaker}
-use Rattle.cluster.specs.Cluster.{Named, Cluster, named, changed}
+use Rattle.cluster.specs.Cluster.{Named, Cluster, named, with_changed}
 use Rattle.cluster.specs.Kept.{HasMembersBelow, AreBanked, IsPlaced, IsKeptCluster}
-use Rattle.cluster.specs.Steps.{stepped}
+use Rattle.cluster.specs.Steps.{with_step}
 use Rattle.cluster.proofs.ChangedObjectLemmas.{sum_changed, all_changed, all_named, apart_changed}
 use Rattle.cluster.proofs.StepEffectLemmas.{IsQuiet, IsCalled, IsMoved, IsServed}
 
 length_changed : (objects : List Named) (name : List ℕ) (change : State → State) →
-    length (changed objects name change) ≡ length objects
+    length (with_changed objects name change) ≡ length objects
 length_changed [] name change = refl
 length_changed (o ∷ os) name change = pick (bytes_eq name o.name) (length_changed os name change)
   where
-    pick : (b : Bool) → length (changed os name change) ≡ length os
-        → length (if b then record { name = o.name; state = change o.state } ∷ os else o ∷ changed os name change) ≡ suc (length os)
+    pick : (b : Bool) → length (with_changed os name change) ≡ length os
+        → length (if b then record { name = o.name; state = change o.state } ∷ os else o ∷ with_changed os name change) ≡ suc (length os)
     pick true rest = refl
     pick false rest = ap suc rest
 
@@ -37,7 +37,7 @@ module _ (cluster : Cluster) (bytes count : ℕ) (name : List ℕ) (step : Step)
   new = made step (suc cluster.counter) old
 
   abbrev later : Cluster
-  later = stepped cluster name step
+  later = with_step cluster name step
 
   -- the bytes and the calls by as much as this object's
   pub step_kept : (more_bytes more_count : ℕ) → (AllByRecursion (HasMembersBelow (length cluster.servers)) old.object.layouts →

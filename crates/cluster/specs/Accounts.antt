@@ -11,20 +11,20 @@ object_sum f [] = 0
 object_sum f (object ∷ objects) = f object + object_sum f objects
 
 -- how many bytes of pieces a server stores, over all objects
-abbrev pub stored : Cluster → (server : ℕ) → ℕ
-stored cluster server = object_sum (λ o. of.stored o.state.object server) cluster.objects
+abbrev pub server_bytes : Cluster → (server : ℕ) → ℕ
+server_bytes cluster server = object_sum (λ o. of.stored o.state.object server) cluster.objects
 
 -- how many bytes of pieces all servers store
 abbrev pub stored_all : Cluster → ℕ
-stored_all cluster = member_sum (stored cluster) 0 (length cluster.servers)
+stored_all cluster = member_sum (server_bytes cluster) 0 (length cluster.servers)
 
 -- how many bytes of pieces the banks of all objects store
 abbrev pub banks_all : List Named → ℕ
 banks_all objects = object_sum (λ o. all_bytes o.state.object.banks) objects
 
 -- how many bytes of pieces wait in the messages of all objects
-abbrev pub mailed : Cluster → ℕ
-mailed cluster = object_sum (λ o. of.mailed o.state.object) cluster.objects
+abbrev pub waiting_bytes : Cluster → ℕ
+waiting_bytes cluster = object_sum (λ o. of.mailed o.state.object) cluster.objects
 
 -- how many calls all objects have together
 abbrev pub calls : List Named → ℕ

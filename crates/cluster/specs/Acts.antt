@@ -5,11 +5,11 @@ use Rattle.register.specs.declared.act.Act.{Act}
 use Rattle.register.specs.declared.act.Act.TheVariants as act
 use Rattle.cluster.specs.Kept.{HasMembersBelow}
 
--- a serve is never ready, a move is where each member of its layout is a server, and any other act always is
-abbrev pub IsReady : (servers : ℕ) → Act → Type 0
-IsReady servers (act.CallMove layout) = HasMembersBelow servers layout
-IsReady servers (act.Serve place) = ⊥
-IsReady servers _ = Unit {0}
+-- so many servers allow an act: never a serve, a move where each member of its layout is a server, and any other act
+abbrev pub ServersAllow : (servers : ℕ) → Act → Type 0
+ServersAllow servers (act.CallMove layout) = HasMembersBelow servers layout
+ServersAllow servers (act.Serve place) = ⊥
+ServersAllow servers _ = Unit {0}
 
 -- how many calls an act begins
 abbrev pub begun_by : Act → ℕ

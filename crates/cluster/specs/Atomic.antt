@@ -94,7 +94,7 @@ HaveOneValue cluster = AllByRecursion (λ o. HasOneValue o.state.object) cluster
 
 -- these accounts are the sums of the pieces' bytes: in the banks of each server, in all banks, and in all messages
 pub record AreSums (cluster : Cluster) (told : Accounts) : Type 0 where
-  pub servers : told.servers.items ≡ map (of.stored cluster) (range_with_len 0 (length cluster.servers))
+  pub servers : told.servers.items ≡ map (of.server_bytes cluster) (range_with_len 0 (length cluster.servers))
   pub all : told.stored ≡ of.banks_all cluster.objects
   pub together : told.stored ≡ of.stored_all cluster
-  pub mail : told.mailed ≡ of.mailed cluster
+  pub mail : told.mailed ≡ of.waiting_bytes cluster

@@ -66,16 +66,16 @@ moving_cause cluster id object =
     (if_layout (slice_get cluster.layouts id) (λ layout. move_cause layout (next cluster) object))
 
 -- why a message is not served: it is a reply, its server is down, or the limit of steps or of stored bytes is met
-abbrev pub served_cause : Cluster → Object → Message → Body → Option Refusal
-served_cause cluster object message (body.Request asked) =
+abbrev pub message_cause : Cluster → Object → Message → Body → Option Refusal
+message_cause cluster object message (body.Request asked) =
     unless (is_reached cluster object message) Down
     (if_step (next cluster) (unless (nat_le (banks_all cluster.objects + request_bytes asked) MOST_BYTES) Full None))
-served_cause cluster object message (body.Reply kind made) = Some NotNow
+message_cause cluster object message (body.Reply kind made) = Some NotNow
 
 -- why the message at this place is not served; NoMessage where there is none
 abbrev pub serving_cause : Cluster → (place : ℕ) → Object → Option Refusal
 serving_cause cluster place object =
-    if_message (slice_get object.mail place) (λ message. served_cause cluster object message message.body)
+    if_message (slice_get object.mail place) (λ message. message_cause cluster object message message.body)
 
 -- whether a message is a reply, or a request to a server that is up
 abbrev pub can_handle : Cluster → Object → Message → Body → Bool

@@ -39,11 +39,11 @@ named [] name = None
 named (object ∷ objects) name = if bytes_eq name object.name then Some object.state else named objects name
 
 -- the objects, with the state of the object of this name changed
-abbrev pub changed : List Named → List ℕ → (State → State) → List Named
-changed [] name change = []
-changed (object ∷ objects) name change =
+abbrev pub with_changed : List Named → List ℕ → (State → State) → List Named
+with_changed [] name change = []
+with_changed (object ∷ objects) name change =
     if bytes_eq name object.name then record { name = object.name; state = change object.state } ∷ objects
-    else object ∷ changed objects name change
+    else object ∷ with_changed objects name change
 
 -- the place of the object of this name, in order of creation
 abbrev pub place_of : List Named → List ℕ → ℕ
@@ -69,8 +69,8 @@ abbrev pub next_call_id : Cluster → (name : List ℕ) → ℕ
 next_call_id cluster name = next_id_in (named cluster.objects name)
 
 -- the layout of this number; the layout without members where there is none
-abbrev pub layout_of : Cluster → (id : ℕ) → Layout
-layout_of cluster id = get_or cluster.layouts id no_layout
+abbrev pub layout_numbered : Cluster → (id : ℕ) → Layout
+layout_numbered cluster id = get_or cluster.layouts id no_layout
 
 -- this many servers, all up
 abbrev pub all_up : (count : ℕ) → List Bool

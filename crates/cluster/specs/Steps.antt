@@ -3,13 +3,13 @@ use Rattle.std.specs.Prelude.{ℕ, suc, Bool, List, [], ◌∷◌, ◌++◌, Opt
 use Rattle.layout.specs.Layout.{Layout}
 use Rattle.record.specs.Steps.{Step, opened_object}
 use Rattle.register.specs.State.{made}
-use Rattle.cluster.specs.Cluster.{Cluster, next_call_id, changed, layout_of}
+use Rattle.cluster.specs.Cluster.{Cluster, next_call_id, with_changed, layout_numbered}
 
 -- the cluster after a step of the object of this name
-abbrev pub stepped : Cluster → (name : List ℕ) → Step → Cluster
-stepped cluster name step =
+abbrev pub with_step : Cluster → (name : List ℕ) → Step → Cluster
+with_step cluster name step =
     record cluster {
-      objects = changed cluster.objects name (made step (suc cluster.counter));
+      objects = with_changed cluster.objects name (made step (suc cluster.counter));
       counter = suc cluster.counter;
     }
 
@@ -36,8 +36,8 @@ with_server cluster server up =
 
 -- the cluster after a move of the object of this name to the layout of this number begins
 abbrev pub moved : Cluster → (name : List ℕ) → (id : ℕ) → Cluster
-moved cluster name id = stepped cluster name (Step.CallMove (next_call_id cluster name) (layout_of cluster id))
+moved cluster name id = with_step cluster name (Step.CallMove (next_call_id cluster name) (layout_numbered cluster id))
 
 -- the cluster after an object of this name is created with the layout of this number and this `delta`
 abbrev pub created : Cluster → (name : List ℕ) → (id : ℕ) → (delta : Option ℕ) → Cluster
-created cluster name id delta = with_object cluster name (layout_of cluster id) delta
+created cluster name id delta = with_object cluster name (layout_numbered cluster id) delta

@@ -7,7 +7,7 @@ use Rattle.player.specs.Script.{Runs, unread_status}
 use Rattle.soak.specs.Closed.{IsOfClosed}
 use Rattle.soak.specs.Setting.{setting}
 use Rattle.soak.specs.Summary.{summary_text}
-use Rattle.soak.specs.Summary.{exit_status_of as status_of_summary}
+use Rattle.soak.specs.Summary.{exit_status_of_summary}
 use Rattle.soak.specs.declared.plan.Plan.{Plan}
 use Rattle.soak.specs.declared.summary.Summary.{Summary}
 use Rattle.coding_commands.specs.Fault.{exit_status_of}
@@ -34,7 +34,7 @@ RunsFile old new status = ((kind : ErrorKind) × IsUnopened kind old new status)
 -- the plan has clients, in which the calls and the moves of the plan were made, and which was then closed
 abbrev pub Soaks : Plan → Written → Written → ℕ → Type 0
 Soaks plan old new status =
-    ((summary : Summary) × IsOfClosed setting plan summary × (status ≡ status_of_summary summary)
+    ((summary : Summary) × IsOfClosed setting plan summary × (status ≡ exit_status_of_summary summary)
     × Appends old new (summary_text summary ++ 10 ∷ []))
     ⊎ (((status ≡ 1) × Keeps old new)
     ⊎ ((status ≡ 1) × ((summary : Summary) × IsOfClosed setting plan summary)))

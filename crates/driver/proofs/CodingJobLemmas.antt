@@ -17,7 +17,7 @@ use Rattle.register.specs.View.{want_at, coding_at, fetched_pieces}
 use Rattle.cluster.specs.Cluster.{Cluster, named, if_named}
 use Rattle.cluster.specs.Causes.{next, if_object, object_cause}
 use Rattle.cluster.specs.Preconditions.{MayMake}
-use Rattle.cluster.specs.Steps.{stepped}
+use Rattle.cluster.specs.Steps.{with_step}
 use Rattle.driver.specs.Coding.{settling_cause}
 use Rattle.driver.specs.Driver.{wanted}
 use Rattle.driver.specs.Rounds.{IsToEncode, IsToDecode, SettlesOwn}
@@ -84,7 +84,7 @@ module _ (cluster : Cluster) (name : List ℕ) (call : ℕ) where
   pub settled_own : {T : Type 0} (r : Result T Refusal) (k len : ℕ) (pieces : List Piece) (value : List ℕ) (new : Cluster)
       → IsToDecode cluster name call k len pieces → IsInterpolated k len pieces value
       → OnOk r (MayMake cluster name (Step.Settle (pred call) value))
-      → OnOk r (new ≡ stepped cluster name (Step.Settle (pred call) value)) → OnOk r (SettlesOwn cluster name call new)
+      → OnOk r (new ≡ with_step cluster name (Step.Settle (pred call) value)) → OnOk r (SettlesOwn cluster name call new)
   settled_own (Ok x) k len pieces value new is given may made = record {
     k = k;
     len = len;

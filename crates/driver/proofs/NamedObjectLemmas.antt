@@ -5,7 +5,7 @@ use Rattle.tag.specs.declared.refusal.Refusal.{Refusal}
 use Rattle.tag.specs.Refusal.{IsByCause, IsExactlyByCause}
 use Rattle.record.specs.Records.{Object}
 use Rattle.register.specs.State.{State}
-use Rattle.cluster.specs.Cluster.{Named, Cluster, named, changed, if_some, if_named}
+use Rattle.cluster.specs.Cluster.{Named, Cluster, named, with_changed, if_some, if_named}
 use Rattle.cluster.specs.Causes.{if_object, object_cause}
 
 module _ (cluster : Cluster) (name : List ℕ) where
@@ -43,22 +43,22 @@ module _ (cluster : Cluster) (name : List ℕ) where
 
 -- the object once it has changed
 pub named_changed : (objects : List Named) (name : List ℕ) (change : State → State) (state : State) → named objects name ≡ Some state
-    → named (changed objects name change) name ≡ Some (change state)
+    → named (with_changed objects name change) name ≡ Some (change state)
 named_changed [] name change state e = absurd (cc)
 named_changed (object ∷ objects) name change state e = go (named_changed objects name change state) (bytes_eq name object.name) refl
   where
     there : (a b : State) → Some a ≡ Some b → a ≡ b
     there a b e = cc
 
-    go : (named objects name ≡ Some state → named (changed objects name change) name ≡ Some (change state)) → (b : Bool)
+    go : (named objects name ≡ Some state → named (with_changed objects name change) name ≡ Some (change state)) → (b : Bool)
         → bytes_eq name object.name ≡ b
-        → named (cond b (record { name = object.name; state = change object.state } ∷ objects) (object ∷ changed objects name change))
+        → named (cond b (record { name = object.name; state = change object.state } ∷ objects) (object ∷ with_changed objects name change))
         name ≡ Some (change state)
     go rest true is =
         ap (λ b. cond b (Some (change object.state)) (named objects name)) is
         ∙ ap (λ s. Some (change s)) (there object.state state (sym (ap (λ b. cond b (Some object.state) (named objects name)) is) ∙ e))
     go rest false is =
-        ap (λ b. cond b (Some object.state) (named (changed objects name change) name)) is
+        ap (λ b. cond b (Some object.state) (named (with_changed objects name change) name)) is
         ∙ rest (sym (ap (λ b. cond b (Some object.state) (named objects name)) is) ∙ e)
 
 -- the same cause

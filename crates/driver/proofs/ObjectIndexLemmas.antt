@@ -8,31 +8,32 @@ use Rattle.record.specs.Records.{Object}
 use Rattle.record.specs.Steps.{Step}
 use Rattle.register.specs.Causes.{number_cause}
 use Rattle.register.specs.State.{State, made}
-use Rattle.cluster.specs.Cluster.{Named, Cluster, named, changed, place_of}
+use Rattle.cluster.specs.Cluster.{Named, Cluster, named, with_changed, place_of}
 use Rattle.cluster.specs.Causes.{if_object, object_cause}
 use Rattle.cluster.specs.Places.{IsObjectAt}
-use Rattle.cluster.specs.Steps.{stepped}
+use Rattle.cluster.specs.Steps.{with_step}
 use Rattle.driver.specs.Driver.{IsRefused, IsUnfinished}
 
 -- a change of one object changes neither the places of names nor how many objects there are
 place_stays : (name : List ℕ) (change : State → State) (objects : List Named) →
-    (place_of (changed objects name change) name ≡ place_of objects name) × (length (changed objects name change) ≡ length objects)
+    (place_of (with_changed objects name change) name ≡ place_of objects name)
+    × (length (with_changed objects name change) ≡ length objects)
 place_stays name change [] = (refl, refl)
 place_stays name change (o ∷ os) = pick (place_stays name change os) (bytes_eq name o.name) refl
   where
-    pick : (place_of (changed os name change) name ≡ place_of os name) × (length (changed os name change) ≡ length os) →
+    pick : (place_of (with_changed os name change) name ≡ place_of os name) × (length (with_changed os name change) ≡ length os) →
         (b : Bool) → bytes_eq name o.name ≡ b →
-        (place_of (if b then record { name = o.name; state = change o.state } ∷ os else o ∷ changed os name change) name
+        (place_of (if b then record { name = o.name; state = change o.state } ∷ os else o ∷ with_changed os name change) name
         ≡ (if b then 0 else suc (place_of os name)))
-        × (length (if b then record { name = o.name; state = change o.state } ∷ os else o ∷ changed os name change) ≡ suc (length os))
+        × (length (if b then record { name = o.name; state = change o.state } ∷ os else o ∷ with_changed os name change) ≡ suc (length os))
     pick rest true is = (ap (λ b. if b then 0 else suc (place_of os name)) is, refl)
     pick rest false is = (
-      ap (λ b. if b then 0 else suc (place_of (changed os name change) name)) is ∙ ap suc rest.0,
+      ap (λ b. if b then 0 else suc (place_of (with_changed os name change) name)) is ∙ ap suc rest.0,
       ap suc rest.1,
     )
 
 -- an object keeps its index in a step
-pub index_stays : (old new : Cluster) (name : List ℕ) (object : ℕ) (step : Step) → new ≡ stepped old name step →
+pub index_stays : (old new : Cluster) (name : List ℕ) (object : ℕ) (step : Step) → new ≡ with_step old name step →
     IsObjectAt old name object → IsObjectAt new name object
 index_stays old new name object step made_it at =
     let stays = place_stays name (made step (suc old.counter)) old.objects in

@@ -22,7 +22,7 @@ use Rattle.register.specs.State.{State, made}
 use Rattle.register.specs.View.{want_at}
 use Rattle.cluster.specs.Cluster.{Cluster, named}
 use Rattle.driver.specs.Choices.{handling}
-use Rattle.driver.specs.Driver.{wanted, IsOpen, IsNext, IsTurn}
+use Rattle.driver.specs.Driver.{wanted, IsNotAnswered, IsNext, IsTurn}
 use Rattle.driver.proofs.NamedObjectLemmas.{named_changed, read_there}
 use Rattle.driver.proofs.WantLemmas.{wants_at, place_of_call}
 
@@ -225,7 +225,7 @@ module _ {C : Type 0} (chooses : C → ℕ → ℕ → C → Type 0) (name : Lis
   -- a turn that is not the answer leaves the call open
   pub turn_open : (again : Bool) (old : Cluster) (before : C) (new : Cluster) (after : C)
       → IsTurn chooses name call again old before new after
-      → wanted old name call ≢ Some want.Answer → IsOpen new name call
+      → wanted old name call ≢ Some want.Answer → IsNotAnswered new name call
   turn_open again old before new after turn other =
       let due = turn.due in
       let w = wants_at due.state.object call due.want due.wants in

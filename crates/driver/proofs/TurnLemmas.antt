@@ -14,11 +14,11 @@ use Rattle.register.specs.View.{want_at, fetched_pieces}
 use Rattle.cluster.specs.Cluster.{Cluster}
 use Rattle.cluster.specs.Causes.{next, object_cause}
 use Rattle.cluster.specs.Preconditions.{MayMake}
-use Rattle.cluster.specs.Steps.{stepped}
+use Rattle.cluster.specs.Steps.{with_step}
 use Rattle.driver.specs.declared.round.Round.{Round}
 use Rattle.driver.specs.declared.round.Round.TheVariants as round
 use Rattle.driver.specs.Coding.{settling_cause}
-use Rattle.driver.specs.Driver.{wanted, turn_cause, IsOpen, IsNext, IsDue, IsTurn, IsRefused}
+use Rattle.driver.specs.Driver.{wanted, turn_cause, IsNotAnswered, IsNext, IsDue, IsTurn, IsRefused}
 use Rattle.driver.specs.Rounds.{SettlesOwn, MakesRound}
 use Rattle.driver.proofs.NamedObjectLemmas.{read_there, is_there}
 use Rattle.driver.proofs.OpenCallLemmas.{turn_open}
@@ -32,7 +32,7 @@ same_pieces a b e = cc
 
 module _ {C : Type 0} (chooses : C → ℕ → ℕ → C → Type 0) (name : List ℕ) (call : ℕ) (again : Bool) (old : Cluster) (before : C) where
   abbrev Made : Cluster → C → Type 0
-  Made new after = IsTurn chooses name call again old before new after × IsOpen new name call
+  Made new after = IsTurn chooses name call again old before new after × IsNotAnswered new name call
 
   no_answer : (after : C) (step : Step) → IsDue chooses name call old again before after step → step ≢ Step.AnswerCall (pred call)
       → wanted old name call ≢ Some want.Answer
@@ -44,7 +44,7 @@ module _ {C : Type 0} (chooses : C → ℕ → ℕ → C → Type 0) (name : Lis
 
   made : (new : Cluster) (after : C) (step : Step) → IsDue chooses name call old again before after step
       → step ≢ Step.AnswerCall (pred call)
-      → turn_cause old name call step ≡ None → MayMake old name step → new ≡ stepped old name step → Made new after
+      → turn_cause old name call step ≡ None → MayMake old name step → new ≡ with_step old name step → Made new after
   made new after step due other room may is =
       let turn : IsTurn chooses name call again old before new after =
       record { step = step; due = due; room = room; may = may; made = is } in
@@ -66,14 +66,14 @@ module _ {C : Type 0} (chooses : C → ℕ → ℕ → C → Type 0) (name : Lis
     pub encode_turn : (value : List ℕ) (k n : ℕ) (new : Cluster) → o ≡ round.Encode value k n
         → object_cause middle name (λ object. supplying_cause (next middle) object call) ≡ None
         → MayMake middle name (Step.Supply (pred call))
-        → new ≡ stepped middle name (Step.Supply (pred call)) → Made new after
+        → new ≡ with_step middle name (Step.Supply (pred call)) → Made new after
     encode_turn value k n new is room may step =
         let r = subst (λ o. MakesRound chooses name call again old before middle after o) is made_by in
         made new after (Step.Supply (pred call))
         (subst (λ a. IsDue chooses name call old again before a (Step.Supply (pred call))) (sym r.1) r.2) no_supply
         (subst (λ (m : Cluster). object_cause m name (λ object. supplying_cause (next m) object call) ≡ None) r.0 room)
         (subst (λ (m : Cluster). MayMake m name (Step.Supply (pred call))) r.0 may)
-        (step ∙ ap (λ m. stepped m name (Step.Supply (pred call))) r.0)
+        (step ∙ ap (λ m. with_step m name (Step.Supply (pred call))) r.0)
 
     pub encode_refused : (value : List ℕ) (k n : ℕ) (refusal : Refusal) → o ≡ round.Encode value k n
         → IsRefusalBy (object_cause middle name (λ object. supplying_cause (next middle) object call)) refusal

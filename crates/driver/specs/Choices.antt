@@ -11,7 +11,7 @@ use Rattle.record.specs.Steps.{Step}
 use Rattle.register.specs.Causes.{if_message, taken_cause}
 use Rattle.register.specs.View.{took_at}
 use Rattle.cluster.specs.Cluster.{Cluster}
-use Rattle.cluster.specs.Causes.{next, served_cause, can_handle}
+use Rattle.cluster.specs.Causes.{next, message_cause, can_handle}
 use Rattle.driver.specs.declared.choices.Filter.{Filter}
 use Rattle.driver.specs.declared.choices.Filter.TheVariants as filter
 use Rattle.driver.specs.declared.messages.Handled.{Handled}
@@ -69,7 +69,7 @@ handled_result_at place object =
 
 -- why a message is not handled: the cause of serving a request, or of taking a reply
 abbrev pub handled_cause : Cluster → Object → Message → Body → Option Refusal
-handled_cause cluster object message (body.Request asked) = served_cause cluster object message (body.Request asked)
+handled_cause cluster object message (body.Request asked) = message_cause cluster object message (body.Request asked)
 handled_cause cluster object message (body.Reply kind made) = taken_cause (next cluster) (body.Reply kind made)
 
 -- why the message at a place is not handled; NoMessage where there is none

@@ -19,7 +19,7 @@ use Rattle.register.specs.declared.receipt.Receipt.{Receipt}
 use Rattle.cluster.specs.Cluster.{Cluster, named, if_named, place_of}
 use Rattle.cluster.specs.Causes.{next, object_cause}
 use Rattle.cluster.specs.Preconditions.{MayMake}
-use Rattle.cluster.specs.Steps.{stepped}
+use Rattle.cluster.specs.Steps.{with_step}
 use Rattle.driver.specs.Choices.{Picks, choices, handling, handling_cause}
 use Rattle.driver.specs.Coding.{settling_cause, Settles}
 
@@ -28,8 +28,8 @@ abbrev pub wanted : Cluster → (name : List ℕ) → (call : ℕ) → Option Wa
 wanted cluster name call = if_named cluster name (λ object. want_at object call)
 
 -- there is such a call, and it is not answered
-abbrev pub IsOpen : Cluster → (name : List ℕ) → (call : ℕ) → Type 0
-IsOpen cluster name call = (w : Want) × (wanted cluster name call ≡ Some w) × (w ≢ want.Done)
+abbrev pub IsNotAnswered : Cluster → (name : List ℕ) → (call : ℕ) → Type 0
+IsNotAnswered cluster name call = (w : Want) × (wanted cluster name call ≡ Some w) × (w ≢ want.Done)
 
 -- the step by which the current phase of a call resends: a supply where its requests have pieces, a post where they
 -- have none
@@ -94,7 +94,7 @@ module _ {C : Type 0} (chooses : C → ℕ → ℕ → C → Type 0) (name : Lis
     pub due : IsDue old again before after step
     pub room : turn_cause old name call step ≡ None
     pub may : MayMake old name step
-    pub made : new ≡ stepped old name step
+    pub made : new ≡ with_step old name step
 
   -- the turn that answers the call, with this receipt
   pub record IsAnswerTurn (again : Bool) (old : Cluster) (before : C) (new : Cluster) (after : C) (receipt : Receipt)
@@ -167,7 +167,7 @@ module _ {C : Type 0} (chooses : C → ℕ → ℕ → C → Type 0) (name : Lis
   IsUnfinished resumed turns old before new after NotNow =
       IsUntouched old before new after × (wanted old name call ≡ Some want.Done)
   IsUnfinished resumed turns old before new after GaveUp =
-      Drives resumed turns old before new after × IsOpen new name call
+      Drives resumed turns old before new after × IsNotAnswered new name call
   IsUnfinished resumed turns old before new after Stuck = IsStopped resumed turns old before new after Stuck
   IsUnfinished resumed turns old before new after Collected =
       IsStopped resumed turns old before new after Collected

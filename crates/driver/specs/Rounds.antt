@@ -11,7 +11,7 @@ use Rattle.register.specs.View.{coding_at, fetched_pieces}
 use Rattle.cluster.specs.Cluster.{Cluster, if_named}
 use Rattle.cluster.specs.Causes.{next, object_cause}
 use Rattle.cluster.specs.Preconditions.{MayMake}
-use Rattle.cluster.specs.Steps.{stepped}
+use Rattle.cluster.specs.Steps.{with_step}
 use Rattle.driver.specs.declared.round.Round.{Round}
 use Rattle.driver.specs.declared.round.Round.TheVariants as round
 use Rattle.driver.specs.Coding.{settling_cause, GiveBack}
@@ -40,7 +40,7 @@ pub record SettlesOwn (old : Cluster) (name : List ℕ) (call : ℕ) (new : Clus
   pub value : List ℕ
   pub given : IsInterpolated k len pieces value
   pub may : MayMake old name (Step.Settle (pred call) value)
-  pub made : new ≡ stepped old name (Step.Settle (pred call) value)
+  pub made : new ≡ with_step old name (Step.Settle (pred call) value)
 
 module _ {C : Type 0} (chooses : C → ℕ → ℕ → C → Type 0) (name : List ℕ) (call : ℕ) where
   -- a round is a turn, or it changes nothing and hands out a value to encode or pieces to decode

@@ -7,9 +7,9 @@ use Rattle.record.specs.Steps.{Step}
 use Rattle.register.specs.Causes.{read_cause, write_cause}
 use Rattle.register.specs.declared.receipt.Receipt.{Receipt}
 use Rattle.cluster.specs.Causes.{next, object_cause, moving_cause}
-use Rattle.cluster.specs.Cluster.{Cluster, next_call_id, if_named, layout_of}
+use Rattle.cluster.specs.Cluster.{Cluster, next_call_id, if_named, layout_numbered}
 use Rattle.cluster.specs.Preconditions.{MayMake}
-use Rattle.cluster.specs.Steps.{stepped}
+use Rattle.cluster.specs.Steps.{with_step}
 use Rattle.driver.specs.declared.whole_call.NotAnswered.{NotAnswered}
 use Rattle.driver.specs.declared.whole_call.NotAnswered.TheVariants as unanswered
 use Rattle.driver.specs.Driver.{FinishesCall, IsUnfinished}
@@ -25,10 +25,10 @@ module _ {C : Type 0} (chooses : C → ℕ → ℕ → C → Type 0) (name : Lis
   abbrev pub IsWholeCall : (cause : Option Refusal) → (step : Step) → Result Receipt NotAnswered → Type 0
   IsWholeCall cause step (Ok receipt) =
       (call : ℕ) × (cause ≡ None) × (next_number old name ≡ Some call) × MayMake old name step
-      × FinishesCall chooses name call false turns (stepped old name step) before new after receipt
+      × FinishesCall chooses name call false turns (with_step old name step) before new after receipt
   IsWholeCall cause step (Err (unanswered.Open call refusal)) =
       (cause ≡ None) × (next_number old name ≡ Some call) × MayMake old name step
-      × IsUnfinished chooses name call false turns (stepped old name step) before new after refusal
+      × IsUnfinished chooses name call false turns (with_step old name step) before new after refusal
   IsWholeCall cause step (Err (unanswered.NotCalled refusal)) =
       ((cause ≡ Some refusal) ⊎ ((cause ≡ None) × (refusal ≡ NoMemory))) × (new ≡ old) × (after ≡ before)
 
@@ -48,4 +48,4 @@ module _ {C : Type 0} (chooses : C → ℕ → ℕ → C → Type 0) (name : Lis
   abbrev pub IsWholeMove : (id : ℕ) → Result Receipt NotAnswered → Type 0
   IsWholeMove id answer =
       IsWholeCall (object_cause old name (moving_cause old id))
-      (Step.CallMove (next_call_id old name) (layout_of old id)) answer
+      (Step.CallMove (next_call_id old name) (layout_numbered old id)) answer

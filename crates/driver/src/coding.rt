@@ -10,7 +10,7 @@ ghost use Rattle.decoder.specs.Pieces.{IsInterpolated};
 ghost use Rattle.cluster.specs.Cluster.{named};
 ghost use Rattle.cluster.specs.Causes.{next, object_cause};
 ghost use Rattle.cluster.specs.Preconditions.{MayMake};
-ghost use Rattle.cluster.specs.Steps.{stepped};
+ghost use Rattle.cluster.specs.Steps.{with_step};
 ghost use Rattle.driver.specs.Coding.{settling_cause};
 ghost use Rattle.driver.specs.Driver.{wanted};
 ghost use Rattle.driver.specs.Rounds.{IsToEncode, IsToDecode, SettlesOwn};
@@ -31,7 +31,7 @@ use tag::{CallId, MOST_STEPS, Refusal};
 /// has no pieces to send. `Full` where the limit of steps, of the call's phases or of the object's waiting messages is
 /// met.
 pub fn supply(alloc: Global, cluster: &mut Cluster, name: &str, call: CallId) -> Result<(), Refusal>
-    ensures step { OnOk result (cluster.new ≡ stepped cluster.old name.entry.now (Step.Supply (pred call))) }
+    ensures step { OnOk result (cluster.new ≡ with_step cluster.old name.entry.now (Step.Supply (pred call))) }
     ensures may { OnOk result (MayMake cluster.old name.entry.now (Step.Supply (pred call))) }
     ensures cause { IsByCause
         (object_cause cluster.old name.entry.now (λ object. supplying_cause (next cluster.old) object call)) result }
@@ -110,7 +110,7 @@ pub(crate) fn supply_value(
     n: u8,
 ) -> Result<(), Refusal>
     requires { IsToEncode cluster.old name.now call k n value }
-    ensures step { OnOk result (cluster.new ≡ stepped cluster.old name.entry.now (Step.Supply (pred call))) }
+    ensures step { OnOk result (cluster.new ≡ with_step cluster.old name.entry.now (Step.Supply (pred call))) }
     ensures may { OnOk result (MayMake cluster.old name.entry.now (Step.Supply (pred call))) }
     ensures cause { IsByCause
         (object_cause cluster.old name.entry.now (λ object. supplying_cause (next cluster.old) object call)) result }

@@ -1,7 +1,8 @@
 //! The driver of one call, for one thread.
 ghost use Rattle.std.specs.Prelude.{◌≡◌, IfOk, IfErr, OnErr, MatchOption};
 ghost use Rattle.cluster.specs.Places.{IsObjectAt};
-ghost use Rattle.driver.specs.Driver.{asks_again, IsAnswerTurn, FinishesCall, IsOpen, IsRefused, IsTurn, IsUnfinished};
+ghost use Rattle.driver.specs.Driver.{asks_again, IsAnswerTurn, FinishesCall, IsNotAnswered, IsRefused, IsTurn};
+ghost use Rattle.driver.specs.Driver.{IsUnfinished};
 
 use crate::Chooser;
 use crate::coding::{settle_pieces, supply_value};
@@ -78,7 +79,7 @@ fn make_turn<C: Chooser>(
     ensures turn { IfOk result
         (λ o. MatchOption o
         (IsTurn C.chooses name.entry.now call asks_again cluster.old chooser.old cluster.new chooser.new
-        × IsOpen cluster.new name.entry.now call)
+        × IsNotAnswered cluster.new name.entry.now call)
         (λ r. IsAnswerTurn C.chooses name.entry.now call asks_again cluster.old chooser.old cluster.new chooser.new
         r)) }
 

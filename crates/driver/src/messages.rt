@@ -6,7 +6,7 @@ ghost use Rattle.cluster.specs.Cluster.{if_named};
 ghost use Rattle.cluster.specs.Causes.{object_cause, place_cause};
 ghost use Rattle.cluster.specs.Places.{IsObjectAt};
 ghost use Rattle.cluster.specs.Preconditions.{MayMake};
-ghost use Rattle.cluster.specs.Steps.{stepped};
+ghost use Rattle.cluster.specs.Steps.{with_step};
 ghost use Rattle.driver.specs.Choices.{Picks, choices, handled_result_at, handling_cause, request_at, step_of_handled};
 ghost use Rattle.driver.specs.Driver.{wanted, IsTurn, IsRefused};
 
@@ -32,7 +32,7 @@ pub enum Handled {
 /// `NoObject` where no object has this name, `NoMessage` where there is no message at this place, `Down` where it is a
 /// request to a server that is down, and `Full` as for `Cluster::serve` and `Cluster::take`.
 pub fn handle(cluster: &mut Cluster, name: &str, place: usize) -> Result<Handled, Refusal>
-    ensures step { IfOk result (λ h. cluster.new ≡ stepped cluster.old name.entry.now (step_of_handled place h)) }
+    ensures step { IfOk result (λ h. cluster.new ≡ with_step cluster.old name.entry.now (step_of_handled place h)) }
     ensures may { IfOk result (λ h. MayMake cluster.old name.entry.now (step_of_handled place h)) }
     ensures handled { IfOk result (λ h. if_named cluster.old name.entry.now (handled_result_at place) ≡ Some h) }
     ensures cause { IsByCause (object_cause cluster.old name.entry.now (handling_cause cluster.old place)) result }
@@ -50,7 +50,7 @@ pub fn handle_at(
     place: usize,
 ) -> Result<Handled, Refusal>
     requires { IsObjectAt cluster.old name.now object }
-    ensures step { IfOk result (λ h. cluster.new ≡ stepped cluster.old name.entry.now (step_of_handled place h)) }
+    ensures step { IfOk result (λ h. cluster.new ≡ with_step cluster.old name.entry.now (step_of_handled place h)) }
     ensures may { IfOk result (λ h. MayMake cluster.old name.entry.now (step_of_handled place h)) }
     ensures handled { IfOk result (λ h. if_named cluster.old name.entry.now (handled_result_at place) ≡ Some h) }
     ensures cause { IsByCause (object_cause cluster.old name.entry.now (handling_cause cluster.old place)) result }
@@ -70,7 +70,7 @@ fn handle_as(
 ) -> Result<Handled, Refusal>
     requires request { if_named cluster.old name.now (request_at place) ≡ Some is_request }
     requires placed { IsObjectAt cluster.old name.now object }
-    ensures step { IfOk result (λ h. cluster.new ≡ stepped cluster.old name.entry.now (step_of_handled place h)) }
+    ensures step { IfOk result (λ h. cluster.new ≡ with_step cluster.old name.entry.now (step_of_handled place h)) }
     ensures may { IfOk result (λ h. MayMake cluster.old name.entry.now (step_of_handled place h)) }
     ensures handled { IfOk result (λ h. if_named cluster.old name.entry.now (handled_result_at place) ≡ Some h) }
     ensures cause { IsByCause (object_cause cluster.old name.entry.now (handling_cause cluster.old place)) result }

@@ -10,7 +10,7 @@ use Rattle.register.specs.State.{State, made}
 use Rattle.register.proofs.ListLemmas.{same_some}
 use Rattle.cluster.specs.Accounts.{object_sum, calls}
 use Rattle.cluster.specs.Causes.{if_object, object_cause}
-use Rattle.cluster.specs.Cluster.{Named, Cluster, named, changed, if_some, if_named}
+use Rattle.cluster.specs.Cluster.{Named, Cluster, named, with_changed, if_some, if_named}
 use Rattle.cluster.specs.Steps as of
 use Rattle.cluster.proofs.ChangedObjectLemmas.{sum_changed}
 use Rattle.locked_steps.specs.Calls.{is_client, client_count, client_calls}
@@ -22,7 +22,7 @@ count_of state = client_count state.object.calls
 
 -- a step of an object that is there
 pub calls_stepped : (cluster : Cluster) (name : List ℕ) (step : Step) (old : State) → named cluster.objects name ≡ Some old
-    → client_calls (of.stepped cluster name step) ≡ client_calls cluster + begins step
+    → client_calls (of.with_step cluster name step) ≡ client_calls cluster + begins step
 calls_stepped cluster name step old at =
     let all = sum_changed name (made step (suc cluster.counter)) old count_of cluster.objects at in
     let one = count_stepped step (suc cluster.counter) old.object in
@@ -40,7 +40,7 @@ there cluster name cause none = pick (named cluster.objects name) none
 -- a step that was made
 pub counted_ok : {T : Type 0} (answer : Result T Refusal) (old new : Cluster) (name : List ℕ) (step : Step)
     (cause : Object → Option Refusal)
-    → OnOk answer (new ≡ of.stepped old name step) → IsByCause (object_cause old name cause) answer
+    → OnOk answer (new ≡ of.with_step old name step) → IsByCause (object_cause old name cause) answer
     → OnOk answer (client_calls new ≡ client_calls old + begins step)
 counted_ok (Ok x) old new name step cause made by =
     let at = there old name cause by in
@@ -59,20 +59,20 @@ numbered_ok (Ok n) old name is = pick (named old.objects name) is
 numbered_ok (Err e) old name is = tt
 
 sum_kept : (name : List ℕ) (change : State → State) (objects : List Named) → ((state : State) → count_of (change state) ≡ count_of state)
-    → object_sum (λ o. count_of o.state) (changed objects name change) ≡ object_sum (λ o. count_of o.state) objects
+    → object_sum (λ o. count_of o.state) (with_changed objects name change) ≡ object_sum (λ o. count_of o.state) objects
 sum_kept name change [] same = refl
 sum_kept name change (o ∷ os) same = pick (bytes_eq name o.name) (sum_kept name change os same)
   where
-    pick : (b : Bool) → object_sum (λ x. count_of x.state) (changed os name change) ≡ object_sum (λ x. count_of x.state) os
+    pick : (b : Bool) → object_sum (λ x. count_of x.state) (with_changed os name change) ≡ object_sum (λ x. count_of x.state) os
         → object_sum (λ x. count_of x.state)
-        (if b then record { name = o.name; state = change o.state } ∷ os else o ∷ changed os name change)
+        (if b then record { name = o.name; state = change o.state } ∷ os else o ∷ with_changed os name change)
         ≡ count_of o.state + object_sum (λ x. count_of x.state) os
     pick true rest = let one = same o.state in omega (arith, one)
     pick false rest = omega (arith, rest)
 
 -- a step that begins neither a read nor a write
 pub calls_kept : (cluster : Cluster) (name : List ℕ) (step : Step) → begins step ≡ 0
-    → client_calls (of.stepped cluster name step) ≡ client_calls cluster
+    → client_calls (of.with_step cluster name step) ≡ client_calls cluster
 calls_kept cluster name step none =
     sum_kept name (made step (suc cluster.counter)) cluster.objects (λ state.
     let one = count_stepped step (suc cluster.counter) state.object in omega (arith, one, none))

@@ -4,7 +4,7 @@ use Rattle.tag.specs.declared.refusal.Refusal.{Refusal}
 use Rattle.record.specs.Steps.{Step}
 use Rattle.cluster.specs.Cluster.{Cluster}
 use Rattle.cluster.specs.Preconditions.{MayMake}
-use Rattle.cluster.specs.Steps.{stepped}
+use Rattle.cluster.specs.Steps.{with_step}
 use Rattle.driver.specs.Driver.{IsTurn}
 use Rattle.driver.specs.Rounds.{MakesRound}
 use Rattle.driver.specs.declared.round.Round.{Round}
@@ -19,13 +19,13 @@ pub goes_on_same : (old new : Cluster) → new ≡ old → PreservesReachable ol
 goes_on_same old new same =
     (λ first h. subst (IsReachable first) (sym same) h, λ sound. subst (λ (c : Cluster). IsSoundCluster c) (sym same) sound)
 
-pub goes_on_step : (old new : Cluster) (name : List ℕ) (step : Step) → MayMake old name step → new ≡ stepped old name step
+pub goes_on_step : (old new : Cluster) (name : List ℕ) (step : Step) → MayMake old name step → new ≡ with_step old name step
     → PreservesReachable old new
 goes_on_step old new name step may made = goes_on old new (inl (name, (step, (may, made))))
 
 -- a step that was made or refused
 pub goes_on_both : {T : Type 0} (answer : Result T Refusal) (old new : Cluster) (name : List ℕ) (step : Step)
-    → OnOk answer (MayMake old name step) → OnOk answer (new ≡ stepped old name step) → OnErr answer (new ≡ old)
+    → OnOk answer (MayMake old name step) → OnOk answer (new ≡ with_step old name step) → OnErr answer (new ≡ old)
     → PreservesReachable old new
 goes_on_both (Ok x) old new name step may made same = goes_on_step old new name step may made
 goes_on_both (Err e) old new name step may made same = goes_on_same old new same

@@ -43,13 +43,13 @@ use Rattle.driver.proofs.StepRefusalLemmas.{answer_refused}
 
 -- How many reads and writes there are
 
-pub kept_step : (old new : Cluster) (name : List ℕ) (step : Step) → begins step ≡ 0 → new ≡ of.stepped old name step
+pub kept_step : (old new : Cluster) (name : List ℕ) (step : Step) → begins step ≡ 0 → new ≡ of.with_step old name step
     → client_calls new ≡ client_calls old
 kept_step old new name step none made = ap client_calls made ∙ calls_kept old name step none
 
 -- a step that was made or refused
 pub kept_both : {T : Type 0} (answer : Result T Refusal) (old new : Cluster) (name : List ℕ) (step : Step) → begins step ≡ 0
-    → OnOk answer (new ≡ of.stepped old name step) → OnErr answer (new ≡ old) → client_calls new ≡ client_calls old
+    → OnOk answer (new ≡ of.with_step old name step) → OnErr answer (new ≡ old) → client_calls new ≡ client_calls old
 kept_both (Ok x) old new name step none made same = kept_step old new name step none made
 kept_both (Err e) old new name step none made same = ap client_calls same
 

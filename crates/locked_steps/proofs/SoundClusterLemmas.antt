@@ -16,9 +16,9 @@ use Rattle.register.specs.Causes.{unless}
 use Rattle.register.specs.State.{State, made}
 use Rattle.register.proofs.ListLemmas.{all_pushed, all_weaker}
 use Rattle.cluster.specs.Causes.{create_cause}
-use Rattle.cluster.specs.Cluster.{Named, Cluster, named, layout_of}
+use Rattle.cluster.specs.Cluster.{Named, Cluster, named, layout_numbered}
 use Rattle.cluster.specs.Preconditions.{MayMake}
-use Rattle.cluster.specs.Steps.{stepped, created}
+use Rattle.cluster.specs.Steps.{with_step, created}
 use Rattle.cluster.proofs.ChangedObjectLemmas.{all_changed, all_named}
 use Rattle.locked_steps.specs.Course.{IsStep, IsSoundCluster}
 
@@ -35,7 +35,7 @@ later counter objects all =
     all_weaker (IsPastAt counter) (IsPastAt (suc counter)) objects (λ o past. (omega (arith, past))) all
 
 object_keeps : (old : Cluster) (name : List ℕ) (step : Step) → MayMake old name step → IsSoundCluster old
-    → IsSoundCluster (stepped old name step)
+    → IsSoundCluster (with_step old name step)
 object_keeps old name step may sound =
     let state : State = may.0 in
     let change : State → State = made step (suc old.counter) in
@@ -51,16 +51,16 @@ object_keeps old name step may sound =
           (later old.counter old.objects sound.past);
     }
 
-created_keeps : (old : Cluster) (name : List ℕ) (id : ℕ) (delta : Option ℕ) → IsLawful (layout_of old id) → IsSoundCluster old
+created_keeps : (old : Cluster) (name : List ℕ) (id : ℕ) (delta : Option ℕ) → IsLawful (layout_numbered old id) → IsSoundCluster old
     → IsSoundCluster (created old name id delta)
 created_keeps old name id delta lawful sound =
     let object : Named = record {
       name = name;
-      state = record { object = opened_object (layout_of old id) delta (suc old.counter); last = suc old.counter };
+      state = record { object = opened_object (layout_numbered old id) delta (suc old.counter); last = suc old.counter };
     } in
     record {
       records = all_pushed HasSoundRecord old.objects object sound.records
-          (opening_sound fragment fragments_are_code (layout_of old id) delta (suc old.counter) lawful);
+          (opening_sound fragment fragments_are_code (layout_numbered old id) delta (suc old.counter) lawful);
       past = all_pushed (IsPastAt (suc old.counter)) old.objects object (later old.counter old.objects sound.past) (omega arith);
     }
 
@@ -101,10 +101,10 @@ free cluster name id none = go (named cluster.objects name) _ none
 pub created_lawful : (old new : Cluster) (name : List ℕ) (id : ℕ) (delta : Option ℕ) → create_cause old name id ≡ None
     → new ≡ created old name id delta
     → ((state : State) → named new.objects name ≡ Some state → IsSound fragment state.object state.last)
-    → IsLawful (layout_of old id)
+    → IsLawful (layout_numbered old id)
 created_lawful old new name id delta none made sound =
     let state : State =
-    record { object = opened_object (layout_of old id) delta (suc old.counter); last = suc old.counter } in
+    record { object = opened_object (layout_numbered old id) delta (suc old.counter); last = suc old.counter } in
     let there : named new.objects name ≡ Some state =
     ap (λ (c : Cluster). named c.objects name) made ∙ found_added old.objects name state (free old name id none) in
     (sound state there).legal.layouts.0

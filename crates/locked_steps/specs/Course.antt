@@ -5,19 +5,19 @@ use Rattle.layout.specs.Layout.{Layout, IsLawful}
 use Rattle.record.specs.Steps.{Step}
 use Rattle.cluster.specs.Atomic.{AreSound}
 use Rattle.cluster.specs.Causes.{layout_cause, create_cause, server_cause}
-use Rattle.cluster.specs.Cluster.{Cluster, layout_of}
+use Rattle.cluster.specs.Cluster.{Cluster, layout_numbered}
 use Rattle.cluster.specs.Kept.{IsKeptCluster}
 use Rattle.cluster.specs.Preconditions.{MayMake}
-use Rattle.cluster.specs.Steps.{stepped, with_layout, with_server, created}
+use Rattle.cluster.specs.Steps.{with_step, with_layout, with_server, created}
 
 -- one step leads from the one cluster to the other, and may be made: a step of an object, which its record allows, or a
 -- step of the cluster itself, with a lawful layout, that no cause refuses
 abbrev pub IsStep : (old new : Cluster) → Type 0
 IsStep old new =
-    ((name : List ℕ) × ((step : Step) × (MayMake old name step × (new ≡ stepped old name step))))
+    ((name : List ℕ) × ((step : Step) × (MayMake old name step × (new ≡ with_step old name step))))
     ⊎ (((layout : Layout) × (IsLawful layout × ((layout_cause old layout ≡ None) × (new ≡ with_layout old layout))))
     ⊎ (((name : List ℕ) × ((id : ℕ) × ((delta : Option ℕ) × ((create_cause old name id ≡ None)
-    × (IsLawful (layout_of old id) × (new ≡ created old name id delta))))))
+    × (IsLawful (layout_numbered old id) × (new ≡ created old name id delta))))))
     ⊎ ((server : ℕ) × ((up : Bool) × ((server_cause old server ≡ None) × (new ≡ with_server old server up))))))
 
 -- this many steps lead from the one cluster to the other

@@ -11,7 +11,7 @@ use Rattle.register.specs.Causes.{lose_cause, repeat_cause}
 use Rattle.register.specs.State.{State}
 use Rattle.cluster.specs.Cluster.{Cluster, named}
 use Rattle.cluster.specs.Causes.{next, object_cause, can_handle}
-use Rattle.cluster.specs.Steps.{stepped}
+use Rattle.cluster.specs.Steps.{with_step}
 use Rattle.driver.specs.Choices.{places_passing, Picks, handling, handling_cause}
 
 -- whether a message can be handled: it is a reply, or a request to a server that is up
@@ -34,7 +34,7 @@ module _ {C : Type 0} (chooses : C → ℕ → ℕ → C → Type 0) (name : Lis
   abbrev pub Stirs : Bool → (new : Cluster) → (after : C) → Type 0
   Stirs true new after =
       (place : ℕ) × (message : Message) × IsStirred after place message
-      × (new ≡ stepped old name (handling place message.body))
+      × (new ≡ with_step old name (handling place message.body))
   Stirs false new after =
       (state : State) × (named old.objects name ≡ Some state) × (any_choices old state.object ≡ []) × (new ≡ old)
       × (after ≡ before)
@@ -69,7 +69,7 @@ module _ {C : Type 0} (chooses : C → ℕ → ℕ → C → Type 0) (name : Lis
   -- the chosen message is lost or repeated; or no message waits, and nothing changes
   abbrev pub Disturbs : Bool → (new : Cluster) → (after : C) → Type 0
   Disturbs true new after =
-      (place : ℕ) × (answer : ℕ) × IsDisturbed after place answer × (new ≡ stepped old name (disturbing place answer))
+      (place : ℕ) × (answer : ℕ) × IsDisturbed after place answer × (new ≡ with_step old name (disturbing place answer))
   Disturbs false new after =
       (state : State) × (named old.objects name ≡ Some state) × (state.object.mail ≡ []) × (new ≡ old)
       × (after ≡ before)

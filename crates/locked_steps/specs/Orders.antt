@@ -11,7 +11,7 @@ use Rattle.register.specs.Causes.{call_at, unless}
 use Rattle.register.specs.Retiring.{retire_cause}
 use Rattle.cluster.specs.Cluster.{Cluster, if_named, named, place_of}
 use Rattle.cluster.specs.Causes.{next, object_cause, layout_cause, create_cause, server_cause, moving_cause}
-use Rattle.cluster.specs.Steps.{stepped, with_layout, with_server, created, moved}
+use Rattle.cluster.specs.Steps.{with_step, with_layout, with_server, created, moved}
 use Rattle.locked_steps.specs.Moves.{Moving, AdminState, EndsCall, asked_if, has_asked, move_receipt, ordered_by}
 use Rattle.register.specs.declared.receipt.Receipt.{Receipt}
 use Rattle.locked_steps.specs.Seats.{call_count}
@@ -41,7 +41,7 @@ order_cause cluster (order.SetServer server up) = server_cause cluster server
 
 -- the cluster after the base of the object of this name is retired
 abbrev pub retired : Cluster → (name : List ℕ) → Cluster
-retired cluster name = stepped cluster name Step.Retire
+retired cluster name = with_step cluster name Step.Retire
 
 -- why this position of the object of this name is not retired
 abbrev pub retiring_cause : Cluster → (name : List ℕ) → (position : ℕ) → Option Refusal

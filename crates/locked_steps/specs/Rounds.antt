@@ -11,7 +11,7 @@ use Rattle.register.specs.Causes.{unless, supply_cause, settle_cause}
 use Rattle.register.specs.View.{want_at}
 use Rattle.cluster.specs.Cluster.{Cluster}
 use Rattle.cluster.specs.Causes.{next, object_cause}
-use Rattle.cluster.specs.Steps.{stepped}
+use Rattle.cluster.specs.Steps.{with_step}
 use Rattle.driver.specs.Driver.{IsRefused}
 use Rattle.locked_steps.specs.Moves.{asked_if}
 use Rattle.driver.specs.Rounds.{MakesRound}
@@ -51,7 +51,7 @@ hand_cause cluster name call (hand.Decoded decoded) =
 -- this step is made, and the chooser is not asked
 abbrev pub HandsIn : {C : Type 0} → (name : List ℕ) → Step
     → (old : Cluster) → (before : C) → (new : Cluster) → (after : C) → Round → Type 0
-HandsIn name step old before new after round.Stepped = (new ≡ stepped old name step) × (after ≡ before)
+HandsIn name step old before new after round.Stepped = (new ≡ with_step old name step) × (after ≡ before)
 HandsIn name step old before new after _ = ⊥
 
 -- an encoded value came too late, since its phase is complete, and nothing changes

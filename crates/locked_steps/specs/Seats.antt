@@ -78,9 +78,9 @@ IsInOrder low (r ∷ rs) high =
 -- How a seat's calls change it
 
 -- what a call does that begins so: it reads or it writes
-abbrev pub operation_of : Begin → Operation
-operation_of begin.Read = operation.Read
-operation_of (begin.Write value) = operation.Write
+abbrev pub begun_operation : Begin → Operation
+begun_operation begin.Read = operation.Read
+begun_operation (begin.Write value) = operation.Write
 
 -- the value that such a call writes; none for a read
 abbrev pub written_of : Begin → Option (List ℕ)
@@ -107,7 +107,7 @@ abbrev pub record_begun : Cluster → (name : List ℕ) → (floor : ℕ) → Be
 record_begun cluster name floor what = record {
   object = place_of cluster.objects name;
   call = suc (call_count (named cluster.objects name));
-  kind = operation_of what;
+  kind = begun_operation what;
   written = written_of what;
   floor = floor;
   called = suc cluster.counter;

@@ -4,7 +4,7 @@ ghost use Rattle.std.specs.Prelude.{◌≡◌, ◌+◌, suc, IfOk, OnOk, OnErr};
 ghost use Rattle.tag.specs.Refusal.{IsByCause};
 ghost use Rattle.cluster.specs.Causes.{next, object_cause};
 ghost use Rattle.cluster.specs.Cluster.{next_call_id, named};
-ghost use Rattle.cluster.specs.Steps.{stepped};
+ghost use Rattle.cluster.specs.Steps.{with_step};
 ghost use Rattle.locked_steps.specs.Calls.{client_calls};
 ghost use Rattle.locked_steps.specs.Course.{PreservesReachable, IsStateOf};
 ghost use Rattle.locked_steps.specs.Seats.{begin_cause, record_begun, call_count, call_step, calling_cause};
@@ -30,7 +30,7 @@ pub fn begin_in<L: StoreName>(
 ) -> Result<(), Refusal>
     ensures state { IsStateOf L.first booked.old }
     ensures step { OnOk result (booked.new
-        ≡ stepped booked.old name.now (call_step (next_call_id booked.old name.now) what)) }
+        ≡ with_step booked.old name.now (call_step (next_call_id booked.old name.now) what)) }
     ensures seat { OnOk result
         (seat.new ≡ with_pending seat.old name.now (record_begun booked.old name.now seat.old.floor what)) }
     ensures cause { IsByCause (begin_cause booked.old seat.old name.now what) result }
@@ -66,7 +66,7 @@ pub fn begin_in<L: StoreName>(
 // Makes the step that begins the call, and returns the call's number.
 fn begin_call(cluster: &mut Cluster, name: &str, what: Begin) -> Result<CallId, Refusal>
     ensures step { OnOk result (cluster.new
-        ≡ stepped cluster.old name.entry.now (call_step (next_call_id cluster.old name.entry.now) what)) }
+        ≡ with_step cluster.old name.entry.now (call_step (next_call_id cluster.old name.entry.now) what)) }
     ensures number { IfOk result (λ n. n ≡ suc (call_count (named cluster.old.objects name.entry.now))) }
     ensures count { OnOk result (client_calls cluster.new ≡ client_calls cluster.old + 1) }
     ensures course { PreservesReachable cluster.old cluster.new }

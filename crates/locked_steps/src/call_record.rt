@@ -2,7 +2,7 @@
 
 ghost use Rattle.std.specs.Prelude.{◌≡◌, IfOk, IfErr};
 ghost use Rattle.tag.specs.declared.refusal.Refusal.TheVariants.{NoMemory};
-ghost use Rattle.locked_steps.specs.Seats.{operation_of, written_len, written_of};
+ghost use Rattle.locked_steps.specs.Seats.{begun_operation, written_len, written_of};
 
 use bytes::Bytes;
 use record::Operation;
@@ -40,7 +40,7 @@ pub struct CallRecord {
 impl Begin {
     /// What the call does.
     pub(crate) fn operation(&self) -> Operation
-        ensures { result ≡ operation_of self.now }
+        ensures { result ≡ begun_operation self.now }
     {
         match self {
             Begin::Read => Operation::Read,

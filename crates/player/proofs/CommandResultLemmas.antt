@@ -11,7 +11,8 @@ use Rattle.player.specs.declared.player.Stop.TheVariants as stop
 use Rattle.player.specs.declared.report.Report.{Report}
 use Rattle.player.specs.Report.{report_text}
 use Rattle.player.specs.Shown.{line_of}
-use Rattle.player.specs.Play.{Written, Prints, IsPlayed, IsBad, Plays, IsBadAt, Changes}
+use Rattle.player.specs.Play.{Prints, IsPlayed, IsBad, Plays, IsBadAt, Changes}
+use Rattle.words.specs.Written.{Written}
 
 -- a text that is so is also so in another way
 pub prints_more : (old new : Written) (Is More : List ℕ → Type 0) (Bad Worse : Type 0) (r : Result Unit Stop)

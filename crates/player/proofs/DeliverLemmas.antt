@@ -13,7 +13,7 @@ use Rattle.record.specs.Steps.{on_message, served_by, taken_by}
 use Rattle.record.specs.Steps as object
 use Rattle.register.specs.State.{State, made}
 use Rattle.cluster.specs.Cluster.{Cluster, named, if_named, is_up}
-use Rattle.cluster.specs.Steps.{stepped}
+use Rattle.cluster.specs.Steps.{with_step}
 use Rattle.cluster.specs.Causes.{can_handle, handled_at}
 use Rattle.driver.specs.declared.messages.Handled.{Handled}
 use Rattle.driver.specs.declared.messages.Handled.TheVariants as handled
@@ -105,9 +105,9 @@ found_kept old new before after servers layouts (Some message) =
 
 -- what could not be handled before the handled message still can't
 pub still_none : (cluster : Cluster) (name : List ℕ) (place : ℕ) (h : Handled) → NoneBefore cluster name place
-    → NoneBefore (stepped cluster name (step_of_handled place h)) name place
+    → NoneBefore (with_step cluster name (step_of_handled place h)) name place
 still_none cluster name place h none earlier less =
-    let new = stepped cluster name (step_of_handled place h) in
+    let new = with_step cluster name (step_of_handled place h) in
     let now = suc cluster.counter in
     let w = is_there cluster name (handled_at cluster earlier) false (none earlier less) in
     let before = w.0.object in
@@ -138,14 +138,14 @@ idle cluster name state count there few none place able = go (slice_get_cases st
 -- one more message is handled
 pub handles : (name : List ℕ) (old cluster new : Cluster) (count place : ℕ) (h : Handled) →
     Delivers name old count cluster → IsFirst cluster name place → if_named cluster name (handling_at place) ≡ Some h →
-    new ≡ stepped cluster name (step_of_handled place h) → Delivers name old (count + 1) new
+    new ≡ with_step cluster name (step_of_handled place h) → Delivers name old (count + 1) new
 handles name old cluster new count place h delivers first is made =
     let more : suc count ≡ count + 1 = omega arith in
     subst (λ x. Delivers name old (count + 1) x) (sym made)
-    (subst (λ n. Delivers name old n (stepped cluster name (step_of_handled place h))) more (then_handles place h delivers first is))
+    (subst (λ n. Delivers name old n (with_step cluster name (step_of_handled place h))) more (then_handles place h delivers first is))
 
 pub still_none_in : (cluster new : Cluster) (name : List ℕ) (place : ℕ) (h : Handled) →
-    new ≡ stepped cluster name (step_of_handled place h) → NoneBefore cluster name place → NoneBefore new name place
+    new ≡ with_step cluster name (step_of_handled place h) → NoneBefore cluster name place → NoneBefore new name place
 still_none_in cluster new name place h made none = subst (λ x. NoneBefore x name place) (sym made) (still_none cluster name place h none)
 
 -- The first message that can be handled

@@ -7,7 +7,8 @@ use Rattle.cluster.specs.Cluster.{if_some}
 use Rattle.std.specs.Io.KnownBytes.{Appends}
 use Rattle.player.specs.declared.player.Stop.{Stop}
 use Rattle.player.specs.declared.player.Stop.TheVariants as stop
-use Rattle.player.specs.Play.{Written, Prints}
+use Rattle.player.specs.Play.{Prints}
+use Rattle.words.specs.Written.{Written}
 
 -- this text was printed, or lost, where it is one that may be printed
 pub prints_as : (old new : Written) (Is : List ℕ → Type 0) (Bad : Type 0) (r : Result Unit Stop) (text : List ℕ) → Is text

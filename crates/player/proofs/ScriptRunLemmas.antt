@@ -10,7 +10,7 @@ use Rattle.std.proofs.KnownBytes.{Appends-nil, Appends-trans, Appends-kept}
 use Rattle.cluster.specs.Cluster.{Cluster}
 use Rattle.player.specs.declared.run.End.{End}
 use Rattle.player.specs.declared.run.End.TheVariants as end
-use Rattle.player.specs.Play.{Written}
+use Rattle.words.specs.Written.{Written}
 use Rattle.player.specs.Script.{PlaysLines, IsPlayedTo, IsPlayedFrom, LosesLine}
 use Rattle.player.specs.Script.{LosesOutput, EndsLine, EndsAt}
 use Rattle.player.specs.Script.PlaysLines.{none, then_plays}

@@ -9,11 +9,13 @@ use Rattle.cluster.specs.Accounts as accounts
 
 -- a space, the number of a server, a colon, and how many bytes the server stores
 abbrev pub server_text : Cluster → (server : ℕ) → List ℕ
-server_text cluster server = codes " " ++ decimal server ++ (codes ":" ++ decimal (accounts.stored cluster server))
+server_text cluster server =
+    codes " " ++ decimal server ++ (codes ":" ++ decimal (accounts.server_bytes cluster server))
 
 -- the line: the bytes that all servers store, the bytes that wait in messages, and what each server stores
 abbrev pub account_text : Cluster → List ℕ
 account_text cluster =
     in_words (
-    codes "stored" ∷ decimal (accounts.stored_all cluster) ∷ codes "mailed" ∷ decimal (accounts.mailed cluster) ∷ [])
+    codes "stored" ∷ decimal (accounts.stored_all cluster)
+    ∷ codes "mailed" ∷ decimal (accounts.waiting_bytes cluster) ∷ [])
     ++ flat_map (server_text cluster) (range_with_len 0 (length cluster.servers))

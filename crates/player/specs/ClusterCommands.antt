@@ -8,7 +8,7 @@ use Rattle.layout.specs.Layout.{Layout, IsLawful}
 use Rattle.record.specs.Steps.{Step}
 use Rattle.register.specs.Retiring.{retire_cause}
 use Rattle.cluster.specs.Cluster.{Cluster}
-use Rattle.cluster.specs.Steps.{stepped, with_layout, with_server, created}
+use Rattle.cluster.specs.Steps.{with_step, with_layout, with_server, created}
 use Rattle.cluster.specs.Causes.{next, object_cause, layout_cause, create_cause, server_cause}
 use Rattle.player.specs.declared.report.Report.{Report}
 use Rattle.player.specs.Report.{done, added_layout}
@@ -45,7 +45,7 @@ MakesObject old name layout delta new report = IsGrowth old (created old name (l
 -- this position of the object of this name, which must be its base, is retired
 abbrev pub Retires : Cluster → (name : List ℕ) → (position : ℕ) → Cluster → Report → Type 0
 Retires old name position new report =
-    IsFreeing old (stepped old name Step.Retire)
+    IsFreeing old (with_step old name Step.Retire)
     (object_cause old name (λ object. retire_cause (next old) object position)) new report
 
 -- the server of this number goes up or down

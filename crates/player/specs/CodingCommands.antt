@@ -12,7 +12,7 @@ use Rattle.record.specs.Steps.{Step}
 use Rattle.register.specs.Causes.{supply_cause, supplying_cause}
 use Rattle.register.specs.View.{want_at}
 use Rattle.cluster.specs.Cluster.{Cluster}
-use Rattle.cluster.specs.Steps.{stepped}
+use Rattle.cluster.specs.Steps.{with_step}
 use Rattle.cluster.specs.Causes.{next, object_cause}
 use Rattle.driver.specs.Coding.{settling_cause}
 use Rattle.driver.specs.Rounds.{SettlesOwn}
@@ -45,14 +45,14 @@ supplying_as_cause cluster call value object =
 -- the call of this number is supplied with these bytes, encoded as it wants its value
 abbrev pub SuppliesAs : Cluster → (name : List ℕ) → (call : ℕ) → (value : List ℕ) → Cluster → Report → Type 0
 SuppliesAs old name call value new report =
-    IsGrowth old (stepped old name (Step.Supply (pred call)))
+    IsGrowth old (with_step old name (Step.Supply (pred call)))
     (object_cause old name (supplying_as_cause old call value))
     (Some done) new report
 
 -- the call of this number is supplied with its own value
 abbrev pub Supplies : Cluster → (name : List ℕ) → (call : ℕ) → Cluster → Report → Type 0
 Supplies old name call new report =
-    IsGrowth old (stepped old name (Step.Supply (pred call)))
+    IsGrowth old (with_step old name (Step.Supply (pred call)))
     (object_cause old name (λ object. supplying_cause (next old) object call))
     (Some done) new report
 

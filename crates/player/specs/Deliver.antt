@@ -6,7 +6,7 @@ use Rattle.tag.specs.declared.refusal.Refusal.{Refusal}
 use Rattle.printing.specs.declared.outcome.Outcome.{Outcome}
 use Rattle.printing.specs.declared.outcome.Outcome.TheVariants as outcome
 use Rattle.cluster.specs.Cluster.{Cluster, if_named}
-use Rattle.cluster.specs.Steps.{stepped}
+use Rattle.cluster.specs.Steps.{with_step}
 use Rattle.cluster.specs.Causes as causes
 use Rattle.cluster.specs.Causes.{object_cause}
 use Rattle.driver.specs.declared.messages.Handled.{Handled}
@@ -32,7 +32,7 @@ pub data Delivers (name : List ℕ) (old : Cluster) : ℕ → Cluster → Type 0
   nothing : Delivers name old zero old
   then_handles : {count : ℕ} {cluster : Cluster} (place : ℕ) (handled : Handled) → Delivers name old count cluster →
       IsFirst cluster name place → if_named cluster name (handled_result_at place) ≡ Some handled →
-      Delivers name old (suc count) (stepped cluster name (step_of_handled place handled))
+      Delivers name old (suc count) (with_step cluster name (step_of_handled place handled))
 
 -- no message of the object can be handled
 abbrev pub HasNoneToHandle : Cluster → (name : List ℕ) → Type 0

@@ -5,7 +5,7 @@ use Rattle.record.specs.Steps.{Step}
 use Rattle.register.specs.Causes.{take_cause, lose_cause, repeat_cause}
 use Rattle.register.specs.View.{took_at}
 use Rattle.cluster.specs.Cluster.{Cluster, if_named}
-use Rattle.cluster.specs.Steps.{stepped}
+use Rattle.cluster.specs.Steps.{with_step}
 use Rattle.cluster.specs.Causes.{next, object_cause, serving_cause}
 use Rattle.player.specs.declared.report.Report.{Report}
 use Rattle.player.specs.Report.{done, took}
@@ -14,7 +14,7 @@ use Rattle.player.specs.Steps.{IsStepCommand, IsGrowth}
 -- the request at this place is served
 abbrev pub Serves : Cluster → (name : List ℕ) → (place : ℕ) → Cluster → Report → Type 0
 Serves old name place new report =
-    IsGrowth old (stepped old name (Step.Serve place)) (object_cause old name (serving_cause old place))
+    IsGrowth old (with_step old name (Step.Serve place)) (object_cause old name (serving_cause old place))
     (Some done) new report
 
 -- the report of what the call would do with the reply at this place; none where no object has this name
@@ -25,20 +25,20 @@ next_take cluster name place =
 -- the reply at this place is taken by its call
 abbrev pub Takes : Cluster → (name : List ℕ) → (place : ℕ) → Cluster → Report → Type 0
 Takes old name place new report =
-    IsStepCommand old (stepped old name (Step.Take place))
+    IsStepCommand old (with_step old name (Step.Take place))
     (object_cause old name (λ object. take_cause (next old) object place))
     (next_take old name place) new report
 
 -- the message at this place is lost
 abbrev pub Loses : Cluster → (name : List ℕ) → (place : ℕ) → Cluster → Report → Type 0
 Loses old name place new report =
-    IsStepCommand old (stepped old name (Step.Lose place))
+    IsStepCommand old (with_step old name (Step.Lose place))
     (object_cause old name (λ object. lose_cause (next old) object place))
     (Some done) new report
 
 -- a copy of the message at this place is put at the end of the mail
 abbrev pub Repeats : Cluster → (name : List ℕ) → (place : ℕ) → Cluster → Report → Type 0
 Repeats old name place new report =
-    IsGrowth old (stepped old name (Step.Repeat place))
+    IsGrowth old (with_step old name (Step.Repeat place))
     (object_cause old name (λ object. repeat_cause (next old) object place))
     (Some done) new report

@@ -21,10 +21,7 @@ use Rattle.player.specs.Deliver.{DeliversAll}
 use Rattle.player.specs.WholeCalls.{Reads, WritesValue, Moves, Resumes}
 use Rattle.player.specs.Shown.{line_of, ShowsCall, ShowsMail, ShowsBank, HasNoBank}
 use Rattle.player.specs.Shown.{ShowsAccount, ShowsHistory, ShowsSequence, ShowsCheck, HasNoCall}
-
--- the bytes that a writer holds; none where they are not known
-abbrev pub Written : Type 0
-Written = Option (List ℕ)
+use Rattle.words.specs.Written.{Written}
 
 -- the command was carried out and its text printed; or its line is bad, and nothing was printed; or it was carried out,
 -- and its text was lost

@@ -12,7 +12,8 @@ use Rattle.script.specs.Line.{IsLine, IsErrorOfLine}
 use Rattle.cluster.specs.Cluster.{Cluster}
 use Rattle.player.specs.declared.run.End.{End}
 use Rattle.player.specs.declared.run.End.TheVariants.{Unread, NoRoom, NoMemory, BadLine, OutputLost}
-use Rattle.player.specs.Play.{Written, Plays, IsBadAt}
+use Rattle.player.specs.Play.{Plays, IsBadAt}
+use Rattle.words.specs.Written.{Written}
 
 -- a line is skipped and changes nothing, or it spells a command, which is played and prints this text
 abbrev pub PlaysLine : Option Cluster → (line : List ℕ) → Option Cluster → (text : List ℕ) → Type 0
@@ -114,14 +115,14 @@ IsUnread _ = ⊥
 
 -- why a run ends early, and what was done: a script that is not read, or for which there is no room, is not played;
 -- otherwise the run ends at one of its lines
-abbrev pub EndsBy : (remaining old new : Written) → End → Type 0
-EndsBy remaining old new Unread = Keeps old new
-EndsBy remaining old new NoRoom = Keeps old new
-EndsBy remaining old new NoMemory =
+abbrev pub RunEndsBy : (remaining old new : Written) → End → Type 0
+RunEndsBy remaining old new Unread = Keeps old new
+RunEndsBy remaining old new NoRoom = Keeps old new
+RunEndsBy remaining old new NoMemory =
     (script : List ℕ) × IsScriptOf remaining script × (LacksMemory script old new ⊎ LosesOutput script)
-EndsBy remaining old new (BadLine number) =
+RunEndsBy remaining old new (BadLine number) =
     (script : List ℕ) × IsScriptOf remaining script × StopsAt script old new number
-EndsBy remaining old new OutputLost = (script : List ℕ) × IsScriptOf remaining script × LosesOutput script
+RunEndsBy remaining old new OutputLost = (script : List ℕ) × IsScriptOf remaining script × LosesOutput script
 
 -- the whole script that the reader gives is played, and its text is printed
 pub record PlaysScript (remaining old new : Written) : Type 0 where
@@ -133,18 +134,18 @@ pub record PlaysScript (remaining old new : Written) : Type 0 where
   pub printed : Appends old new text
 
 -- the exit status of a run that ends early
-abbrev pub exit_status_of : End → ℕ
-exit_status_of Unread = 2
-exit_status_of NoRoom = 1
-exit_status_of NoMemory = 1
-exit_status_of (BadLine number) = 2
-exit_status_of OutputLost = 1
+abbrev pub exit_status_of_end : End → ℕ
+exit_status_of_end Unread = 2
+exit_status_of_end NoRoom = 1
+exit_status_of_end NoMemory = 1
+exit_status_of_end (BadLine number) = 2
+exit_status_of_end OutputLost = 1
 
 -- the exit status, and what was done: 0 where the whole script is played, and otherwise that of the early end
 abbrev pub Runs : (remaining old new : Written) → (status : ℕ) → Type 0
 Runs remaining old new status =
     ((status ≡ 0) × PlaysScript remaining old new)
-    ⊎ ((end : End) × (status ≡ exit_status_of end) × EndsBy remaining old new end)
+    ⊎ ((end : End) × (status ≡ exit_status_of_end end) × RunEndsBy remaining old new end)
 
 -- the exit status where the script cannot be read, for an error of this kind
 abbrev pub unread_status : ErrorKind → ℕ

@@ -11,7 +11,7 @@ use Rattle.driver.specs.declared.chooser.First.{First}
 use Rattle.driver.specs.Driver.{FinishesCall, IsUnfinished}
 use Rattle.driver.specs.WholeCalls.{next_number}
 use Rattle.cluster.specs.Cluster.{Cluster, next_call_id}
-use Rattle.cluster.specs.Steps.{stepped, moved}
+use Rattle.cluster.specs.Steps.{with_step, moved}
 use Rattle.cluster.specs.Causes.{next, object_cause, moving_cause}
 use Rattle.player.specs.declared.report.Report.{Report}
 use Rattle.player.specs.declared.report.Report.TheVariants as of
@@ -49,13 +49,13 @@ IsWholeRun old begun cause name turns new report =
 -- the command makes a whole read
 abbrev pub Reads : Cluster → (name : List ℕ) → (turns : ℕ) → Cluster → Report → Type 0
 Reads old name turns new report =
-    IsWholeRun old (stepped old name (Step.CallRead (next_call_id old name)))
+    IsWholeRun old (with_step old name (Step.CallRead (next_call_id old name)))
     (object_cause old name (λ object. read_cause (next old) object)) name turns new report
 
 -- the command makes a whole write of this value
 abbrev pub WritesValue : Cluster → (name value : List ℕ) → (turns : ℕ) → Cluster → Report → Type 0
 WritesValue old name value turns new report =
-    IsWholeRun old (stepped old name (Step.CallWrite (next_call_id old name) value))
+    IsWholeRun old (with_step old name (Step.CallWrite (next_call_id old name) value))
     (object_cause old name (λ object. write_cause value (next old) object))
     name turns new report
 

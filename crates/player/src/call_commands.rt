@@ -5,7 +5,7 @@ ghost use Rattle.record.specs.Steps.{Step};
 ghost use Rattle.record.specs.Sending.{value_or_empty};
 ghost use Rattle.register.specs.Causes.{supplying_cause};
 ghost use Rattle.cluster.specs.Causes.{next, object_cause};
-ghost use Rattle.cluster.specs.Steps.{stepped};
+ghost use Rattle.cluster.specs.Steps.{with_step};
 ghost use Rattle.player.specs.CallCommands.{CallsRead, CallsWrite, CallsMove, Advances, BeginsAnew, Posts, AnswersCall};
 ghost use Rattle.player.specs.CodingCommands.{Supplies, SuppliesAs, SettlesValue, supplying_as_cause};
 
@@ -72,7 +72,7 @@ fn supply_value(
     call: CallId,
     value: Bytes,
 ) -> Result<(), Refusal>
-    ensures step { OnOk result (cluster.new ≡ stepped cluster.old name.entry.now (Step.Supply (pred call))) }
+    ensures step { OnOk result (cluster.new ≡ with_step cluster.old name.entry.now (Step.Supply (pred call))) }
     ensures cause { IsByCause
         (object_cause cluster.old name.entry.now (supplying_as_cause cluster.old call value)) result }
     ensures unchanged { OnErr result (cluster.new ≡ cluster.old) }

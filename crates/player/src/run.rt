@@ -2,9 +2,9 @@
 ghost use Rattle.std.specs.Prelude.{◌≡◌, ◌⊎◌, ℕ, List, map, IfErr, MatchResult};
 ghost use Rattle.std.specs.Str.Lines.{lines as lines_of};
 ghost use Rattle.std.specs.IoError.{error_kind};
-ghost use Rattle.player.specs.Script.{Runs, PlaysScript, EndsBy, EndsAt, EndsLine, IsScriptOf, IsUnread};
+ghost use Rattle.player.specs.Script.{Runs, PlaysScript, RunEndsBy, EndsAt, EndsLine, IsScriptOf, IsUnread};
 ghost use Rattle.player.specs.declared.run.End.TheVariants.{BadLine, NoRoom};
-ghost use Rattle.player.specs.Script.{IsPlayedFrom, IsPlayedThrough, exit_status_of, unread_status};
+ghost use Rattle.player.specs.Script.{IsPlayedFrom, IsPlayedThrough, exit_status_of_end, unread_status};
 
 use crate::player::{Stop, play};
 use cluster::Cluster;
@@ -66,7 +66,7 @@ pub fn report_unread<E: Write>(error: &io::Error, name: &str, err: &mut E) -> u8
 /// Prints on `err` why the run of the script of this name ended early, and returns the exit status: 2 where the script
 /// cannot be read or a line is bad, and otherwise 1. A write that fails is ignored.
 pub fn report_end<E: Write>(end: End, name: &str, err: &mut E) -> u8
-    ensures { result ≡ exit_status_of end }
+    ensures { result ≡ exit_status_of_end end }
 {
     let _ = err.writeln(EndText { end, name });
     match end {
@@ -95,7 +95,7 @@ impl fmt::Display for EndText<'_> {
 
 fn play_script<R: Read, O: Write>(alloc: Global, reader: &mut R, out: &mut O) -> Result<(), End>
     ensures { MatchResult result (λ _. PlaysScript (R.remaining reader.old) (O.contents out.old) (O.contents out.new))
-        (EndsBy (R.remaining reader.old) (O.contents out.old) (O.contents out.new)) }
+        (RunEndsBy (R.remaining reader.old) (O.contents out.old) (O.contents out.new)) }
 {
     let text = read_script(alloc, reader)?;
     let Ok(lines) = split_lines(alloc, &text) else {

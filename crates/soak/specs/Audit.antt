@@ -38,18 +38,18 @@ of_both cluster read =
 -- each account equals the sum over the banks or the mail of the objects `a` and `b`
 pub record AreAccounted (cluster : Cluster) : Type 0 where
   pub servers : (server : ℕ) → server < length cluster.servers
-      → all.stored cluster server ≡ of_both cluster (λ o. of.stored o server)
+      → all.server_bytes cluster server ≡ of_both cluster (λ o. of.stored o server)
   pub together : all.stored_all cluster ≡ member_sum (λ server. of_both cluster (λ o. of.stored o server)) 0
       (length cluster.servers)
-  pub mailed : all.mailed cluster ≡ of_both cluster of.mailed
+  pub mailed : all.waiting_bytes cluster ≡ of_both cluster of.mailed
 
 -- each account equals the sum over the banks or the mail of these two objects
 abbrev pub AreAdded : Cluster → (one other : Object) → Type 0
 AreAdded cluster one other =
     ((server : ℕ) → server < length cluster.servers
-    → all.stored cluster server ≡ of.stored one server + of.stored other server)
+    → all.server_bytes cluster server ≡ of.stored one server + of.stored other server)
     × (all.stored_all cluster ≡ member_sum (λ s. of.stored one s + of.stored other s) 0 (length cluster.servers))
-    × (all.mailed cluster ≡ of.mailed one + of.mailed other)
+    × (all.waiting_bytes cluster ≡ of.mailed one + of.mailed other)
 
 -- `NoObject` where no object has the name `a`, or none has the name `b`
 abbrev pub missing_cause : Cluster → Option Refusal

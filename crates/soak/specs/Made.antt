@@ -7,7 +7,7 @@ use Rattle.locked_steps.specs.Moves.{AdminState, new_admin}
 use Rattle.locked_steps.specs.Seats.{SeatState, AddsAnswered, new_seat}
 use Rattle.locked_steps.specs.declared.call_record.Begin.{Begin}
 use Rattle.locked_steps.specs.declared.call_record.Begin.TheVariants as begin
-use Rattle.client.specs.Locked.{Moves}
+use Rattle.client.specs.Locked.{MovesThen}
 use Rattle.soak.specs.Call.{object_called, value_written}
 use Rattle.soak.specs.Moves.{layout_after, object_moved}
 
@@ -35,7 +35,8 @@ HasMade first count t = (number : ℕ) × MakesAll first count (new_seat number)
 
 -- in a store that was opened with `first`, the move of this number is made and answered
 abbrev pub MakesMove : (first : Cluster) → (number : ℕ) → AdminState → AdminState → Type 0
-MakesMove first number a b = (receipt : Receipt) × Moves first a (object_moved number) (layout_after number) receipt b
+MakesMove first number a b =
+    (receipt : Receipt) × MovesThen first a (object_moved number) (layout_after number) receipt b
 
 -- this many moves are made in a row, the first of which has the number 0, and no other order is carried out
 abbrev pub MovesAll : (first : Cluster) → (count : ℕ) → AdminState → AdminState → Type 0

@@ -65,5 +65,5 @@ summary_text s = line (codes "calls") (decimal s.calls) ++ 10 ∷ line (codes "r
     ++ 10 ∷ line (codes "accounts") (truth s.accounts)
 
 -- the exit status: 0 where there are as many calls as receipts and both truth values hold, and otherwise 1
-abbrev pub exit_status_of : Summary → ℕ
-exit_status_of s = if (s.calls == s.receipts) && (s.check && s.accounts) then 0 else 1
+abbrev pub exit_status_of_summary : Summary → ℕ
+exit_status_of_summary s = if (s.calls == s.receipts) && (s.check && s.accounts) then 0 else 1

@@ -40,7 +40,7 @@ fn are_stored_together(cluster: &Cluster, one: &Register, other: &Register) -> b
 
 // Whether the account of the mail equals what waits for both objects, added up again.
 fn are_mailed(cluster: &Cluster, one: &Register, other: &Register) -> bool
-    ensures { IsTrue result ↔ (all.mailed cluster.now ≡ mailed one.now.object + mailed other.now.object) }
+    ensures { IsTrue result ↔ (all.waiting_bytes cluster.now ≡ mailed one.now.object + mailed other.now.object) }
 {
     mailed_anew(one).saturating_add(mailed_anew(other)) == cluster.mailed()
 }
@@ -48,7 +48,7 @@ fn are_mailed(cluster: &Cluster, one: &Register, other: &Register) -> bool
 // Whether the account of each server equals what it stores of both objects, added up again.
 fn are_stored(cluster: &Cluster, one: &Register, other: &Register) -> bool
     ensures { IsTrue result ↔ ((server : ℕ) → server < length cluster.now.servers
-        → all.stored cluster.now server ≡ stored one.now.object server + stored other.now.object server) }
+        → all.server_bytes cluster.now server ≡ stored one.now.object server + stored other.now.object server) }
 {
     for server in 0..cluster.servers() {
         if !is_stored(cluster, one, other, server) {
@@ -61,7 +61,7 @@ fn are_stored(cluster: &Cluster, one: &Register, other: &Register) -> bool
 fn is_stored(cluster: &Cluster, one: &Register, other: &Register, server: u8) -> bool
     requires { server < length cluster.now.servers }
     ensures { IsTrue result ↔
-        (all.stored cluster.now server ≡ stored one.now.object server + stored other.now.object server) }
+        (all.server_bytes cluster.now server ≡ stored one.now.object server + stored other.now.object server) }
 {
     let _most = cluster.stored_all();
     both_anew(one, other, server) == cluster.stored(server)

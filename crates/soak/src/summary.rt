@@ -5,7 +5,7 @@ ghost use Rattle.record.specs.Journals.{entries};
 ghost use Rattle.history.specs.Check.{must_stand};
 ghost use Rattle.soak.specs.Audit.{missing_cause};
 ghost use Rattle.tag.specs.Refusal.{IsByCause};
-ghost use Rattle.soak.specs.Summary.{IsSummaryOf, is_answered_move, exit_status_of};
+ghost use Rattle.soak.specs.Summary.{IsSummaryOf, is_answered_move, exit_status_of_summary};
 
 use crate::audit::are_accounted;
 use cluster::Cluster;
@@ -61,7 +61,7 @@ impl Summary {
 
     /// The exit status: 0 where there are as many calls as receipts and both checks hold, and otherwise 1.
     pub fn status(&self) -> u8
-        ensures { result ≡ exit_status_of self.now }
+        ensures { result ≡ exit_status_of_summary self.now }
     {
         if self.calls == self.receipts && self.check && self.accounts {
             0

@@ -1,7 +1,8 @@
 //! What the administrator does through the lock.
 
 ghost use Rattle.std.specs.Prelude.{◌≡◌, ◌⊎◌, None, IfErr, IfOk, OnErr};
-ghost use Rattle.client.specs.Locked.{AddsLayout, Creates, Moves, MovesNot, Retires, SetsServer};
+ghost use Rattle.client.specs.Locked.{AddsLayoutThen, CreatesThen, MovesThen, MovesNotThen, RetiresThen};
+ghost use Rattle.client.specs.Locked.{SetsServerThen};
 ghost use Rattle.client.specs.Refusals.{LeavesMoving, MoveIsRefused};
 ghost use Rattle.locked_steps.specs.Moves.{Ends, has_asked};
 
@@ -26,7 +27,7 @@ impl<L: StoreName> Store<L> {
         admin: &mut Admin<L>,
         layout: Layout,
     ) -> Result<LayoutId, Refusal>
-        ensures { AddsLayout L.first admin.old layout result admin.new }
+        ensures { AddsLayoutThen L.first admin.old layout result admin.new }
     {
         let order = Order::AddLayout(layout);
         match admin_in(&mut *self.booked.lock(rt), admin, order)? {
@@ -45,7 +46,7 @@ impl<L: StoreName> Store<L> {
         name: &str,
         layout: LayoutId,
     ) -> Result<(), Refusal>
-        ensures { Creates L.first admin.old name.now layout None result admin.new }
+        ensures { CreatesThen L.first admin.old name.now layout None result admin.new }
     {
         self.create_with(rt, admin, name, layout, None)
     }
@@ -63,7 +64,7 @@ impl<L: StoreName> Store<L> {
         layout: LayoutId,
         delta: Option<u32>,
     ) -> Result<(), Refusal>
-        ensures { Creates L.first admin.old name.now layout delta result admin.new }
+        ensures { CreatesThen L.first admin.old name.now layout delta result admin.new }
     {
         let order = Order::Create {
             name,
@@ -84,7 +85,7 @@ impl<L: StoreName> Store<L> {
         server: u8,
         up: bool,
     ) -> Result<(), Refusal>
-        ensures { SetsServer L.first admin.old server up result admin.new }
+        ensures { SetsServerThen L.first admin.old server up result admin.new }
     {
         let order = Order::SetServer { server, up };
         admin_in(&mut *self.booked.lock(rt), admin, order)?;
@@ -104,7 +105,7 @@ impl<L: StoreName> Store<L> {
         name: &str,
         position: u64,
     ) -> Result<u64, Refusal>
-        ensures { Retires L.first admin.old name.now position result admin.new }
+        ensures { RetiresThen L.first admin.old name.now position result admin.new }
     {
         retire_in(&mut *self.booked.lock(rt), admin, name, position)
     }
@@ -124,8 +125,8 @@ impl<L: StoreName> Store<L> {
         chooser: &mut C,
         turns: u64,
     ) -> Result<Receipt, Refusal>
-        ensures ok { IfOk result (λ receipt. Moves L.first admin.old name.now layout receipt admin.new) }
-        ensures err { IfErr result (λ r. ((admin.new ≡ admin.old) × MovesNot L.first admin.old name.now layout r)
+        ensures ok { IfOk result (λ receipt. MovesThen L.first admin.old name.now layout receipt admin.new) }
+        ensures err { IfErr result (λ r. ((admin.new ≡ admin.old) × MovesNotThen L.first admin.old name.now layout r)
             ⊎ LeavesMoving L.first admin.old name.now layout admin.new r) }
     {
         let _ = admin.make_room(name);

@@ -5,7 +5,7 @@ ghost use Rattle.tag.specs.Refusal.{IsByCause, IsExactlyByCause};
 ghost use Rattle.tag.specs.declared.limits.TheConstants.{MOST_BYTES};
 ghost use Rattle.record.specs.Journals.{entries};
 ghost use Rattle.cluster.specs.Cluster.{if_named, named};
-ghost use Rattle.cluster.specs.Accounts.{stored, stored_all, mailed, calls};
+ghost use Rattle.cluster.specs.Accounts.{server_bytes, stored_all, waiting_bytes, calls};
 ghost use Rattle.cluster.specs.Atomic.{AreSums};
 ghost use Rattle.cluster.specs.Causes.{object_cause};
 
@@ -18,11 +18,11 @@ use tag::{MOST_SERVERS, Refusal};
 /// The accounts of a cluster, in bytes of pieces.
 #[derive(Debug, PartialEq, Eq, Drop)]
 pub struct Accounts {
-    /// What each server stores, as `stored` returns it, from server 0 on.
+    /// What each server stores, as `server_bytes` returns it, from server 0 on.
     pub servers: ArrayVec<u64, MOST_SERVERS>,
     /// What all servers store, as `stored_all` returns it.
     pub stored: u64,
-    /// What waits in messages, as `mailed` returns it.
+    /// What waits in messages, as `waiting_bytes` returns it.
     pub mailed: u64,
 }
 
@@ -31,7 +31,7 @@ impl Cluster {
     /// cluster.
     pub fn stored(&self, server: u8) -> u64
         requires { server < length self.now.servers }
-        ensures { result ≡ stored self.now server }
+        ensures { result ≡ server_bytes self.now server }
     {
         self.loads.at(server)
     }
@@ -46,13 +46,13 @@ impl Cluster {
 
     /// How many bytes of pieces wait in the messages of all objects.
     pub fn mailed(&self) -> u64
-        ensures value { result ≡ mailed self.now }
+        ensures value { result ≡ waiting_bytes self.now }
         ensures within { result ≤ MOST_BYTES }
     {
         self.mailed
     }
 
-    // The accounts: what `stored`, `stored_all` and `mailed` return.
+    // The accounts: what `server_bytes`, `stored_all` and `waiting_bytes` return.
     pub(crate) fn accounts(&self) -> Accounts
         ensures { AreSums self.now result }
     {

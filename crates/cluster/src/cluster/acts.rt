@@ -2,12 +2,12 @@
 
 ghost use Rattle.std.specs.Prelude.{◌≡◌, ◌≤◌, length, Some, IfOk, OnOk, OnErr};
 ghost use Rattle.register.specs.Act.{IsActCause, act_cause, answered_by, step_of};
-ghost use Rattle.cluster.specs.Acts.{IsReady, begun_by};
+ghost use Rattle.cluster.specs.Acts.{ServersAllow, begun_by};
 ghost use Rattle.cluster.specs.Causes.{next, object_cause};
 ghost use Rattle.cluster.specs.Cluster.{next_call_id, if_named, place_of};
 ghost use Rattle.cluster.specs.Places.{IsObjectAt};
 ghost use Rattle.cluster.specs.Preconditions.{MayMake};
-ghost use Rattle.cluster.specs.Steps.{stepped};
+ghost use Rattle.cluster.specs.Steps.{with_step};
 
 use crate::cluster::Cluster;
 use crate::cluster::mailing::{exchanged, waiting};
@@ -17,9 +17,9 @@ use tag::Refusal;
 impl Cluster {
     // Makes the step that an act asks for, of the object of this name.
     pub(crate) fn act(&mut self, name: &str, act: Act) -> Result<Answered, Refusal>
-        requires ready { IsReady (length self.old.servers) act }
+        requires ready { ServersAllow (length self.old.servers) act }
         ensures step { OnOk result (self.new
-            ≡ stepped self.old name.entry.now (step_of (next_call_id self.old name.entry.now) act)) }
+            ≡ with_step self.old name.entry.now (step_of (next_call_id self.old name.entry.now) act)) }
         ensures may { OnOk result
             (MayMake self.old name.entry.now (step_of (next_call_id self.old name.entry.now) act)) }
         ensures answered { IfOk result (λ a. if_named self.old name.entry.now
@@ -35,10 +35,10 @@ impl Cluster {
 
     // Makes the step that an act asks for, of the object of this name, which is at this index.
     pub(crate) fn act_at(&mut self, name: &str, object: u32, act: Act) -> Result<Answered, Refusal>
-        requires ready { IsReady (length self.old.servers) act }
+        requires ready { ServersAllow (length self.old.servers) act }
         requires placed { IsObjectAt self.old name.now object }
         ensures step { OnOk result (self.new
-            ≡ stepped self.old name.entry.now (step_of (next_call_id self.old name.entry.now) act)) }
+            ≡ with_step self.old name.entry.now (step_of (next_call_id self.old name.entry.now) act)) }
         ensures may { OnOk result
             (MayMake self.old name.entry.now (step_of (next_call_id self.old name.entry.now) act)) }
         ensures answered { IfOk result (λ a. if_named self.old name.entry.now

@@ -5,9 +5,9 @@ ghost use Rattle.tag.specs.Refusal.{IsByCause};
 ghost use Rattle.record.specs.Steps.{Step};
 ghost use Rattle.register.specs.Causes.{read_cause, write_cause, answer_cause};
 ghost use Rattle.register.specs.View.{receipt_at};
-ghost use Rattle.cluster.specs.Cluster.{next_call_id, if_named, layout_of, place_of};
+ghost use Rattle.cluster.specs.Cluster.{next_call_id, if_named, layout_numbered, place_of};
 ghost use Rattle.cluster.specs.Preconditions.{MayMake};
-ghost use Rattle.cluster.specs.Steps.{stepped, moved};
+ghost use Rattle.cluster.specs.Steps.{with_step, moved};
 ghost use Rattle.cluster.specs.Causes.{next, object_cause, moving_cause};
 
 use crate::cluster::{Cluster, LayoutId};
@@ -23,7 +23,7 @@ impl Cluster {
     /// `MOST_CALLS` calls, or the n requests would make more than `MOST_MESSAGES` waiting messages of the object.
     pub fn call_read(&mut self, name: &str) -> Result<CallId, Refusal>
         ensures step { OnOk result (self.new
-            ≡ stepped self.old name.entry.now (Step.CallRead (next_call_id self.old name.entry.now))) }
+            ≡ with_step self.old name.entry.now (Step.CallRead (next_call_id self.old name.entry.now))) }
         ensures may { OnOk result
             (MayMake self.old name.entry.now (Step.CallRead (next_call_id self.old name.entry.now))) }
         ensures number { IfOk result
@@ -45,7 +45,7 @@ impl Cluster {
     /// `Full` as for `call_read`.
     pub fn call_write(&mut self, name: &str, value: Bytes) -> Result<CallId, Refusal>
         ensures step { OnOk result (self.new
-            ≡ stepped self.old name.entry.now (Step.CallWrite (next_call_id self.old name.entry.now) value)) }
+            ≡ with_step self.old name.entry.now (Step.CallWrite (next_call_id self.old name.entry.now) value)) }
         ensures may { OnOk result
             (MayMake self.old name.entry.now (Step.CallWrite (next_call_id self.old name.entry.now) value)) }
         ensures number { IfOk result
@@ -71,7 +71,7 @@ impl Cluster {
     pub fn call_move(&mut self, name: &str, id: LayoutId) -> Result<CallId, Refusal>
         ensures step { OnOk result (self.new ≡ moved self.old name.entry.now id) }
         ensures may { OnOk result (MayMake self.old name.entry.now
-            (Step.CallMove (next_call_id self.old name.entry.now) (layout_of self.old id))) }
+            (Step.CallMove (next_call_id self.old name.entry.now) (layout_numbered self.old id))) }
         ensures number { IfOk result
             (λ n. if_named self.old name.entry.now (λ object. Some (suc (length object.calls))) ≡ Some n) }
         ensures cause { IsByCause (object_cause self.old name.entry.now (moving_cause self.old id)) result }
@@ -98,7 +98,7 @@ impl Cluster {
     /// `NoObject` where no object has this name, `NoCall` where it has no call of this number, `NotNow` unless the call
     /// wants to be answered, and `Full` where the counter is at `MOST_STEPS`.
     pub fn answer(&mut self, name: &str, call: CallId) -> Result<Receipt, Refusal>
-        ensures step { OnOk result (self.new ≡ stepped self.old name.entry.now (Step.AnswerCall (pred call))) }
+        ensures step { OnOk result (self.new ≡ with_step self.old name.entry.now (Step.AnswerCall (pred call))) }
         ensures may { OnOk result (MayMake self.old name.entry.now (Step.AnswerCall (pred call))) }
         ensures receipt { IfOk result (λ r. if_named self.old name.entry.now (λ object.
             receipt_at object (place_of self.old.objects name.entry.now) call (next self.old)) ≡ Some r) }

@@ -11,7 +11,7 @@ ghost use Rattle.cluster.specs.Accounts.{banks_all, calls};
 ghost use Rattle.cluster.specs.Atomic.{AreAtomic, AreFragments, AreJournaled, AreSound, AreSums, AreWithinLimits};
 ghost use Rattle.cluster.specs.Atomic.{CarryJournaled, HaveEnough, HaveOneValue, KeepFew, LackWhereOvertaken};
 ghost use Rattle.cluster.specs.Causes.{moving_cause, next, object_cause, serving_cause};
-ghost use Rattle.cluster.specs.Cluster.{next_call_id, layout_of};
+ghost use Rattle.cluster.specs.Cluster.{next_call_id, layout_numbered};
 ghost use Rattle.cluster.specs.Kept.{IsKeptCluster};
 ghost use Rattle.cluster.specs.Preconditions.{MayMake};
 
@@ -88,7 +88,7 @@ impl Cluster {
             → MayMake self.now name (step_of (next_call_id self.now name) act) }
 
         ensures moves { (name : List ℕ) (id : ℕ) → object_cause self.now name (moving_cause self.now id) ≡ None
-            → MayMake self.now name (Step.CallMove (next_call_id self.now name) (layout_of self.now id)) }
+            → MayMake self.now name (Step.CallMove (next_call_id self.now name) (layout_numbered self.now id)) }
 
         ensures serves { (name : List ℕ) (place : ℕ) → object_cause self.now name (serving_cause self.now place) ≡ None
             → MayMake self.now name (Step.Serve place) }

@@ -9,7 +9,7 @@ ghost use Rattle.register.specs.View.{took_at};
 ghost use Rattle.cluster.specs.Cluster.{Cluster as Store, if_named, is_reached};
 ghost use Rattle.cluster.specs.Places.{IsObjectAt};
 ghost use Rattle.cluster.specs.Preconditions.{MayMake};
-ghost use Rattle.cluster.specs.Steps.{stepped};
+ghost use Rattle.cluster.specs.Steps.{with_step};
 ghost use Rattle.cluster.specs.Serving.{GoesTo, IsOf};
 ghost use Rattle.cluster.specs.Causes.{next, object_cause, serving_cause, can_handle, handled_at, place_cause};
 
@@ -28,7 +28,7 @@ impl Cluster {
     /// server is down, and `NotNow` where the message is a reply. `Full` where the counter is at `MOST_STEPS`, or the
     /// bytes of the request's piece and all that the cluster stores are together more than `MOST_BYTES`.
     pub fn serve(&mut self, name: &str, place: usize) -> Result<(), Refusal>
-        ensures step { OnOk result (self.new ≡ stepped self.old name.entry.now (Step.Serve place)) }
+        ensures step { OnOk result (self.new ≡ with_step self.old name.entry.now (Step.Serve place)) }
         ensures may { OnOk result (MayMake self.old name.entry.now (Step.Serve place)) }
         ensures cause { IsByCause (object_cause self.old name.entry.now (serving_cause self.old place)) result }
         ensures unchanged { OnErr result (self.new ≡ self.old) }
@@ -43,7 +43,7 @@ impl Cluster {
     /// of the object of this name.
     pub fn serve_at(&mut self, name: &str, object: u32, place: usize) -> Result<(), Refusal>
         requires { IsObjectAt self.old name.now object }
-        ensures step { OnOk result (self.new ≡ stepped self.old name.entry.now (Step.Serve place)) }
+        ensures step { OnOk result (self.new ≡ with_step self.old name.entry.now (Step.Serve place)) }
         ensures may { OnOk result (MayMake self.old name.entry.now (Step.Serve place)) }
         ensures cause { IsByCause (object_cause self.old name.entry.now (serving_cause self.old place)) result }
         ensures unchanged { OnErr result (self.new ≡ self.old) }
@@ -69,7 +69,7 @@ impl Cluster {
     /// `NoObject` where no object has this name, `NoMessage` where there is no message at this place, `NotNow` where it
     /// is a request, and `Full` where the counter is at `MOST_STEPS`.
     pub fn take(&mut self, name: &str, place: usize) -> Result<Took, Refusal>
-        ensures step { OnOk result (self.new ≡ stepped self.old name.entry.now (Step.Take place)) }
+        ensures step { OnOk result (self.new ≡ with_step self.old name.entry.now (Step.Take place)) }
         ensures may { OnOk result (MayMake self.old name.entry.now (Step.Take place)) }
         ensures took { IfOk result
             (λ t. if_named self.old name.entry.now (λ object. Some (took_at object place)) ≡ Some t) }
@@ -88,7 +88,7 @@ impl Cluster {
     /// `NoObject` where no object has this name, `NoMessage` where there is no message at this place, and `Full` where
     /// the counter is at `MOST_STEPS`.
     pub fn lose(&mut self, name: &str, place: usize) -> Result<(), Refusal>
-        ensures step { OnOk result (self.new ≡ stepped self.old name.entry.now (Step.Lose place)) }
+        ensures step { OnOk result (self.new ≡ with_step self.old name.entry.now (Step.Lose place)) }
         ensures may { OnOk result (MayMake self.old name.entry.now (Step.Lose place)) }
         ensures cause { IsExactlyByCause
             (object_cause self.old name.entry.now (λ object. lose_cause (next self.old) object place)) result }
@@ -103,7 +103,7 @@ impl Cluster {
     /// `NoObject` where no object has this name, `NoMessage` where there is no message at this place, and `Full` where
     /// the counter is at `MOST_STEPS` or `MOST_MESSAGES` messages of the object wait.
     pub fn repeat(&mut self, name: &str, place: usize) -> Result<(), Refusal>
-        ensures step { OnOk result (self.new ≡ stepped self.old name.entry.now (Step.Repeat place)) }
+        ensures step { OnOk result (self.new ≡ with_step self.old name.entry.now (Step.Repeat place)) }
         ensures may { OnOk result (MayMake self.old name.entry.now (Step.Repeat place)) }
         ensures cause { IsByCause
             (object_cause self.old name.entry.now (λ object. repeat_cause (next self.old) object place)) result }

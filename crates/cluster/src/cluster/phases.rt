@@ -8,7 +8,7 @@ ghost use Rattle.register.specs.Causes.{supply_cause, pieces_cause, settle_cause
 ghost use Rattle.register.specs.View.{want_at, coding_at, fetched_pieces};
 ghost use Rattle.cluster.specs.Cluster.{if_named};
 ghost use Rattle.cluster.specs.Preconditions.{MayMake};
-ghost use Rattle.cluster.specs.Steps.{stepped};
+ghost use Rattle.cluster.specs.Steps.{with_step};
 ghost use Rattle.cluster.specs.Causes.{next, object_cause};
 
 use crate::cluster::Cluster;
@@ -41,7 +41,7 @@ impl Cluster {
     /// call wants to advance. `Full` where the counter is at `MOST_STEPS`, the call has `MOST_PHASES` phases, or the
     /// requests would make more than `MOST_MESSAGES` waiting messages of the object.
     pub fn advance(&mut self, name: &str, call: CallId) -> Result<(), Refusal>
-        ensures step { OnOk result (self.new ≡ stepped self.old name.entry.now (Step.Advance (pred call))) }
+        ensures step { OnOk result (self.new ≡ with_step self.old name.entry.now (Step.Advance (pred call))) }
         ensures may { OnOk result (MayMake self.old name.entry.now (Step.Advance (pred call))) }
         ensures cause { IsByCause
             (object_cause self.old name.entry.now (λ object. advance_cause (next self.old) object call)) result }
@@ -57,7 +57,7 @@ impl Cluster {
     /// `NoObject` where no object has this name, `NoCall` where it has no call of this number, `NotNow` unless the call
     /// wants to be restarted, and `Full` as for `advance`.
     pub fn again(&mut self, name: &str, call: CallId) -> Result<(), Refusal>
-        ensures step { OnOk result (self.new ≡ stepped self.old name.entry.now (Step.Again (pred call))) }
+        ensures step { OnOk result (self.new ≡ with_step self.old name.entry.now (Step.Again (pred call))) }
         ensures may { OnOk result (MayMake self.old name.entry.now (Step.Again (pred call))) }
         ensures cause { IsByCause
             (object_cause self.old name.entry.now (λ object. again_cause (next self.old) object call)) result }
@@ -91,7 +91,7 @@ impl Cluster {
     /// phases and would begin one more, or the requests would make more than `MOST_MESSAGES` waiting messages of the
     /// object.
     pub fn supply(&mut self, name: &str, call: CallId, coded: Coded) -> Result<(), Refusal>
-        ensures step { OnOk result (self.new ≡ stepped self.old name.entry.now (Step.Supply (pred call))) }
+        ensures step { OnOk result (self.new ≡ with_step self.old name.entry.now (Step.Supply (pred call))) }
         ensures may { OnOk result (MayMake self.old name.entry.now (Step.Supply (pred call))) }
         ensures cause { IsByCause
             (object_cause self.old name.entry.now (λ object. supply_cause (next self.old) object call coded)) result }
@@ -108,7 +108,7 @@ impl Cluster {
     /// current phase lacks a quorum and sends no pieces (see `supply`). `Full` where the counter is at `MOST_STEPS` or
     /// the requests would make more than `MOST_MESSAGES` waiting messages of the object.
     pub fn post(&mut self, name: &str, call: CallId) -> Result<(), Refusal>
-        ensures step { OnOk result (self.new ≡ stepped self.old name.entry.now (Step.Post (pred call))) }
+        ensures step { OnOk result (self.new ≡ with_step self.old name.entry.now (Step.Post (pred call))) }
         ensures may { OnOk result (MayMake self.old name.entry.now (Step.Post (pred call))) }
         ensures cause { IsByCause
             (object_cause self.old name.entry.now (λ object. post_cause (next self.old) object call)) result }
@@ -141,7 +141,7 @@ impl Cluster {
     /// k pieces that its current phase took, and `Full` where the counter is at `MOST_STEPS`.
     pub fn settle(&mut self, name: &str, call: CallId, decoded: Decoded) -> Result<(), Refusal>
         ensures step { OnOk result
-            (self.new ≡ stepped self.old name.entry.now (Step.Settle (pred call) decoded.value)) }
+            (self.new ≡ with_step self.old name.entry.now (Step.Settle (pred call) decoded.value)) }
         ensures may { OnOk result (MayMake self.old name.entry.now (Step.Settle (pred call) decoded.value)) }
         ensures cause { IsExactlyByCause (object_cause self.old name.entry.now
             (λ object. settle_cause (next self.old) object call decoded)) result }

@@ -14,7 +14,7 @@ ghost use Rattle.cluster.specs.Causes.{next, object_cause};
 ghost use Rattle.cluster.specs.Cluster.{if_named, named, place_of};
 ghost use Rattle.cluster.specs.Places.{IsObjectAt};
 ghost use Rattle.cluster.specs.Preconditions.{MayMake};
-ghost use Rattle.cluster.specs.Steps.{stepped};
+ghost use Rattle.cluster.specs.Steps.{with_step};
 
 use crate::cluster::Cluster;
 use decoder::Decoded;
@@ -68,7 +68,7 @@ impl Cluster {
     /// The call of this number begins the phase that is due, as by `advance`.
     pub fn advance_at(&mut self, name: &str, object: u32, call: CallId) -> Result<(), Refusal>
         requires { IsObjectAt self.old name.now object }
-        ensures step { OnOk result (self.new ≡ stepped self.old name.entry.now (Step.Advance (pred call))) }
+        ensures step { OnOk result (self.new ≡ with_step self.old name.entry.now (Step.Advance (pred call))) }
         ensures may { OnOk result (MayMake self.old name.entry.now (Step.Advance (pred call))) }
         ensures cause { IsByCause
             (object_cause self.old name.entry.now (λ object. advance_cause (next self.old) object call)) result }
@@ -81,7 +81,7 @@ impl Cluster {
     /// Restarts the call of this number, as `again` does.
     pub fn again_at(&mut self, name: &str, object: u32, call: CallId) -> Result<(), Refusal>
         requires { IsObjectAt self.old name.now object }
-        ensures step { OnOk result (self.new ≡ stepped self.old name.entry.now (Step.Again (pred call))) }
+        ensures step { OnOk result (self.new ≡ with_step self.old name.entry.now (Step.Again (pred call))) }
         ensures may { OnOk result (MayMake self.old name.entry.now (Step.Again (pred call))) }
         ensures cause { IsByCause
             (object_cause self.old name.entry.now (λ object. again_cause (next self.old) object call)) result }
@@ -100,7 +100,7 @@ impl Cluster {
         coded: Coded,
     ) -> Result<(), Refusal>
         requires { IsObjectAt self.old name.now object }
-        ensures step { OnOk result (self.new ≡ stepped self.old name.entry.now (Step.Supply (pred call))) }
+        ensures step { OnOk result (self.new ≡ with_step self.old name.entry.now (Step.Supply (pred call))) }
         ensures may { OnOk result (MayMake self.old name.entry.now (Step.Supply (pred call))) }
         ensures cause { IsByCause
             (object_cause self.old name.entry.now (λ object. supply_cause (next self.old) object call coded)) result }
@@ -113,7 +113,7 @@ impl Cluster {
     /// Resends the requests of the current phase of the call of this number, as `post` does.
     pub fn post_at(&mut self, name: &str, object: u32, call: CallId) -> Result<(), Refusal>
         requires { IsObjectAt self.old name.now object }
-        ensures step { OnOk result (self.new ≡ stepped self.old name.entry.now (Step.Post (pred call))) }
+        ensures step { OnOk result (self.new ≡ with_step self.old name.entry.now (Step.Post (pred call))) }
         ensures may { OnOk result (MayMake self.old name.entry.now (Step.Post (pred call))) }
         ensures cause { IsByCause
             (object_cause self.old name.entry.now (λ object. post_cause (next self.old) object call)) result }
@@ -133,7 +133,7 @@ impl Cluster {
     ) -> Result<(), Refusal>
         requires { IsObjectAt self.old name.now object }
         ensures step { OnOk result
-            (self.new ≡ stepped self.old name.entry.now (Step.Settle (pred call) decoded.value)) }
+            (self.new ≡ with_step self.old name.entry.now (Step.Settle (pred call) decoded.value)) }
         ensures may { OnOk result (MayMake self.old name.entry.now (Step.Settle (pred call) decoded.value)) }
         ensures cause { IsExactlyByCause (object_cause self.old name.entry.now
             (λ object. settle_cause (next self.old) object call decoded)) result }
@@ -146,7 +146,7 @@ impl Cluster {
     /// Answers the call of this number, as `answer` does.
     pub fn answer_at(&mut self, name: &str, object: u32, call: CallId) -> Result<Receipt, Refusal>
         requires { IsObjectAt self.old name.now object }
-        ensures step { OnOk result (self.new ≡ stepped self.old name.entry.now (Step.AnswerCall (pred call))) }
+        ensures step { OnOk result (self.new ≡ with_step self.old name.entry.now (Step.AnswerCall (pred call))) }
         ensures may { OnOk result (MayMake self.old name.entry.now (Step.AnswerCall (pred call))) }
         ensures receipt { IfOk result (λ r. if_named self.old name.entry.now (λ object.
             receipt_at object (place_of self.old.objects name.entry.now) call (next self.old)) ≡ Some r) }
@@ -164,7 +164,7 @@ impl Cluster {
     /// The call that the reply at a place names takes the reply, as by `take`.
     pub fn take_at(&mut self, name: &str, object: u32, place: usize) -> Result<Took, Refusal>
         requires { IsObjectAt self.old name.now object }
-        ensures step { OnOk result (self.new ≡ stepped self.old name.entry.now (Step.Take place)) }
+        ensures step { OnOk result (self.new ≡ with_step self.old name.entry.now (Step.Take place)) }
         ensures may { OnOk result (MayMake self.old name.entry.now (Step.Take place)) }
         ensures took { IfOk result
             (λ t. if_named self.old name.entry.now (λ object. Some (took_at object place)) ≡ Some t) }

@@ -9,7 +9,7 @@ ghost use Rattle.register.specs.Retiring.{retire_cause};
 ghost use Rattle.cluster.specs.Accounts.{stored_all};
 ghost use Rattle.cluster.specs.Causes.{next, object_cause};
 ghost use Rattle.cluster.specs.Preconditions.{MayMake};
-ghost use Rattle.cluster.specs.Steps.{stepped};
+ghost use Rattle.cluster.specs.Steps.{with_step};
 
 use crate::cluster::Cluster;
 use crate::loads::Loads;
@@ -24,7 +24,7 @@ impl Cluster {
     /// `NoObject` where no object has this name, `NotNow` unless the position is the object's base and the move out of
     /// it was answered, and `Full` where the counter is at `MOST_STEPS`.
     pub fn retire(&mut self, name: &str, position: u64) -> Result<u64, Refusal>
-        ensures step { OnOk result (self.new ≡ stepped self.old name.entry.now Step.Retire) }
+        ensures step { OnOk result (self.new ≡ with_step self.old name.entry.now Step.Retire) }
         ensures may { OnOk result (MayMake self.old name.entry.now Step.Retire) }
         ensures freed { IfOk result (λ bytes. stored_all self.new + bytes ≡ stored_all self.old) }
         ensures cause { IsExactlyByCause

@@ -1,6 +1,6 @@
 use Rattle.std.proofs.Common.{◌%◌, length, inl, inr, refl, sym, ap, ◌∙◌}
 use Rattle.record.specs.Steps.{Step}
-use Rattle.cluster.specs.Steps.{stepped}
+use Rattle.cluster.specs.Steps.{with_step}
 use Rattle.locked_steps.proofs.ReachableLemmas.{goes_on_step}
 use Rattle.locked_steps.proofs.RoundLemmas.{kept_step}
 use Rattle.driver.proofs.LimitRefusalLemmas.{err_of}
@@ -33,7 +33,7 @@ returns-in_ok-lose-clause-step g c =
       c.choose.result % c.len-count.result,
       c.choose-2.result,
       d,
-      c.in_ok-lose.ensures.step ∙ ap (λ x. stepped c.args.cluster.now c.args.name.now x) (sym is),
+      c.in_ok-lose.ensures.step ∙ ap (λ x. with_step c.args.cluster.now c.args.name.now x) (sym is),
     )
 
 pub returns-in_ok-lose-clause-count : goal.returns-in_ok-lose-clause-count
@@ -67,7 +67,7 @@ returns-in_ok-repeat-clause-step g c =
       c.choose.result % c.len-count.result,
       c.choose-2.result,
       d,
-      c.in_ok-repeat.ensures.step ∙ ap (λ x. stepped c.args.cluster.now c.args.name.now x) (sym is),
+      c.in_ok-repeat.ensures.step ∙ ap (λ x. with_step c.args.cluster.now c.args.name.now x) (sym is),
     )
 
 pub returns-in_ok-repeat-clause-count : goal.returns-in_ok-repeat-clause-count

@@ -1,5 +1,5 @@
 use Rattle.std.proofs.Common.{inr, ap, ◌∙◌}
-use Rattle.cluster.specs.Steps.{stepped}
+use Rattle.cluster.specs.Steps.{with_step}
 use Rattle.locked_steps.proofs.ReachableLemmas.{goes_on_step}
 use Rattle.locked_steps.proofs.RoundLemmas.{kept_step, quiet_handling}
 use Rattle.driver.proofs.LimitRefusalLemmas.{err_of}
@@ -21,7 +21,7 @@ returns-clause-step g c =
     let is = handled_step g.C.Chooser.chooses c.args.name.now c.args.cluster.now c.args.chooser.now c.choose.new.chooser
     c.register_at-register.result.now
     c.register_at-register.ensures c.in-Some.place c.in-Some.ensures s.0 s.1 c.in_ok-handle_at.field-0 c.in_ok-handle_at.ensures.handled in
-    (c.in-Some.place, s.0, s.1, c.in_ok-handle_at.ensures.step ∙ ap (λ x. stepped c.args.cluster.now c.args.name.now x) is)
+    (c.in-Some.place, s.0, s.1, c.in_ok-handle_at.ensures.step ∙ ap (λ x. with_step c.args.cluster.now c.args.name.now x) is)
 
 pub returns-clause-count : goal.returns-clause-count
 returns-clause-count g c =
@@ -32,7 +32,7 @@ returns-clause-count g c =
     c.register_at-register.result.now
     c.register_at-register.ensures c.in-Some.place c.in-Some.ensures s.0 s.1 c.in_ok-handle_at.field-0 c.in_ok-handle_at.ensures.handled in
     kept_step c.args.cluster.now c.handle_at.new.cluster c.args.name.now _ (quiet_handling c.in-Some.place s.0.body)
-    (c.in_ok-handle_at.ensures.step ∙ ap (λ x. stepped c.args.cluster.now c.args.name.now x) is)
+    (c.in_ok-handle_at.ensures.step ∙ ap (λ x. with_step c.args.cluster.now c.args.name.now x) is)
 
 pub returns-clause-course : goal.returns-clause-course
 returns-clause-course g c =

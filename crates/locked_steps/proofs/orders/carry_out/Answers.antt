@@ -1,5 +1,5 @@
 use Rattle.std.proofs.Common.{ap, inl, inr, ◌∙◌}
-use Rattle.cluster.specs.Cluster.{layout_of}
+use Rattle.cluster.specs.Cluster.{layout_numbered}
 use Rattle.locked_steps.specs.Calls.{client_calls}
 use Rattle.locked_steps.proofs.ClusterCallCountLemmas.{calls_created}
 use Rattle.locked_steps.proofs.ReachableLemmas.{goes_on}
@@ -16,7 +16,7 @@ pub returns-in_ok-create_with-in-Create-clause-count : goal.returns-in_ok-create
 returns-in_ok-create_with-in-Create-clause-count c =
     let made = c.in_ok-create_with-in-Create.ensures.step in
     ap client_calls made
-    ∙ calls_created c.args.cluster.now c.in-Create.name.now (layout_of c.args.cluster.now c.in-Create.layout) c.in-Create.delta
+    ∙ calls_created c.args.cluster.now c.in-Create.name.now (layout_numbered c.args.cluster.now c.in-Create.layout) c.in-Create.delta
 
 pub returns-in_ok-create_with-in-Create-clause-course : goal.returns-in_ok-create_with-in-Create-clause-course
 returns-in_ok-create_with-in-Create-clause-course c =

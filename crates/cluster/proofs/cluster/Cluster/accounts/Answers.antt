@@ -1,19 +1,19 @@
 use Rattle.std.proofs.Common.{◌≡◌, ◌∙◌, ap, arith, rules, length}
 use Rattle.std.proofs.lemmas.Grind.{common_steps}
 use Rattle.std.proofs.lemmas.List.FromFn.{length-map-range_with_len, map-range_with_len_more}
-use Rattle.cluster.specs.Accounts.{stored}
+use Rattle.cluster.specs.Accounts.{server_bytes}
 use Rattle.cluster.proofs.ServerTotalLemmas.{objects_total}
 use Rattle.cluster.proofs.cluster.Cluster.accounts.Goals as goal
 
 pub push-requires : goal.push-requires
 push-requires c =
     let long : length c.loop-server.servers.items ≡ c.loop-server.server =
-    ap length c.loop-server.invariant ∙ length-map-range_with_len (stored c.args.self.now) 0 c.loop-server.server in
+    ap length c.loop-server.invariant ∙ length-map-range_with_len (server_bytes c.args.self.now) 0 c.loop-server.server in
     omega arith
 
 pub loop-server-preserved : goal.loop-server-preserved
 loop-server-preserved c =
-    let e = map-range_with_len_more (stored c.args.self.now) 0 c.loop-server.server c.loop-server.server (omega arith) in
+    let e = map-range_with_len_more (server_bytes c.args.self.now) 0 c.loop-server.server c.loop-server.server (omega arith) in
     grind (arith, common_steps, e)
 
 pub returns : goal.returns

@@ -1,11 +1,11 @@
 use Rattle.std.proofs.Common.{◌≡◌, suc, ◌+◌, length, Ok, Err, subst, ap, sym, ◌∙◌}
-use Rattle.cluster.specs.Acts.{IsReady}
+use Rattle.cluster.specs.Acts.{ServersAllow}
 use Rattle.register.specs.Act.{act_cause, answered_by, step_of}
 use Rattle.register.specs.State.{next_id}
 use Rattle.cluster.specs.Causes.{next}
 use Rattle.cluster.specs.Cluster.{Cluster, place_of}
 use Rattle.cluster.specs.Preconditions.{MayMake}
-use Rattle.cluster.specs.Steps.{stepped}
+use Rattle.cluster.specs.Steps.{with_step}
 use Rattle.cluster.proofs.ActLemmas.{act_at, act_by, act_none, no_more, no_less}
 use Rattle.cluster.proofs.NamedObjectPlaceLemmas.{object_is_at, index_within}
 use Rattle.cluster.proofs.ObjectStepLemmas.{stepped_at, unchanged_at, last_before, cause_at, next_is, next_id_at, read_at}
@@ -28,7 +28,7 @@ invariant_of-self c =
     let at = object_is_at c.self.inside.objects.entries c.args.name.now c.args.object c.self.view_is c.index_mut-register.result.now
     c.requires.placed c.index_mut-register.ensures.value in
     let number = next_id c.index_mut-register.result.now.object in
-    let ready = subst (λ n. IsReady n c.args.act) (sym (ap (λ (k : Cluster). length k.servers) c.self.view_is)) c.requires.ready in
+    let ready = subst (λ n. ServersAllow n c.args.act) (sym (ap (λ (k : Cluster). length k.servers) c.self.view_is)) c.requires.ready in
     record {
       kept = act_at c.self.invariant.kept at c.args.act ready c.in-Ok.ensures.step
           (act_none c.in-Ok.answered c.args.act c.in-Ok.ensures.cause)
@@ -53,7 +53,7 @@ returns-in-Ok-clause-step c =
     let at = object_is_at c.self.inside.objects.entries c.args.name.now c.args.object c.self.view_is c.index_mut-register.result.now
     c.requires.placed c.index_mut-register.ensures.value in
     stepped_at c.self.view_is at (step_of (next_id c.index_mut-register.result.now.object) c.args.act) c.in-Ok.ensures.step
-    ∙ ap (λ n. stepped c.args.self.now c.args.name.now (step_of n c.args.act)) (sym (next_id_at c.self.view_is at))
+    ∙ ap (λ n. with_step c.args.self.now c.args.name.now (step_of n c.args.act)) (sym (next_id_at c.self.view_is at))
 
 pub returns-in-Ok-clause-may : goal.returns-in-Ok-clause-may
 returns-in-Ok-clause-may c =
