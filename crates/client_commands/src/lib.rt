@@ -16,5 +16,5 @@ mod laws;
 mod layouts;
 mod number;
 mod reading;
-mod words;
+mod vocabulary;
 mod writing;

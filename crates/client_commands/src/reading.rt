@@ -19,7 +19,7 @@ use crate::arguments::{checked_name, checked_value, name_and_value, only_argumen
 use crate::command::{Command, CommandName};
 use crate::fault::CommandFault;
 use crate::layouts::read_layout;
-use crate::words::{is_word, name_of};
+use crate::vocabulary::{is_word, name_of};
 use bytes::Bytes;
 use frames::Frame;
 

@@ -87,10 +87,31 @@ IsAnswer (answer.Pointer found) = Unit {0}
 IsAnswer (answer.Greatest tag) = IsTag tag
 IsAnswer (answer.Piece piece) = IfSome piece IsPiece
 
+-- the numbers in the piece of a request are within their bits, if it has one
+abbrev pub HasFittingPiece : Request → Type 0
+HasFittingPiece (request.PreWrite tag piece) = IsPiece piece
+HasFittingPiece q = Unit {0}
+
+-- the numbers in the body of a message are within their bits
+abbrev pub IsWithinBits : Body → Type 0
+IsWithinBits (body.Request q) = IsRequest q
+IsWithinBits (body.Reply k r) = IsKind k × (r.step < 2 ^ 64) × IsAnswer r.answer
+
 -- the numbers in the body of a message are within their bits, and an answer is one to a request of its kind
 abbrev pub IsBody : Body → Type 0
 IsBody (body.Request q) = IsRequest q
 IsBody (body.Reply k r) = IsKind k × (r.step < 2 ^ 64) × IsAnswer r.answer × (is_answer_to k r.answer ≡ true)
+
+-- what the types of a message's fields give: the digest has its length, the layouts are lawful, and numbers are within
+-- their bits
+pub record HasTypedFields (m : NodeMessage) : Type 0 where
+  pub digest : length m.digest ≡ DIGEST_LENGTH
+  pub layout : IsLawful m.layout
+  pub call : m.message.call < 2 ^ 64
+  pub phase : m.message.phase < 2 ^ 32
+  pub position : m.message.position < 2 ^ 32
+  pub body : IsWithinBits m.message.body
+  pub next : IfSome m.next IsLawful
 
 -- What a message between nodes is: the digest has its length, the name is not too long, the layouts are lawful, the
 -- member is one of the layout, there is a next layout exactly where the message says that the pointer is pending or

@@ -5,7 +5,7 @@ ghost use Rattle.node_messages.specs.Reading.{first_held, first_answer, first_re
 
 use crate::error::MessageError;
 use crate::fields::{long_of, piece_of, status_of, string_of, tag_of};
-use crate::words::read_is_piece;
+use crate::vocabulary::read_is_piece;
 use bank::{Answer, HeldPiece, Kind, Reply};
 use bytes::Bytes;
 use piece::Piece;

@@ -20,7 +20,7 @@ ghost use Rattle.node_messages.specs.Reading.{
 use crate::error::{Fault, MessageError};
 use crate::message::DIGEST_LENGTH;
 use crate::number::read_number;
-use crate::words::read_status;
+use crate::vocabulary::read_status;
 use bank::Status;
 use bytes::Bytes;
 use layout::Layout;

@@ -17,5 +17,5 @@ mod message;
 mod number;
 mod reading;
 mod strings;
-mod words;
+mod vocabulary;
 mod writing;

@@ -1,7 +1,9 @@
 //! The strings of the parts of a message.
-ghost use Rattle.std.specs.Prelude.{◌≡◌, ◌++◌, ◌∷◌, [], OnOk};
+ghost use Rattle.std.specs.Prelude.{◌≡◌, ◌++◌, ◌∷◌, [], OnOk, IfSome};
 ghost use Rattle.std.specs.Fmt.{decimal};
 ghost use Rattle.bank.specs.Serve.{kind_of};
+ghost use Rattle.layout.specs.Layout.{IsLawful};
+ghost use Rattle.node_messages.specs.Message.{IsTag, IsPiece, IsKind, IsAnswer, HasFittingPiece, IsWithinBits};
 ghost use Rattle.node_messages.specs.Strings.{
   layout_string,
   tag_strings,
@@ -14,7 +16,7 @@ ghost use Rattle.node_messages.specs.Strings.{
 };
 ghost use Rattle.node_messages.specs.Words.{status_word};
 
-use crate::words::{kind_word, status_word};
+use crate::vocabulary::{kind_word, status_word};
 use bank::{Answer, HeldPiece, Kind, Request, Status};
 use bytes::Bytes;
 use itoa::Buffer;
@@ -70,7 +72,8 @@ pub(crate) fn push_layout(
     strings: &mut Vec<Bytes>,
     layout: &Layout,
 ) -> Result<(), AllocError>
-    ensures { OnOk result (strings.new.items ≡ strings.old.items ++ layout_string layout.now ∷ []) }
+    ensures pushed { OnOk result (strings.new.items ≡ strings.old.items ++ layout_string layout.now ∷ []) }
+    ensures lawful { OnOk result (IsLawful layout.now) }
 {
     let mut bytes = Vec::new(alloc);
     bytes.push(layout.k())?;
@@ -90,7 +93,8 @@ fn push_status(strings: &mut Vec<Bytes>, status: Status) -> Result<(), AllocErro
 
 // A tag.
 fn push_tag(alloc: Global, strings: &mut Vec<Bytes>, tag: Tag) -> Result<(), AllocError>
-    ensures { OnOk result (strings.new.items ≡ strings.old.items ++ tag_strings tag) }
+    ensures pushed { OnOk result (strings.new.items ≡ strings.old.items ++ tag_strings tag) }
+    ensures fits { OnOk result (IsTag tag) }
 {
     push_number(alloc, strings, tag.number)?;
     push_number(alloc, strings, tag.call)
@@ -98,7 +102,8 @@ fn push_tag(alloc: Global, strings: &mut Vec<Bytes>, tag: Tag) -> Result<(), All
 
 // A piece.
 fn push_piece(alloc: Global, strings: &mut Vec<Bytes>, piece: &Piece) -> Result<(), AllocError>
-    ensures { OnOk result (strings.new.items ≡ strings.old.items ++ piece_strings piece.now) }
+    ensures pushed { OnOk result (strings.new.items ≡ strings.old.items ++ piece_strings piece.now) }
+    ensures fits { OnOk result (IsPiece piece.now) }
 {
     push_number(alloc, strings, u64::from(piece.point))?;
     push_number(alloc, strings, u64::from(piece.len))?;
@@ -107,7 +112,8 @@ fn push_piece(alloc: Global, strings: &mut Vec<Bytes>, piece: &Piece) -> Result<
 
 // A kind.
 fn push_kind(alloc: Global, strings: &mut Vec<Bytes>, kind: Kind) -> Result<(), AllocError>
-    ensures { OnOk result (strings.new.items ≡ strings.old.items ++ kind_strings kind) }
+    ensures pushed { OnOk result (strings.new.items ≡ strings.old.items ++ kind_strings kind) }
+    ensures fits { OnOk result (IsKind kind) }
 {
     push_word(strings, kind_word(kind))?;
     match kind {
@@ -125,7 +131,8 @@ fn push_request_rest(
     strings: &mut Vec<Bytes>,
     request: &Request,
 ) -> Result<(), AllocError>
-    ensures { OnOk result (strings.new.items ≡ strings.old.items ++ request_rest request.now) }
+    ensures pushed { OnOk result (strings.new.items ≡ strings.old.items ++ request_rest request.now) }
+    ensures fits { OnOk result (HasFittingPiece request.now) }
 {
     match request {
         Request::PreWrite(_, piece) => push_piece(alloc, strings, piece),
@@ -139,7 +146,8 @@ fn push_held(
     strings: &mut Vec<Bytes>,
     held: &Option<HeldPiece>,
 ) -> Result<(), AllocError>
-    ensures { OnOk result (strings.new.items ≡ strings.old.items ++ held_strings held.now) }
+    ensures pushed { OnOk result (strings.new.items ≡ strings.old.items ++ held_strings held.now) }
+    ensures fits { OnOk result (IfSome held.now IsPiece) }
 {
     match held {
         None => push_word(strings, b"none"),
@@ -152,7 +160,8 @@ fn push_held(
 
 // An answer.
 fn push_answer(alloc: Global, strings: &mut Vec<Bytes>, answer: &Answer) -> Result<(), AllocError>
-    ensures { OnOk result (strings.new.items ≡ strings.old.items ++ answer_strings answer.now) }
+    ensures pushed { OnOk result (strings.new.items ≡ strings.old.items ++ answer_strings answer.now) }
+    ensures fits { OnOk result (IsAnswer answer.now) }
 {
     match answer {
         Answer::Done => Ok(()),
@@ -168,7 +177,8 @@ pub(crate) fn push_body(
     strings: &mut Vec<Bytes>,
     body: &Body,
 ) -> Result<(), AllocError>
-    ensures { OnOk result (strings.new.items ≡ strings.old.items ++ body_strings body.now) }
+    ensures pushed { OnOk result (strings.new.items ≡ strings.old.items ++ body_strings body.now) }
+    ensures fits { OnOk result (IsWithinBits body.now) }
 {
     match body {
         Body::Request(request) => {

@@ -1,6 +1,9 @@
 //! Messages to frames.
-ghost use Rattle.std.specs.Prelude.{◌≡◌, ◌++◌, IfOk, OnOk, Ok, Err, if◌then◌else◌};
+ghost use Rattle.std.specs.Prelude.{◌≡◌, ◌<◌, ◌^◌, ◌++◌, IfOk, IfSome, OnOk, Ok, Err, if◌then◌else◌, length};
+ghost use Rattle.layout.specs.Layout.{IsLawful};
+ghost use Rattle.node_messages.specs.declared.message.TheConstants.{DIGEST_LENGTH};
 ghost use Rattle.node_messages.specs.Gives.{Agrees, AgreesAs};
+ghost use Rattle.node_messages.specs.Message.{IsMessage, HasTypedFields};
 ghost use Rattle.node_messages.specs.Strings.{strings_of, subject_strings, number_strings, next_strings};
 ghost use Rattle.node_messages.specs.Writing.{strings_or_fault, checked, framed};
 
@@ -23,6 +26,8 @@ const MOST_MESSAGE_STRINGS: usize = 16;
 ///
 /// A `Fault` is the first one in this order: `NameTooLong`, `NoMember`, `BadAnswer`, `BadNext`, `PieceTooLong`.
 pub fn frame_of(alloc: Global, message: &NodeMessage) -> Result<Frame, MessageError>
+    // What has a frame is a message.
+    ensures fits { IfOk result (λ _. IsMessage message.now) }
     // The frame is that of the message.
     ensures made { IfOk result (λ frame. frame ≡ strings_of message.now) }
     // Which fault it is.
@@ -63,7 +68,8 @@ fn check(message: &NodeMessage) -> Result<(), Fault>
 }
 
 fn strings_of(alloc: Global, message: &NodeMessage) -> Result<Vec<Bytes>, AllocError>
-    ensures { IfOk result (λ strings. strings.items ≡ strings_of message.now) }
+    ensures pushed { IfOk result (λ strings. strings.items ≡ strings_of message.now) }
+    ensures fits { OnOk result (HasTypedFields message.now) }
 {
     let mut strings = Vec::with_capacity(alloc, MOST_MESSAGE_STRINGS)?;
     push_subject(alloc, &mut strings, message)?;
@@ -79,7 +85,9 @@ fn push_subject(
     strings: &mut Vec<Bytes>,
     message: &NodeMessage,
 ) -> Result<(), AllocError>
-    ensures { OnOk result (strings.new.items ≡ strings.old.items ++ subject_strings message.now) }
+    ensures pushed { OnOk result (strings.new.items ≡ strings.old.items ++ subject_strings message.now) }
+    ensures digest { OnOk result (length message.now.digest ≡ DIGEST_LENGTH) }
+    ensures lawful { OnOk result (IsLawful message.now.layout) }
 {
     push_bytes(alloc, strings, &message.digest)?;
     push_shared(strings, &message.name)?;
@@ -92,7 +100,10 @@ fn push_numbers(
     strings: &mut Vec<Bytes>,
     message: &Message,
 ) -> Result<(), AllocError>
-    ensures { OnOk result (strings.new.items ≡ strings.old.items ++ number_strings message.now) }
+    ensures pushed { OnOk result (strings.new.items ≡ strings.old.items ++ number_strings message.now) }
+    ensures call { OnOk result (message.now.call < 2 ^ 64) }
+    ensures phase { OnOk result (message.now.phase < 2 ^ 32) }
+    ensures position { OnOk result (message.now.position < 2 ^ 32) }
 {
     push_number(alloc, strings, message.call)?;
     push_number(alloc, strings, u64::from(message.phase))?;
@@ -106,7 +117,8 @@ fn push_next(
     strings: &mut Vec<Bytes>,
     next: &Option<Layout>,
 ) -> Result<(), AllocError>
-    ensures { OnOk result (strings.new.items ≡ strings.old.items ++ next_strings next.now) }
+    ensures pushed { OnOk result (strings.new.items ≡ strings.old.items ++ next_strings next.now) }
+    ensures lawful { OnOk result (IfSome next.now IsLawful) }
 {
     match next {
         Some(layout) => push_layout(alloc, strings, layout),
