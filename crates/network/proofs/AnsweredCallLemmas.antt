@@ -19,7 +19,7 @@ use Rattle.record.specs.Wants.{is_fetch, want_after, want_for, want_of_fetch}
 use Rattle.soundness.proofs.ListLemmas.{get_set, set_here}
 use Rattle.network.specs.Worlds.{World, OpenCall, without_call}
 use Rattle.network.specs.Events.{Event, on_open, answered_entry, answered_world}
-use Rattle.network.specs.Following.{Follows, LeadsOn, IsOpenIn, IsOpenMove, entry_in_steps, last_step}
+use Rattle.network.specs.Following.{Follows, LeadsOn, IsOpenIn, IsOpenMove, entry_in_steps, last_step_after}
 use Rattle.network.specs.Followed.{IsFollowed}
 use Rattle.network.proofs.ChangedCallLemmas.{other_open, own_entry, with_new}
 use Rattle.network.proofs.CurrentPhaseLemmas.{ended_is, kind_is, next_is, want_is}
@@ -90,16 +90,16 @@ answer_value Move settled s t = refl
 
 entry_steps : (old : OpenCall) (call : Call) (now : ℕ) → old.id ≡ call.id → old.kind ≡ call.kind →
     old.settled ≡ call.settled → (entry : Entry) →
-    answered_at call call.id (last_step now) (entry_in_steps entry) ≡ entry_in_steps (answered_entry old now entry)
+    answered_at call call.id (last_step_after now) (entry_in_steps entry) ≡ entry_in_steps (answered_entry old now entry)
 entry_steps old call now id kind settled entry =
     ap (λ v. cond (eqb entry.call call.id) (answered v) (entry_in_steps entry))
-    (answer_value call.kind call.settled (last_step now) now ∙ ap (λ k. entry_value k (Some now) call.settled) (sym kind)
+    (answer_value call.kind call.settled (last_step_after now) now ∙ ap (λ k. entry_value k (Some now) call.settled) (sym kind)
     ∙ ap (entry_value old.kind (Some now)) (sym settled))
     ∙ ap (λ n. cond (eqb entry.call n) (answered (entry_value old.kind (Some now) old.settled)) (entry_in_steps entry)) (sym id)
     ∙ go (eqb entry.call old.id)
   where
     answered : Option (List ℕ) → Entry
-    answered value = record (entry_in_steps entry) { answered = Some (last_step now); value = value }
+    answered value = record (entry_in_steps entry) { answered = Some (last_step_after now); value = value }
 
     go : (b : Bool) → cond b (answered (entry_value old.kind (Some now) old.settled)) (entry_in_steps entry)
         ≡ entry_in_steps (cond b (record entry { answered = Some now; value = entry_value old.kind (Some now) old.settled }) entry)
@@ -108,10 +108,11 @@ entry_steps old call now id kind settled entry =
 
 entries_steps : (old : OpenCall) (call : Call) (now : ℕ) → old.id ≡ call.id → old.kind ≡ call.kind →
     old.settled ≡ call.settled → (history : List Entry) →
-    map (answered_at call call.id (last_step now)) (map entry_in_steps history) ≡ map entry_in_steps (map (answered_entry old now) history)
+    map (answered_at call call.id (last_step_after now)) (map entry_in_steps history)
+    ≡ map entry_in_steps (map (answered_entry old now) history)
 entries_steps old call now id kind settled [] = refl
 entries_steps old call now id kind settled (entry ∷ history) =
-    ap (λ e. e ∷ map (answered_at call call.id (last_step now)) (map entry_in_steps history))
+    ap (λ e. e ∷ map (answered_at call call.id (last_step_after now)) (map entry_in_steps history))
     (entry_steps old call now id kind settled entry)
     ∙ ap (λ l. entry_in_steps (answered_entry old now entry) ∷ l) (entries_steps old call now id kind settled history)
 
@@ -134,9 +135,9 @@ differs false no_true = refl
 
 answered_follow : (world : World) (object : Object) (old : OpenCall) (is : IsOpenIn object old) → IsLegal object → Follows world object →
     Follows (answered_world (record world { now = suc world.now }) old)
-    (with_new object object.mail is.index (record is.call { answered = Some (last_step (suc world.now)) }))
+    (with_new object object.mail is.index (record is.call { answered = Some (last_step_after (suc world.now)) }))
 answered_follow world object old is legal follows =
-    let now = last_step (suc world.now) in
+    let now = last_step_after (suc world.now) in
     let call : Call = record is.call { answered = Some now } in
     let new = with_new object object.mail is.index call in record {
       one = follows.one;
@@ -169,32 +170,33 @@ answered_follow world object old is legal follows =
 
     -- a call with the id of the one that is answered is that one
     same_place : (index : ℕ) (other : Call) →
-        slice_get (set object.calls is.index (record is.call { answered = Some (last_step (suc world.now)) })) index ≡ Some other →
+        slice_get (set object.calls is.index (record is.call { answered = Some (last_step_after (suc world.now)) })) index ≡ Some other →
         other.id ≡ is.call.id → index ≡ is.index
     same_place index other at same =
-        go (get_set object.calls is.index index is.call (record is.call { answered = Some (last_step (suc world.now)) }) other is.at at)
+        go (get_set object.calls is.index index is.call
+        (record is.call { answered = Some (last_step_after (suc world.now)) }) other is.at at)
       where
-        go : ((index ≡ is.index) × (record is.call { answered = Some (last_step (suc world.now)) } ≡ other))
+        go : ((index ≡ is.index) × (record is.call { answered = Some (last_step_after (suc world.now)) } ≡ other))
             ⊎ (slice_get object.calls index ≡ Some other) → index ≡ is.index
         go (inl here) = here.0
         go (inr there) = legal.ids index is.index other is.call there is.at same
 
     -- the call that is answered has an answer
     never : (index : ℕ) (other : Call) →
-        slice_get (set object.calls is.index (record is.call { answered = Some (last_step (suc world.now)) })) index ≡ Some other →
+        slice_get (set object.calls is.index (record is.call { answered = Some (last_step_after (suc world.now)) })) index ≡ Some other →
         other.answered ≡ None → index ≡ is.index → ⊥
     never index other at none same =
-        let here = set_here object.calls is.index is.call (record is.call { answered = Some (last_step (suc world.now)) }) is.at in
-        let both = same_Some other (record is.call { answered = Some (last_step (suc world.now)) })
+        let here = set_here object.calls is.index is.call (record is.call { answered = Some (last_step_after (suc world.now)) }) is.at in
+        let both = same_Some other (record is.call { answered = Some (last_step_after (suc world.now)) })
         (sym at
-        ∙ ap (slice_get (set object.calls is.index (record is.call { answered = Some (last_step (suc world.now)) }))) same ∙ here) in
-        let wrong : Some (last_step (suc world.now)) ≡ None = sym (ap (λ (c : Call). c.answered) both) ∙ none in
+        ∙ ap (slice_get (set object.calls is.index (record is.call { answered = Some (last_step_after (suc world.now)) }))) same ∙ here) in
+        let wrong : Some (last_step_after (suc world.now)) ≡ None = sym (ap (λ (c : Call). c.answered) both) ∙ none in
         absurd (cc)
 
     was_move : (index : ℕ) (other : Call) →
-        slice_get (set object.calls is.index (record is.call { answered = Some (last_step (suc world.now)) })) index ≡ Some other →
+        slice_get (set object.calls is.index (record is.call { answered = Some (last_step_after (suc world.now)) })) index ≡ Some other →
         other.kind ≡ Move → other.answered ≡ None →
-        ((index ≡ is.index) × (record is.call { answered = Some (last_step (suc world.now)) } ≡ other))
+        ((index ≡ is.index) × (record is.call { answered = Some (last_step_after (suc world.now)) } ≡ other))
         ⊎ (slice_get object.calls index ≡ Some other) → IsOpenMove world other.id
     was_move index other at kind none (inl here) = absurd (never index other at none here.0)
     was_move index other at kind none (inr there) = follows.moves index other there kind none
@@ -227,7 +229,7 @@ answer_followed id fragment world object code sound follows may premised =
     let old = may.0 in
     let held = found (IsOpenIn object) world.calls id old follows.calls may.1 in
     let is = held.0 in
-    let now = last_step (suc world.now) in
+    let now = last_step_after (suc world.now) in
     let call : Call = record is.call { answered = Some now } in
     let ready = may.2 in
     let due = sym (next_is object old is follows.kept) ∙ may.3 in
@@ -236,9 +238,9 @@ answer_followed id fragment world object code sound follows may premised =
     (λ fetch. ap is_some (sym is.settled) ∙ ready.fetched (fetch.0, kind_is object old is ∙ fetch.1))
     ∙ ap (want_for object) due in
     let new = answered_world (record world { now = suc world.now }) old in
-    let led : LeadsOn fragment object (last_step world.now) new =
+    let led : LeadsOn fragment object (last_step_after world.now) new =
     one_step fragment object world.now (Step.AnswerCall is.index) (with_new object object.mail is.index call) new code refl sound
     (is.call, (is.at, wants)) (ap (λ o. on_call object o (λ c. answered_object object is.index c now)) is.at)
     (answered_follow world object old is sound.legal follows) in
-    subst (λ o. LeadsOn fragment object (last_step world.now) (on_open (record world { now = suc world.now }) o
+    subst (λ o. LeadsOn fragment object (last_step_after world.now) (on_open (record world { now = suc world.now }) o
     (λ c. answered_world (record world { now = suc world.now }) c))) (sym may.1) led

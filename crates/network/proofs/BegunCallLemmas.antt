@@ -23,9 +23,9 @@ use Rattle.record.specs.Steps.{Step, stepped, called_object, new_call, new_phase
 use Rattle.soundness.proofs.ListLemmas.{all_push, all_weaker, get_push}
 use Rattle.soundness.specs.Sound.{IsSound}
 use Rattle.network.specs.Unstamped.{unstamped_message}
-use Rattle.network.specs.Worlds.{World, OpenCall, layout_of, open_call}
+use Rattle.network.specs.Worlds.{World, OpenCall, known_layout, open_call}
 use Rattle.network.specs.Events.{Event, begun_world, called_world}
-use Rattle.network.specs.Following.{Follows, LeadsOn, IsOpenIn, IsOpenMove, entry_in_steps, last_step}
+use Rattle.network.specs.Following.{Follows, LeadsOn, IsOpenIn, IsOpenMove, entry_in_steps, last_step_after}
 use Rattle.network.specs.Followed.{IsFollowed}
 use Rattle.network.specs.Premises.{IsUnused}
 use Rattle.network.proofs.AnsweredCallLemmas.{is_false}
@@ -76,7 +76,7 @@ pub added_follow : (world : World) (object : Object) → Follows world object �
     (phase_kind : Kind) (position : ℕ) → IsUnused world id →
     stage ≡ begun_at (first_stage kind (moves_in object.calls)) position → (kind ≡ Move → node ≡ (world.files 0).mover) →
     Follows (begun_world (record world { now = suc world.now }) node id kind stage phase_kind position)
-    (with_begun object id kind phase_kind position (last_step (suc world.now)))
+    (with_begun object id kind phase_kind position (last_step_after (suc world.now)))
 added_follow world object follows node id kind stage phase_kind position unused begun by_mover = record {
   one = follows.one;
   delta = follows.delta;
@@ -99,12 +99,12 @@ added_follow world object follows node id kind stage phase_kind position unused 
 }
   where
     record_call : Unit {0} → Call
-    record_call u = record (new_call id kind (last_step (suc world.now))) {
-      phases = new_phase id 1 phase_kind position (layout_at object position) (last_step (suc world.now)) ∷ [];
+    record_call u = record (new_call id kind (last_step_after (suc world.now))) {
+      phases = new_phase id 1 phase_kind position (layout_at object position) (last_step_after (suc world.now)) ∷ [];
     }
 
     new : Unit {0} → Object
-    new u = with_begun object id kind phase_kind position (last_step (suc world.now))
+    new u = with_begun object id kind phase_kind position (last_step_after (suc world.now))
 
     carried : Unit {0} → OpenCall
     carried u = record {
@@ -113,7 +113,7 @@ added_follow world object follows node id kind stage phase_kind position unused 
       kind = kind;
       settled = None;
       stage = stage;
-      phase = new_phase id 1 phase_kind position (layout_of world node position) 0;
+      phase = new_phase id 1 phase_kind position (known_layout world node position) 0;
     }
 
     new_entry : Unit {0} → Entry
@@ -125,7 +125,7 @@ added_follow world object follows node id kind stage phase_kind position unused 
       value = entry_value kind None None;
     }
 
-    same_layout : layout_at object position ≡ layout_of world node position
+    same_layout : layout_at object position ≡ known_layout world node position
     same_layout = ap (λ layouts. get_or layouts position no_layout) (follows.layouts ∙ layouts_known world follows.one node)
 
     grown : (other : OpenCall) → IsOpenIn object other → IsOpenIn (new tt) other
@@ -156,7 +156,7 @@ added_follow world object follows node id kind stage phase_kind position unused 
       settled = refl;
       unanswered = refl;
       earlier = [];
-      last = new_phase id 1 phase_kind position (layout_at object position) (last_step (suc world.now));
+      last = new_phase id 1 phase_kind position (layout_at object position) (last_step_after (suc world.now));
       phases = refl;
       phase = ap (λ l. new_phase id 1 phase_kind position l 0) (sym same_layout);
       stage = begun ∙ ap (λ moves. begun_at (first_stage kind moves) position) (sym (moves_before object.calls (record_call tt)));
@@ -203,15 +203,15 @@ called_is object id kind now base =
     }))
 
 call_followed : (step : Step) (kind : CallKind) (fragment : Code) (world : World) (object : Object) (node id : ℕ) → IsCode fragment →
-    IsSound fragment object (last_step world.now) → Follows world object → IsUnused world id →
+    IsSound fragment object (last_step_after world.now) → Follows world object → IsUnused world id →
     MayStep fragment object step →
-    stepped fragment step (last_step (suc world.now)) object ≡ called_object object id kind (last_step (suc world.now)) →
+    stepped fragment step (last_step_after (suc world.now)) object ≡ called_object object id kind (last_step_after (suc world.now)) →
     begun_at (first_stage kind 0) 0 ≡ begun_at (first_stage kind (moves_in object.calls)) 0 → (kind ≡ Move → ⊥) →
-    LeadsOn fragment object (last_step world.now) (called_world (record world { now = suc world.now }) node id kind)
+    LeadsOn fragment object (last_step_after world.now) (called_world (record world { now = suc world.now }) node id kind)
 call_followed step kind fragment world object node id code sound follows unused may is begun no_move =
-    one_step fragment object world.now step (with_begun object id kind Next 0 (last_step (suc world.now)))
+    one_step fragment object world.now step (with_begun object id kind Next 0 (last_step_after (suc world.now)))
     (called_world (record world { now = suc world.now }) node id kind) code refl sound may
-    (is ∙ called_is object id kind (last_step (suc world.now)) (base_zero object follows.kept))
+    (is ∙ called_is object id kind (last_step_after (suc world.now)) (base_zero object follows.kept))
     (added_follow world object follows node id kind (begun_at (first_stage kind 0) 0) Next 0 unused begun
     (λ move. absurd (no_move move)))
 

@@ -18,7 +18,7 @@ use Rattle.soundness.proofs.ListLemmas.{all_weaker}
 use Rattle.network.specs.Unstamped.{unstamped_bank}
 use Rattle.network.specs.Worlds.{ClusterFile, World, new_banks}
 use Rattle.network.specs.Events.{Event, moving_world}
-use Rattle.network.specs.Following.{Follows, IsOpenIn, last_step}
+use Rattle.network.specs.Following.{Follows, IsOpenIn, last_step_after}
 use Rattle.network.specs.Followed.{IsFollowed}
 use Rattle.network.proofs.BegunCallLemmas.{added_follow, with_begun}
 use Rattle.network.proofs.EntryOfCallLemmas.{new_id}
@@ -95,7 +95,7 @@ moving_is object id layout now =
 
 pub move_followed : (node id : ℕ) (layout : Layout) → IsFollowed (Event.BeginMove node id layout)
 move_followed node id layout fragment world object code sound follows may premised =
-    let now = last_step (suc world.now) in
+    let now = last_step_after (suc world.now) in
     let last : pred (length object.layouts) ≡ length world.later = ap (λ layouts. pred (length layouts)) follows.layouts in
     let moves : length world.later ≡ moves_in object.calls = sym last ∙ ap pred sound.shape.positions in
     one_step fragment object world.now (Step.CallMove id layout)

@@ -22,9 +22,9 @@ use Rattle.record.specs.Wants.{current_phase, is_fetch, want_after, want_for, wa
 use Rattle.soundness.proofs.ListLemmas.{set_here}
 use Rattle.soundness.proofs.Sound.ChangedCallLemmas.{moves_set}
 use Rattle.network.specs.Unstamped.{unstamped_message}
-use Rattle.network.specs.Worlds.{World, OpenCall, layout_of, next_of, open_call, reached}
+use Rattle.network.specs.Worlds.{World, OpenCall, known_layout, due_phase, open_call, reached}
 use Rattle.network.specs.Events.{Event, IsLacking, IsReady, advanced_world, call_pieces, on_open, phase_requests}
-use Rattle.network.specs.Following.{Follows, LeadsOn, IsOpenIn, last_step}
+use Rattle.network.specs.Following.{Follows, LeadsOn, IsOpenIn, last_step_after}
 use Rattle.network.specs.Followed.{IsFollowed}
 use Rattle.network.proofs.AnsweredCallLemmas.{want_ready}
 use Rattle.network.proofs.ChangedCallLemmas.{changed_follow, with_new, with_one}
@@ -60,20 +60,21 @@ number_last call n (p ∷ earlier) last numbered = (let h = number_last call (su
 
 module _ (fragment : Code) (world : World) (object : Object) (old : OpenCall) (is : IsOpenIn object old) (follows : Follows world object)
     (kind : Kind) (position now : ℕ) where
-  same_layout : layout_at object position ≡ layout_of world old.node position
+  same_layout : layout_at object position ≡ known_layout world old.node position
   same_layout = ap (λ layouts. get_or layouts position no_layout) (follows.layouts ∙ layouts_known world follows.one old.node)
 
   same_pieces : sent_pieces fragment object is.call position ≡ call_pieces fragment world old position
   same_pieces =
       ap (λ (l : Layout). fragment_piece fragment l (value_or_empty (sent_value is.call.kind is.call.settled))) same_layout
-      ∙ ap (λ k. fragment_piece fragment (layout_of world old.node position) (value_or_empty (sent_value k is.call.settled))) (sym is.kind)
-      ∙ ap (λ v. fragment_piece fragment (layout_of world old.node position) (value_or_empty (sent_value old.kind v))) (sym is.settled)
+      ∙ ap (λ k. fragment_piece fragment (known_layout world old.node position) (value_or_empty (sent_value k is.call.settled)))
+      (sym is.kind)
+      ∙ ap (λ v. fragment_piece fragment (known_layout world old.node position) (value_or_empty (sent_value old.kind v))) (sym is.settled)
 
   -- the phase that begins, as the node has it
   abbrev pub begun_open : OpenCall
   begun_open = record old {
     stage = begun_at (reached old) position;
-    phase = new_phase old.id (suc old.phase.number) kind position (layout_of world old.node position) 0;
+    phase = new_phase old.id (suc old.phase.number) kind position (known_layout world old.node position) 0;
   }
 
   abbrev pub begun_mail : List Message
@@ -100,7 +101,7 @@ module _ (fragment : Code) (world : World) (object : Object) (old : OpenCall) (i
         (sent_pieces fragment object is.call position)) (sym numbered)
         ∙ ap (λ (l : Layout). requests old.id (suc old.phase.number) kind position l.members 0
         (sent_pieces fragment object is.call position)) same_layout
-        ∙ ap (λ p. requests old.id (suc old.phase.number) kind position (layout_of world old.node position).members 0 p) same_pieces)
+        ∙ ap (λ p. requests old.id (suc old.phase.number) kind position (known_layout world old.node position).members 0 p) same_pieces)
 
     begun_is : IsOpenIn (with_new object begun_mail is.index (begun_call is.call kind position (layout_at object position) now))
         begun_open
@@ -116,8 +117,8 @@ module _ (fragment : Code) (world : World) (object : Object) (old : OpenCall) (i
           earlier = is.call.phases;
           last = new_phase is.call.id (suc (length is.call.phases)) kind position (layout_at object position) now;
           phases = refl;
-          phase = ap (λ n. new_phase n (suc old.phase.number) kind position (layout_of world old.node position) 0) is.id
-              ∙ ap (λ n. new_phase is.call.id (suc n) kind position (layout_of world old.node position) 0) numbered
+          phase = ap (λ n. new_phase n (suc old.phase.number) kind position (known_layout world old.node position) 0) is.id
+              ∙ ap (λ n. new_phase is.call.id (suc n) kind position (known_layout world old.node position) 0) numbered
               ∙ ap (λ l. new_phase is.call.id (suc (length is.call.phases)) kind position l 0) (sym same_layout);
           stage = ap (λ s. begun_at s position) (reached_is object old is)
               ∙ ap (λ moves. begun_at (stage_after is.call.kind is.call.id (first_stage is.call.kind moves) is.call.phases) position)
@@ -169,7 +170,7 @@ want_lacking : (object : Object) (next : Option (Kind × ℕ)) (settled : Option
 want_lacking object next settled last ended fetch none lacks = rw (ended, fetch, none, lacks) refl
 
 begins : (fragment : Code) (object : Object) (old : OpenCall) (is : IsOpenIn object old) (now : ℕ) (next : Kind × ℕ) →
-    due_of object is.index is.call ≡ Some next → (IsReady old × IsSome (next_of old)) ⊎ IsLacking old →
+    due_of object is.index is.call ≡ Some next → (IsReady old × IsSome (due_phase old)) ⊎ IsLacking old →
     Begins fragment object is.index is.call now
 begins fragment object old is now next due (inl ready) =
     begins_ready fragment object is.index is.call now next is.last is.at
@@ -194,17 +195,17 @@ begins fragment object old is now next due (inr lacking) = record {
 
 pub advance_followed : (id : ℕ) → IsFollowed (Event.Advance id)
 advance_followed id fragment world object code sound follows may premised =
-    subst (λ o. LeadsOn fragment object (last_step world.now) (on_open (record world { now = suc world.now }) o
-    (λ c. advanced_world fragment (record world { now = suc world.now }) c (next_of c)))) (sym may.1) (go (next_of may.0) refl)
+    subst (λ o. LeadsOn fragment object (last_step_after world.now) (on_open (record world { now = suc world.now }) o
+    (λ c. advanced_world fragment (record world { now = suc world.now }) c (due_phase c)))) (sym may.1) (go (due_phase may.0) refl)
   where
-    go : (o : Option (Kind × ℕ)) → next_of may.0 ≡ o →
-        LeadsOn fragment object (last_step world.now) (advanced_world fragment (record world { now = suc world.now }) may.0 o)
+    go : (o : Option (Kind × ℕ)) → due_phase may.0 ≡ o →
+        LeadsOn fragment object (last_step_after world.now) (advanced_world fragment (record world { now = suc world.now }) may.0 o)
     go None e = no_step fragment object world.now (record world { now = suc world.now }) refl sound (ticked_follow world object follows)
     go (Some next) e =
         let old = may.0 in
         let held = found (IsOpenIn object) world.calls id old follows.calls may.1 in
         let is = held.0 in
-        let now = last_step (suc world.now) in
+        let now = last_step_after (suc world.now) in
         let due = sym (next_is object old is follows.kept) ∙ e in
         let begun = begins fragment object old is now next due may.2 in
         let numbered = (sound.legal.calls is.index is.call is.at).numbered in

@@ -21,7 +21,7 @@ use Rattle.record.specs.declared.stage.Want.TheVariants as want
 use Rattle.record.specs.Records.{Object, base_of, no_bank, retired_first, retired_at}
 use Rattle.record.specs.Wants.{current_phase, is_fetch, want_after, want_of}
 use Rattle.network.specs.Unstamped.{unstamped, unstamped_phase, unstamped_taken}
-use Rattle.network.specs.Worlds.{OpenCall, next_of, reached}
+use Rattle.network.specs.Worlds.{OpenCall, due_phase, reached}
 use Rattle.network.specs.Following.{IsOpenIn}
 
 -- Without stamps
@@ -107,7 +107,7 @@ module _ (object : Object) (carried : OpenCall) (is : IsOpenIn object carried) w
       ∙ ap (stage_after is.call.kind is.call.id first) (sym is.phases)
 
   -- and so the phase that is due is the same
-  pub next_is : retired_at object 0 ≡ None → next_of carried ≡ due_of object is.index is.call
+  pub next_is : retired_at object 0 ≡ None → due_phase carried ≡ due_of object is.index is.call
   next_is kept = ap (λ s. due (begun_at s 0)) reached_is
       ∙ ap (λ b. due (begun_at (stage_of object is.index is.call) b)) (sym (base_zero object kept))
 

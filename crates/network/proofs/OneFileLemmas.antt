@@ -2,11 +2,11 @@
 use Rattle.std.proofs.Common.{◌≡◌, ℕ, suc, List, [], ◌∷◌, refl, sym, ap, ◌∙◌}
 use Rattle.bank.specs.Bank.{opened_bank}
 use Rattle.record.specs.Steps.{opened_banks}
-use Rattle.network.specs.Worlds.{ClusterFile, World, layouts_of, new_banks}
+use Rattle.network.specs.Worlds.{ClusterFile, World, known_layouts, new_banks}
 use Rattle.network.specs.Premises.{IsOneFile}
 
 -- each node knows the layouts that node 0 knows
-pub layouts_known : (world : World) → IsOneFile world.files → (node : ℕ) → layouts_of world 0 ≡ layouts_of world node
+pub layouts_known : (world : World) → IsOneFile world.files → (node : ℕ) → known_layouts world 0 ≡ known_layouts world node
 layouts_known world one node = ap (λ (file : ClusterFile). file.first ∷ world.later) (sym (one node))
 
 -- banks that their nodes open are those that node 0 would open

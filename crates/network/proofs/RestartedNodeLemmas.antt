@@ -7,7 +7,7 @@ use Rattle.record.specs.Records.{Object}
 use Rattle.record.specs.declared.call.CallKind.TheVariants.{Move}
 use Rattle.network.specs.Worlds.{World, OpenCall, open_call, after_restart, without_call}
 use Rattle.network.specs.Events.{Event, happens}
-use Rattle.network.specs.Following.{Follows, LeadsOn, IsOpenIn, last_step}
+use Rattle.network.specs.Following.{Follows, LeadsOn, IsOpenIn, last_step_after}
 use Rattle.network.specs.Followed.{IsFollowed}
 use Rattle.network.proofs.OpenCallLemmas.{all_filter, found, found_filter}
 use Rattle.network.proofs.StepLemmas.{no_step}
@@ -49,7 +49,7 @@ restart_followed node banks calls fragment world object code sound follows may p
     ap (λ b. let w : World = record world { banks = b; calls = after_restart node world.calls; now = suc world.now } in w)
     (sym premised.log.0)
     ∙ ap (λ c. let w : World = record world { banks = banks; calls = c; now = suc world.now } in w) (sym premised.log.1) in
-    subst (LeadsOn fragment object (last_step world.now)) same
+    subst (LeadsOn fragment object (last_step_after world.now)) same
     (no_step fragment object world.now restarted refl sound
     (fewer_follow world object (λ call. not (eqb call.node node && not (is_move call.kind)))
     (λ id call found kind.

@@ -22,9 +22,9 @@ use Rattle.record.specs.Steps.{Step, stepped, on_message, served_by, handled_obj
 use Rattle.soundness.proofs.ListLemmas.{all_weaker}
 use Rattle.soundness.proofs.Sound.ServedBankLemmas.{served-retired}
 use Rattle.network.specs.Unstamped.{unstamped_bank, unstamped_body, unstamped_message}
-use Rattle.network.specs.Worlds.{World, bank_of}
+use Rattle.network.specs.Worlds.{World, member_bank}
 use Rattle.network.specs.Events.{Event, handled_world, served_world}
-use Rattle.network.specs.Following.{Follows, LeadsOn, IsOpenIn, last_step}
+use Rattle.network.specs.Following.{Follows, LeadsOn, IsOpenIn, last_step_after}
 use Rattle.network.specs.Followed.{IsFollowed}
 use Rattle.network.proofs.StepLemmas.{copy_and_step, get_end, message_there}
 use Rattle.network.proofs.UnstampedBankLemmas.{answer-bare, served-bare}
@@ -94,19 +94,20 @@ served_follow world object original asked now follows =
     let member = original.member in
     let bank = bank_at object position member in
     let new = served_copy object original asked now in
-    let bank_same : unstamped_bank bank ≡ bank_of world position member =
+    let bank_same : unstamped_bank bank ≡ member_bank world position member =
     sym (bank-bare object.banks position member)
     ∙ ap (λ banks. get_or (get_or banks position []) member no_bank) follows.banks in
-    let served_same : unstamped_bank (served_bank bank asked now) ≡ served_bank (bank_of world position member) asked 0 =
+    let served_same : unstamped_bank (served_bank bank asked now) ≡ served_bank (member_bank world position member) asked 0 =
     served-bare bank asked now ∙ ap (λ b. served_bank b asked 0) bank_same in
-    let answer_same : answer_to bank asked ≡ answer_to (bank_of world position member) asked =
+    let answer_same : answer_to bank asked ≡ answer_to (member_bank world position member) asked =
     sym (answer-bare bank asked) ∙ ap (λ b. answer_to b asked) bank_same in record {
       one = follows.one;
       delta = follows.delta;
       layouts = follows.layouts;
       banks = set-bare object.banks position member (served_bank bank asked now)
           ∙ ap (λ b. set (all_bare object.banks) position (set (get_or (all_bare object.banks) position []) member b)) served_same
-          ∙ ap (λ banks. set banks position (set (get_or banks position []) member (served_bank (bank_of world position member) asked 0)))
+          ∙ ap (λ banks.
+          set banks position (set (get_or banks position []) member (served_bank (member_bank world position member) asked 0)))
           follows.banks;
       sent = ap (map unstamped_message) (set-append_seam object.mail original [] (answered original (reply_to bank asked now)))
           ∙ map-append unstamped_message object.mail (answered original (reply_to bank asked now) ∷ [])
@@ -135,7 +136,7 @@ served_follow world object original asked now follows =
 
 pub serve_followed : (message : Message) → IsFollowed (Event.Serve message)
 serve_followed message fragment world object code sound follows may premised =
-    let now = last_step (suc world.now) in
+    let now = last_step_after (suc world.now) in
     let ticked : World = record world { now = suc world.now } in
     let there = message_there object.mail premised.network.0 message
     (ap (λ sent. slice_get sent premised.network.0) follows.sent ∙ premised.network.1) in
@@ -147,9 +148,9 @@ serve_followed message fragment world object code sound follows may premised =
     let is : stepped fragment (Step.Serve (length object.mail)) now copied ≡ served_copy object original asked now =
     ap (λ o. on_message copied o (λ m. served_by copied (length object.mail) m m.body now)) at_end
     ∙ ap (λ b. served_by copied (length object.mail) original b now) request in
-    let led : LeadsOn fragment object (last_step world.now) (handled_world ticked (unstamped_message original) asked) =
+    let led : LeadsOn fragment object (last_step_after world.now) (handled_world ticked (unstamped_message original) asked) =
     copy_and_step fragment object world.now premised.network.0 original (Step.Serve (length object.mail))
     (served_copy object original asked now) (handled_world ticked (unstamped_message original) asked) code refl sound there.1
     (original, (at_end, (asked, request))) is (served_follow world object original asked now follows) in
-    subst (λ b. LeadsOn fragment object (last_step world.now) (served_world ticked message b)) (sym may.1)
-    (subst (λ m. LeadsOn fragment object (last_step world.now) (handled_world ticked m asked)) there.2 led)
+    subst (λ b. LeadsOn fragment object (last_step_after world.now) (served_world ticked message b)) (sym may.1)
+    (subst (λ m. LeadsOn fragment object (last_step_after world.now) (handled_world ticked m asked)) there.2 led)

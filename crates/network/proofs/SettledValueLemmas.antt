@@ -20,9 +20,9 @@ use Rattle.record.specs.Wants.{is_fetch, value_len, want_after}
 use Rattle.soundness.proofs.ListLemmas.{all_weaker, set_here}
 use Rattle.soundness.proofs.Sound.ChangedCallLemmas.{moves_set}
 use Rattle.network.specs.Unstamped.{unstamped_phase, unstamped_taken}
-use Rattle.network.specs.Worlds.{World, OpenCall, layouts_of, open_call, parts_of}
+use Rattle.network.specs.Worlds.{World, OpenCall, known_layouts, open_call, parts_of}
 use Rattle.network.specs.Events.{Event, on_open}
-use Rattle.network.specs.Following.{LeadsOn, IsOpenIn, last_step}
+use Rattle.network.specs.Following.{LeadsOn, IsOpenIn, last_step_after}
 use Rattle.network.specs.Followed.{IsFollowed}
 use Rattle.network.proofs.ChangedCallLemmas.{changed_follow, own_entry, with_new, with_one}
 use Rattle.network.proofs.CurrentPhaseLemmas.{current_is, ended_is, fetch_is, kind_is, lacks_is, want_is}
@@ -41,7 +41,7 @@ taken_there xs place taken at = go (slice_get xs place) refl (sym (slice_get-map
 
 -- pieces that a phase without stamps took, the phase took
 has_pieces : (fragment : Code) (world : World) (node : ℕ) (object : Object) (phase : Phase) (value : List ℕ) →
-    object.layouts ≡ layouts_of world node → HasPieces fragment (parts_of world node) (unstamped_phase phase) value →
+    object.layouts ≡ known_layouts world node → HasPieces fragment (parts_of world node) (unstamped_phase phase) value →
     HasPieces fragment object phase value
 has_pieces fragment world node object phase value layouts has = record {
   members = has.members;
@@ -59,7 +59,7 @@ has_pieces fragment world node object phase value layouts has = record {
       }) has.members has.pieces;
 }
   where
-    same : get_or (layouts_of world node) phase.position no_layout ≡ get_or object.layouts phase.position no_layout
+    same : get_or (known_layouts world node) phase.position no_layout ≡ get_or object.layouts phase.position no_layout
     same = ap (λ layouts. get_or layouts phase.position no_layout) (sym layouts)
 
 -- a value that is settled does not show in the entry before the answer
@@ -122,7 +122,7 @@ settle_followed id value fragment world object code sound follows may premised =
     (fetch_is is.last.kind (fetched.fetch.0, sym kind ∙ fetched.fetch.1)) unsettled enough in
     let pieces = has_pieces fragment world old.node object is.last value (follows.layouts ∙ layouts_known world follows.one old.node)
     (subst (λ p. HasPieces fragment (parts_of world old.node) p value) is.phase fetched.pieces) in
-    let led : LeadsOn fragment object (last_step world.now) (with_one world new world.sent) =
+    let led : LeadsOn fragment object (last_step_after world.now) (with_one world new world.sent) =
     one_step fragment object world.now (Step.Settle is.index value) (with_new object object.mail is.index call)
     (with_one world new world.sent) code refl sound
     (record {
@@ -138,5 +138,5 @@ settle_followed id value fragment world object code sound follows may premised =
     (ap (λ o. on_call object o (λ c. settled_object object is.index c value)) is.at)
     (changed_follow world object old new is call object.mail world.sent follows (ap (open_call world.calls) held.1 ∙ may.1)
     refl refl refl refl (entry_settled is.call (Some value) is.unanswered) follows.sent (settled_open object value old is)) in
-    subst (λ o. LeadsOn fragment object (last_step world.now) (on_open (record world { now = suc world.now }) o
+    subst (λ o. LeadsOn fragment object (last_step_after world.now) (on_open (record world { now = suc world.now }) o
     (λ c. with_one world (record c { settled = Some value }) world.sent))) (sym may.1) led

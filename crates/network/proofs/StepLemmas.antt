@@ -13,7 +13,7 @@ use Rattle.soundness.proofs.Sound.RunSoundLemmas.{step_sound}
 use Rattle.soundness.proofs.Sound.ItemLemmas.{mail_of}
 use Rattle.network.specs.Unstamped.{unstamped_message}
 use Rattle.network.specs.Worlds.{World}
-use Rattle.network.specs.Following.{Follows, LeadsOn, last_step}
+use Rattle.network.specs.Following.{Follows, LeadsOn, last_step_after}
 
 -- a sound record is sound after any later step
 pub sound_later : (fragment : Code) (object : Object) (step now : ℕ) → step < now → IsSound fragment object step →
@@ -23,23 +23,24 @@ sound_later fragment object step now less sound =
 
 -- no step
 pub no_step : (fragment : Code) (object : Object) (events : ℕ) (new : World) → new.now ≡ suc events →
-    IsSound fragment object (last_step events) → Follows new object → LeadsOn fragment object (last_step events) new
+    IsSound fragment object (last_step_after events) → Follows new object → LeadsOn fragment object (last_step_after events) new
 no_step fragment object events new now sound follows =
-    let end : last_step new.now ≡ suc (suc (last_step events)) = ap last_step now in
-    let less : last_step events < last_step new.now = omega arith in record {
+    let end : last_step_after new.now ≡ suc (suc (last_step_after events)) = ap last_step_after now in
+    let less : last_step_after events < last_step_after new.now = omega arith in record {
       steps = [];
-      may = (let le : last_step events ≤ last_step new.now = omega arith in le);
-      sound = sound_later fragment object (last_step events) (last_step new.now) less sound;
+      may = (let le : last_step_after events ≤ last_step_after new.now = omega arith in le);
+      sound = sound_later fragment object (last_step_after events) (last_step_after new.now) less sound;
       follows = follows;
     }
 
 -- one step
 pub one_step : (fragment : Code) (object : Object) (events : ℕ) (step : Step) (result : Object) (new : World) → IsCode fragment →
-    new.now ≡ suc events → IsSound fragment object (last_step events) → MayStep fragment object step →
-    stepped fragment step (last_step (suc events)) object ≡ result → Follows new result → LeadsOn fragment object (last_step events) new
+    new.now ≡ suc events → IsSound fragment object (last_step_after events) → MayStep fragment object step →
+    stepped fragment step (last_step_after (suc events)) object ≡ result → Follows new result
+    → LeadsOn fragment object (last_step_after events) new
 one_step fragment object events step result new code now sound may is follows =
-    let last = last_step events in
-    let end : last_step new.now ≡ suc (suc last) = ap last_step now in record {
+    let last = last_step_after events in
+    let end : last_step_after new.now ≡ suc (suc last) = ap last_step_after now in record {
       steps = (step, suc (suc last)) ∷ [];
       may = (omega arith, may, omega arith);
       sound = subst (IsSound fragment (stepped fragment step (suc (suc last)) object)) (sym end)
@@ -49,17 +50,17 @@ one_step fragment object events step result new code now sound may is follows =
 
 -- the copy of a message and a step
 pub copy_and_step : (fragment : Code) (object : Object) (events place : ℕ) (message : Message) (second : Step) (result : Object)
-    (new : World) → IsCode fragment → new.now ≡ suc events → IsSound fragment object (last_step events) →
+    (new : World) → IsCode fragment → new.now ≡ suc events → IsSound fragment object (last_step_after events) →
     slice_get object.mail place ≡ Some message → MayStep fragment (repeated_object object message) second →
-    stepped fragment second (last_step (suc events)) (repeated_object object message) ≡ result → Follows new result →
-    LeadsOn fragment object (last_step events) new
+    stepped fragment second (last_step_after (suc events)) (repeated_object object message) ≡ result → Follows new result →
+    LeadsOn fragment object (last_step_after events) new
 copy_and_step fragment object events place message second result new code now sound at may is follows =
-    let last = last_step events in
+    let last = last_step_after events in
     let copied : stepped fragment (Step.Repeat place) (suc last) object ≡ repeated_object object message =
     ap (λ o. on_message object o (λ m. repeated_object object m)) at in
     let may_second = subst (λ o. MayStep fragment o second) (sym copied) may in
     let both = ap (stepped fragment second (suc (suc last))) copied ∙ is in
-    let end : last_step new.now ≡ suc (suc last) = ap last_step now in record {
+    let end : last_step_after new.now ≡ suc (suc last) = ap last_step_after now in record {
       steps = (Step.Repeat place, suc last) ∷ (second, suc (suc last)) ∷ [];
       may = (omega arith, (message, at), (omega arith, may_second, omega arith));
       sound = subst (IsSound fragment (stepped fragment second (suc (suc last)) (stepped fragment (Step.Repeat place) (suc last) object)))

@@ -18,7 +18,7 @@ use Rattle.soundness.proofs.Sound.ChangedCallLemmas.{moves_set}
 use Rattle.network.specs.Unstamped.{unstamped_body, unstamped_message}
 use Rattle.network.specs.Worlds.{OpenCall, open_call}
 use Rattle.network.specs.Events.{Event, on_open, taking_open}
-use Rattle.network.specs.Following.{LeadsOn, IsOpenIn, last_step}
+use Rattle.network.specs.Following.{LeadsOn, IsOpenIn, last_step_after}
 use Rattle.network.specs.Followed.{IsFollowed}
 use Rattle.network.proofs.ChangedCallLemmas.{changed_follow, with_new, with_one}
 use Rattle.network.proofs.OpenCallLemmas.{found}
@@ -62,11 +62,11 @@ pub take_followed : (message : Message) → IsFollowed (Event.Take message)
 take_followed message fragment world object code sound follows may premised =
     go (open_call world.calls message.call) refl
   where
-    go : (o : Option OpenCall) → open_call world.calls message.call ≡ o → LeadsOn fragment object (last_step world.now)
+    go : (o : Option OpenCall) → open_call world.calls message.call ≡ o → LeadsOn fragment object (last_step_after world.now)
         (on_open (record world { now = suc world.now }) o (λ call. with_one world (taking_open message call) world.sent))
     go None e = no_step fragment object world.now (record world { now = suc world.now }) refl sound (ticked_follow world object follows)
     go (Some old) e =
-        let now = last_step (suc world.now) in
+        let now = last_step_after (suc world.now) in
         let there = message_there object.mail premised.network.0 message
         (ap (λ sent. slice_get sent premised.network.0) follows.sent ∙ premised.network.1) in
         let original = there.0 in
@@ -89,11 +89,11 @@ take_followed message fragment world object code sound follows may premised =
         ∙ ap (λ calls. let o : Object = record object { calls = calls; mail = remove copied.mail place } in o) calls
         ∙ ap (λ mail. with_new object mail is.index call) (remove_end object.mail original) in
         let new = taking_open (unstamped_message original) old in
-        let led : LeadsOn fragment object (last_step world.now) (with_one world new world.sent) =
+        let led : LeadsOn fragment object (last_step_after world.now) (with_one world new world.sent) =
         copy_and_step fragment object world.now premised.network.0 original (Step.Take place)
         (with_new object object.mail is.index call) (with_one world new world.sent) code refl sound there.1
         (original, (at_end, (reply.0, reply.1, reply.2))) made
         (changed_follow world object old new is call object.mail world.sent follows
         (ap (open_call world.calls) held.1 ∙ e) refl refl refl refl refl follows.sent
         (taken_open object original now old is)) in
-        subst (λ m. LeadsOn fragment object (last_step world.now) (with_one world (taking_open m old) world.sent)) there.2 led
+        subst (λ m. LeadsOn fragment object (last_step_after world.now) (with_one world (taking_open m old) world.sent)) there.2 led

@@ -6,14 +6,14 @@ use Rattle.std.specs.List.{AllByRecursion}
 use Rattle.record.specs.declared.call.Entry.{Entry}
 use Rattle.soundness.proofs.ListLemmas.{all_weaker}
 use Rattle.atomicity.specs.Atomic.{IsAnsweredBefore, IsAtomic, IsRegister, KeepsOrder, MayStand, entry_at, no_entry}
-use Rattle.network.specs.Following.{entry_in_steps, last_step}
+use Rattle.network.specs.Following.{entry_in_steps, last_step_after}
 
-steps_rise : (a b : ℕ) → a < b → last_step a < last_step b
+steps_rise : (a b : ℕ) → a < b → last_step_after a < last_step_after b
 steps_rise a zero less = absurd (omega arith)
 steps_rise zero (suc b) less = omega arith
 steps_rise (suc a) (suc b) less = let rest = steps_rise a b (omega arith) in omega arith
 
-some_same : (o : Option ℕ) → is_some (option_map last_step o) ≡ is_some o
+some_same : (o : Option ℕ) → is_some (option_map last_step_after o) ≡ is_some o
 some_same None = refl
 some_same (Some step) = refl
 
@@ -37,7 +37,7 @@ register_back current [] is = tt
 register_back current (entry ∷ later) is = (is.0, is.1, register_back is.0 later is.2)
 
 before_on : (a b : Entry) → IsAnsweredBefore a b → IsAnsweredBefore (entry_in_steps a) (entry_in_steps b)
-before_on a b before = (last_step before.0, ap (option_map last_step) before.1, steps_rise before.0 b.called before.2)
+before_on a b before = (last_step_after before.0, ap (option_map last_step_after) before.1, steps_rise before.0 b.called before.2)
 
 all_back : (entry : Entry) (later : List Entry) →
     AllByRecursion (λ other. IsAnsweredBefore other (entry_in_steps entry) → ⊥) (map entry_in_steps later) →

@@ -26,9 +26,9 @@ use Rattle.soundness.proofs.Values.WrittenTagLemmas.{written_above, written_id}
 use Rattle.record.specs.Legal.{IsLegal}
 use Rattle.soundness.proofs.ListLemmas.{all_get}
 use Rattle.network.specs.Unstamped.{unstamped_body, unstamped_bank}
-use Rattle.network.specs.Worlds.{World, bank_of}
+use Rattle.network.specs.Worlds.{World, member_bank}
 use Rattle.network.specs.Events.{Event}
-use Rattle.network.specs.Following.{Follows, last_step, run_numbered}
+use Rattle.network.specs.Following.{Follows, last_step_after, run_numbered}
 use Rattle.network.specs.Followed.{IsFollowed, RunsAreFollowed}
 use Rattle.network.specs.Laws.{IsReached, WorldsAreAtomic, WorldsKeepValues, IsPieceOf, IsValueOf}
 use Rattle.network.proofs.AnsweredCallLemmas.{answer_followed}
@@ -66,7 +66,7 @@ all_runs_followed = runs_followed each_followed
 -- a world that is reached follows a sound record
 record Mirrored (fragment : Code) (world : World) : Type 0 where
   object : Object
-  sound : IsSound fragment object (last_step world.now)
+  sound : IsSound fragment object (last_step_after world.now)
   follows : Follows world object
 
 mirrored : (fragment : Code) (world : World) → IsCode fragment → IsReached fragment world → Mirrored fragment world
@@ -81,7 +81,7 @@ mirrored fragment world code reached =
 pub atomic_worlds : WorldsAreAtomic
 atomic_worlds fragment world code reached =
     let m = mirrored fragment world code reached in
-    atomic_back world.history (subst IsAtomic m.follows.history (sound_atomic fragment code m.object (last_step world.now) m.sound))
+    atomic_back world.history (subst IsAtomic m.follows.history (sound_atomic fragment code m.object (last_step_after world.now) m.sound))
 
 -- Entries and values
 
@@ -162,11 +162,11 @@ is_read Read e = refl
 is_read (Write value) e = absurd (cc)
 is_read Move e = absurd (cc)
 
-some_step : (o p : Option ℕ) → o ≡ option_map last_step p → is_some p ≡ true → (step : ℕ) × (o ≡ Some step)
+some_step : (o p : Option ℕ) → o ≡ option_map last_step_after p → is_some p ≡ true → (step : ℕ) × (o ≡ Some step)
 some_step o None e some = absurd (cc)
-some_step o (Some step) e some = (last_step step, e)
+some_step o (Some step) e some = (last_step_after step, e)
 
-read_there : (fragment : Code) (world : World) (object : Object) → IsCode fragment → IsSound fragment object (last_step world.now) →
+read_there : (fragment : Code) (world : World) (object : Object) → IsCode fragment → IsSound fragment object (last_step_after world.now) →
     Follows world object → (place : ℕ) (entry : Entry) → slice_get world.history place ≡ Some entry → entry.kind ≡ operation.Read →
     is_some entry.answered ≡ true → (tag : Tag) × (value : List ℕ) × (entry.value ≡ Some value) × IsValueOf world tag value
 read_there fragment world object code sound follows place entry at reads some =
@@ -192,7 +192,7 @@ values_kept fragment world code reached =
       unique = one_value world object m.sound.legal follows;
       reads = read_there fragment world object code m.sound follows;
       banks = λ node position member tag piece e.
-          let same : bank_of world position member ≡ unstamped_bank (bank_at object position member) =
+          let same : member_bank world position member ≡ unstamped_bank (bank_at object position member) =
           ap (λ banks. get_or (get_or banks position []) member no_bank) (sym follows.banks) ∙ bank-bare object.banks position member in
           let there : piece_of (bank_at object position member) tag ≡ Some piece =
           sym (piece_of-bare (bank_at object position member) tag) ∙ ap (λ b. piece_of b tag) (sym same) ∙ e in

@@ -12,9 +12,9 @@ use Rattle.soundness.specs.Sound.{IsSound}
 use Rattle.soundness.proofs.Sound.OpenedObjectLemmas.{opening_sound}
 use Rattle.network.specs.Unstamped.{unstamped_bank}
 use Rattle.network.specs.Worlds.{ClusterFile, World, opened_world}
-use Rattle.network.specs.Events.{Event, happens, run}
-use Rattle.network.specs.Premises.{IsOneFile, MayRun}
-use Rattle.network.specs.Following.{Follows, LeadsOn, MayRunNumbered, run_numbered, last_step}
+use Rattle.network.specs.Events.{Event, happens, world_after}
+use Rattle.network.specs.Premises.{IsOneFile, MayHappenInTurn}
+use Rattle.network.specs.Following.{Follows, LeadsOn, MayRunNumbered, run_numbered, last_step_after}
 use Rattle.network.specs.Followed.{IsFollowed, RunsAreFollowed}
 use Rattle.network.proofs.OneFileLemmas.{banks_opened}
 use Rattle.network.proofs.ServedRequestLemmas.{bare_empty}
@@ -41,27 +41,28 @@ may_append fragment (step ∷ first) second last middle end object a b =
 
 -- an event, and then others
 leads_on : (fragment : Code) (object : Object) (last : ℕ) (middle world : World) (first : LeadsOn fragment object last middle) →
-    LeadsOn fragment (run_numbered fragment first.steps object) (last_step middle.now) world → LeadsOn fragment object last world
+    LeadsOn fragment (run_numbered fragment first.steps object) (last_step_after middle.now) world → LeadsOn fragment object last world
 leads_on fragment object last middle world first second =
     let same = sym (run_append fragment first.steps second.steps object) in record {
       steps = first.steps ++ second.steps;
-      may = may_append fragment first.steps second.steps last (last_step middle.now) (last_step world.now) object first.may second.may;
-      sound = subst (λ o. IsSound fragment o (last_step world.now)) same second.sound;
+      may = may_append fragment first.steps second.steps last (last_step_after middle.now) (last_step_after world.now) object
+          first.may second.may;
+      sound = subst (λ o. IsSound fragment o (last_step_after world.now)) same second.sound;
       follows = subst (Follows world) same second.follows;
     }
 
 pub run_followed : ((event : Event) → IsFollowed event) → (fragment : Code) → IsCode fragment → (events : List Event)
-    (world : World) (object : Object) → IsSound fragment object (last_step world.now) → Follows world object →
-    MayRun fragment events world → LeadsOn fragment object (last_step world.now) (run fragment events world)
+    (world : World) (object : Object) → IsSound fragment object (last_step_after world.now) → Follows world object →
+    MayHappenInTurn fragment events world → LeadsOn fragment object (last_step_after world.now) (world_after fragment events world)
 run_followed each fragment code [] world object sound follows may = record {
   steps = [];
-  may = (let h : last_step world.now ≤ last_step world.now = omega arith in h);
+  may = (let h : last_step_after world.now ≤ last_step_after world.now = omega arith in h);
   sound = sound;
   follows = follows;
 }
 run_followed each fragment code (event ∷ events) world object sound follows may =
     let first = each event fragment world object code sound follows may.0 may.1 in
-    leads_on fragment object (last_step world.now) (happens fragment world event) (run fragment (event ∷ events) world) first
+    leads_on fragment object (last_step_after world.now) (happens fragment world event) (world_after fragment (event ∷ events) world) first
     (run_followed each fragment code events (happens fragment world event) (run_numbered fragment first.steps object)
     first.sound first.follows may.2)
 

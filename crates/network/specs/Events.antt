@@ -27,8 +27,8 @@ use Rattle.record.specs.Legal.{first_stage}
 use Rattle.record.specs.PhaseOrder.{begun_at}
 use Rattle.record.specs.Sending.{fragment_piece, requests, sent_value, value_or_empty}
 use Rattle.record.specs.Steps.{new_phase}
-use Rattle.network.specs.Worlds.{World, OpenCall, new_banks, layout_of, bank_of, parts_of, open_call, with_open}
-use Rattle.network.specs.Worlds.{without_call, reached, next_of}
+use Rattle.network.specs.Worlds.{World, OpenCall, new_banks, known_layout, member_bank, parts_of, open_call, with_open}
+use Rattle.network.specs.Worlds.{without_call, reached, due_phase}
 
 -- the events of a world; a call is named by its id, and a request or a reply is the message itself
 pub data Event : Type 0 where
@@ -48,7 +48,7 @@ pub data Event : Type 0 where
 -- the requests that a call of a node sends as it begins a phase
 abbrev pub phase_requests : World → (node call number : ℕ) → Kind → (position : ℕ) → (ℕ → Piece) → List Message
 phase_requests world node call number kind position piece =
-    requests call number kind position (layout_of world node position).members 0 piece
+    requests call number kind position (known_layout world node position).members 0 piece
 
 -- the world after a node begins a call with a first phase of this kind, which sends no pieces
 abbrev pub begun_world : World → (node id : ℕ) → CallKind → Stage → Kind → (position : ℕ) → World
@@ -59,7 +59,7 @@ begun_world world node id call_kind stage kind position = record world {
     kind = call_kind;
     settled = None;
     stage = stage;
-    phase = new_phase id 1 kind position (layout_of world node position) 0;
+    phase = new_phase id 1 kind position (known_layout world node position) 0;
   } ∷ [];
   sent = world.sent ++ phase_requests world node id 1 kind position empty_piece;
   history = world.history ++ record {
@@ -88,7 +88,7 @@ moving_world world node id layout =
 -- the pieces that a call sends to the members of a position
 abbrev pub call_pieces : Code → World → OpenCall → (position member : ℕ) → Piece
 call_pieces fragment world call position =
-    fragment_piece fragment (layout_of world call.node position) (value_or_empty (sent_value call.kind call.settled))
+    fragment_piece fragment (known_layout world call.node position) (value_or_empty (sent_value call.kind call.settled))
 
 -- the world after a call begins the phase that is due, if there is one
 abbrev pub advanced_world : Code → World → OpenCall → Option (Kind × ℕ) → World
@@ -98,7 +98,7 @@ advanced_world fragment world call (Some next) =
       calls = with_open
           (record call {
             stage = begun_at (reached call) next.1;
-            phase = new_phase call.id number next.0 next.1 (layout_of world call.node next.1) 0;
+            phase = new_phase call.id number next.0 next.1 (known_layout world call.node next.1) 0;
           }) world.calls;
       sent = world.sent
           ++ phase_requests world call.node call.id number next.0 next.1 (call_pieces fragment world call next.1);
@@ -122,7 +122,7 @@ answered_world world call = record world {
 -- the world after a node serves a request: its bank changes, and it sends the reply
 abbrev pub handled_world : World → Message → Request → World
 handled_world world message asked =
-    let bank = bank_of world message.position message.member in record world {
+    let bank = member_bank world message.position message.member in record world {
       banks = slice_set world.banks message.position
           (slice_set (get_or world.banks message.position []) message.member (served_bank bank asked 0));
       sent = world.sent ++ answered message (reply_to bank asked 0) ∷ [];
@@ -148,7 +148,7 @@ changed fragment world (Event.BeginRead node id) = called_world world node id Re
 changed fragment world (Event.BeginWrite node id value) = called_world world node id (Write value)
 changed fragment world (Event.BeginMove node id layout) = moving_world world node id layout
 changed fragment world (Event.Advance id) =
-    on_open world (open_call world.calls id) (λ call. advanced_world fragment world call (next_of call))
+    on_open world (open_call world.calls id) (λ call. advanced_world fragment world call (due_phase call))
 changed fragment world (Event.Serve message) = served_world world message message.body
 changed fragment world (Event.Take message) =
     on_open world (open_call world.calls message.call)
@@ -166,9 +166,9 @@ abbrev pub happens : Code → World → Event → World
 happens fragment world event = changed fragment (record world { now = suc world.now }) event
 
 -- the world after these events
-abbrev pub run : Code → List Event → World → World
-run fragment [] world = world
-run fragment (event ∷ events) world = run fragment events (happens fragment world event)
+abbrev pub world_after : Code → List Event → World → World
+world_after fragment [] world = world
+world_after fragment (event ∷ events) world = world_after fragment events (happens fragment world event)
 
 -- When a node may act
 
@@ -205,14 +205,14 @@ MayHappen fragment world (Event.BeginMove node id layout) =
     IsLawful layout × (node ≡ (world.files node).mover)
     × AllByRecursion (λ call. call.node ≡ node → call.kind ≢ Move) world.calls
 MayHappen fragment world (Event.Advance id) =
-    (call : OpenCall) × IsOpen world id call × ((IsReady call × IsSome (next_of call)) ⊎ IsLacking call)
+    (call : OpenCall) × IsOpen world id call × ((IsReady call × IsSome (due_phase call)) ⊎ IsLacking call)
 MayHappen fragment world (Event.Serve message) = (asked : Request) × (message.body ≡ body.Request asked)
 MayHappen fragment world (Event.Take message) =
     (kind : Kind) × (made : Reply) × (message.body ≡ body.Reply kind made)
 MayHappen fragment world (Event.Settle id value) =
     (call : OpenCall) × IsOpen world id call × IsFetched fragment world call value
 MayHappen fragment world (Event.Answer id) =
-    (call : OpenCall) × IsOpen world id call × IsReady call × (next_of call ≡ None)
+    (call : OpenCall) × IsOpen world id call × IsReady call × (due_phase call ≡ None)
 MayHappen fragment world (Event.GiveUp id) =
     AllByRecursion (λ call. call.id ≡ id → call.kind ≢ Move) world.calls
 MayHappen fragment world (Event.Restart node banks calls) = Unit {0}

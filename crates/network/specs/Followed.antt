@@ -9,15 +9,15 @@ use Rattle.record.specs.Records.{Object}
 use Rattle.record.specs.Steps.{opened_object}
 use Rattle.soundness.specs.Sound.{IsSound}
 use Rattle.network.specs.Worlds.{ClusterFile, World, OpenCall, opened_world}
-use Rattle.network.specs.Events.{Event, MayHappen, happens, run}
-use Rattle.network.specs.Premises.{IsOneFile, IsPremised, MayRun}
-use Rattle.network.specs.Following.{Follows, LeadsOn, last_step}
+use Rattle.network.specs.Events.{Event, MayHappen, happens, world_after}
+use Rattle.network.specs.Premises.{IsOneFile, IsPremised, MayHappenInTurn}
+use Rattle.network.specs.Following.{Follows, LeadsOn, last_step_after}
 
 -- a world that follows a sound record follows one after the event, which some steps of the record lead to
 abbrev pub IsFollowed : Event → Type 0
 IsFollowed event = (fragment : Code) (world : World) (object : Object) → IsCode fragment →
-    IsSound fragment object (last_step world.now) → Follows world object → MayHappen fragment world event →
-    IsPremised world event → LeadsOn fragment object (last_step world.now) (happens fragment world event)
+    IsSound fragment object (last_step_after world.now) → Follows world object → MayHappen fragment world event →
+    IsPremised world event → LeadsOn fragment object (last_step_after world.now) (happens fragment world event)
 
 -- a read or a write that a node begins is followed
 abbrev pub BegunCallsAreFollowed : Type 0
@@ -60,5 +60,6 @@ RestartsAreFollowed = (node : ℕ) (banks : List (List Bank)) (calls : List Open
 -- steps of the record lead from an opened object to one that the world follows after these events
 abbrev pub RunsAreFollowed : Type 0
 RunsAreFollowed = (fragment : Code) (files : ℕ → ClusterFile) (events : List Event) → IsCode fragment →
-    IsOneFile files → IsLawful (files 0).first → MayRun fragment events (opened_world files) →
-    LeadsOn fragment (opened_object (files 0).first (files 0).delta 0) 0 (run fragment events (opened_world files))
+    IsOneFile files → IsLawful (files 0).first → MayHappenInTurn fragment events (opened_world files) →
+    LeadsOn fragment (opened_object (files 0).first (files 0).delta 0) 0
+    (world_after fragment events (opened_world files))

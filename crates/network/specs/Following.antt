@@ -14,18 +14,18 @@ use Rattle.record.specs.Records.{Call, Object, retired_at}
 use Rattle.record.specs.Steps.{Step, stepped}
 use Rattle.soundness.specs.Sound.{IsSound}
 use Rattle.network.specs.Unstamped.{unstamped_bank, unstamped_message, unstamped_phase}
-use Rattle.network.specs.Worlds.{World, OpenCall, layouts_of, open_call}
+use Rattle.network.specs.Worlds.{World, OpenCall, known_layouts, open_call}
 use Rattle.network.specs.Premises.{IsOneFile}
 
 -- the number of the record's last step after this many events: there is room for two steps in each event
-abbrev pub last_step : (events : ℕ) → ℕ
-last_step zero = zero
-last_step (suc events) = suc (suc (last_step events))
+abbrev pub last_step_after : (events : ℕ) → ℕ
+last_step_after zero = zero
+last_step_after (suc events) = suc (suc (last_step_after events))
 
 -- the entry with the numbers of steps in the place of those of events
 abbrev pub entry_in_steps : Entry → Entry
 entry_in_steps entry =
-    record entry { called = last_step entry.called; answered = option_map last_step entry.answered }
+    record entry { called = last_step_after entry.called; answered = option_map last_step_after entry.answered }
 
 -- the call of the record that a node carries out: the current phase is its last, and it is not answered
 pub record IsOpenIn (object : Object) (carried : OpenCall) : Type 0 where
@@ -57,7 +57,7 @@ pub record IsOpenMove (world : World) (id : ℕ) : Type 0 where
 pub record Follows (world : World) (object : Object) : Type 0 where
   pub one : IsOneFile world.files
   pub delta : object.delta ≡ (world.files 0).delta
-  pub layouts : object.layouts ≡ layouts_of world 0
+  pub layouts : object.layouts ≡ known_layouts world 0
   pub banks : map (map unstamped_bank) object.banks ≡ world.banks
   pub sent : map unstamped_message object.mail ≡ world.sent
   pub history : entries object ≡ map entry_in_steps world.history
@@ -81,6 +81,6 @@ MayRunNumbered fragment (step ∷ steps) last end object =
 -- steps of the record lead to a sound one, which the world follows
 pub record LeadsOn (fragment : Code) (object : Object) (last : ℕ) (world : World) : Type 0 where
   pub steps : List (Step × ℕ)
-  pub may : MayRunNumbered fragment steps last (last_step world.now) object
-  pub sound : IsSound fragment (run_numbered fragment steps object) (last_step world.now)
+  pub may : MayRunNumbered fragment steps last (last_step_after world.now) object
+  pub sound : IsSound fragment (run_numbered fragment steps object) (last_step_after world.now)
   pub follows : Follows world (run_numbered fragment steps object)

@@ -11,9 +11,9 @@ use Rattle.record.specs.Fragments.{Code, IsCode, IsFragment, body_tag, body_piec
 use Rattle.record.specs.declared.call.Entry.{Entry}
 use Rattle.record.specs.declared.call.Operation.TheVariants as operation
 use Rattle.atomicity.specs.Atomic.{IsAtomic}
-use Rattle.network.specs.Worlds.{ClusterFile, World, opened_world, layout_of, bank_of}
-use Rattle.network.specs.Events.{Event, run}
-use Rattle.network.specs.Premises.{IsOneFile, MayRun, WasSent}
+use Rattle.network.specs.Worlds.{ClusterFile, World, opened_world, known_layout, member_bank}
+use Rattle.network.specs.Events.{Event, world_after}
+use Rattle.network.specs.Premises.{IsOneFile, MayHappenInTurn, WasSent}
 
 -- the world is reached from an opened one, whose nodes have one lawful cluster file, by events that may happen and meet
 -- the premises
@@ -22,8 +22,8 @@ pub record IsReached (fragment : Code) (world : World) : Type 0 where
   pub one : IsOneFile files
   pub lawful : IsLawful (files 0).first
   pub events : List Event
-  pub may : MayRun fragment events (opened_world files)
-  pub result : run fragment events (opened_world files) ≡ world
+  pub may : MayHappenInTurn fragment events (opened_world files)
+  pub result : world_after fragment events (opened_world files) ≡ world
 
 -- the history of each world that is reached is atomic
 abbrev pub WorldsAreAtomic : Type 0
@@ -49,14 +49,14 @@ IsValueOf world tag value =
 abbrev pub IsPieceOf : Code → World → (node position member : ℕ) → Tag → Piece → Type 0
 IsPieceOf fragment world node position member tag piece =
     (value : List ℕ) × IsValueOf world tag value
-    × IsFragment fragment (layout_of world node position) member value piece
+    × IsFragment fragment (known_layout world node position) member value piece
 
 -- a tag has one value; each piece in a bank or in a message ever sent is its member's fragment of its tag's value,
 -- whichever node looks; and each answered read of the history returned the value of a tag
 pub record KeepsValues (fragment : Code) (world : World) : Type 0 where
   pub unique : (tag : Tag) (v w : List ℕ) → IsValueOf world tag v → IsValueOf world tag w → v ≡ w
   pub banks : (node position member : ℕ) (tag : Tag) (piece : Piece) →
-      piece_of (bank_of world position member) tag ≡ Some piece →
+      piece_of (member_bank world position member) tag ≡ Some piece →
       IsPieceOf fragment world node position member tag piece
   pub messages : (node : ℕ) (message : Message) (tag : Tag) (piece : Piece) → WasSent world message →
       body_tag message.body ≡ Some tag → body_piece message.body ≡ Some piece →

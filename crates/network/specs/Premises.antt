@@ -28,11 +28,11 @@ abbrev pub IsUnused : World → (id : ℕ) → Type 0
 IsUnused world id = AllByRecursion (λ entry. entry.call ≢ id) world.history
 
 -- the id of a call that begins is one that no call of the object had
-abbrev pub IsNewId : World → Event → Type 0
-IsNewId world (Event.BeginRead node id) = IsUnused world id
-IsNewId world (Event.BeginWrite node id value) = IsUnused world id
-IsNewId world (Event.BeginMove node id layout) = IsUnused world id
-IsNewId world _ = Unit {0}
+abbrev pub HasNewId : World → Event → Type 0
+HasNewId world (Event.BeginRead node id) = IsUnused world id
+HasNewId world (Event.BeginWrite node id value) = IsUnused world id
+HasNewId world (Event.BeginMove node id layout) = IsUnused world id
+HasNewId world _ = Unit {0}
 
 -- all nodes run with the same cluster file; so one node moves objects
 abbrev pub IsOneFile : (files : ℕ → ClusterFile) → Type 0
@@ -42,10 +42,11 @@ IsOneFile files = (node : ℕ) → files node ≡ files 0
 pub record IsPremised (world : World) (event : Event) : Type 0 where
   pub network : IsAsSent world event
   pub log : IsKeptByLog world event
-  pub ids : IsNewId world event
+  pub ids : HasNewId world event
 
 -- these events may happen one after another, and meet the premises on events
-abbrev pub MayRun : Code → List Event → World → Type 0
-MayRun fragment [] world = Unit {0}
-MayRun fragment (event ∷ events) world =
-    MayHappen fragment world event × IsPremised world event × MayRun fragment events (happens fragment world event)
+abbrev pub MayHappenInTurn : Code → List Event → World → Type 0
+MayHappenInTurn fragment [] world = Unit {0}
+MayHappenInTurn fragment (event ∷ events) world =
+    MayHappen fragment world event × IsPremised world event
+    × MayHappenInTurn fragment events (happens fragment world event)

@@ -61,22 +61,22 @@ opened_world files = record {
 }
 
 -- the layouts of all positions, as a node knows them: that of position 0 is in its file
-abbrev pub layouts_of : World → (node : ℕ) → List Layout
-layouts_of world node = (world.files node).first ∷ world.later
+abbrev pub known_layouts : World → (node : ℕ) → List Layout
+known_layouts world node = (world.files node).first ∷ world.later
 
 -- the layout of a position, as a node knows it
-abbrev pub layout_of : World → (node position : ℕ) → Layout
-layout_of world node position = get_or (layouts_of world node) position no_layout
+abbrev pub known_layout : World → (node position : ℕ) → Layout
+known_layout world node position = get_or (known_layouts world node) position no_layout
 
 -- the bank that the member of a position keeps
-abbrev pub bank_of : World → (position member : ℕ) → Bank
-bank_of world position member = get_or (get_or world.banks position []) member no_bank
+abbrev pub member_bank : World → (position member : ℕ) → Bank
+member_bank world position member = get_or (get_or world.banks position []) member no_bank
 
 -- the layouts that a node knows, the banks and the messages, as a record of an object without calls
 abbrev pub parts_of : World → (node : ℕ) → Object
 parts_of world node = record {
   delta = (world.files node).delta;
-  layouts = layouts_of world node;
+  layouts = known_layouts world node;
   banks = world.banks;
   mail = world.sent;
   calls = [];
@@ -105,5 +105,5 @@ reached call =
     passed call.kind call.id call.stage call.phase.end call.phase.replies (lacks_pieces call.phase)
 
 -- the phase that is due for a call, with its position; a first reading begins at position 0
-abbrev pub next_of : OpenCall → Option (Kind × ℕ)
-next_of call = due (begun_at (reached call) 0)
+abbrev pub due_phase : OpenCall → Option (Kind × ℕ)
+due_phase call = due (begun_at (reached call) 0)

@@ -3,8 +3,8 @@ use Rattle.std.proofs.Common.{List, [], ◌∷◌, ◌++◌, inl, refl, ap, le_r
 use Rattle.bank.specs.declared.request.Request.TheVariants as request
 use Rattle.bank.specs.declared.reply.Answer.TheVariants.{Done}
 use Rattle.network.specs.Worlds.{World}
-use Rattle.network.specs.Events.{Event, happens, run}
-use Rattle.network.specs.Premises.{MayRun}
+use Rattle.network.specs.Events.{Event, happens, world_after}
+use Rattle.network.specs.Premises.{MayHappenInTurn}
 use Rattle.network_tests.specs.Scripts.{both, restarted, served, start, whole, write_tag}
 use Rattle.network_tests.specs.Examples.{write_asked, write_kept, write_ended, until_crash, after_crash, crash}
 use Rattle.network_tests.specs.Examples.{read, read_asked, read_settled, read_ended}
@@ -18,14 +18,14 @@ use Rattle.network_tests.proofs.WriteLemmas.{after_asked, after_kept, asks, keep
 abbrev last_part : List Event
 last_part = Event.Advance 7 ∷ served 7 4 0 (λ member. request.Finalize write_tag) 0 ∷ []
 
-serves_one : MayRun whole last_part (after_kept 2)
+serves_one : MayHappenInTurn whole last_part (after_kept 2)
 serves_one = (
   (_, refl, inl (ready _ refl refl, refl)),
   record { network = tt; log = tt; ids = tt },
   ((_, refl), record { network = (15, refl); log = tt; ids = tt }, tt),
 )
 
-before : MayRun whole until_crash start
+before : MayHappenInTurn whole until_crash start
 before =
     may_append (write_asked 2) (write_kept ++ last_part) start (asks 2)
     (may_append write_kept last_part (after_asked 2) (keeps 2) serves_one)
@@ -33,24 +33,24 @@ before =
 -- After the crash
 
 abbrev back : World
-back = happens whole (run whole until_crash start) (restarted 0 (run whole until_crash start))
+back = happens whole (world_after whole until_crash start) (restarted 0 (world_after whole until_crash start))
 
 abbrev served_again : List Event
 served_again = both 7 4 (λ member. request.Finalize write_tag) 0 1 Done Done
 
 abbrev finalized_again : World
-finalized_again = run whole served_again back
+finalized_again = world_after whole served_again back
 
 abbrev after_write : World
-after_write = run whole write_ended finalized_again
+after_write = world_after whole write_ended finalized_again
 
 abbrev after_query : World
-after_query = run whole (read_asked 0) after_write
+after_query = world_after whole (read_asked 0) after_write
 
 abbrev after_fetch : World
-after_fetch = run whole (read_settled 0) after_query
+after_fetch = world_after whole (read_settled 0) after_query
 
-serves_again : MayRun whole served_again back
+serves_again : MayHappenInTurn whole served_again back
 serves_again = (
   (_, refl),
   record { network = (15, refl); log = tt; ids = tt },
@@ -65,7 +65,7 @@ serves_again = (
   ),
 )
 
-ends : MayRun whole write_ended finalized_again
+ends : MayHappenInTurn whole write_ended finalized_again
 ends = (
   (_, refl, inl (ready _ refl refl, refl)),
   record { network = tt; log = tt; ids = tt },
@@ -88,7 +88,7 @@ ends = (
   ),
 )
 
-reads : MayRun whole (read_asked 0) after_write
+reads : MayHappenInTurn whole (read_asked 0) after_write
 reads = (
   tt,
   record { network = tt; log = tt; ids = other_id },
@@ -127,7 +127,7 @@ reads = (
   ),
 )
 
-settles : MayRun whole (read_settled 0) after_query
+settles : MayHappenInTurn whole (read_settled 0) after_query
 settles = (
   (_, refl, inl (ready _ refl refl, refl)),
   record { network = tt; log = tt; ids = tt },
@@ -181,7 +181,7 @@ settles = (
   ),
 )
 
-read_asks : MayRun whole (last_asked 0) after_fetch
+read_asks : MayHappenInTurn whole (last_asked 0) after_fetch
 read_asks = (
   (_, refl, inl (ready_settled _ refl refl, refl)),
   record { network = tt; log = tt; ids = tt },
@@ -192,7 +192,7 @@ read_asks = (
   ),
 )
 
-read_hears : MayRun whole (last_told 0) (run whole (last_asked 0) after_fetch)
+read_hears : MayHappenInTurn whole (last_told 0) (world_after whole (last_asked 0) after_fetch)
 read_hears = (
   (_, _, refl),
   record { network = (44, refl); log = tt; ids = tt },
@@ -203,12 +203,12 @@ read_hears = (
   ),
 )
 
-read_ends : MayRun whole (read_ended 0) after_fetch
+read_ends : MayHappenInTurn whole (read_ended 0) after_fetch
 read_ends = may_append (last_asked 0) (last_told 0) after_fetch read_asks read_hears
 
-pub every_event : MayRun whole crash start
+pub every_event : MayHappenInTurn whole crash start
 every_event =
-    may_append until_crash (restarted 0 (run whole until_crash start) ∷ (after_crash ++ read 0)) start before (
+    may_append until_crash (restarted 0 (world_after whole until_crash start) ∷ (after_crash ++ read 0)) start before (
       tt,
       record { network = tt; log = (refl, refl); ids = tt },
       may_append served_again (write_ended ++ read 0) back serves_again

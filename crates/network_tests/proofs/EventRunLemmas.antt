@@ -13,8 +13,8 @@ use Rattle.mail.specs.declared.message.Message.{Message}
 use Rattle.record.specs.Fragments.{IsValue}
 use Rattle.record.specs.Wants.{is_fetch}
 use Rattle.network.specs.Worlds.{OpenCall, World}
-use Rattle.network.specs.Events.{Event, IsReady, happens, run}
-use Rattle.network.specs.Premises.{MayRun}
+use Rattle.network.specs.Events.{Event, IsReady, happens, world_after}
+use Rattle.network.specs.Premises.{MayHappenInTurn}
 use Rattle.network_tests.specs.Scripts.{letter, served, taken, whole}
 
 letter_fits : 1 ≤ LONGEST_VALUE
@@ -62,8 +62,8 @@ piece_told call phase position member tag piece = Some (record {
 })
 
 -- events, and then others
-pub may_append : (first second : List Event) (world : World) → MayRun whole first world →
-    MayRun whole second (run whole first world) → MayRun whole (first ++ second) world
+pub may_append : (first second : List Event) (world : World) → MayHappenInTurn whole first world →
+    MayHappenInTurn whole second (world_after whole first world) → MayHappenInTurn whole (first ++ second) world
 may_append [] second world a b = b
 may_append (event ∷ first) second world a b = (a.0, a.1, may_append first second (happens whole world event) a.2 b)
 

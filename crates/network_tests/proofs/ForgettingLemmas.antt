@@ -3,8 +3,8 @@ use Rattle.std.proofs.Common.{◌≡◌, Bool, true, false, cond, List, [], ◌�
 use Rattle.tag.specs.Tag.{opening_tag}
 use Rattle.record.specs.Fragments.{IsValue}
 use Rattle.network.specs.Worlds.{World}
-use Rattle.network.specs.Events.{Event, happens, run}
-use Rattle.network.specs.Premises.{MayRun}
+use Rattle.network.specs.Events.{Event, happens, world_after}
+use Rattle.network.specs.Premises.{MayHappenInTurn}
 use Rattle.network_tests.specs.Scripts.{start, whole}
 use Rattle.network_tests.specs.Examples.{read_ended, write_asked, write_kept, write_finalized, write_ended}
 use Rattle.network_tests.specs.Forgetting.{IsForgotten, MayRunForgetting, empty_asked, empty_read}
@@ -30,7 +30,7 @@ forgets_nothing : (world : World) (event : Event) → is_restart event ≡ false
 forgets_nothing world (Event.Restart node banks calls) other = absurd (cc)
 forgets_nothing world _ other = tt
 
-may_forgetting : (events : List Event) (world : World) → no_restarts events ≡ true → MayRun whole events world →
+may_forgetting : (events : List Event) (world : World) → no_restarts events ≡ true → MayHappenInTurn whole events world →
     MayRunForgetting whole events world
 may_forgetting [] world others may = tt
 may_forgetting (event ∷ events) world others may =
@@ -51,32 +51,32 @@ may_forgetting (event ∷ events) world others may =
     )
 
 forgetting_append : (first second : List Event) (world : World) → MayRunForgetting whole first world →
-    MayRunForgetting whole second (run whole first world) → MayRunForgetting whole (first ++ second) world
+    MayRunForgetting whole second (world_after whole first world) → MayRunForgetting whole (first ++ second) world
 forgetting_append [] second world a b = b
 forgetting_append (event ∷ first) second world a b =
     (a.0, a.1, forgetting_append first second (happens whole world event) a.2 b)
 
 -- The run
 
-pub writes : MayRun whole write_to_two start
+pub writes : MayHappenInTurn whole write_to_two start
 writes =
     may_append (write_asked 0) (write_kept ++ (write_finalized ++ write_ended)) start (asks 0)
     (may_append write_kept (write_finalized ++ write_ended) (after_asked 0) (keeps 0)
     (may_append write_finalized write_ended (after_kept 0) (finalizes 0) (ends 0)))
 
 abbrev back : World
-back = happens whole (run whole write_to_two start) (restarted_empty 1 (run whole write_to_two start))
+back = happens whole (world_after whole write_to_two start) (restarted_empty 1 (world_after whole write_to_two start))
 
 abbrev after_query : World
-after_query = run whole empty_asked back
+after_query = world_after whole empty_asked back
 
 abbrev after_fetch : World
-after_fetch = run whole empty_settled after_query
+after_fetch = world_after whole empty_settled after_query
 
 empty_is_value : IsValue []
 empty_is_value = (tt, omega arith)
 
-reads : MayRun whole empty_asked back
+reads : MayHappenInTurn whole empty_asked back
 reads = (
   tt,
   record { network = tt; log = tt; ids = other_id },
@@ -115,7 +115,7 @@ reads = (
   ),
 )
 
-settles : MayRun whole empty_settled after_query
+settles : MayHappenInTurn whole empty_settled after_query
 settles = (
   (_, refl, inl (ready _ refl refl, refl)),
   record { network = tt; log = tt; ids = tt },
@@ -169,7 +169,7 @@ settles = (
   ),
 )
 
-read_asks : MayRun whole (last_asked 1) after_fetch
+read_asks : MayHappenInTurn whole (last_asked 1) after_fetch
 read_asks = (
   (_, refl, inl (ready_settled _ refl refl, refl)),
   record { network = tt; log = tt; ids = tt },
@@ -180,7 +180,7 @@ read_asks = (
   ),
 )
 
-read_hears : MayRun whole (last_told 1) (run whole (last_asked 1) after_fetch)
+read_hears : MayHappenInTurn whole (last_told 1) (world_after whole (last_asked 1) after_fetch)
 read_hears = (
   (_, _, refl),
   record { network = (43, refl); log = tt; ids = tt },
@@ -191,12 +191,12 @@ read_hears = (
   ),
 )
 
-read_ends : MayRun whole (read_ended 1) after_fetch
+read_ends : MayHappenInTurn whole (read_ended 1) after_fetch
 read_ends = may_append (last_asked 1) (last_told 1) after_fetch read_asks read_hears
 
 pub every_event : MayRunForgetting whole forgetful start
 every_event =
-    forgetting_append write_to_two (restarted_empty 1 (run whole write_to_two start) ∷ empty_read) start
+    forgetting_append write_to_two (restarted_empty 1 (world_after whole write_to_two start) ∷ empty_read) start
     (may_forgetting write_to_two start refl writes) (
       tt,
       record { network = tt; forgets = (refl, refl); ids = tt },

@@ -2,8 +2,8 @@
 use Rattle.std.proofs.Common.{List, [], ◌∷◌, ◌++◌, inl, refl, arith, le_refl}
 use Rattle.record.specs.Fragments.{IsValue}
 use Rattle.network.specs.Worlds.{World}
-use Rattle.network.specs.Events.{happens, run}
-use Rattle.network.specs.Premises.{MayRun}
+use Rattle.network.specs.Events.{happens, world_after}
+use Rattle.network.specs.Premises.{MayHappenInTurn}
 use Rattle.network.specs.Events.{Event}
 use Rattle.network_tests.specs.Scripts.{start, whole}
 use Rattle.network_tests.specs.Forgetting.{write_to_two}
@@ -12,25 +12,25 @@ use Rattle.network_tests.proofs.EventRunLemmas.{one_distinct, other_id, ready, r
 use Rattle.network_tests.proofs.ForgettingLemmas.{writes}
 
 -- what may happen where the network invents no message may happen where it may
-may_inventing : (events : List Event) (world : World) → MayRun whole events world → MayRunInventing whole events world
+may_inventing : (events : List Event) (world : World) → MayHappenInTurn whole events world → MayRunInventing whole events world
 may_inventing [] world may = tt
 may_inventing (event ∷ events) world may =
     (may.0, record { log = may.1.log; ids = may.1.ids }, may_inventing events (happens whole world event) may.2)
 
 inventing_append : (first second : List Event) (world : World) → MayRunInventing whole first world →
-    MayRunInventing whole second (run whole first world) → MayRunInventing whole (first ++ second) world
+    MayRunInventing whole second (world_after whole first world) → MayRunInventing whole (first ++ second) world
 inventing_append [] second world a b = b
 inventing_append (event ∷ first) second world a b =
     (a.0, a.1, inventing_append first second (happens whole world event) a.2 b)
 
 abbrev after_write : World
-after_write = run whole write_to_two start
+after_write = world_after whole write_to_two start
 
 abbrev after_query : World
-after_query = run whole invented_asked after_write
+after_query = world_after whole invented_asked after_write
 
 abbrev after_fetch : World
-after_fetch = run whole invented_settled after_query
+after_fetch = world_after whole invented_settled after_query
 
 empty_is_value : IsValue []
 empty_is_value = (tt, omega arith)

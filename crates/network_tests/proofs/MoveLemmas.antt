@@ -4,8 +4,8 @@ use Rattle.tag.specs.Tag.{opening_tag}
 use Rattle.layout.specs.Layout.{IsLawful}
 use Rattle.record.specs.Fragments.{IsValue}
 use Rattle.network.specs.Worlds.{World}
-use Rattle.network.specs.Events.{run}
-use Rattle.network.specs.Premises.{MayRun}
+use Rattle.network.specs.Events.{world_after}
+use Rattle.network.specs.Premises.{MayHappenInTurn}
 use Rattle.network_tests.specs.Scripts.{whole}
 use Rattle.network_tests.specs.Moving.{at_first, second_node, write_beginning, move_beginning, move_ending}
 use Rattle.network_tests.proofs.KeptRowLemmas.{opened_greatest, opened_piece}
@@ -22,15 +22,15 @@ second_lawful =
 -- The parts of the run
 
 abbrev pub after_begun : World
-after_begun = run whole write_beginning at_first
+after_begun = world_after whole write_beginning at_first
 
 abbrev pub after_moving : World
-after_moving = run whole move_beginning after_begun
+after_moving = world_after whole move_beginning after_begun
 
 abbrev pub after_move : World
-after_move = run whole move_ending after_moving
+after_move = world_after whole move_ending after_moving
 
-pub begins : MayRun whole write_beginning at_first
+pub begins : MayHappenInTurn whole write_beginning at_first
 begins = (
   letter_is_value,
   record { network = tt; log = tt; ids = tt },
@@ -53,7 +53,7 @@ begins = (
   ),
 )
 
-pub moves : MayRun whole move_beginning after_begun
+pub moves : MayHappenInTurn whole move_beginning after_begun
 moves = (
   (second_lawful, refl, (λ same. absurd (let clash : 0 ≡ 1 = same in omega arith), tt)),
   record { network = tt; log = tt; ids = other_id },
@@ -92,7 +92,7 @@ moves = (
   ),
 )
 
-pub move_ends : MayRun whole move_ending after_moving
+pub move_ends : MayHappenInTurn whole move_ending after_moving
 move_ends = (
   (
     _,

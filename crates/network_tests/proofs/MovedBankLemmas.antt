@@ -5,8 +5,8 @@ use Rattle.tag.specs.Tag.{opening_tag}
 use Rattle.bank.specs.Bank.{Bank, empty_piece, opened_bank, piece_of, pre_written, finalized}
 use Rattle.bank.specs.Collect.{collected}
 use Rattle.bank.proofs.EntryOrderLemmas.{Rows}
-use Rattle.network.specs.Worlds.{bank_of}
-use Rattle.network.specs.Events.{run}
+use Rattle.network.specs.Worlds.{member_bank}
+use Rattle.network.specs.Events.{world_after}
 use Rattle.network_tests.specs.Scripts.{letter_piece, whole, write_tag}
 use Rattle.network_tests.specs.Moving.{at_first, move_while_writing}
 use Rattle.network_tests.proofs.KeptRowLemmas.{final_keeps, opened_keeps, opened_rows, piece_from, rows_final, rows_with, wrote_keeps}
@@ -34,5 +34,5 @@ last_keeps =
     final_keeps written_bank (rows_with moved_rows write_tag (letter_piece 0)) write_tag (refl, refl)
     (wrote_keeps moved_bank moved_rows write_tag (letter_piece 0) (refl, refl) moved_keeps)
 
-pub kept : piece_of (bank_of (run whole move_while_writing at_first) 1 0) write_tag ≡ Some (letter_piece 0)
+pub kept : piece_of (member_bank (world_after whole move_while_writing at_first) 1 0) write_tag ≡ Some (letter_piece 0)
 kept = piece_from last_bank (rows_final (rows_with moved_rows write_tag (letter_piece 0)) write_tag) write_tag last_keeps

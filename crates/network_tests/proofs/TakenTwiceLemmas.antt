@@ -2,8 +2,8 @@
 use Rattle.std.proofs.Common.{List, [], ◌∷◌, ◌++◌, inl, refl}
 use Rattle.bank.specs.declared.reply.Answer.TheVariants.{Done}
 use Rattle.network.specs.Worlds.{World}
-use Rattle.network.specs.Events.{Event, run}
-use Rattle.network.specs.Premises.{MayRun}
+use Rattle.network.specs.Events.{Event, world_after}
+use Rattle.network.specs.Premises.{MayHappenInTurn}
 use Rattle.network_tests.specs.Scripts.{served, start, taken, to_keep, whole}
 use Rattle.network_tests.specs.Examples.{write_asked, write_finalized, write_ended, until_taken, taken_twice}
 use Rattle.network_tests.proofs.EventRunLemmas.{may_append, ready}
@@ -16,15 +16,15 @@ abbrev second_taken : List Event
 second_taken = taken 7 3 0 to_keep 0 Done ∷ served 7 3 0 to_keep 1 ∷ taken 7 3 0 to_keep 1 Done ∷ []
 
 abbrev after_first : World
-after_first = run whole first_taken (after_asked 0)
+after_first = world_after whole first_taken (after_asked 0)
 
 abbrev after_second : World
-after_second = run whole second_taken after_first
+after_second = world_after whole second_taken after_first
 
 abbrev after_finalized : World
-after_finalized = run whole write_finalized after_second
+after_finalized = world_after whole write_finalized after_second
 
-takes_first : MayRun whole first_taken (after_asked 0)
+takes_first : MayHappenInTurn whole first_taken (after_asked 0)
 takes_first = (
   (_, refl, inl (ready _ refl refl, refl)),
   record { network = tt; log = tt; ids = tt },
@@ -35,7 +35,7 @@ takes_first = (
   ),
 )
 
-takes_second : MayRun whole second_taken after_first
+takes_second : MayHappenInTurn whole second_taken after_first
 takes_second = (
   (_, _, refl),
   record { network = (13, refl); log = tt; ids = tt },
@@ -46,7 +46,7 @@ takes_second = (
   ),
 )
 
-finalizes : MayRun whole write_finalized after_second
+finalizes : MayHappenInTurn whole write_finalized after_second
 finalizes = (
   (_, refl, inl (ready _ refl refl, refl)),
   record { network = tt; log = tt; ids = tt },
@@ -65,7 +65,7 @@ finalizes = (
   ),
 )
 
-ends : MayRun whole write_ended after_finalized
+ends : MayHappenInTurn whole write_ended after_finalized
 ends = (
   (_, refl, inl (ready _ refl refl, refl)),
   record { network = tt; log = tt; ids = tt },
@@ -88,7 +88,7 @@ ends = (
   ),
 )
 
-pub every_event : MayRun whole taken_twice start
+pub every_event : MayHappenInTurn whole taken_twice start
 every_event =
     may_append until_taken (second_taken ++ (write_finalized ++ write_ended)) start
     (may_append (write_asked 0) first_taken start (asks 0) takes_first)

@@ -3,8 +3,8 @@ use Rattle.std.proofs.Common.{[], ◌∷◌, ◌++◌, inl, refl, ap, arith, le_
 use Rattle.tag.specs.Tag.{opening_tag}
 use Rattle.record.specs.Fragments.{IsValue}
 use Rattle.network.specs.Worlds.{World}
-use Rattle.network.specs.Events.{run}
-use Rattle.network.specs.Premises.{MayRun}
+use Rattle.network.specs.Events.{world_after}
+use Rattle.network.specs.Premises.{MayHappenInTurn}
 use Rattle.network_tests.specs.Scripts.{whole}
 use Rattle.network_tests.specs.Examples.{read_ended}
 use Rattle.network_tests.specs.Forgetting.{empty_asked, empty_read, empty_settled}
@@ -14,21 +14,21 @@ use Rattle.network_tests.proofs.EventRunLemmas.{last_asked, last_told, letter_is
 use Rattle.network_tests.proofs.EventRunLemmas.{other_id, piece_told, ready, ready_settled, tag_told}
 
 abbrev after_begun : World
-after_begun = run whole lone_begun apart
+after_begun = world_after whole lone_begun apart
 
 abbrev after_write : World
-after_write = run whole lone_ended after_begun
+after_write = world_after whole lone_ended after_begun
 
 abbrev after_query : World
-after_query = run whole empty_asked after_write
+after_query = world_after whole empty_asked after_write
 
 abbrev after_fetch : World
-after_fetch = run whole empty_settled after_query
+after_fetch = world_after whole empty_settled after_query
 
 empty_is_value : IsValue []
 empty_is_value = (tt, omega arith)
 
-begins : MayRun whole lone_begun apart
+begins : MayHappenInTurn whole lone_begun apart
 begins = (
   letter_is_value,
   record { network = tt; log = tt; ids = tt },
@@ -63,7 +63,7 @@ begins = (
   ),
 )
 
-ends : MayRun whole lone_ended after_begun
+ends : MayHappenInTurn whole lone_ended after_begun
 ends = (
   (_, refl, inl (ready _ refl refl, refl)),
   record { network = tt; log = tt; ids = tt },
@@ -90,7 +90,7 @@ ends = (
   ),
 )
 
-reads : MayRun whole empty_asked after_write
+reads : MayHappenInTurn whole empty_asked after_write
 reads = (
   tt,
   record { network = tt; log = tt; ids = other_id },
@@ -129,7 +129,7 @@ reads = (
   ),
 )
 
-settles : MayRun whole empty_settled after_query
+settles : MayHappenInTurn whole empty_settled after_query
 settles = (
   (_, refl, inl (ready _ refl refl, refl)),
   record { network = tt; log = tt; ids = tt },
@@ -183,7 +183,7 @@ settles = (
   ),
 )
 
-read_asks : MayRun whole (last_asked 1) after_fetch
+read_asks : MayHappenInTurn whole (last_asked 1) after_fetch
 read_asks = (
   (_, refl, inl (ready_settled _ refl refl, refl)),
   record { network = tt; log = tt; ids = tt },
@@ -194,7 +194,7 @@ read_asks = (
   ),
 )
 
-read_hears : MayRun whole (last_told 1) (run whole (last_asked 1) after_fetch)
+read_hears : MayHappenInTurn whole (last_told 1) (world_after whole (last_asked 1) after_fetch)
 read_hears = (
   (_, _, refl),
   record { network = (28, refl); log = tt; ids = tt },
@@ -205,10 +205,10 @@ read_hears = (
   ),
 )
 
-read_ends : MayRun whole (read_ended 1) after_fetch
+read_ends : MayHappenInTurn whole (read_ended 1) after_fetch
 read_ends = may_append (last_asked 1) (last_told 1) after_fetch read_asks read_hears
 
-pub every_event : MayRun whole missed apart
+pub every_event : MayHappenInTurn whole missed apart
 every_event =
     may_append lone_begun (lone_ended ++ empty_read) apart begins
     (may_append lone_ended empty_read after_begun ends

@@ -1,8 +1,8 @@
 -- A write, and a read from the nodes 1 and 2.
 use Rattle.std.proofs.Common.{[], ◌∷◌, ◌++◌, inl, refl, ap, le_refl}
 use Rattle.network.specs.Worlds.{World}
-use Rattle.network.specs.Events.{run}
-use Rattle.network.specs.Premises.{MayRun}
+use Rattle.network.specs.Events.{world_after}
+use Rattle.network.specs.Premises.{MayHappenInTurn}
 use Rattle.network_tests.specs.Scripts.{start, whole, write_tag}
 use Rattle.network_tests.specs.Examples.{write_asked, write_kept, write_finalized, write_ended}
 use Rattle.network_tests.specs.Examples.{read, read_asked, read_settled, read_ended, write_and_read}
@@ -12,12 +12,12 @@ use Rattle.network_tests.proofs.EventRunLemmas.{piece_told, ready, ready_settled
 use Rattle.network_tests.proofs.WriteLemmas.{after_asked, after_finalized, after_kept, after_write, asks, ends, finalizes, keeps}
 
 abbrev after_query : World
-after_query = run whole (read_asked 1) (after_write 0)
+after_query = world_after whole (read_asked 1) (after_write 0)
 
 abbrev after_fetch : World
-after_fetch = run whole (read_settled 1) after_query
+after_fetch = world_after whole (read_settled 1) after_query
 
-reads : MayRun whole (read_asked 1) (after_write 0)
+reads : MayHappenInTurn whole (read_asked 1) (after_write 0)
 reads = (
   tt,
   record { network = tt; log = tt; ids = other_id },
@@ -56,7 +56,7 @@ reads = (
   ),
 )
 
-settles : MayRun whole (read_settled 1) after_query
+settles : MayHappenInTurn whole (read_settled 1) after_query
 settles = (
   (_, refl, inl (ready _ refl refl, refl)),
   record { network = tt; log = tt; ids = tt },
@@ -110,7 +110,7 @@ settles = (
   ),
 )
 
-read_asks : MayRun whole (last_asked 1) after_fetch
+read_asks : MayHappenInTurn whole (last_asked 1) after_fetch
 read_asks = (
   (_, refl, inl (ready_settled _ refl refl, refl)),
   record { network = tt; log = tt; ids = tt },
@@ -121,7 +121,7 @@ read_asks = (
   ),
 )
 
-read_hears : MayRun whole (last_told 1) (run whole (last_asked 1) after_fetch)
+read_hears : MayHappenInTurn whole (last_told 1) (world_after whole (last_asked 1) after_fetch)
 read_hears = (
   (_, _, refl),
   record { network = (43, refl); log = tt; ids = tt },
@@ -132,10 +132,10 @@ read_hears = (
   ),
 )
 
-read_ends : MayRun whole (read_ended 1) after_fetch
+read_ends : MayHappenInTurn whole (read_ended 1) after_fetch
 read_ends = may_append (last_asked 1) (last_told 1) after_fetch read_asks read_hears
 
-pub every_event : MayRun whole write_and_read start
+pub every_event : MayHappenInTurn whole write_and_read start
 every_event =
     may_append (write_asked 0) (write_kept ++ (write_finalized ++ (write_ended ++ read 1))) start (asks 0)
     (may_append write_kept (write_finalized ++ (write_ended ++ read 1)) (after_asked 0) (keeps 0)

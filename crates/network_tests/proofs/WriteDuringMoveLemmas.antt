@@ -1,8 +1,8 @@
 -- A move while a write is under way: the write goes on after the move.
 use Rattle.std.proofs.Common.{◌++◌, inl, refl}
 use Rattle.network.specs.Worlds.{World}
-use Rattle.network.specs.Events.{run}
-use Rattle.network.specs.Premises.{MayRun}
+use Rattle.network.specs.Events.{world_after}
+use Rattle.network.specs.Premises.{MayHappenInTurn}
 use Rattle.network_tests.specs.Scripts.{whole}
 use Rattle.network_tests.specs.Moving.{at_first, move_while_writing, write_beginning, move_beginning, move_ending}
 use Rattle.network_tests.specs.Moving.{write_at_first, write_moved, write_at_second}
@@ -10,12 +10,12 @@ use Rattle.network_tests.proofs.EventRunLemmas.{may_append, ready}
 use Rattle.network_tests.proofs.MoveLemmas.{after_begun, after_move, after_moving, begins, move_ends, moves}
 
 abbrev after_first : World
-after_first = run whole write_at_first after_move
+after_first = world_after whole write_at_first after_move
 
 abbrev after_moved : World
-after_moved = run whole write_moved after_first
+after_moved = world_after whole write_moved after_first
 
-writes_first : MayRun whole write_at_first after_move
+writes_first : MayHappenInTurn whole write_at_first after_move
 writes_first = (
   (_, refl, inl (ready _ refl refl, refl)),
   record { network = tt; log = tt; ids = tt },
@@ -50,7 +50,7 @@ writes_first = (
   ),
 )
 
-finds_move : MayRun whole write_moved after_first
+finds_move : MayHappenInTurn whole write_moved after_first
 finds_move = (
   (_, refl, inl (ready _ refl refl, refl)),
   record { network = tt; log = tt; ids = tt },
@@ -73,7 +73,7 @@ finds_move = (
   ),
 )
 
-writes_second : MayRun whole write_at_second after_moved
+writes_second : MayHappenInTurn whole write_at_second after_moved
 writes_second = (
   (_, refl, inl (ready _ refl refl, refl)),
   record { network = tt; log = tt; ids = tt },
@@ -112,7 +112,7 @@ writes_second = (
   ),
 )
 
-pub every_event : MayRun whole move_while_writing at_first
+pub every_event : MayHappenInTurn whole move_while_writing at_first
 every_event =
     may_append write_beginning (move_beginning ++ (move_ending ++ (write_at_first ++ (write_moved ++ write_at_second)))) at_first begins
     (may_append move_beginning (move_ending ++ (write_at_first ++ (write_moved ++ write_at_second))) after_begun moves

@@ -1,26 +1,26 @@
 -- A write over three nodes, part by part.
 use Rattle.std.proofs.Common.{ℕ, inl, refl, ap}
 use Rattle.network.specs.Worlds.{World}
-use Rattle.network.specs.Events.{run}
-use Rattle.network.specs.Premises.{MayRun}
+use Rattle.network.specs.Events.{world_after}
+use Rattle.network.specs.Premises.{MayHappenInTurn}
 use Rattle.network_tests.specs.Scripts.{start, whole}
 use Rattle.network_tests.specs.Examples.{write_asked, write_kept, write_finalized, write_ended}
 use Rattle.network_tests.proofs.KeptRowLemmas.{opened_greatest}
 use Rattle.network_tests.proofs.EventRunLemmas.{letter_is_value, ready, tag_told}
 
 abbrev pub after_asked : (node : ℕ) → World
-after_asked node = run whole (write_asked node) start
+after_asked node = world_after whole (write_asked node) start
 
 abbrev pub after_kept : (node : ℕ) → World
-after_kept node = run whole write_kept (after_asked node)
+after_kept node = world_after whole write_kept (after_asked node)
 
 abbrev pub after_finalized : (node : ℕ) → World
-after_finalized node = run whole write_finalized (after_kept node)
+after_finalized node = world_after whole write_finalized (after_kept node)
 
 abbrev pub after_write : (node : ℕ) → World
-after_write node = run whole write_ended (after_finalized node)
+after_write node = world_after whole write_ended (after_finalized node)
 
-pub asks : (node : ℕ) → MayRun whole (write_asked node) start
+pub asks : (node : ℕ) → MayHappenInTurn whole (write_asked node) start
 asks node = (
   letter_is_value,
   record { network = tt; log = tt; ids = tt },
@@ -59,7 +59,7 @@ asks node = (
   ),
 )
 
-pub keeps : (node : ℕ) → MayRun whole write_kept (after_asked node)
+pub keeps : (node : ℕ) → MayHappenInTurn whole write_kept (after_asked node)
 keeps node = (
   (_, refl, inl (ready _ refl refl, refl)),
   record { network = tt; log = tt; ids = tt },
@@ -78,7 +78,7 @@ keeps node = (
   ),
 )
 
-pub finalizes : (node : ℕ) → MayRun whole write_finalized (after_kept node)
+pub finalizes : (node : ℕ) → MayHappenInTurn whole write_finalized (after_kept node)
 finalizes node = (
   (_, refl, inl (ready _ refl refl, refl)),
   record { network = tt; log = tt; ids = tt },
@@ -97,7 +97,7 @@ finalizes node = (
   ),
 )
 
-pub ends : (node : ℕ) → MayRun whole write_ended (after_finalized node)
+pub ends : (node : ℕ) → MayHappenInTurn whole write_ended (after_finalized node)
 ends node = (
   (_, refl, inl (ready _ refl refl, refl)),
   record { network = tt; log = tt; ids = tt },

@@ -8,7 +8,7 @@ use Rattle.bank.specs.declared.request.Request.TheVariants as request
 use Rattle.bank.specs.declared.status.Status.TheVariants.{Unset}
 use Rattle.record.specs.declared.call.Entry.{Entry}
 use Rattle.record.specs.declared.call.Operation.TheVariants as operation
-use Rattle.network.specs.Events.{Event, run}
+use Rattle.network.specs.Events.{Event, world_after}
 use Rattle.network_tests.specs.Scripts.{both, served, taken, restarted, start, whole, letter, letter_piece, to_keep}
 use Rattle.network_tests.specs.Scripts.{write_tag}
 
@@ -81,7 +81,7 @@ after_crash = both 7 4 (λ member. request.Finalize write_tag) 0 1 Done Done ++ 
 abbrev pub crash : List Event
 crash =
     until_crash
-    ++ (restarted 0 (run whole until_crash start) ∷ (after_crash ++ read 0))
+    ++ (restarted 0 (world_after whole until_crash start) ∷ (after_crash ++ read 0))
 
 -- the entries of both calls: the write has the events 1 to 28, and the read has 29 to 50
 abbrev pub crash_entries : List Entry

@@ -11,9 +11,9 @@ use Rattle.bank.specs.declared.status.Status.TheVariants.{Unset}
 use Rattle.record.specs.declared.call.Entry.{Entry}
 use Rattle.record.specs.declared.call.Operation.TheVariants as operation
 use Rattle.record.specs.Fragments.{Code}
-use Rattle.network.specs.Worlds.{World, after_restart, layouts_of}
-use Rattle.network.specs.Events.{Event, MayHappen, happens, run}
-use Rattle.network.specs.Premises.{IsAsSent, IsNewId}
+use Rattle.network.specs.Worlds.{World, after_restart, known_layouts}
+use Rattle.network.specs.Events.{Event, MayHappen, happens, world_after}
+use Rattle.network.specs.Premises.{IsAsSent, HasNewId}
 use Rattle.network_tests.specs.Scripts.{both, start, whole, letter}
 use Rattle.network_tests.specs.Examples.{read_ended, write_asked, write_kept, write_finalized, write_ended}
 
@@ -37,7 +37,7 @@ forgotten_banks node delta (layout ∷ layouts) (banks ∷ later) =
 -- the wrong rule: a node that starts again has opened its banks anew; its open moves are as they were
 abbrev pub IsForgotten : World → Event → Type 0
 IsForgotten world (Event.Restart node banks calls) =
-    (banks ≡ forgotten_banks node (world.files node).delta (layouts_of world node) world.banks)
+    (banks ≡ forgotten_banks node (world.files node).delta (known_layouts world node) world.banks)
     × (calls ≡ after_restart node world.calls)
 IsForgotten world _ = Unit {0}
 
@@ -45,7 +45,7 @@ IsForgotten world _ = Unit {0}
 pub record IsPremisedForgetting (world : World) (event : Event) : Type 0 where
   pub network : IsAsSent world event
   pub forgets : IsForgotten world event
-  pub ids : IsNewId world event
+  pub ids : HasNewId world event
 
 -- these events may happen one after another, where nodes forget
 abbrev pub MayRunForgetting : Code → List Event → World → Type 0
@@ -63,7 +63,7 @@ write_to_two = write_asked 0 ++ (write_kept ++ (write_finalized ++ write_ended))
 -- a node stops and starts again, and has forgotten what its banks in this world kept
 abbrev pub restarted_empty : (node : ℕ) → World → Event
 restarted_empty node world =
-    Event.Restart node (forgotten_banks node (world.files node).delta (layouts_of world node) world.banks)
+    Event.Restart node (forgotten_banks node (world.files node).delta (known_layouts world node) world.banks)
     (after_restart node world.calls)
 
 -- node 2 begins to read, and the nodes 1 and 2 know of no tag but the opening tag
@@ -84,7 +84,7 @@ empty_read = empty_asked ++ (empty_settled ++ read_ended 1)
 
 -- a write to the nodes 0 and 1, of which node 1 then forgets, and a read from the nodes 1 and 2
 abbrev pub forgetful : List Event
-forgetful = write_to_two ++ (restarted_empty 1 (run whole write_to_two start) ∷ empty_read)
+forgetful = write_to_two ++ (restarted_empty 1 (world_after whole write_to_two start) ∷ empty_read)
 
 -- the entries of both calls: the read was called after the write was answered, and returned the empty value
 abbrev pub forgetful_entries : List Entry

@@ -14,14 +14,14 @@ use Rattle.record.specs.declared.call.Operation.TheVariants as operation
 use Rattle.record.specs.Fragments.{Code}
 use Rattle.network.specs.Worlds.{World}
 use Rattle.network.specs.Events.{Event, MayHappen, happens}
-use Rattle.network.specs.Premises.{IsKeptByLog, IsNewId}
+use Rattle.network.specs.Premises.{IsKeptByLog, HasNewId}
 use Rattle.network_tests.specs.Scripts.{letter, taken}
 use Rattle.network_tests.specs.Forgetting.{write_to_two}
 
 -- the event meets the premises on events, but for that on the network
 pub record IsPremisedInventing (world : World) (event : Event) : Type 0 where
   pub log : IsKeptByLog world event
-  pub ids : IsNewId world event
+  pub ids : HasNewId world event
 
 -- these events may happen one after another, where the network may invent messages
 abbrev pub MayRunInventing : Code → List Event → World → Type 0
