@@ -18,11 +18,11 @@ use tag::{MOST_SERVERS, Refusal};
 /// The accounts of a cluster, in bytes of pieces.
 #[derive(Debug, PartialEq, Eq, Drop)]
 pub struct Accounts {
-    /// What each server stores, as `server_bytes` returns it, from server 0 on.
+    /// What each server stores, as `stored` returns it, from server 0 on.
     pub servers: ArrayVec<u64, MOST_SERVERS>,
     /// What all servers store, as `stored_all` returns it.
     pub stored: u64,
-    /// What waits in messages, as `waiting_bytes` returns it.
+    /// What waits in messages, as `mailed` returns it.
     pub mailed: u64,
 }
 
@@ -52,7 +52,7 @@ impl Cluster {
         self.mailed
     }
 
-    // The accounts: what `server_bytes`, `stored_all` and `waiting_bytes` return.
+    // The accounts: what `stored`, `stored_all` and `mailed` return.
     pub(crate) fn accounts(&self) -> Accounts
         ensures { AreSums self.now result }
     {

@@ -9,8 +9,8 @@ use Rattle.player.proofs.RangeTextLemmas.{flat_map-range_more}
 use Rattle.player.proofs.account_line.AccountLineDisplay.fmt.Goals as goal
 
 -- what all servers store, and what waits in messages
-abbrev totals_text : (stored waiting_bytes : ℕ) → List ℕ
-totals_text stored mailed = in_words (codes "stored" ∷ decimal stored ∷ codes "waiting_bytes" ∷ decimal waiting_bytes ∷ [])
+abbrev totals_text : (stored mailed : ℕ) → List ℕ
+totals_text stored mailed = in_words (codes "stored" ∷ decimal stored ∷ codes "mailed" ∷ decimal mailed ∷ [])
 
 pub loop-server-preserved : goal.loop-server-preserved
 loop-server-preserved g c = λ plain.
