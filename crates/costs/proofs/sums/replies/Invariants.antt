@@ -6,4 +6,5 @@ use Rattle.register.specs.View.{phases_at}
 use Rattle.costs.proofs.sums.replies.Given as goal
 
 abbrev pub invariant-loop-index : goal.invariant-loop-index
-invariant-loop-index l = l.total ≡ u64_saturate (sum_by (λ (p : Phase). length p.replies) (take l.index (phases_at l.register.object l.call)))
+invariant-loop-index l = l.total
+    ≡ u64_saturate (sum_by (λ (p : Phase). length p.replies) (take l.index (phases_at l.register.object l.call)))
