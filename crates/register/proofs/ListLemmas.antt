@@ -116,9 +116,3 @@ pub sum_at : {X : Type 0} (f : X → ℕ) (xs : List X) (i : ℕ) (x : X) → sl
 sum_at f [] i x at = absurd (cc)
 sum_at f (y ∷ ys) zero x at = let same : f y ≡ f x = ap f (same_some y x at) in omega (arith, same, sum_by-cons f y ys)
 sum_at f (y ∷ ys) (suc i) x at = let rest = sum_at f ys i x at in omega (arith, rest, sum_by-cons f y ys)
-
--- what was read of a place may be put there
-pub set_read : {X : Type 0} (xs : List X) (i : ℕ) (x : X) → x ≡ get_or xs i x → i < length xs → set xs i x ≡ xs
-set_read [] i x read within = absurd (omega (arith, within))
-set_read (y ∷ ys) zero x read within = ap (λ z. z ∷ ys) read
-set_read (y ∷ ys) (suc i) x read within = ap (λ zs. y ∷ zs) (set_read ys i x read (omega (arith, within)))
