@@ -2,7 +2,9 @@ ghost use Rattle.std.specs.Prelude.{◌≡◌, suc, ◌<◌, ◌^◌, Some, IfOk
 ghost use Rattle.tag.specs.declared.refusal.Refusal.TheVariants.{NoMemory};
 ghost use Rattle.phase.specs.Phase.{took_by};
 ghost use Rattle.record.specs.Steps.{new_phase};
-ghost use Rattle.call.specs.Call.{CanReach, begun_call, entered, phase_next, reached, taken_call};
+ghost use Rattle.call.specs.Call.{reached};
+ghost use Rattle.call.specs.Limits.{CanReach};
+ghost use Rattle.call.specs.Steps.{begun_call, entered, phase_next, taken_call};
 
 use bank::Kind;
 use bytes::Bytes;

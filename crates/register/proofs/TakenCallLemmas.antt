@@ -16,7 +16,9 @@ use Rattle.record.specs.PhaseOrder.{begun_at, passed, stage_past, stage_after}
 use Rattle.record.specs.Steps.{taking_phases}
 use Rattle.record.specs.Wants.{current_phase}
 use Rattle.transfer.specs.Limits.{IsBelowLimit, HasNextTag}
-use Rattle.call.specs.Call.{OpenCall, CanReach, IsCall, reached, taken_call}
+use Rattle.call.specs.Call.{OpenCall, IsCall, reached}
+use Rattle.call.specs.Limits.{CanReach}
+use Rattle.call.specs.Steps.{taken_call}
 use Rattle.register.specs.Tracked.{Tracked, IsTracked, stage_taken, taken_tracked, tracked_of}
 use Rattle.register.proofs.FirstReadingLemmas.{begun_again, take_position}
 

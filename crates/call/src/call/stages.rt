@@ -3,8 +3,9 @@
 ghost use Rattle.std.specs.Prelude.{◌≡◌, true};
 ghost use Rattle.record.specs.PhaseOrder.{due};
 ghost use Rattle.record.specs.Wants.{is_fetch};
-ghost use Rattle.call.specs.Call.{CanReach, IsWithinLimits, can_reach, has_next_tag, is_below_limit, is_taggable};
-ghost use Rattle.call.specs.Call.{is_within_limits, reached};
+ghost use Rattle.call.specs.Call.{reached};
+ghost use Rattle.call.specs.Limits.{CanReach, IsWithinLimits, can_reach, has_next_tag, is_below_limit, is_taggable};
+ghost use Rattle.call.specs.Limits.{is_within_limits};
 ghost use Rattle.call.specs.Next.{leads_back, leads_to, next_of};
 
 use crate::call::Call;

@@ -8,7 +8,7 @@ ghost use Rattle.call.specs.Call.{IsCall};
 
 use crate::call::Call;
 use bytes::Bytes;
-use phase::Phase;
+use phase::{Ask, Phase};
 use record::{CallKind, Operation, Stage};
 use tag::{CallId, Refusal};
 
@@ -37,6 +37,23 @@ impl Call {
         ensures lawful { IsCall self.now }
     {
         &self.phase
+    }
+
+    /// What the current phase asks, as `requests` and `request_to` need it.
+    pub fn ask(&self) -> Ask
+        ensures { result ≡ record {
+          call = self.now.id;
+          number = self.now.phase.number;
+          position = self.now.phase.position;
+          kind = self.now.phase.kind;
+        } }
+    {
+        Ask {
+            call: self.id,
+            number: self.phase.number(),
+            position: self.phase.position(),
+            kind: self.phase.kind(),
+        }
     }
 
     /// The stage at which the current phase began.

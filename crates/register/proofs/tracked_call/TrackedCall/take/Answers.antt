@@ -3,7 +3,8 @@ use Rattle.phase.specs.Phase.{Phase, after_take}
 use Rattle.record.specs.PhaseOrder.{begun_at}
 use Rattle.record.specs.Wants.{current_phase}
 use Rattle.transfer.specs.Limits.{IsBelowLimit, HasNextTag}
-use Rattle.call.specs.Call.{OpenCall, CanReach}
+use Rattle.call.specs.Call.{OpenCall}
+use Rattle.call.specs.Limits.{CanReach}
 use Rattle.register.specs.Tracked.{Tracked, taken_tracked, took_current}
 use Rattle.register.proofs.TakenCallLemmas.{current_push, ended_is, ended_stale, reach_taken, taken_is}
 use Rattle.register.proofs.tracked_call.TrackedCall.take.Goals as goal
@@ -33,8 +34,9 @@ reached-self-inside-requires c =
     let here : current_phase c.args.self.now.call.phases ≡ Some p =
     ap (λ (t : Tracked). current_phase t.call.phases) (sym c.self.view_is) ∙ current_push k.finished.items p in
     let near = subst (λ (t : Tracked). IsBelowLimit (begun_at t.stage p.position)) (sym c.self.view_is) (c.requires.near p here) in
-    let tags = subst (λ (t : Tracked). HasNextTag t.call.kind (begun_at t.stage p.position)
-    (after_take p c.args.message c.args.now).replies) (sym c.self.view_is) (c.requires.tags p here) in
+    let replies = (after_take p c.args.message c.args.now).replies in
+    let tags = subst (λ (t : Tracked). HasNextTag t.call.kind (begun_at t.stage p.position) replies) (sym c.self.view_is)
+    (c.requires.tags p here) in
     record {
       limits = subst (λ (call : OpenCall). CanReach call) (sym c.take-took.ensures.call)
           (reach_taken c.self.invariant c.phase.ensures.lawful open_yet k.called k.answered c.args.message c.args.now near tags);
