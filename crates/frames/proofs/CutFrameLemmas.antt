@@ -1,13 +1,13 @@
 -- Bytes that are cut short within a frame give the fault UnexpectedEnd.
-use Rattle.std.proofs.Common.{◌≡◌, ◌⊎◌, ℕ, zero, suc, ◌≤◌, ◌<◌, Bool, true, false, cond, ltb, eqb, List, [], ◌∷◌, ◌++◌}
-use Rattle.std.proofs.Common.{length, take, drop, Option, Some, None, Result, Ok, Err, refl, sym, ap, subst, ◌∙◌}
-use Rattle.std.proofs.Common.{append_assoc, arith, inl, inr}
-use Rattle.std.proofs.lemmas.Bool.{ltb-true, ltb-false, le-ltb, lt-ltb}
+use Rattle.std.proofs.Common.{◌≡◌, ◌⊎◌, ℕ, zero, suc, ◌≤◌, Bool, true, false, cond, ltb, eqb, List, [], ◌∷◌, ◌++◌}
+use Rattle.std.proofs.Common.{length, take, drop, Option, Some, Result, Ok, Err, refl, sym, ap, subst, ◌∙◌}
+use Rattle.std.proofs.Common.{arith, inl, inr}
+use Rattle.std.proofs.lemmas.Bool.{ltb-false, le-ltb}
 use Rattle.std.proofs.lemmas.List.{append-nil, length-append, take-append-le, drop-append-le}
 use Rattle.frames.specs.declared.error.Fault.{Fault}
 use Rattle.frames.specs.declared.error.Fault.TheVariants.{BadNumber, NoLineEnd, UnexpectedEnd, StringTooLong, TooManyStrings, BadType}
 use Rattle.frames.specs.declared.limits.TheConstants.{MOST_STRINGS, LONGEST_STRING}
-use Rattle.frames.specs.Frame.{IsFrame, frame_bytes}
+use Rattle.frames.specs.Frame.{frame_bytes}
 use Rattle.frames.specs.Laws.{CutEndsEarly}
 use Rattle.frames.specs.Reading.{Parsed, leaving, byte_at, expected_at, line_end_at, bytes_at}
 use Rattle.frames.specs.Reading.{digits_at, number_at, string_at, strings_at, array_at, frame_at}

@@ -1,10 +1,8 @@
 -- Digits that are read are those of the number that was written, and what was written is read again.
-use Rattle.std.proofs.Common.{◌≡◌, ℕ, zero, suc, ◌+◌, ◌-◌, ◌*◌, ◌/◌, ◌%◌, ◌^◌, ◌<◌, ◌≤◌, true, false, cond, ltb, eqb, List, [], ◌∷◌}
-use Rattle.std.proofs.Common.{◌++◌, Result, Ok, Err, refl, sym, ap, subst, ◌∙◌, append_assoc, arith, inl, inr}
-use Rattle.std.specs.Char.{is_ascii_digit}
+use Rattle.std.proofs.Common.{◌≡◌, ℕ, ◌^◌, ◌<◌, ◌≤◌, false, eqb, List, [], ◌∷◌}
+use Rattle.std.proofs.Common.{◌++◌, Ok, refl, ap, subst, ◌∙◌, arith, inl, inr}
 use Rattle.std.specs.Fmt.{decimal}
-use Rattle.std.proofs.lemmas.Bool.{ltb-false, le-ltb, le-leb, leb-true, eqb-true, eqb-false, ne_eqb, and_parts, and_from}
-use Rattle.std.proofs.lemmas.Fmt.{decimal_step}
+use Rattle.std.proofs.lemmas.Bool.{eqb-true, ne_eqb}
 use Rattle.frames.specs.declared.error.Fault.{Fault}
 use Rattle.frames.specs.declared.error.Fault.TheVariants.{BadNumber}
 use Rattle.frames.specs.Reading.{leaving, digits_at}

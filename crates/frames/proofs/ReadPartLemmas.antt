@@ -6,7 +6,7 @@ use Rattle.std.proofs.lemmas.List.{take_at, drop_at, take-append-drop, length-ap
 use Rattle.frames.specs.declared.error.Fault.{Fault}
 use Rattle.frames.specs.declared.error.Fault.TheVariants.{UnexpectedEnd, NoLineEnd}
 use Rattle.words.proofs.PartLemmas.{bind_ok, guarded, guarded_above}
-use Rattle.frames.specs.Reading.{Parsed, leaving, byte_at, expected_at, line_end_at, bytes_at}
+use Rattle.frames.specs.Reading.{leaving, byte_at, expected_at, line_end_at, bytes_at}
 
 -- which way a test went
 pub chosen : {A : Type 0} (b : Bool) (x y z : A) → cond b x y ≡ z → ((b ≡ true) × (x ≡ z)) ⊎ ((b ≡ false) × (y ≡ z))
