@@ -17,7 +17,7 @@ use Rattle.record.specs.Records.{Call, Object}
 use Rattle.record.specs.Steps.{Step, on_call, answered_object}
 use Rattle.record.specs.Wants.{is_fetch, want_after, want_for, want_of_fetch}
 use Rattle.soundness.proofs.ListLemmas.{get_set, set_here}
-use Rattle.network.specs.Worlds.{World, OpenCall, without_call}
+use Rattle.network.specs.Worlds.{World, NodeCall, without_call}
 use Rattle.network.specs.Events.{Event, on_open, answered_entry, answered_world}
 use Rattle.network.specs.Following.{Follows, LeadsOn, IsOpenIn, IsOpenMove, entry_in_steps, last_step_after}
 use Rattle.network.specs.Followed.{IsFollowed}
@@ -88,7 +88,7 @@ answer_value Read settled s t = refl
 answer_value (Write value) settled s t = refl
 answer_value Move settled s t = refl
 
-entry_steps : (old : OpenCall) (call : Call) (now : ℕ) → old.id ≡ call.id → old.kind ≡ call.kind →
+entry_steps : (old : NodeCall) (call : Call) (now : ℕ) → old.id ≡ call.id → old.kind ≡ call.kind →
     old.settled ≡ call.settled → (entry : Entry) →
     answered_at call call.id (last_step_after now) (entry_in_steps entry) ≡ entry_in_steps (answered_entry old now entry)
 entry_steps old call now id kind settled entry =
@@ -106,7 +106,7 @@ entry_steps old call now id kind settled entry =
     go true = refl
     go false = refl
 
-entries_steps : (old : OpenCall) (call : Call) (now : ℕ) → old.id ≡ call.id → old.kind ≡ call.kind →
+entries_steps : (old : NodeCall) (call : Call) (now : ℕ) → old.id ≡ call.id → old.kind ≡ call.kind →
     old.settled ≡ call.settled → (history : List Entry) →
     map (answered_at call call.id (last_step_after now)) (map entry_in_steps history)
     ≡ map entry_in_steps (map (answered_entry old now) history)
@@ -118,8 +118,8 @@ entries_steps old call now id kind settled (entry ∷ history) =
 
 -- The calls that are left
 
-all_without : (P Q : OpenCall → Type 0) (id : ℕ) (calls : List OpenCall) → AllByRecursion P calls →
-    ((other : OpenCall) → eqb other.id id ≡ false → P other → Q other) → AllByRecursion Q (without_call id calls)
+all_without : (P Q : NodeCall → Type 0) (id : ℕ) (calls : List NodeCall) → AllByRecursion P calls →
+    ((other : NodeCall) → eqb other.id id ≡ false → P other → Q other) → AllByRecursion Q (without_call id calls)
 all_without P Q id [] all there = tt
 all_without P Q id (first ∷ calls) all there =
     go (eqb first.id id) refl (all_without P Q id calls all.1 there)
@@ -133,7 +133,7 @@ differs : (b : Bool) → (b ≡ true → ⊥) → not b ≡ true
 differs true no_true = absurd (no_true refl)
 differs false no_true = refl
 
-answered_follow : (world : World) (object : Object) (old : OpenCall) (is : IsOpenIn object old) → IsLegal object → Follows world object →
+answered_follow : (world : World) (object : Object) (old : NodeCall) (is : IsOpenIn object old) → IsLegal object → Follows world object →
     Follows (answered_world (record world { now = suc world.now }) old)
     (with_new object object.mail is.index (record is.call { answered = Some (last_step_after (suc world.now)) }))
 answered_follow world object old is legal follows =
@@ -164,7 +164,7 @@ answered_follow world object old is legal follows =
       kept = follows.kept;
     }
   where
-    any : (calls : List OpenCall) → AllByRecursion (λ call. Unit {0}) calls
+    any : (calls : List NodeCall) → AllByRecursion (λ call. Unit {0}) calls
     any [] = tt
     any (first ∷ calls) = (tt, any calls)
 

@@ -23,7 +23,7 @@ use Rattle.record.specs.Steps.{Step, stepped, called_object, new_call, new_phase
 use Rattle.soundness.proofs.ListLemmas.{all_push, all_weaker, get_push}
 use Rattle.soundness.specs.Sound.{IsSound}
 use Rattle.network.specs.Unstamped.{unstamped_message}
-use Rattle.network.specs.Worlds.{World, OpenCall, known_layout, open_call}
+use Rattle.network.specs.Worlds.{World, NodeCall, known_layout, open_call}
 use Rattle.network.specs.Events.{Event, begun_world, called_world}
 use Rattle.network.specs.Following.{Follows, LeadsOn, IsOpenIn, IsOpenMove, entry_in_steps, last_step_after}
 use Rattle.network.specs.Followed.{IsFollowed}
@@ -106,7 +106,7 @@ added_follow world object follows node id kind stage phase_kind position unused 
     new : Unit {0} → Object
     new u = with_begun object id kind phase_kind position (last_step_after (suc world.now))
 
-    carried : Unit {0} → OpenCall
+    carried : Unit {0} → NodeCall
     carried u = record {
       node = node;
       id = id;
@@ -128,7 +128,7 @@ added_follow world object follows node id kind stage phase_kind position unused 
     same_layout : layout_at object position ≡ known_layout world node position
     same_layout = ap (λ layouts. get_or layouts position no_layout) (follows.layouts ∙ layouts_known world follows.one node)
 
-    grown : (other : OpenCall) → IsOpenIn object other → IsOpenIn (new tt) other
+    grown : (other : NodeCall) → IsOpenIn object other → IsOpenIn (new tt) other
     grown other is = record {
       index = is.index;
       call = is.call;
@@ -162,7 +162,7 @@ added_follow world object follows node id kind stage phase_kind position unused 
       stage = begun ∙ ap (λ moves. begun_at (first_stage kind moves) position) (sym (moves_before object.calls (record_call tt)));
     }
 
-    other_id : (other : OpenCall) → IsOpenIn object other → eqb other.id id ≡ false
+    other_id : (other : NodeCall) → IsOpenIn object other → eqb other.id id ≡ false
     other_id other is =
         is_false (eqb other.id id)
         (λ same. new_id world object follows id unused is.index is.call is.at (sym is.id ∙ eqb-true other.id id same))

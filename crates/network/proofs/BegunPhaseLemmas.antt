@@ -22,7 +22,7 @@ use Rattle.record.specs.Wants.{current_phase, is_fetch, want_after, want_for, wa
 use Rattle.soundness.proofs.ListLemmas.{set_here}
 use Rattle.soundness.proofs.Sound.ChangedCallLemmas.{moves_set}
 use Rattle.network.specs.Unstamped.{unstamped_message}
-use Rattle.network.specs.Worlds.{World, OpenCall, known_layout, due_phase, open_call, reached}
+use Rattle.network.specs.Worlds.{World, NodeCall, known_layout, due_phase, open_call, stage_reached}
 use Rattle.network.specs.Events.{Event, IsLacking, IsReady, advanced_world, call_pieces, on_open, phase_requests}
 use Rattle.network.specs.Following.{Follows, LeadsOn, IsOpenIn, last_step_after}
 use Rattle.network.specs.Followed.{IsFollowed}
@@ -58,7 +58,7 @@ number_last : (call n : ℕ) (earlier : List Phase) (last : Phase) → AreNumber
 number_last call n [] last numbered = (let h = numbered.1 in omega arith)
 number_last call n (p ∷ earlier) last numbered = (let h = number_last call (suc n) earlier last numbered.2 in omega arith)
 
-module _ (fragment : Code) (world : World) (object : Object) (old : OpenCall) (is : IsOpenIn object old) (follows : Follows world object)
+module _ (fragment : Code) (world : World) (object : Object) (old : NodeCall) (is : IsOpenIn object old) (follows : Follows world object)
     (kind : Kind) (position now : ℕ) where
   same_layout : layout_at object position ≡ known_layout world old.node position
   same_layout = ap (λ layouts. get_or layouts position no_layout) (follows.layouts ∙ layouts_known world follows.one old.node)
@@ -71,9 +71,9 @@ module _ (fragment : Code) (world : World) (object : Object) (old : OpenCall) (i
       ∙ ap (λ v. fragment_piece fragment (known_layout world old.node position) (value_or_empty (sent_value old.kind v))) (sym is.settled)
 
   -- the phase that begins, as the node has it
-  abbrev pub begun_open : OpenCall
+  abbrev pub begun_open : NodeCall
   begun_open = record old {
-    stage = begun_at (reached old) position;
+    stage = begun_at (stage_reached old) position;
     phase = new_phase old.id (suc old.phase.number) kind position (known_layout world old.node position) 0;
   }
 
@@ -169,7 +169,7 @@ want_lacking : (object : Object) (next : Option (Kind × ℕ)) (settled : Option
     is_fetch last.kind ≡ true → settled ≡ None → lacks_pieces last ≡ true → want_after object next settled (Some last) ≡ want.Again
 want_lacking object next settled last ended fetch none lacks = rw (ended, fetch, none, lacks) refl
 
-begins : (fragment : Code) (object : Object) (old : OpenCall) (is : IsOpenIn object old) (now : ℕ) (next : Kind × ℕ) →
+begins : (fragment : Code) (object : Object) (old : NodeCall) (is : IsOpenIn object old) (now : ℕ) (next : Kind × ℕ) →
     due_of object is.index is.call ≡ Some next → (IsReady old × IsSome (due_phase old)) ⊎ IsLacking old →
     Begins fragment object is.index is.call now
 begins fragment object old is now next due (inl ready) =

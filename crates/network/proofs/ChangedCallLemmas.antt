@@ -12,7 +12,7 @@ use Rattle.record.specs.Records.{Call, Object}
 use Rattle.soundness.proofs.ListLemmas.{get_set, set_there}
 use Rattle.soundness.proofs.Sound.ChangedCallLemmas.{Others, moves_set}
 use Rattle.network.specs.Unstamped.{unstamped_message}
-use Rattle.network.specs.Worlds.{World, OpenCall, open_call, with_open}
+use Rattle.network.specs.Worlds.{World, NodeCall, open_call, with_open}
 use Rattle.network.specs.Following.{Follows, IsOpenIn, IsOpenMove}
 use Rattle.network.proofs.OpenCallLemmas.{all_with, found_with}
 
@@ -34,7 +34,7 @@ entries_set (call ∷ calls) (suc index) old new at same = ap (λ l. own_entry c
 
 -- another call than the changed one
 pub other_open : (object : Object) (mail : List Message) (index : ℕ) (old new : Call) (changed : ℕ) → changed ≡ old.id →
-    slice_get object.calls index ≡ Some old → new.kind ≡ old.kind → (other : OpenCall) → eqb other.id changed ≡ false →
+    slice_get object.calls index ≡ Some old → new.kind ≡ old.kind → (other : NodeCall) → eqb other.id changed ≡ false →
     IsOpenIn object other → IsOpenIn (with_new object mail index new) other
 other_open object mail index old new changed id at kind other differs is = record {
   index = is.index;
@@ -58,12 +58,12 @@ other_open object mail index old new changed id at kind other differs is = recor
 }
 
 -- the world with a call changed, with other messages, one event later
-abbrev pub with_one : World → OpenCall → List Message → World
+abbrev pub with_one : World → NodeCall → List Message → World
 with_one world new sent = record world { calls = with_open new world.calls; sent = sent; now = suc world.now }
 
-module _ (world : World) (old new : OpenCall) (found : open_call world.calls new.id ≡ Some old) (kind : new.kind ≡ old.kind)
+module _ (world : World) (old new : NodeCall) (found : open_call world.calls new.id ≡ Some old) (kind : new.kind ≡ old.kind)
     (node : new.node ≡ old.node) where
-  same_found : (id : ℕ) (carried : OpenCall) → open_call world.calls id ≡ Some carried → eqb id new.id ≡ true →
+  same_found : (id : ℕ) (carried : NodeCall) → open_call world.calls id ≡ Some carried → eqb id new.id ≡ true →
       carried ≡ old
   same_found id carried at equal =
       same_Some carried old (sym at ∙ ap (open_call world.calls) (eqb-true id new.id equal) ∙ found)
@@ -78,15 +78,15 @@ module _ (world : World) (old new : OpenCall) (found : open_call world.calls new
   }
     where
       is_move : (b : Bool) → eqb id new.id ≡ b → (cond b new move.carried).kind ≡ Move
-      is_move true e = kind ∙ ap (λ (c : OpenCall). c.kind) (sym (same_found id move.carried move.found e)) ∙ move.kind
+      is_move true e = kind ∙ ap (λ (c : NodeCall). c.kind) (sym (same_found id move.carried move.found e)) ∙ move.kind
       is_move false e = move.kind
 
       is_there : (b : Bool) → eqb id new.id ≡ b → (cond b new move.carried).node ≡ (world.files 0).mover
-      is_there true e = node ∙ ap (λ (c : OpenCall). c.node) (sym (same_found id move.carried move.found e)) ∙ move.node
+      is_there true e = node ∙ ap (λ (c : NodeCall). c.node) (sym (same_found id move.carried move.found e)) ∙ move.node
       is_there false e = move.node
 
 -- a call is changed in the world and in the record, but not its kind, its node, its answer and its entry
-pub changed_follow : (world : World) (object : Object) (old new : OpenCall) (is : IsOpenIn object old) (call : Call)
+pub changed_follow : (world : World) (object : Object) (old new : NodeCall) (is : IsOpenIn object old) (call : Call)
     (mail sent : List Message) → Follows world object → open_call world.calls new.id ≡ Some old → new.id ≡ old.id →
     new.kind ≡ old.kind → new.node ≡ old.node → call.kind ≡ is.call.kind →
     own_entry call ≡ own_entry is.call → map unstamped_message mail ≡ sent →

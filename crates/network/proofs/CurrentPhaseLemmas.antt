@@ -21,7 +21,7 @@ use Rattle.record.specs.declared.stage.Want.TheVariants as want
 use Rattle.record.specs.Records.{Object, base_of, no_bank, retired_first, retired_at}
 use Rattle.record.specs.Wants.{current_phase, is_fetch, want_after, want_of}
 use Rattle.network.specs.Unstamped.{unstamped, unstamped_phase, unstamped_taken}
-use Rattle.network.specs.Worlds.{OpenCall, due_phase, reached}
+use Rattle.network.specs.Worlds.{NodeCall, due_phase, stage_reached}
 use Rattle.network.specs.Following.{IsOpenIn}
 
 -- Without stamps
@@ -90,9 +90,9 @@ base_zero object kept = go object.banks kept
     go [] e = refl
     go (first ∷ later) e = ap (λ (o : Option ℕ). cond (is_some o) (suc (retired_first later)) 0) e
 
-module _ (object : Object) (carried : OpenCall) (is : IsOpenIn object carried) where
+module _ (object : Object) (carried : NodeCall) (is : IsOpenIn object carried) where
   -- the stage that the current phase leads to is that of the record's call
-  pub reached_is : reached carried ≡ stage_of object is.index is.call
+  pub reached_is : stage_reached carried ≡ stage_of object is.index is.call
   reached_is =
       let first = first_stage is.call.kind (source_of object is.index) in
       let begun = begun_at (stage_after is.call.kind is.call.id first is.earlier) is.last.position in

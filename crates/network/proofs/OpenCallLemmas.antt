@@ -3,10 +3,10 @@ use Rattle.std.proofs.Common.{◌≡◌, ℕ, Bool, true, false, cond, eqb, List
 use Rattle.std.proofs.Common.{refl, sym, subst, ap, ◌∙◌, eqb-true, eq-eqb}
 use Rattle.std.proofs.lemmas.Option.{same_Some}
 use Rattle.std.specs.List.{AllByRecursion, filter}
-use Rattle.network.specs.Worlds.{OpenCall, open_call, with_open}
+use Rattle.network.specs.Worlds.{NodeCall, open_call, with_open}
 
 -- the call that is found is one of the list, and has the id
-pub found : (P : OpenCall → Type 0) (calls : List OpenCall) (number : ℕ) (call : OpenCall) → AllByRecursion P calls →
+pub found : (P : NodeCall → Type 0) (calls : List NodeCall) (number : ℕ) (call : NodeCall) → AllByRecursion P calls →
     open_call calls number ≡ Some call → P call × (call.id ≡ number)
 found P [] number call all e = absurd (cc)
 found P (first ∷ calls) number call all e =
@@ -16,11 +16,11 @@ found P (first ∷ calls) number call all e =
         (open_call calls number ≡ Some call → P call × (call.id ≡ number)) → P call × (call.id ≡ number)
     go true t is rest =
         let same = same_Some first call is in
-        (subst P same all.0, ap (λ (c : OpenCall). c.id) (sym same) ∙ eqb-true first.id number t)
+        (subst P same all.0, ap (λ (c : NodeCall). c.id) (sym same) ∙ eqb-true first.id number t)
     go false t is rest = rest is
 
 -- a call that passes a test is found among those that pass it
-pub found_filter : (test : OpenCall → Bool) (calls : List OpenCall) (number : ℕ) (call : OpenCall) →
+pub found_filter : (test : NodeCall → Bool) (calls : List NodeCall) (number : ℕ) (call : NodeCall) →
     open_call calls number ≡ Some call → test call ≡ true → open_call (filter test calls) number ≡ Some call
 found_filter test [] number call e passes = absurd (cc)
 found_filter test (first ∷ calls) number call e passes =
@@ -35,7 +35,7 @@ found_filter test (first ∷ calls) number call e passes =
     go false s true t is rest = ap (λ b. cond b (Some first) (open_call (filter test calls) number)) s ∙ rest is
     go false s false t is rest = rest is
 
-pub all_filter : (P : OpenCall → Type 0) (test : OpenCall → Bool) (calls : List OpenCall) → AllByRecursion P calls →
+pub all_filter : (P : NodeCall → Type 0) (test : NodeCall → Bool) (calls : List NodeCall) → AllByRecursion P calls →
     AllByRecursion P (filter test calls)
 all_filter P test [] all = tt
 all_filter P test (first ∷ calls) all = go (test first) (all_filter P test calls all.1)
@@ -45,8 +45,8 @@ all_filter P test (first ∷ calls) all = go (test first) (all_filter P test cal
     go false rest = rest
 
 -- what is so of each call after one is changed
-pub all_with : (P Q : OpenCall → Type 0) (new : OpenCall) (calls : List OpenCall) → AllByRecursion P calls → Q new →
-    ((other : OpenCall) → eqb other.id new.id ≡ false → P other → Q other) → AllByRecursion Q (with_open new calls)
+pub all_with : (P Q : NodeCall → Type 0) (new : NodeCall) (calls : List NodeCall) → AllByRecursion P calls → Q new →
+    ((other : NodeCall) → eqb other.id new.id ≡ false → P other → Q other) → AllByRecursion Q (with_open new calls)
 all_with P Q new [] all here there = tt
 all_with P Q new (first ∷ calls) all here there =
     (go (eqb first.id new.id) refl, all_with P Q new calls all.1 here there)
@@ -56,7 +56,7 @@ all_with P Q new (first ∷ calls) all here there =
     go false t = there first t all.0
 
 -- which call is found after one is changed
-pub found_with : (new : OpenCall) (calls : List OpenCall) (number : ℕ) (call : OpenCall) → open_call calls number ≡ Some call →
+pub found_with : (new : NodeCall) (calls : List NodeCall) (number : ℕ) (call : NodeCall) → open_call calls number ≡ Some call →
     open_call (with_open new calls) number ≡ Some (cond (eqb number new.id) new call)
 found_with new [] number call e = absurd (cc)
 found_with new (first ∷ calls) number call e =
@@ -86,7 +86,7 @@ found_with new (first ∷ calls) number call e =
         ∙ rest is ∙ ap (λ b. Some (cond b new call)) u
 
 -- one more call
-pub found_push : (calls : List OpenCall) (new call : OpenCall) (number : ℕ) → open_call calls number ≡ Some call →
+pub found_push : (calls : List NodeCall) (new call : NodeCall) (number : ℕ) → open_call calls number ≡ Some call →
     open_call (calls ++ new ∷ []) number ≡ Some call
 found_push [] new call number e = absurd (cc)
 found_push (first ∷ calls) new call number e = go (eqb first.id number) e (λ rest. found_push calls new call number rest)
@@ -97,7 +97,7 @@ found_push (first ∷ calls) new call number e = go (eqb first.id number) e (λ 
     go true is rest = is
     go false is rest = rest is
 
-pub found_last : (calls : List OpenCall) (new : OpenCall) → AllByRecursion (λ call. eqb call.id new.id ≡ false) calls →
+pub found_last : (calls : List NodeCall) (new : NodeCall) → AllByRecursion (λ call. eqb call.id new.id ≡ false) calls →
     open_call (calls ++ new ∷ []) new.id ≡ Some new
 found_last [] new all = ap (λ b. cond b (Some new) None) (eq-eqb new.id new.id refl)
 found_last (first ∷ calls) new all =

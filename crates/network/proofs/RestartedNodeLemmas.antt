@@ -5,7 +5,7 @@ use Rattle.bank.specs.Bank.{Bank}
 use Rattle.record.specs.Legal.{is_move}
 use Rattle.record.specs.Records.{Object}
 use Rattle.record.specs.declared.call.CallKind.TheVariants.{Move}
-use Rattle.network.specs.Worlds.{World, OpenCall, open_call, after_restart, without_call}
+use Rattle.network.specs.Worlds.{World, NodeCall, open_call, after_restart, without_call}
 use Rattle.network.specs.Events.{Event, happens}
 use Rattle.network.specs.Following.{Follows, LeadsOn, IsOpenIn, last_step_after}
 use Rattle.network.specs.Followed.{IsFollowed}
@@ -13,12 +13,12 @@ use Rattle.network.proofs.OpenCallLemmas.{all_filter, found, found_filter}
 use Rattle.network.proofs.StepLemmas.{no_step}
 
 -- the world with other calls, one event later
-abbrev pub with_calls : World → List OpenCall → World
+abbrev pub with_calls : World → List NodeCall → World
 with_calls world calls = record world { calls = calls; now = suc world.now }
 
 -- the world with those calls alone that pass a test, which each move that is found does
-pub fewer_follow : (world : World) (object : Object) (test : OpenCall → Bool) →
-    ((id : ℕ) (call : OpenCall) → open_call world.calls id ≡ Some call → call.kind ≡ Move → test call ≡ true) →
+pub fewer_follow : (world : World) (object : Object) (test : NodeCall → Bool) →
+    ((id : ℕ) (call : NodeCall) → open_call world.calls id ≡ Some call → call.kind ≡ Move → test call ≡ true) →
     Follows world object → Follows (with_calls world (filter test world.calls)) object
 fewer_follow world object test moves follows = record {
   one = follows.one;
@@ -41,7 +41,7 @@ stays : (same : Bool) → not (same && not true) ≡ true
 stays true = refl
 stays false = refl
 
-pub restart_followed : (node : ℕ) (banks : List (List Bank)) (calls : List OpenCall) → IsFollowed (Event.Restart node banks calls)
+pub restart_followed : (node : ℕ) (banks : List (List Bank)) (calls : List NodeCall) → IsFollowed (Event.Restart node banks calls)
 restart_followed node banks calls fragment world object code sound follows may premised =
     let restarted = with_calls world (after_restart node world.calls) in
     let new = happens fragment world (Event.Restart node banks calls) in

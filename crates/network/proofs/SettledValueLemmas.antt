@@ -20,7 +20,7 @@ use Rattle.record.specs.Wants.{is_fetch, value_len, want_after}
 use Rattle.soundness.proofs.ListLemmas.{all_weaker, set_here}
 use Rattle.soundness.proofs.Sound.ChangedCallLemmas.{moves_set}
 use Rattle.network.specs.Unstamped.{unstamped_phase, unstamped_taken}
-use Rattle.network.specs.Worlds.{World, OpenCall, known_layouts, open_call, parts_of}
+use Rattle.network.specs.Worlds.{World, NodeCall, known_layouts, open_call, parts_of}
 use Rattle.network.specs.Events.{Event, on_open}
 use Rattle.network.specs.Following.{LeadsOn, IsOpenIn, last_step_after}
 use Rattle.network.specs.Followed.{IsFollowed}
@@ -86,7 +86,7 @@ want_settle : (object : Object) (next : Option (Kind × ℕ)) (settled : Option 
     want_after object next settled (Some last) ≡ want.Settle (layout_at object last.position).k (value_len last.replies)
 want_settle object next settled last ended fetch none enough = rw (ended, fetch, none, enough) refl
 
-settled_open : (object : Object) (value : List ℕ) (old : OpenCall) (is : IsOpenIn object old) →
+settled_open : (object : Object) (value : List ℕ) (old : NodeCall) (is : IsOpenIn object old) →
     IsOpenIn (with_new object object.mail is.index (record is.call { settled = Some value })) (record old { settled = Some value })
 settled_open object value old is =
     let call : Call = record is.call { settled = Some value } in record {
@@ -113,7 +113,7 @@ settle_followed id value fragment world object code sound follows may premised =
     let held = found (IsOpenIn object) world.calls id old follows.calls may.1 in
     let is = held.0 in
     let call : Call = record is.call { settled = Some value } in
-    let new : OpenCall = record old { settled = Some value } in
+    let new : NodeCall = record old { settled = Some value } in
     let kind = kind_is object old is in
     let unsettled : is.call.settled ≡ None = sym is.settled ∙ fetched.unsettled in
     let enough : lacks_pieces is.last ≡ false = sym (lacks_is object old is) ∙ fetched.enough in

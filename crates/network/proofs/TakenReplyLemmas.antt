@@ -16,7 +16,7 @@ use Rattle.soundness.proofs.ListLemmas.{set_here}
 use Rattle.soundness.proofs.Sound.CallIdLemmas.{found_by_id}
 use Rattle.soundness.proofs.Sound.ChangedCallLemmas.{moves_set}
 use Rattle.network.specs.Unstamped.{unstamped_body, unstamped_message}
-use Rattle.network.specs.Worlds.{OpenCall, open_call}
+use Rattle.network.specs.Worlds.{NodeCall, open_call}
 use Rattle.network.specs.Events.{Event, on_open, taking_open}
 use Rattle.network.specs.Following.{LeadsOn, IsOpenIn, last_step_after}
 use Rattle.network.specs.Followed.{IsFollowed}
@@ -36,7 +36,7 @@ body_reply (body.Request asked) kind made e = absurd (cc)
 body_reply (body.Reply k r) kind made e = (k, r, refl)
 
 -- the call that took the message is the record's, which took it
-taken_open : (object : Object) (original : Message) (now : ℕ) (old : OpenCall) (is : IsOpenIn object old) →
+taken_open : (object : Object) (original : Message) (now : ℕ) (old : NodeCall) (is : IsOpenIn object old) →
     IsOpenIn (with_new object object.mail is.index (taking_call original now is.call)) (taking_open (unstamped_message original) old)
 taken_open object original now old is = record {
   index = is.index;
@@ -62,7 +62,7 @@ pub take_followed : (message : Message) → IsFollowed (Event.Take message)
 take_followed message fragment world object code sound follows may premised =
     go (open_call world.calls message.call) refl
   where
-    go : (o : Option OpenCall) → open_call world.calls message.call ≡ o → LeadsOn fragment object (last_step_after world.now)
+    go : (o : Option NodeCall) → open_call world.calls message.call ≡ o → LeadsOn fragment object (last_step_after world.now)
         (on_open (record world { now = suc world.now }) o (λ call. with_one world (taking_open message call) world.sent))
     go None e = no_step fragment object world.now (record world { now = suc world.now }) refl sound (ticked_follow world object follows)
     go (Some old) e =

@@ -27,8 +27,8 @@ use Rattle.record.specs.Legal.{first_stage}
 use Rattle.record.specs.PhaseOrder.{begun_at}
 use Rattle.record.specs.Sending.{fragment_piece, requests, sent_value, value_or_empty}
 use Rattle.record.specs.Steps.{new_phase}
-use Rattle.network.specs.Worlds.{World, OpenCall, new_banks, known_layout, member_bank, parts_of, open_call, with_open}
-use Rattle.network.specs.Worlds.{without_call, reached, due_phase}
+use Rattle.network.specs.Worlds.{World, NodeCall, new_banks, known_layout, member_bank, parts_of, open_call, with_open}
+use Rattle.network.specs.Worlds.{without_call, stage_reached, due_phase}
 
 -- the events of a world; a call is named by its id, and a request or a reply is the message itself
 pub data Event : Type 0 where
@@ -41,7 +41,7 @@ pub data Event : Type 0 where
   Settle : (id : ℕ) → List ℕ → Event
   Answer : (id : ℕ) → Event
   GiveUp : (id : ℕ) → Event
-  Restart : (node : ℕ) → List (List Bank) → List OpenCall → Event
+  Restart : (node : ℕ) → List (List Bank) → List NodeCall → Event
 
 -- Calls
 
@@ -86,18 +86,18 @@ moving_world world node id layout =
     }) node id Move (first_stage Move last) (Spread Pending) last
 
 -- the pieces that a call sends to the members of a position
-abbrev pub call_pieces : Code → World → OpenCall → (position member : ℕ) → Piece
+abbrev pub call_pieces : Code → World → NodeCall → (position member : ℕ) → Piece
 call_pieces fragment world call position =
     fragment_piece fragment (known_layout world call.node position) (value_or_empty (sent_value call.kind call.settled))
 
 -- the world after a call begins the phase that is due, if there is one
-abbrev pub advanced_world : Code → World → OpenCall → Option (Kind × ℕ) → World
+abbrev pub advanced_world : Code → World → NodeCall → Option (Kind × ℕ) → World
 advanced_world fragment world call None = world
 advanced_world fragment world call (Some next) =
     let number = suc call.phase.number in record world {
       calls = with_open
           (record call {
-            stage = begun_at (reached call) next.1;
+            stage = begun_at (stage_reached call) next.1;
             phase = new_phase call.id number next.0 next.1 (known_layout world call.node next.1) 0;
           }) world.calls;
       sent = world.sent
@@ -105,13 +105,13 @@ advanced_world fragment world call (Some next) =
     }
 
 -- the entry of a call as it is answered
-abbrev pub answered_entry : OpenCall → (now : ℕ) → Entry → Entry
+abbrev pub answered_entry : NodeCall → (now : ℕ) → Entry → Entry
 answered_entry call now entry =
     if entry.call == call.id
     then record entry { answered = Some now; value = entry_value call.kind (Some now) call.settled } else entry
 
 -- the world after a call is answered
-abbrev pub answered_world : World → OpenCall → World
+abbrev pub answered_world : World → NodeCall → World
 answered_world world call = record world {
   calls = without_call call.id world.calls;
   history = map (answered_entry call world.now) world.history;
@@ -134,11 +134,11 @@ served_world world message (body.Request asked) = handled_world world message as
 served_world world message (body.Reply kind made) = world
 
 -- the call after its current phase takes the message
-abbrev pub taking_open : Message → OpenCall → OpenCall
+abbrev pub taking_open : Message → NodeCall → NodeCall
 taking_open message call = record call { phase = after_take call.phase message 0 }
 
 -- the world after a change that needs the call, if a node carries it out
-abbrev pub on_open : World → Option OpenCall → (OpenCall → World) → World
+abbrev pub on_open : World → Option NodeCall → (NodeCall → World) → World
 on_open world None change = world
 on_open world (Some call) change = change call
 
@@ -173,19 +173,19 @@ world_after fragment (event ∷ events) world = world_after fragment events (hap
 -- When a node may act
 
 -- the current phase of the call has a quorum, and where it is a fetch, its value is settled
-pub record IsReady (call : OpenCall) : Type 0 where
+pub record IsReady (call : NodeCall) : Type 0 where
   pub complete : IsSome call.phase.end
   pub fetched : IsFetch call.phase.kind → IsSome call.settled
 
 -- the current phase of the call is a complete fetch that lacks pieces, so the call begins anew
-pub record IsLacking (call : OpenCall) : Type 0 where
+pub record IsLacking (call : NodeCall) : Type 0 where
   pub complete : IsSome call.phase.end
   pub fetch : IsFetch call.phase.kind
   pub unsettled : call.settled ≡ None
   pub lacks : lacks_pieces call.phase ≡ true
 
 -- the value may be settled: the current phase is a complete fetch, which took k pieces of it
-pub record IsFetched (fragment : Code) (world : World) (call : OpenCall) (value : List ℕ) : Type 0 where
+pub record IsFetched (fragment : Code) (world : World) (call : NodeCall) (value : List ℕ) : Type 0 where
   pub complete : IsSome call.phase.end
   pub fetch : IsFetch call.phase.kind
   pub unsettled : call.settled ≡ None
@@ -194,7 +194,7 @@ pub record IsFetched (fragment : Code) (world : World) (call : OpenCall) (value 
   pub is_value : IsValue value
 
 -- a node carries out the call with this id
-abbrev pub IsOpen : World → (id : ℕ) → OpenCall → Type 0
+abbrev pub IsOpen : World → (id : ℕ) → NodeCall → Type 0
 IsOpen world id call = open_call world.calls id ≡ Some call
 
 -- the event may happen, as far as the rules of the nodes say; a node moves objects if its own file names it
@@ -205,14 +205,14 @@ MayHappen fragment world (Event.BeginMove node id layout) =
     IsLawful layout × (node ≡ (world.files node).mover)
     × AllByRecursion (λ call. call.node ≡ node → call.kind ≢ Move) world.calls
 MayHappen fragment world (Event.Advance id) =
-    (call : OpenCall) × IsOpen world id call × ((IsReady call × IsSome (due_phase call)) ⊎ IsLacking call)
+    (call : NodeCall) × IsOpen world id call × ((IsReady call × IsSome (due_phase call)) ⊎ IsLacking call)
 MayHappen fragment world (Event.Serve message) = (asked : Request) × (message.body ≡ body.Request asked)
 MayHappen fragment world (Event.Take message) =
     (kind : Kind) × (made : Reply) × (message.body ≡ body.Reply kind made)
 MayHappen fragment world (Event.Settle id value) =
-    (call : OpenCall) × IsOpen world id call × IsFetched fragment world call value
+    (call : NodeCall) × IsOpen world id call × IsFetched fragment world call value
 MayHappen fragment world (Event.Answer id) =
-    (call : OpenCall) × IsOpen world id call × IsReady call × (due_phase call ≡ None)
+    (call : NodeCall) × IsOpen world id call × IsReady call × (due_phase call ≡ None)
 MayHappen fragment world (Event.GiveUp id) =
     AllByRecursion (λ call. call.id ≡ id → call.kind ≢ Move) world.calls
 MayHappen fragment world (Event.Restart node banks calls) = Unit {0}

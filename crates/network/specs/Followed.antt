@@ -8,7 +8,7 @@ use Rattle.record.specs.Fragments.{Code, IsCode}
 use Rattle.record.specs.Records.{Object}
 use Rattle.record.specs.Steps.{opened_object}
 use Rattle.soundness.specs.Sound.{IsSound}
-use Rattle.network.specs.Worlds.{ClusterFile, World, OpenCall, opened_world}
+use Rattle.network.specs.Worlds.{ClusterFile, World, NodeCall, opened_world}
 use Rattle.network.specs.Events.{Event, MayHappen, happens, world_after}
 use Rattle.network.specs.Premises.{IsOneFile, IsPremised, MayHappenInTurn}
 use Rattle.network.specs.Following.{Follows, LeadsOn, last_step_after}
@@ -54,7 +54,7 @@ GivenUpCallsAreFollowed = (id : ℕ) → IsFollowed (Event.GiveUp id)
 
 -- the stop and start of a node is followed by no step
 abbrev pub RestartsAreFollowed : Type 0
-RestartsAreFollowed = (node : ℕ) (banks : List (List Bank)) (calls : List OpenCall) →
+RestartsAreFollowed = (node : ℕ) (banks : List (List Bank)) (calls : List NodeCall) →
     IsFollowed (Event.Restart node banks calls)
 
 -- steps of the record lead from an opened object to one that the world follows after these events

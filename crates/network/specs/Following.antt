@@ -14,7 +14,7 @@ use Rattle.record.specs.Records.{Call, Object, retired_at}
 use Rattle.record.specs.Steps.{Step, stepped}
 use Rattle.soundness.specs.Sound.{IsSound}
 use Rattle.network.specs.Unstamped.{unstamped_bank, unstamped_message, unstamped_phase}
-use Rattle.network.specs.Worlds.{World, OpenCall, known_layouts, open_call}
+use Rattle.network.specs.Worlds.{World, NodeCall, known_layouts, open_call}
 use Rattle.network.specs.Premises.{IsOneFile}
 
 -- the number of the record's last step after this many events: there is room for two steps in each event
@@ -28,7 +28,7 @@ entry_in_steps entry =
     record entry { called = last_step_after entry.called; answered = option_map last_step_after entry.answered }
 
 -- the call of the record that a node carries out: the current phase is its last, and it is not answered
-pub record IsOpenIn (object : Object) (carried : OpenCall) : Type 0 where
+pub record IsOpenIn (object : Object) (carried : NodeCall) : Type 0 where
   pub index : ℕ
   pub call : Call
   pub at : slice_get object.calls index ≡ Some call
@@ -46,7 +46,7 @@ pub record IsOpenIn (object : Object) (carried : OpenCall) : Type 0 where
 
 -- the node that moves objects carries out the call with this id, which is a move
 pub record IsOpenMove (world : World) (id : ℕ) : Type 0 where
-  pub carried : OpenCall
+  pub carried : NodeCall
   pub found : open_call world.calls id ≡ Some carried
   pub kind : carried.kind ≡ Move
   pub node : carried.node ≡ (world.files 0).mover

@@ -15,7 +15,7 @@ use Rattle.record.specs.PhaseOrder.{begun_at, due, passed}
 use Rattle.record.specs.Records.{Object, no_bank, no_layout}
 
 -- a call that a node carries out: its id, kind, settled value, current phase, and the stage at which that began
-pub record OpenCall : Type 0 where
+pub record NodeCall : Type 0 where
   pub node : ℕ
   pub id : ℕ
   pub kind : CallKind
@@ -37,7 +37,7 @@ pub record World : Type 0 where
   pub files : (node : ℕ) → ClusterFile
   pub later : List Layout
   pub banks : List (List Bank)
-  pub calls : List OpenCall
+  pub calls : List NodeCall
   pub sent : List Message
   pub history : List Entry
   pub now : ℕ
@@ -83,27 +83,27 @@ parts_of world node = record {
 }
 
 -- the open call with this id, if a node carries it out
-abbrev pub open_call : List OpenCall → (id : ℕ) → Option OpenCall
+abbrev pub open_call : List NodeCall → (id : ℕ) → Option NodeCall
 open_call [] id = None
 open_call (call ∷ calls) id = if call.id == id then Some call else open_call calls id
 
 -- the calls with this one in the place of the one with its id
-abbrev pub with_open : OpenCall → List OpenCall → List OpenCall
+abbrev pub with_open : NodeCall → List NodeCall → List NodeCall
 with_open call calls = map (λ other. if other.id == call.id then call else other) calls
 
 -- the calls without the one with this id
-abbrev pub without_call : (id : ℕ) → List OpenCall → List OpenCall
+abbrev pub without_call : (id : ℕ) → List NodeCall → List NodeCall
 without_call id calls = filter (λ call. not (call.id == id)) calls
 
 -- the calls that are there after a node stopped and started again: its reads and writes are gone
-abbrev pub after_restart : (node : ℕ) → List OpenCall → List OpenCall
+abbrev pub after_restart : (node : ℕ) → List NodeCall → List NodeCall
 after_restart node calls = filter (λ call. not (call.node == node && not (is_move call.kind))) calls
 
 -- the stage to which the current phase of a call leads
-abbrev pub reached : OpenCall → Stage
-reached call =
+abbrev pub stage_reached : NodeCall → Stage
+stage_reached call =
     passed call.kind call.id call.stage call.phase.end call.phase.replies (lacks_pieces call.phase)
 
 -- the phase that is due for a call, with its position; a first reading begins at position 0
-abbrev pub due_phase : OpenCall → Option (Kind × ℕ)
-due_phase call = due (begun_at (reached call) 0)
+abbrev pub due_phase : NodeCall → Option (Kind × ℕ)
+due_phase call = due (begun_at (stage_reached call) 0)

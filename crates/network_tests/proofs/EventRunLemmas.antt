@@ -12,7 +12,7 @@ use Rattle.mail.specs.declared.message.Body.TheVariants as body
 use Rattle.mail.specs.declared.message.Message.{Message}
 use Rattle.record.specs.Fragments.{IsValue}
 use Rattle.record.specs.Wants.{is_fetch}
-use Rattle.network.specs.Worlds.{OpenCall, World}
+use Rattle.network.specs.Worlds.{NodeCall, World}
 use Rattle.network.specs.Events.{Event, IsReady, happens, world_after}
 use Rattle.network.specs.Premises.{MayHappenInTurn}
 use Rattle.network_tests.specs.Scripts.{letter, served, taken, whole}
@@ -32,14 +32,14 @@ pub other_id : (◌≡◌ {A = ℕ} 7 3 → ⊥) × Unit {0}
 other_id = (λ same. absurd (omega arith), tt)
 
 -- a call whose current phase is complete, and no fetch, is ready for what comes next
-pub ready : (call : OpenCall) → IsSome call.phase.end → is_fetch call.phase.kind ≡ false → IsReady call
+pub ready : (call : NodeCall) → IsSome call.phase.end → is_fetch call.phase.kind ≡ false → IsReady call
 ready call complete other = record {
   complete = complete;
   fetched = λ fetch. absurd (let clash : false ≡ true = sym other ∙ ap is_fetch fetch.1 in cc);
 }
 
 -- and so is a call whose fetch is complete and whose value is settled
-pub ready_settled : (call : OpenCall) → IsSome call.phase.end → IsSome call.settled → IsReady call
+pub ready_settled : (call : NodeCall) → IsSome call.phase.end → IsSome call.settled → IsReady call
 ready_settled call complete settled = record { complete = complete; fetched = λ fetch. settled }
 
 -- a reply in the mail, with an answer to a query and to a fetch
