@@ -10,7 +10,7 @@ use Rattle.piece.specs.declared.piece.Piece.{Piece}
 use Rattle.layout.specs.Layout.{Layout, IsLawful}
 use Rattle.bank.specs.declared.status.Status.{Status}
 use Rattle.node_messages.specs.declared.error.Fault.TheVariants.{BadDigest, NameTooLong, BadLayout, NoMember}
-use Rattle.node_messages.specs.declared.message.TheConstants.{DIGEST_LENGTH}
+use Rattle.cluster_file.specs.declared.file.TheConstants.{DIGEST_LENGTH}
 use Rattle.node_messages.specs.Message.{IsTag, IsPiece}
 use Rattle.words.specs.Parts.{and_then}
 use Rattle.node_messages.specs.Numbers.{message_number}

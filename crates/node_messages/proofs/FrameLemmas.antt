@@ -27,7 +27,7 @@ use Rattle.mail.specs.declared.message.Body.{Body}
 use Rattle.mail.specs.declared.message.Body.TheVariants as body
 use Rattle.node_messages.specs.declared.error.Fault.TheVariants.{PieceTooLong}
 use Rattle.node_messages.specs.declared.message.NodeMessage.{NodeMessage}
-use Rattle.node_messages.specs.declared.message.TheConstants.{DIGEST_LENGTH}
+use Rattle.cluster_file.specs.declared.file.TheConstants.{DIGEST_LENGTH}
 use Rattle.node_messages.specs.Laws.{ShortPiecesHaveFrames}
 use Rattle.node_messages.specs.Message.{names_next, is_fitting, IsTag, IsPiece, IsKind, IsRequest, IsAnswer, IsBody, IsMessage}
 use Rattle.node_messages.specs.Strings.{Strings, layout_string, tag_strings, piece_strings, kind_strings, request_rest}

@@ -10,7 +10,7 @@ use Rattle.node_messages.specs.declared.error.MessageError.{MessageError}
 use Rattle.node_messages.specs.declared.fields.Subject.{Subject}
 use Rattle.node_messages.specs.declared.fields.Numbers.{Numbers}
 use Rattle.node_messages.specs.declared.message.NodeMessage.{NodeMessage}
-use Rattle.node_messages.specs.declared.message.TheConstants.{DIGEST_LENGTH}
+use Rattle.cluster_file.specs.declared.file.TheConstants.{DIGEST_LENGTH}
 use Rattle.node_messages.specs.Laws.{WrittenMessageIsRead, ReadMessageWasWritten, StringsNameOneMessage}
 use Rattle.node_messages.specs.Message.{names_next, IsMessage}
 use Rattle.words.specs.Parts.{and_then}

@@ -16,7 +16,7 @@ use Rattle.bank.specs.declared.status.Status.TheVariants as status
 use Rattle.mail.specs.declared.message.Body.{Body}
 use Rattle.mail.specs.declared.message.Body.TheVariants as body
 use Rattle.node_messages.specs.declared.message.NodeMessage.{NodeMessage}
-use Rattle.node_messages.specs.declared.message.TheConstants.{DIGEST_LENGTH}
+use Rattle.cluster_file.specs.declared.file.TheConstants.{DIGEST_LENGTH}
 
 -- whether a pointer with this status names a next position
 abbrev pub is_set : Status → Bool

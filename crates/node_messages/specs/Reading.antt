@@ -25,7 +25,7 @@ use Rattle.node_messages.specs.declared.error.Fault.TheVariants.{NoMember, Unkno
 use Rattle.node_messages.specs.declared.fields.Subject.{Subject}
 use Rattle.node_messages.specs.declared.fields.Numbers.{Numbers}
 use Rattle.node_messages.specs.declared.message.NodeMessage.{NodeMessage}
-use Rattle.node_messages.specs.declared.message.TheConstants.{DIGEST_LENGTH}
+use Rattle.cluster_file.specs.declared.file.TheConstants.{DIGEST_LENGTH}
 use Rattle.node_messages.specs.Message.{names_next}
 use Rattle.node_messages.specs.Numbers.{message_number}
 use Rattle.node_messages.specs.Strings.{Strings}

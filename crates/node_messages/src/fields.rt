@@ -18,11 +18,11 @@ ghost use Rattle.node_messages.specs.Reading.{
 };
 
 use crate::error::{Fault, MessageError};
-use crate::message::DIGEST_LENGTH;
 use crate::number::read_number;
 use crate::vocabulary::read_status;
 use bank::Status;
 use bytes::Bytes;
+use cluster_file::DIGEST_LENGTH;
 use layout::Layout;
 use piece::Piece;
 use string_parts::checked_layout;

@@ -3,7 +3,7 @@
 
 pub use error::{Fault, MessageError};
 pub use laws::{messages_are_read_back, short_pieces_have_frames};
-pub use message::{DIGEST_LENGTH, NodeMessage};
+pub use message::NodeMessage;
 pub use reading::read_message;
 pub use writing::frame_of;
 

@@ -1,10 +1,7 @@
 use bytes::Bytes;
+use cluster_file::DIGEST_LENGTH;
 use layout::Layout;
 use mail::Message;
-
-/// The length of the digest of a cluster file, in bytes. With 16 bytes, nobody finds two files with one digest, not
-/// even on purpose.
-pub const DIGEST_LENGTH: usize = 16;
 
 /// A message from one node to another, about one object.
 #[derive(Debug, Drop)]

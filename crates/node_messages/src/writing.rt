@@ -1,7 +1,7 @@
 //! Messages to frames.
 ghost use Rattle.std.specs.Prelude.{◌≡◌, ◌<◌, ◌^◌, ◌++◌, IfOk, IfSome, OnOk, Ok, Err, if◌then◌else◌, length};
 ghost use Rattle.layout.specs.Layout.{IsLawful};
-ghost use Rattle.node_messages.specs.declared.message.TheConstants.{DIGEST_LENGTH};
+ghost use Rattle.cluster_file.specs.declared.file.TheConstants.{DIGEST_LENGTH};
 ghost use Rattle.node_messages.specs.Gives.{Agrees, AgreesAs};
 ghost use Rattle.node_messages.specs.Message.{IsMessage, HasTypedFields};
 ghost use Rattle.node_messages.specs.Strings.{strings_of, subject_strings, number_strings, next_strings};
