@@ -5,6 +5,8 @@
 #[cfg(test)]
 mod banks;
 #[cfg(test)]
+mod calls;
+#[cfg(test)]
 mod edges_of_words;
 #[cfg(test)]
 mod layouts;
