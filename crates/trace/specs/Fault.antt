@@ -1,7 +1,7 @@
 -- The contracts that docs/trusted.md lists do not depend on this file; other contracts and proofs do.
 -- Why the program ends early, and with which exit status.
 use Rattle.std.specs.Prelude.{ℕ}
-use Rattle.player.specs.Script.{exit_status_of_fault as exit_status_of_end}
+use Rattle.player.specs.Script.{exit_status_of_end}
 use Rattle.trace.specs.declared.fault.Fault.{Fault}
 use Rattle.trace.specs.declared.fault.Fault.TheVariants as fault
 

@@ -5,7 +5,7 @@ use Rattle.std.specs.Str.Lines.{lines}
 use Rattle.tag.specs.declared.refusal.Refusal.TheVariants.{NoMemory}
 use Rattle.cluster.specs.Cluster.{Cluster}
 use Rattle.player.specs.declared.run.End.{End}
-use Rattle.player.specs.Script.{EndsAt, TraceEndsBy, EndsLine, IsScriptOf, PlaysLines}
+use Rattle.player.specs.Script.{EndsAt, RunEndsBy, EndsLine, IsScriptOf, PlaysLines}
 use Rattle.trace.specs.declared.fault.Fault.{Fault}
 use Rattle.trace.specs.declared.fault.Fault.TheVariants as fault
 
@@ -29,4 +29,4 @@ EndsEarly script why =
 -- playing the reader's script ends early, or memory is refused
 abbrev pub IsUnplayed : (remaining : Option (List ℕ)) → Fault → Type 0
 IsUnplayed remaining why =
-    ((end : End) × (why ≡ fault.Ended end) × TraceEndsBy remaining None None end) ⊎ (why ≡ fault.Refused NoMemory)
+    ((end : End) × (why ≡ fault.Ended end) × RunEndsBy remaining None None end) ⊎ (why ≡ fault.Refused NoMemory)
