@@ -2,11 +2,11 @@
 ghost use Rattle.std.specs.Prelude.{IfOk, OnOk};
 ghost use Rattle.soak.specs.Made.{HasMade, IsUnusedSeat, Makes};
 
-use crate::call::{object_called, value_written};
 use crate::chooser::Congruential;
 use crate::counts::Counts;
 use crate::moves::MOST_TURNS;
 use crate::plan::Plan;
+use crate::planned_call::{object_called, value_written};
 use client::{Seat, Store, StoreName};
 use std::alloc::Global;
 use std::sync::Wait;

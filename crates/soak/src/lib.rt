@@ -3,18 +3,17 @@
 #![tactic(auto)]
 
 pub use audit::are_accounted;
-pub use call::{object_called, value_written};
 pub use chooser::Congruential;
 pub use load::{Load, Timing, run_load};
 pub use moves::{layout_after, object_moved};
 pub use plan::Plan;
+pub use planned_call::{object_called, value_written};
 pub use progress::Progress;
 pub use run::{run_plan, run_store};
 pub use setting::make_setting;
 pub use summary::Summary;
 
 mod audit;
-mod call;
 mod chooser;
 mod client_thread;
 mod counts;
@@ -22,6 +21,7 @@ mod crew;
 mod load;
 mod moves;
 mod plan;
+mod planned_call;
 mod progress;
 mod run;
 mod setting;
