@@ -77,7 +77,8 @@ fn lines_of_texts(rt: HostRuntime) {
         let found = split_lines(rt.alloc(), text.as_bytes()).expect(&rt, "lines");
         assert_same(&rt, text, found.len(), lines.len());
         for (line, expected) in found.iter().zip(lines) {
-            assert_same(&rt, text, *line, expected.as_bytes());
+            let is_same = *line == expected.as_bytes();
+            assert_same(&rt, text, is_same, true);
         }
     }
 }
