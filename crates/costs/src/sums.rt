@@ -18,7 +18,7 @@ pub fn requests(register: &Register, call: CallId) -> u64
     let mut total: u64 = 0;
     for index in 0..register.phase_count(call) {
         let phase = phase_at(register, call, index);
-        total = total.saturating_add(u64::from(phase.members()));
+        total = total.saturating_add(asked_in(phase));
     }
     total
 }
@@ -30,7 +30,7 @@ pub fn replies(register: &Register, call: CallId) -> u64
     let mut total: u64 = 0;
     for index in 0..register.phase_count(call) {
         let phase = phase_at(register, call, index);
-        total = total.saturating_add(phase.replies().len() as u64);
+        total = total.saturating_add(taken_in(phase));
     }
     total
 }
@@ -42,7 +42,7 @@ pub fn returned(register: &Register, call: CallId) -> u64
     let mut total: u64 = 0;
     for index in 0..register.phase_count(call) {
         let phase = phase_at(register, call, index);
-        total = total.saturating_add(returned_in(phase.replies()));
+        total = total.saturating_add(returned_in(phase));
     }
     total
 }
@@ -58,7 +58,28 @@ fn phase_at(register: &Register, call: CallId, index: usize) -> &Phase
     phase
 }
 
-fn returned_in(replies: &[Taken]) -> u64
+// How many members a phase asks.
+fn asked_in(phase: &Phase) -> u64
+    ensures { result ≡ u64_saturate phase.now.members }
+{
+    u64::from(phase.members())
+}
+
+// How many replies a phase took.
+fn taken_in(phase: &Phase) -> u64
+    ensures { result ≡ u64_saturate (length phase.now.replies) }
+{
+    phase.replies().len() as u64
+}
+
+// The bytes of the fragments in the replies that a phase took.
+fn returned_in(phase: &Phase) -> u64
+    ensures { result ≡ u64_saturate (returned_in phase.now) }
+{
+    bytes_of(phase.replies())
+}
+
+fn bytes_of(replies: &[Taken]) -> u64
     ensures { result ≡ u64_saturate (sum_by taken_bytes replies.now) }
 {
     let mut total: u64 = 0;

@@ -12,15 +12,17 @@ use tag::Tag;
 
 const FIRST: Tag = Tag { number: 1, call: 1 };
 
-// Call 2, a read, with its first phase at position 3.
+// What the first phase of call 2 asks.
+const ASK: Ask = Ask {
+    call: 2,
+    number: 1,
+    position: 3,
+    kind: Kind::Next,
+};
+
+// Call 2, a read, with its first phase.
 fn begin(rt: &impl Abort, alloc: Global, layout: &Layout) -> Call {
-    let ask = Ask {
-        call: 2,
-        number: 1,
-        kind: Kind::Next,
-        position: 3,
-    };
-    Call::begin(alloc, ask, CallKind::Read, Stage::ReadBegin, layout, 5).expect(rt, "a call")
+    Call::begin(alloc, ASK, CallKind::Read, Stage::ReadBegin, layout, 5).expect(rt, "a call")
 }
 
 // What the call does next, once the only member has answered the current phase.
@@ -72,11 +74,10 @@ fn a_phase_asks_each_member(rt: HostRuntime) {
     assert_same(&rt, "its id", call.id(), 2);
     assert_same(&rt, "what it does", call.operation(), Operation::Read);
     assert_same(&rt, "whether it has settled", call.is_settled(), false);
-    let ask = call.ask();
-    assert_same(&rt, "its phase", (ask.number, ask.position), (1, 3));
-    let sent = requests(rt.alloc(), ask, 2, None).expect(&rt, "requests");
+    assert_same(&rt, "what it asks", call.ask(), ASK);
+    let sent = requests(rt.alloc(), ASK, 2, None).expect(&rt, "requests");
     assert_same(&rt, "how many requests", sent.len(), 2);
-    let second = request_to(ask, 1, None).expect(&rt, "a request");
+    let second = request_to(ASK, 1, None).expect(&rt, "a request");
     let asked = (second.member, second.body.kind());
     assert_same(&rt, "the second request", asked, (1, Kind::Next));
 }
