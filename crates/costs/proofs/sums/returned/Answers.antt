@@ -1,6 +1,4 @@
-use Rattle.std.proofs.Common.{◌≡◌, ◌≤◌, ℕ, List, length, sum_by, take, ap, ◌∙◌, arith}
-use Rattle.std.proofs.lemmas.List.{take_all}
-use Rattle.std.specs.Io.Iter.{u64_saturate}
+use Rattle.std.proofs.Common.{ℕ, sum_by, take}
 use Rattle.phase.specs.Phase.{Phase}
 use Rattle.register.specs.View.{phases_at}
 use Rattle.costs.specs.Cost.{returned_in}
@@ -13,10 +11,3 @@ loop-index-preserved c =
     let each : Phase → ℕ = returned_in in
     capped_more c.loop-index.total (sum_by each (take c.loop-index.index phases)) _ _ _ _ c.loop-index.invariant c.returned_in.ensures
     c.saturating_add-total.ensures (sum_at each phases c.loop-index.index c.phase_at-phase.result.now c.phase_at-phase.ensures)
-
-pub returns : goal.returns
-returns c =
-    let phases = phases_at c.args.register.now.object c.args.call in
-    let each : Phase → ℕ = returned_in in
-    let all : length phases ≤ c.loop-index.index = omega arith in
-    c.loop-index.invariant ∙ ap (λ (seen : List Phase). u64_saturate (sum_by each seen)) (take_all c.loop-index.index phases all)
