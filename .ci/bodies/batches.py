@@ -1,21 +1,14 @@
-"""Tries a crate's edits, many at a time: an edit changes a body and no contract, so that functions fail independently.
-
-The checks of a large crate begin with what a check of the very same text kept on this machine, if there is such work. As
-with `rt must-fail`, it counts only where the crate without edits is proved over it, and what is not refused over it is
-tried once more from nothing.
-"""
+"""Tries a crate's edits, many at a time: an edit changes a body and no contract, so that functions fail independently."""
 import os
 import shutil
 import subprocess
 import tempfile
-from dataclasses import dataclass
+from dataclasses import dataclass, replace
 
+from copies import Copy, copies_of, copy_proofs, leave_open
 from edits import edited_texts, read
-from kit import copy_kept_work, kept_work, rtlib
+from kit import ABOVE, rtlib, words_above
 from verdicts import Report, Verdict
-
-# The lines of code from which on kept work saves more than the check of the crate without edits takes.
-FEWEST_LINES = 450
 
 
 @dataclass
@@ -39,45 +32,45 @@ def batches_of(edits):
     return batches
 
 
-def leave_answers(folder):
-    """Leaves a file without answers in the folder of a function's proofs, where it has none of its own: a check that
-    finds no file there prints what to write into it, which takes longer than to find that the function fails."""
-    if not any(os.path.exists(f"{folder}/{it}.antt") for it in ("Answers", "Proof")):
-        os.makedirs(folder, exist_ok=True)
-        with open(f"{folder}/Answers.antt", "w", encoding="utf-8"):
-            pass
-
-
 class Trial:
     """The checks of one crate with edits in it. What is proved in one of them is kept for the next."""
 
-    def __init__(self, crate, jobs):
-        self.crate, self.jobs = crate, jobs
+    def __init__(self, crate, functions, jobs):
+        self.crate, self.functions, self.jobs = crate, functions, jobs
         self.seconds, self.checks = 0.0, 0
         self.kept = None
 
-    def check(self, texts, functions):
-        """Checks a copy of the crate with these texts: the functions and what they call, or all where none is named."""
-        only = [word for it in functions for word in ("--only", it.ending())]
+    def prepare(self, room, texts, edits):
+        """Copies the crate to a folder, with these texts. Where these have edits, there is a hole for the proof of each
+        other function."""
+        for part in rtlib.PARTS:
+            if os.path.isdir(f"{self.crate.folder}/{part}"):
+                shutil.copytree(f"{self.crate.folder}/{part}", f"{room}/{part}")
+        os.makedirs(f"{room}/{ABOVE}/src")
+        for path, text in {**texts, f"{ABOVE}/src/lib.rt": "//! Nothing.\n"}.items():
+            with open(f"{room}/{path}", "w", encoding="utf-8") as file:
+                file.write(text)
+        for copy in (it for it in edits if isinstance(it, Copy)):
+            copy_proofs(room, self.crate.name, copy)
+        for function in self.without_edit(edits) if edits else []:
+            leave_open(room, self.crate.name, function)
+
+    def without_edit(self, edits):
+        edited = {function for edit in edits for function in edit.functions}
+        return [it for it in self.functions if it not in edited]
+
+    def check(self, texts, edits):
+        """Checks a copy of the crate with these texts, which have the edits, and proves nothing else. Where no edits are
+        given, it proves the whole crate."""
         with tempfile.TemporaryDirectory(prefix="wrong-bodies-") as room, tempfile.TemporaryFile() as said:
-            for part in rtlib.PARTS:
-                if os.path.isdir(f"{self.crate.folder}/{part}"):
-                    shutil.copytree(f"{self.crate.folder}/{part}", f"{room}/{part}")
-            for path, text in texts.items():
-                with open(f"{room}/{path}", "w", encoding="utf-8") as file:
-                    file.write(text)
-            for folder in {it.proofs() for it in functions}:
-                leave_answers(f"{room}/{folder}")
-            words = self.crate.words(["--jobs", str(self.jobs), *only], keeps=False)
+            self.prepare(room, texts, edits)
+            words = [*words_above(self.crate, self.jobs), *(["--allow-holes"] if edits else [])]
             whole = [*rtlib.guarded(), rtlib.RATTLE, "check", *words, "--incremental", self.kept]
             run = subprocess.Popen(whole, cwd=room, stdin=subprocess.DEVNULL, stdout=said, stderr=subprocess.STDOUT)
             _, status, used = os.wait4(run.pid, 0)
             run.returncode = os.waitstatus_to_exitcode(status)
             self.seconds += used.ru_utime + used.ru_stime
             self.checks += 1
-            if only and run.returncode == 2:
-                # One of the names fits no function, or several.
-                return self.check(texts, [])
             said.seek(0)
             return Report(self.crate, run.returncode, said.read().decode(errors="replace"))
 
@@ -85,21 +78,22 @@ class Trial:
         return read(f"{self.crate.folder}/{path}").encode()[:place].count(b"\n") + 1
 
     def refused(self, report, edit):
-        rows, is_weak = report.reasons(edit, self.line_of)
+        rows, is_weak = report.reasons(edit)
         return Result(edit, Verdict.REFUSED, rows[0] if rows else "", is_weak)
 
     def try_batch(self, edits):
         """Tries the edits by one check. Returns the results, and the edits that have to be tried alone."""
         texts = edited_texts(self.crate.folder, edits)
-        report = self.check(texts, [it for edit in edits for it in edit.functions])
+        report = self.check(texts, edits)
         if not report.reached_the_prover() or report.unread(texts):
-            bad = report.refused_by_the_front_end(edits, self.line_of)
+            has_copies = any(isinstance(it, Copy) for it in edits)
+            bad = [] if has_copies else report.refused_by_the_front_end(edits, self.line_of)
             good = [it for it in edits if it not in bad]
             if not bad or not good:
                 return [], edits
             results, alone = self.try_batch(good)
             return results, alone + bad
-        if report.fails_alone(edits):
+        if report.fails_alone([*self.without_edit(edits), *(function for it in edits for function in it.functions)]):
             return [], edits
         results, alone = [], []
         for edit in edits:
@@ -112,9 +106,24 @@ class Trial:
                 alone.append(edit)
         return results, alone
 
+    def try_with_copies(self, first, further):
+        """Tries by one check the edits of the first batch in place, and further ones in copies. Returns the results,
+        those of the first batch that have to be tried alone, and those that it could not tell."""
+        results, alone = self.try_batch([*first, *copies_of(self.crate.folder, further)])
+        proved = [it.edit for it in results if it.verdict is Verdict.PASSES]
+        good = {it.of for it in proved if isinstance(it, Copy) and it.original is None}
+        told = [it for it in results if not isinstance(it.edit, Copy)]
+        in_copies = [it for it in results if isinstance(it.edit, Copy) and it.edit.original and it.edit.of in good]
+        told += [replace(it, edit=it.edit.original) for it in in_copies]
+        left = [it for it in further if not any(it is other.edit for other in told)]
+        if not results:
+            return [], [], first + left
+        return told, [it for it in alone if not isinstance(it, Copy)], left
+
     def try_alone(self, edit):
+        """Tries an edit by a check of the whole crate, with all proofs."""
         texts = edited_texts(self.crate.folder, [edit])
-        report = self.check(texts, edit.functions if edit.is_inside else [])
+        report = self.check(texts, [])
         verdict = report.verdict(edit) if edit.is_inside else report.verdict_of_all(texts)
         if edit.is_inside and (not report.reached_the_prover() or report.unread(texts)):
             verdict = Verdict.UNJUDGED
@@ -125,24 +134,16 @@ class Trial:
         told = next((row for row in report.lines if "error" in row), report.lines[-1])
         return Result(edit, verdict or Verdict.UNJUDGED, told)
 
-    def begin_with_kept_work(self, folder):
-        """Copies kept work of the same text to the folder. Returns whether there is any over which the crate is proved."""
-        self.kept = folder
-        found = kept_work(self.crate) if self.crate.count(rb"\n") >= FEWEST_LINES else []
-        try:
-            for work in found[:1]:
-                copy_kept_work(work, folder)
-                return self.check({}, []).verdict_of_all({}) is Verdict.PASSES
-        except (OSError, shutil.Error):
-            # Another check may replace what this one copies.
-            pass
-        return False
-
-    def try_over_kept(self, edits):
-        """The result of each edit, over what the checks before have kept."""
-        results, alone = [], [it for it in edits if not it.is_inside]
-        for some in batches_of([it for it in edits if it.is_inside]):
-            judged, left = self.try_batch(some) if len(some) > 1 else ([], some)
+    def try_inside(self, edits):
+        """The results of edits that lie in functions."""
+        results, alone = [], []
+        batches = batches_of(edits)
+        if len(batches) > 1:
+            further = [it for some in batches[1:] for it in some]
+            results, alone, left = self.try_with_copies(batches[0], further)
+            batches = batches_of(left)
+        for some in batches:
+            judged, left = self.try_batch(some)
             results += judged
             alone += left
         return results + [self.try_alone(it) for it in alone]
@@ -151,12 +152,7 @@ class Trial:
         """The result of each edit, in the order of their names."""
         results = [Result(it, Verdict.UNJUDGED, it.problem) for it in edits if it.problem]
         left = [it for it in edits if not it.problem]
-        with tempfile.TemporaryDirectory(prefix="wrong-bodies-kept-") as room:
-            if self.begin_with_kept_work(f"{room}/work"):
-                refused = [it for it in self.try_over_kept(left) if it.verdict is Verdict.REFUSED]
-                results += refused
-                left = [it for it in left if not any(it is other.edit for other in refused)]
-            self.kept = f"{room}/anew"
-            os.mkdir(self.kept)
-            results += self.try_over_kept(left)
+        with tempfile.TemporaryDirectory(prefix="wrong-bodies-kept-") as self.kept:
+            results += self.try_inside([it for it in left if it.is_inside])
+            results += [self.try_alone(it) for it in left if not it.is_inside]
         return sorted(results, key=lambda it: it.edit.name)

@@ -11,7 +11,7 @@ from functools import cache
 # What an earlier run on this machine proved is said to be kept.
 PROVED = re.compile(r"(?m)^rt: (\w+) (?:proved$|is kept: )")
 ENDED = re.compile(r"(?m)^\d+ passed, \d+ failed$")
-PAUSE = 2.0  # seconds between two looks at what was printed
+PAUSE = 2.0  # seconds between two looks at what was printed, and at the free memory
 
 
 @cache
@@ -27,10 +27,6 @@ class Built:
 
     def share(self):
         return 0.85
-
-    def patience(self):
-        """How long to wait for a trial to end before the next look, in seconds; None is until one ends."""
-        return None
 
 
 class Beside:
@@ -59,10 +55,6 @@ class Beside:
         """The part of the free memory that trials may take: as long as `rt ci` runs, it counts on it too."""
         self.look_again()
         return 0.85 if self.has_ended else 0.45
-
-    def patience(self):
-        self.look_again()
-        return None if self.has_ended else PAUSE
 
     def wait_for(self, crate):
         """Waits a little, where nothing can be tried, or ends the program where `rt ci` will not prove what is lacking."""

@@ -7,9 +7,11 @@ from kit import rtlib, tokens_of
 
 @dataclass(frozen=True)
 class Function:
-    """A function with a body. In bytes of the file, `head` is where it begins, `begin` and `end` are its body's braces."""
+    """A function with a body. In bytes of the file, `start` is where it begins with its attributes, `head` where its `fn`
+    stands, `begin` and `end` are its body's braces. One that a derive writes has none of these."""
 
     path: str
+    start: int
     head: int
     begin: int
     end: int
@@ -17,6 +19,7 @@ class Function:
     owner: str  # of a method the type, and behind it the trait with the names of its arguments, where it has one
     name: str
     home: tuple = ()  # the modules down to the type of a method, where the crate's own proofs of it stand
+    is_of_trait: bool = False  # whether it stands in an impl of a trait, or in a trait
 
     def ending(self):
         """The end of the function's name, as a check prints it, behind the modules."""
@@ -25,6 +28,10 @@ class Function:
     def proofs(self):
         """The folder of the function's own proofs."""
         return "/".join(["proofs", *self.home, *([self.owner] if self.owner else []), self.name])
+
+    def module_of_proofs(self):
+        """The name of the module of the function's proofs, below that of the crate's."""
+        return self.proofs().removeprefix("proofs/").replace("/", ".")
 
     def is_named(self, crate, printed):
         """Whether a check that prints this name speaks of the function, or of a closure in it."""
@@ -63,6 +70,16 @@ def closing(tokens, at):
     depth = 0
     for place in range(at, len(tokens)):
         depth += {"{": 1, "}": -1}.get(tokens[place].text, 0)
+        if depth == 0:
+            return place
+    return len(tokens) - 1
+
+
+def closing_bracket(tokens, at):
+    """The place in the list of the round bracket that closes the one at `at`."""
+    depth = 0
+    for place in range(at, len(tokens)):
+        depth += {"(": 1, ")": -1}.get(tokens[place].text, 0)
         if depth == 0:
             return place
     return len(tokens) - 1
@@ -112,19 +129,41 @@ def owner_of(words):
     return owner + trait + "".join(arguments)
 
 
+def start_of(tokens, at):
+    """Where the item begins whose `fn` is the token at this place in the list: at its visibility, or its attributes."""
+    while at > 0:
+        before = tokens[at - 1].text
+        if before in ("pub", "(", "crate", "super", ")"):
+            at -= 1
+        elif before == "]":
+            depth, place = 0, at - 1
+            while place > 0:
+                depth += (tokens[place].text == "]") - (tokens[place].text == "[")
+                if depth == 0:
+                    break
+                place -= 1
+            if tokens[place - 1].text != "#":
+                break
+            at = place - 1
+        else:
+            break
+    return tokens[at].start
+
+
 def functions_in(path, tokens):
     """The functions of a file. One that lies in another's body counts as a part of that one."""
-    found, scopes, at = [], [(len(tokens), module_of(path), "")], 0
+    found, scopes, at = [], [(len(tokens), module_of(path), "", False)], 0
     while at < len(tokens):
         while at >= scopes[-1][0]:
             scopes.pop()
         text, behind = tokens[at].text, tokens[at + 1].text if at + 1 < len(tokens) else ""
-        _, module, owner = scopes[-1]
+        _, module, owner, is_of_trait = scopes[-1]
         if text == "fn" and re.fullmatch(r"\w+", behind):
             body = opening(tokens, at)
             if tokens[body].text == "{":
                 end = closing(tokens, body)
-                found.append(Function(path, tokens[at].start, tokens[body].start, tokens[end].end, module, owner, behind))
+                places = start_of(tokens, at), tokens[at].start, tokens[body].start, tokens[end].end
+                found.append(Function(path, *places, module, owner, behind, is_of_trait=is_of_trait))
                 at = end
             else:
                 at = body
@@ -133,8 +172,39 @@ def functions_in(path, tokens):
             if tokens[body].text == "{":
                 words = [it.text for it in tokens[at + 1 : body]]
                 inner = owner_of(words) if text == "impl" else behind if text == "trait" else owner
-                scopes.append((closing(tokens, body), module + (behind,) if text == "mod" else module, inner))
+                within = module + (behind,) if text == "mod" else module
+                scopes.append((closing(tokens, body), within, inner, text == "trait" or "for" in words))
             at = body
+        at += 1
+    return found
+
+
+# The methods that derives write, by the trait.
+DERIVED = {
+    "Clone": ("clone",),
+    "Debug": ("fmt",),
+    "Default": ("default",),
+    "PartialEq": ("eq",),
+    "PartialOrd": ("partial_cmp",),
+    "Ord": ("cmp",),
+    "Hash": ("hash",),
+}
+
+
+def derived_in(path, tokens):
+    """The functions that derives write for the types of a file."""
+    found, traits, at = [], [], 0
+    while at < len(tokens):
+        text = tokens[at].text
+        if text == "derive":
+            end = closing_bracket(tokens, at + 1)
+            traits += [it.text for it in tokens[at + 2 : end]]
+            at = end
+        elif text in ("struct", "enum"):
+            name = tokens[at + 1].text
+            methods = [(it, method) for it in traits for method in DERIVED.get(it, ())]
+            found += [Function(path, 0, 0, 0, 0, module_of(path), name + it, method) for it, method in methods]
+            traits = []
         at += 1
     return found
 
@@ -155,6 +225,9 @@ def functions_of(crate):
     tokens = code_tokens(crate.folder, [it for it in files if it.startswith("src/") and it.endswith(".rt")])
     homes = homes_of(tokens)
     return {
-        path: [replace(it, home=homes.get(it.owner, it.module)) for it in functions_in(path, some)]
+        path: [
+            replace(it, home=homes.get(it.owner, it.module))
+            for it in [*functions_in(path, some), *derived_in(path, some)]
+        ]
         for path, some in tokens.items()
     }

@@ -60,17 +60,22 @@ def build_below(crate):
     return not any(below.build_rlib(["--jobs", "1"], anew=False) for below in crate.below())
 
 
-def kept_work(crate):
-    """The folders of what checks of the very same text, in any checkout on this machine, proved and kept. The kit notes
-    where these are from `rattle-kit-13f` on."""
-    places = rt.places_of(crate) if hasattr(rt, "places_of") else []
-    folders = [f"{folder}/out/incremental" for folder, stamp in places if stamp == crate.stamp()]
-    return [it for it in folders if os.path.isdir(it)]
+# The crate that is checked over a crate with edits. It is empty.
+ABOVE = "tried"
 
 
-def copy_kept_work(folder, to):
-    """Copies a folder of kept work, by links where these can be made: a check replaces such a file, and changes none."""
-    rt.linked(folder, to)
+def words_above(crate, jobs):
+    """The words of a check of the empty crate over a copy of the crate, which lies where the check runs and is read from
+    its source. Of a crate that is checked itself, and not read so, a check prints how to begin each proof that fails, for
+    which it searches a second time."""
+    words = crate.words(["--jobs", str(jobs)], keeps=False)
+    words[words.index("--crate-name") + 1] = ABOVE
+    for option in ("--links", "--crate-type"):
+        if option in words:
+            del words[words.index(option) : words.index(option) + 2]
+    root = words.index("src/lib.rt")
+    words[root] = f"{ABOVE}/src/lib.rt"
+    return [*words, "--lib", f"{crate.name}=src/lib.rt"]
 
 
 def tokens_of(paths):

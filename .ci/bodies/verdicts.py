@@ -12,7 +12,7 @@ class Verdict(enum.Enum):
 
 
 class Line(enum.Enum):
-    PROVED = 1
+    PROVED = 1  # or nothing is open but the proof of a function that it calls, for which there is a hole
     FAILS = 2  # the function's own proof fails
     CALLS = 3  # only the proof of a function that it calls fails
     UNCLEAR = 4
@@ -23,7 +23,7 @@ NAMES = re.compile(r"has no field|is not in scope|has no `|was not admitted|can 
 
 
 def line_kind(said):
-    if said.startswith("proved"):
+    if said.startswith(("proved", "no holes", "depends on a hole")):
         return Line.PROVED
     if said.startswith("not proved") or "`search` did not prove" in said:
         return Line.FAILS
@@ -36,14 +36,16 @@ class Report:
     def __init__(self, crate, status, text):
         self.crate, self.status, self.text = crate, status, text
         self.lines = text.rstrip("\n").split("\n")
-        self.of_functions = {}
+        self.of_functions, self.above, rows = {}, {}, []
         for row in self.lines:
             found = re.match(r"fn (\S+): (.*)", row)
             if found:
-                self.of_functions[found[1]] = line_kind(found[2])
+                self.of_functions[found[1]], self.above[found[1]], rows = line_kind(found[2]), rows, []
+            else:
+                rows.append(row)
 
     def reached_the_prover(self):
-        return bool(re.match(r"(logic|only)=", self.lines[-1])) and not rt.rtlib.STALE.search(self.text)
+        return bool(re.match(r"(logic|holes)=", self.lines[-1])) and not rt.rtlib.STALE.search(self.text)
 
     def unread(self, texts):
         """The files of the edited texts that hold a line which the prover could not read."""
@@ -67,23 +69,24 @@ class Report:
     def kinds_of(self, edit):
         return {self.of_functions[name] for it in edit.functions for name in self.names_of(it)}
 
-    def fails_alone(self, edits):
-        """The functions without an edit whose own proof fails."""
-        edited = {name for edit in edits for it in edit.functions for name in self.names_of(it)}
-        return [it for it, kind in self.of_functions.items() if kind is Line.FAILS and it not in edited]
+    def fails_alone(self, known):
+        """The functions whose own proof fails besides those known, which have an edit or a hole for their proof."""
+        names = {name for it in known for name in self.names_of(it)}
+        return [it for it, kind in self.of_functions.items() if kind is Line.FAILS and it not in names]
 
-    def reasons(self, edit, line_of):
+    def reasons(self, edit):
         """The lines that say why the edit's functions fail, those that name more than what went away first."""
         told = []
         for function in edit.functions:
-            first, last = line_of(function.path, function.head), line_of(function.path, function.end)
-            folders = ["proofs/" + name.partition("::")[2].replace("::", "/") + "/" for name in self.names_of(function)]
+            names = self.names_of(function)
+            folders = tuple("proofs/" + name.partition("::")[2].replace("::", "/") + "/" for name in names)
+            above = {row for name in names for row in self.above[name]}
             for row in self.lines:
                 at = re.match(r"(?:note: )?(?:\./)?(\S+?):(\d+):\d+: ?(.*)", row)
                 if not at:
                     continue
-                is_proof = at[1].startswith(tuple(folders)) if folders else False
-                is_code = at[1] == function.path and first <= int(at[2]) <= last
+                is_proof = bool(folders) and at[1].startswith(folders)
+                is_code = at[1] == function.path and row in above
                 if (is_proof and "error" in row) or is_code:
                     told.append((is_proof and bool(NAMES.search(row)), row))
         return [row for _, row in sorted(told, key=lambda it: it[0])], bool(told) and all(weak for weak, _ in told)

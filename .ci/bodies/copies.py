@@ -1,0 +1,75 @@
+"""What the copy of a crate has in which edits are tried: holes for the proofs of functions that have no edit, and copies of
+functions that have several, so that one check tries all edits.
+
+A function's proof cites of another one only what that one's contract states, so a hole for the other's proof changes no
+verdict. A copy has its function's text and proofs under a name of its own. One more copy has no edit: where its proof
+fails, the others show nothing.
+"""
+import os
+import re
+import shutil
+from dataclasses import dataclass, replace
+
+from edits import Edit
+
+PROOFS = ("Answers", "Invariants", "Proof")
+
+
+@dataclass
+class Copy(Edit):
+    """An edit in a copy of its function, or such a copy without an edit."""
+
+    original: object = None  # the edit
+    of: object = None  # the function
+
+
+def can_be_copied(edit):
+    return len(edit.functions) == 1 and not edit.functions[0].is_of_trait
+
+
+def copy_with(folder, edit, changes, number):
+    function = edit.functions[0]
+    with open(f"{folder}/{function.path}", "rb") as file:
+        text = file.read()[function.start : function.end]
+    name = f"{function.name}_tried_{number}"
+    head = function.head + len(b"fn ")
+    renamed = (head, head + len(function.name.encode()), name)
+    for begin, end, new in sorted([*changes, renamed], reverse=True):
+        text = text[: begin - function.start] + new.encode() + text[end - function.start :]
+    inserted = {function.path: [(function.end, function.end, f"\n\n{text.decode()}")]}
+    return Copy(edit.name, edit.file, inserted, (replace(function, name=name),), True, original=edit, of=function)
+
+
+def copies_of(folder, edits):
+    """The copies for these edits, and for each of their functions one without an edit."""
+    edits = [it for it in edits if can_be_copied(it)]
+    wanted = {it.functions[0]: it for it in edits}
+    bare = [replace(copy_with(folder, it, [], 0), original=None) for it in wanted.values()]
+    return bare + [copy_with(folder, it, it.changes[it.functions[0].path], n) for n, it in enumerate(edits, 1)]
+
+
+def copy_proofs(room, crate, copy):
+    """Gives a copy the proofs of its function, under its own name."""
+    (function,) = copy.functions
+    old, new = f"{room}/{copy.of.proofs()}", f"{room}/{function.proofs()}"
+    named = rf"(Rattle\.{crate}\.(?:proofs|specs\.contracts)\.){re.escape(copy.of.module_of_proofs())}(?![\w-])"
+    for name in PROOFS:
+        if os.path.isfile(f"{old}/{name}.antt"):
+            os.makedirs(new, exist_ok=True)
+            with open(f"{old}/{name}.antt", encoding="utf-8") as file:
+                text = re.sub(named, rf"\g<1>{function.module_of_proofs()}", file.read())
+            with open(f"{new}/{name}.antt", "w", encoding="utf-8") as file:
+                file.write(text)
+
+
+def leave_open(room, crate, function):
+    """Leaves a hole for a function's proof."""
+    folder = f"{room}/{function.proofs()}"
+    shutil.rmtree(f"{folder}/Proof", ignore_errors=True)
+    for name in PROOFS:
+        if os.path.exists(f"{folder}/{name}.antt"):
+            os.remove(f"{folder}/{name}.antt")
+    os.makedirs(folder, exist_ok=True)
+    with open(f"{folder}/Proof.antt", "w", encoding="utf-8") as file:
+        file.write(f"use Rattle.{crate}.proofs.{function.module_of_proofs()}.Statement.{{statement}}\n\n")
+        file.write(f"pub {function.name}_spec : {{M : Type 1}} → statement M\n{function.name}_spec = ?\n")
