@@ -1,27 +1,28 @@
--- Runs of events, a part at a time, and the premises of each event.
-use Rattle.std.proofs.Common.{◌≡◌, ℕ, nat_eq, ◌≤◌, true, false, List, [], ◌∷◌, ◌++◌, Option, Some, IsSome, sym, ap, ◌∙◌, arith}
+-- What single events may do, and runs of events, a part at a time.
+use Rattle.std.proofs.Common.{◌≡◌, ℕ, nat_eq, ◌≤◌, true, false, List, [], ◌∷◌, ◌++◌, length, None, Some, IsSome}
+use Rattle.std.proofs.Common.{refl, sym, ap, ◌∙◌, arith, slice_get}
 use Rattle.std.specs.List.{IsDistinct}
 use Rattle.tag.specs.declared.limits.TheConstants.{LONGEST_VALUE}
-use Rattle.tag.specs.declared.tag.Tag.{Tag}
-use Rattle.piece.specs.declared.piece.Piece.{Piece}
-use Rattle.bank.specs.declared.kind.Kind.TheVariants.{Query, Fetch}
 use Rattle.bank.specs.declared.reply.Answer.TheVariants as answer
-use Rattle.bank.specs.declared.request.Request.TheVariants as request
-use Rattle.bank.specs.declared.status.Status.TheVariants.{Unset}
-use Rattle.mail.specs.declared.message.Body.TheVariants as body
-use Rattle.mail.specs.declared.message.Message.{Message}
-use Rattle.record.specs.Fragments.{IsValue}
+use Rattle.phase.specs.declared.phase.Taken.{Taken}
+use Rattle.phase.specs.Phase.{lacks_pieces}
+use Rattle.record.specs.Fragments.{IsFetch, IsValue}
 use Rattle.record.specs.Wants.{is_fetch}
-use Rattle.network.specs.Worlds.{NodeCall, World}
-use Rattle.network.specs.Events.{Event, IsReady, happens, world_after}
+use Rattle.network.specs.Worlds.{NodeCall, World, known_layout}
+use Rattle.network.specs.Events.{Event, IsFetched, IsReady, happens, world_after}
 use Rattle.network.specs.Premises.{MayHappenInTurn}
-use Rattle.network_tests.specs.Scripts.{letter, served, taken, whole}
+use Rattle.network_tests.specs.Scripts.{letter, whole}
+
+-- Values and ids
 
 letter_fits : 1 ≤ LONGEST_VALUE
 letter_fits = omega arith
 
 pub letter_is_value : IsValue letter
 letter_is_value = ((omega arith, tt), letter_fits)
+
+pub empty_is_value : IsValue []
+empty_is_value = (tt, omega arith)
 
 pub one_distinct : (member : ℕ) → IsDistinct nat_eq (member ∷ [])
 unfolding IsDistinct
@@ -30,6 +31,8 @@ one_distinct member = (tt, tt)
 -- the second call has the id 3, and the first, the only one before it, has 7
 pub other_id : (◌≡◌ {A = ℕ} 7 3 → ⊥) × Unit {0}
 other_id = (λ same. absurd (omega arith), tt)
+
+-- Calls that go on
 
 -- a call whose current phase is complete, and no fetch, is ready for what comes next
 pub ready : (call : NodeCall) → IsSome call.phase.end → is_fetch call.phase.kind ≡ false → IsReady call
@@ -42,38 +45,51 @@ ready call complete other = record {
 pub ready_settled : (call : NodeCall) → IsSome call.phase.end → IsSome call.settled → IsReady call
 ready_settled call complete settled = record { complete = complete; fetched = λ fetch. settled }
 
--- a reply in the mail, with an answer to a query and to a fetch
-abbrev pub tag_told : (call phase position member : ℕ) → Tag → Option Message
-tag_told call phase position member tag = Some (record {
-  call = call;
-  phase = phase;
-  position = position;
+-- the first reply that a fetch took, from a member that keeps this whole value
+abbrev pub first_piece : (member : ℕ) → List ℕ → Taken
+first_piece member value = record {
   member = member;
-  body = body.Reply Query (record { step = 0; answer = answer.Greatest tag });
-})
+  reply = record {
+    step = 0;
+    answer = answer.Piece (Some (record { point = member; len = length value; bytes = value }));
+  };
+  step = 0;
+}
 
-abbrev pub piece_told : (call phase position member : ℕ) → Tag → Option Piece → Option Message
-piece_told call phase position member tag piece = Some (record {
-  call = call;
-  phase = phase;
-  position = position;
-  member = member;
-  body = body.Reply (Fetch tag) (record { step = 0; answer = answer.Piece piece });
-})
+-- a value may be settled if the fetch is complete and took such a reply, where one fragment restores a value
+pub fetched_once : {world : World} {call : NodeCall} {value : List ℕ} (member : ℕ) → IsSome call.phase.end →
+    IsFetch call.phase.kind → call.settled ≡ None → lacks_pieces call.phase ≡ false →
+    slice_get call.phase.replies 0 ≡ Some (first_piece member value) →
+    (known_layout world call.node call.phase.position).k ≡ 1 → IsValue value → IsFetched whole world call value
+fetched_once {world} {call} {value} member complete fetch unsettled enough took one is_value = record {
+  complete = complete;
+  fetch = fetch;
+  unsettled = unsettled;
+  enough = enough;
+  pieces = record {
+    members = member ∷ [];
+    distinct = one_distinct member;
+    enough = omega arith;
+    pieces = (
+      record {
+        place = 0;
+        reply = first_piece member value;
+        within = took;
+        same_member = refl;
+        piece = _;
+        same_piece = refl;
+        is_fragment = record { point = refl; len = refl; bytes = refl };
+      },
+      tt,
+    );
+  };
+  is_value = is_value;
+}
+
+-- Runs
 
 -- events, and then others
 pub may_append : (first second : List Event) (world : World) → MayHappenInTurn whole first world →
     MayHappenInTurn whole second (world_after whole first world) → MayHappenInTurn whole (first ++ second) world
 may_append [] second world a b = b
 may_append (event ∷ first) second world a b = (a.0, a.1, may_append first second (happens whole world event) a.2 b)
-
--- The last phase of a read in two parts, each of which is checked by itself: its requests are served, and the replies taken
-
-abbrev pub last_asked : (other : ℕ) → List Event
-last_asked other =
-    Event.Advance 3 ∷ served 3 4 0 (λ member. request.Next) other ∷ served 3 4 0 (λ member. request.Next) 2 ∷ []
-
-abbrev pub last_told : (other : ℕ) → List Event
-last_told other =
-    taken 3 4 0 (λ member. request.Next) other (answer.Pointer Unset) ∷ taken 3 4 0 (λ member. request.Next) 2 (answer.Pointer Unset)
-    ∷ Event.Answer 3 ∷ []

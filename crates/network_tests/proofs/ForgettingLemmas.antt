@@ -1,18 +1,17 @@
 -- A node that forgets what its bank kept, and a read that misses a write.
-use Rattle.std.proofs.Common.{◌≡◌, Bool, true, false, cond, List, [], ◌∷◌, ◌++◌, inl, refl, ap, arith, le_refl}
+use Rattle.std.proofs.Common.{◌≡◌, Bool, true, false, cond, List, [], ◌∷◌, ◌++◌, Some, inl, refl, ap}
 use Rattle.tag.specs.Tag.{opening_tag}
-use Rattle.record.specs.Fragments.{IsValue}
+use Rattle.bank.specs.Bank.{empty_piece}
+use Rattle.bank.specs.declared.reply.Answer.TheVariants.{Greatest, Piece}
 use Rattle.network.specs.Worlds.{World}
 use Rattle.network.specs.Events.{Event, happens, world_after}
 use Rattle.network.specs.Premises.{MayHappenInTurn}
 use Rattle.network_tests.specs.Scripts.{start, whole}
-use Rattle.network_tests.specs.Examples.{read_ended, write_asked, write_kept, write_finalized, write_ended}
-use Rattle.network_tests.specs.Forgetting.{IsForgotten, MayRunForgetting, empty_asked, empty_read}
-use Rattle.network_tests.specs.Forgetting.{empty_settled, forgetful, restarted_empty, write_to_two}
+use Rattle.network_tests.specs.Forgetting.{IsForgotten, MayRunForgetting, empty_read, forgetful, restarted_empty, write_to_two}
 use Rattle.network_tests.proofs.KeptRowLemmas.{opened_greatest, opened_piece}
-use Rattle.network_tests.proofs.EventRunLemmas.{last_asked, last_told, may_append, one_distinct, other_id}
-use Rattle.network_tests.proofs.EventRunLemmas.{piece_told, ready, ready_settled, tag_told}
-use Rattle.network_tests.proofs.WriteLemmas.{after_asked, after_kept, asks, ends, finalizes, keeps}
+use Rattle.network_tests.proofs.EventRunLemmas.{empty_is_value, fetched_once, other_id, ready, ready_settled}
+use Rattle.network_tests.proofs.ReadLemmas.{read_runs}
+use Rattle.network_tests.proofs.WriteLemmas.{writes}
 
 -- Events other than a restart need the same premises
 
@@ -58,149 +57,26 @@ forgetting_append (event ∷ first) second world a b =
 
 -- The run
 
-pub writes : MayHappenInTurn whole write_to_two start
-writes =
-    may_append (write_asked 0) (write_kept ++ (write_finalized ++ write_ended)) start (asks 0)
-    (may_append write_kept (write_finalized ++ write_ended) (after_asked 0) (keeps 0)
-    (may_append write_finalized write_ended (after_kept 0) (finalizes 0) (ends 0)))
-
 abbrev back : World
 back = happens whole (world_after whole write_to_two start) (restarted_empty 1 (world_after whole write_to_two start))
 
-abbrev after_query : World
-after_query = world_after whole empty_asked back
-
-abbrev after_fetch : World
-after_fetch = world_after whole empty_settled after_query
-
-empty_is_value : IsValue []
-empty_is_value = (tt, omega arith)
-
-reads : MayHappenInTurn whole empty_asked back
-reads = (
-  tt,
-  record { network = tt; log = tt; ids = other_id },
-  (
-    (_, refl),
-    record { network = (26, refl); log = tt; ids = tt },
-    (
-      (_, refl),
-      record { network = (27, refl); log = tt; ids = tt },
+reads : MayHappenInTurn whole empty_read back
+reads =
+    read_runs 1 opening_tag (Some (empty_piece 1)) (Some (empty_piece 2)) [] back other_id ((26, refl), refl, ((27, refl), refl, tt)) (
+      (_, refl, inl (ready _ refl refl, refl)),
+      ((31, refl), ap Greatest (opened_greatest 1), ((32, refl), ap Greatest (opened_greatest 2), tt)),
       (
-        (_, _, refl),
-        record { network = (28, refl); log = tt; ids = tt },
-        (
-          (_, _, refl),
-          record { network = (29, refl); log = tt; ids = tt },
-          (
-            (_, refl, inl (ready _ refl refl, refl)),
-            record { network = tt; log = tt; ids = tt },
-            (
-              (_, refl),
-              record { network = (31, refl); log = tt; ids = tt },
-              (
-                (_, refl),
-                record { network = (32, refl); log = tt; ids = tt },
-                (
-                  (_, _, refl),
-                  record { network = (33, ap (tag_told 3 2 0 1) (opened_greatest 1)); log = tt; ids = tt },
-                  ((_, _, refl), record { network = (34, ap (tag_told 3 2 0 2) (opened_greatest 2)); log = tt; ids = tt }, tt),
-                ),
-              ),
-            ),
-          ),
-        ),
+        (_, refl, inl (ready _ refl refl, refl)),
+        ((36, refl), ap Piece (opened_piece 1), ((37, refl), ap Piece (opened_piece 2), tt)),
+        tt,
       ),
-    ),
-  ),
-)
-
-settles : MayHappenInTurn whole empty_settled after_query
-settles = (
-  (_, refl, inl (ready _ refl refl, refl)),
-  record { network = tt; log = tt; ids = tt },
-  (
-    (_, refl),
-    record { network = (36, refl); log = tt; ids = tt },
-    (
-      (_, refl),
-      record { network = (37, refl); log = tt; ids = tt },
-      (
-        (_, _, refl),
-        record { network = (38, ap (piece_told 3 3 0 1 opening_tag) (opened_piece 1)); log = tt; ids = tt },
-        (
-          (_, _, refl),
-          record { network = (39, ap (piece_told 3 3 0 2 opening_tag) (opened_piece 2)); log = tt; ids = tt },
-          (
-            (
-              _,
-              refl,
-              record {
-                complete = refl;
-                fetch = (_, refl);
-                unsettled = refl;
-                enough = refl;
-                pieces = record {
-                  members = 1 ∷ [];
-                  distinct = one_distinct 1;
-                  enough = le_refl 1;
-                  pieces = (
-                    record {
-                      place = 0;
-                      reply = _;
-                      within = refl;
-                      same_member = refl;
-                      piece = _;
-                      same_piece = refl;
-                      is_fragment = record { point = refl; len = refl; bytes = refl };
-                    },
-                    tt,
-                  );
-                };
-                is_value = empty_is_value;
-              },
-            ),
-            record { network = tt; log = tt; ids = tt },
-            tt,
-          ),
-        ),
-      ),
-    ),
-  ),
-)
-
-read_asks : MayHappenInTurn whole (last_asked 1) after_fetch
-read_asks = (
-  (_, refl, inl (ready_settled _ refl refl, refl)),
-  record { network = tt; log = tt; ids = tt },
-  (
-    (_, refl),
-    record { network = (41, refl); log = tt; ids = tt },
-    ((_, refl), record { network = (42, refl); log = tt; ids = tt }, tt),
-  ),
-)
-
-read_hears : MayHappenInTurn whole (last_told 1) (world_after whole (last_asked 1) after_fetch)
-read_hears = (
-  (_, _, refl),
-  record { network = (43, refl); log = tt; ids = tt },
-  (
-    (_, _, refl),
-    record { network = (44, refl); log = tt; ids = tt },
-    ((_, refl, ready _ refl refl, refl), record { network = tt; log = tt; ids = tt }, tt),
-  ),
-)
-
-read_ends : MayHappenInTurn whole (read_ended 1) after_fetch
-read_ends = may_append (last_asked 1) (last_told 1) after_fetch read_asks read_hears
+    )
+    (_, refl, fetched_once 1 refl (_, refl) refl refl refl refl empty_is_value)
+    ((_, refl, inl (ready_settled _ refl refl, refl)), ((41, refl), refl, ((42, refl), refl, tt)), tt)
+    (_, refl, ready _ refl refl, refl)
 
 pub every_event : MayRunForgetting whole forgetful start
 every_event =
     forgetting_append write_to_two (restarted_empty 1 (world_after whole write_to_two start) ∷ empty_read) start
-    (may_forgetting write_to_two start refl writes) (
-      tt,
-      record { network = tt; forgets = (refl, refl); ids = tt },
-      may_forgetting empty_read back refl
-          (may_append empty_asked (empty_settled ++ read_ended 1) back reads
-          (may_append empty_settled (read_ended 1) after_query settles read_ends)),
-    )
+    (may_forgetting write_to_two start refl writes)
+    (tt, record { network = tt; forgets = (refl, refl); ids = tt }, may_forgetting empty_read back refl reads)

@@ -1,15 +1,13 @@
 -- Replies that the network invented, and a read that misses a write.
-use Rattle.std.proofs.Common.{List, [], ◌∷◌, ◌++◌, inl, refl, arith, le_refl}
-use Rattle.record.specs.Fragments.{IsValue}
+use Rattle.std.proofs.Common.{List, [], ◌∷◌, ◌++◌, inl, refl}
 use Rattle.network.specs.Worlds.{World}
-use Rattle.network.specs.Events.{happens, world_after}
+use Rattle.network.specs.Events.{Event, happens, world_after}
 use Rattle.network.specs.Premises.{MayHappenInTurn}
-use Rattle.network.specs.Events.{Event}
 use Rattle.network_tests.specs.Scripts.{start, whole}
 use Rattle.network_tests.specs.Forgetting.{write_to_two}
 use Rattle.network_tests.specs.Inventing.{MayRunInventing, invented_asked, invented_settled, invented_ended, inventing}
-use Rattle.network_tests.proofs.EventRunLemmas.{one_distinct, other_id, ready, ready_settled}
-use Rattle.network_tests.proofs.ForgettingLemmas.{writes}
+use Rattle.network_tests.proofs.EventRunLemmas.{empty_is_value, fetched_once, other_id, ready, ready_settled}
+use Rattle.network_tests.proofs.WriteLemmas.{writes}
 
 -- what may happen where the network invents no message may happen where it may
 may_inventing : (events : List Event) (world : World) → MayHappenInTurn whole events world → MayRunInventing whole events world
@@ -31,9 +29,6 @@ after_query = world_after whole invented_asked after_write
 
 abbrev after_fetch : World
 after_fetch = world_after whole invented_settled after_query
-
-empty_is_value : IsValue []
-empty_is_value = (tt, omega arith)
 
 reads : MayRunInventing whole invented_asked after_write
 reads = (
@@ -69,34 +64,7 @@ settles = (
       (_, _, refl),
       record { log = tt; ids = tt },
       (
-        (
-          _,
-          refl,
-          record {
-            complete = refl;
-            fetch = (_, refl);
-            unsettled = refl;
-            enough = refl;
-            pieces = record {
-              members = 0 ∷ [];
-              distinct = one_distinct 0;
-              enough = le_refl 1;
-              pieces = (
-                record {
-                  place = 0;
-                  reply = _;
-                  within = refl;
-                  same_member = refl;
-                  piece = _;
-                  same_piece = refl;
-                  is_fragment = record { point = refl; len = refl; bytes = refl };
-                },
-                tt,
-              );
-            };
-            is_value = empty_is_value;
-          },
-        ),
+        (_, refl, fetched_once 0 refl (_, refl) refl refl refl refl empty_is_value),
         record { log = tt; ids = tt },
         tt,
       ),

@@ -3,11 +3,11 @@ pub mod EventRunLemmas
 pub mod ForgettingLemmas
 pub mod InventingLemmas
 pub mod KeptRowLemmas
-pub mod MissedWriteLemmas
 pub mod MoveLemmas
 pub mod MovedBankLemmas
+pub mod PhaseLemmas
+pub mod ReadLemmas
 pub mod TakenTwiceLemmas
 pub mod TwoFileLemmas
 pub mod WriteAndReadLemmas
-pub mod WriteDuringMoveLemmas
 pub mod WriteLemmas

@@ -1,12 +1,14 @@
 -- A write that takes a reply twice.
 use Rattle.std.proofs.Common.{List, [], ◌∷◌, ◌++◌, inl, refl}
-use Rattle.bank.specs.declared.reply.Answer.TheVariants.{Done}
+use Rattle.bank.specs.declared.reply.Answer.TheVariants.{Done, Pointer}
+use Rattle.bank.specs.declared.status.Status.TheVariants.{Unset}
 use Rattle.network.specs.Worlds.{World}
 use Rattle.network.specs.Events.{Event, world_after}
 use Rattle.network.specs.Premises.{MayHappenInTurn}
 use Rattle.network_tests.specs.Scripts.{served, start, taken, to_keep, whole}
 use Rattle.network_tests.specs.Examples.{write_asked, write_finalized, write_ended, until_taken, taken_twice}
 use Rattle.network_tests.proofs.EventRunLemmas.{may_append, ready}
+use Rattle.network_tests.proofs.PhaseLemmas.{by_two, call_ends, finalize, next}
 use Rattle.network_tests.proofs.WriteLemmas.{after_asked, asks}
 
 abbrev first_taken : List Event
@@ -20,9 +22,6 @@ after_first = world_after whole first_taken (after_asked 0)
 
 abbrev after_second : World
 after_second = world_after whole second_taken after_first
-
-abbrev after_finalized : World
-after_finalized = world_after whole write_finalized after_second
 
 takes_first : MayHappenInTurn whole first_taken (after_asked 0)
 takes_first = (
@@ -46,51 +45,17 @@ takes_second = (
   ),
 )
 
-finalizes : MayHappenInTurn whole write_finalized after_second
-finalizes = (
-  (_, refl, inl (ready _ refl refl, refl)),
-  record { network = tt; log = tt; ids = tt },
-  (
-    (_, refl),
-    record { network = (15, refl); log = tt; ids = tt },
-    (
-      (_, refl),
-      record { network = (16, refl); log = tt; ids = tt },
-      (
-        (_, _, refl),
-        record { network = (18, refl); log = tt; ids = tt },
-        ((_, _, refl), record { network = (19, refl); log = tt; ids = tt }, tt),
-      ),
-    ),
-  ),
-)
-
-ends : MayHappenInTurn whole write_ended after_finalized
-ends = (
-  (_, refl, inl (ready _ refl refl, refl)),
-  record { network = tt; log = tt; ids = tt },
-  (
-    (_, refl),
-    record { network = (20, refl); log = tt; ids = tt },
-    (
-      (_, refl),
-      record { network = (21, refl); log = tt; ids = tt },
-      (
-        (_, _, refl),
-        record { network = (23, refl); log = tt; ids = tt },
-        (
-          (_, _, refl),
-          record { network = (24, refl); log = tt; ids = tt },
-          ((_, refl, ready _ refl refl, refl), record { network = tt; log = tt; ids = tt }, tt),
-        ),
-      ),
-    ),
-  ),
-)
+ends : MayHappenInTurn whole (write_finalized ++ write_ended) after_second
+ends =
+    call_ends 7 4 (by_two finalize 0 1 Done Done ∷ by_two next 0 1 (Pointer Unset) (Pointer Unset) ∷ []) after_second (
+      (_, refl, inl (ready _ refl refl, refl)),
+      ((15, refl), refl, ((16, refl), refl, tt)),
+      ((_, refl, inl (ready _ refl refl, refl)), ((20, refl), refl, ((21, refl), refl, tt)), tt),
+    )
+    (_, refl, ready _ refl refl, refl)
 
 pub every_event : MayHappenInTurn whole taken_twice start
 every_event =
     may_append until_taken (second_taken ++ (write_finalized ++ write_ended)) start
     (may_append (write_asked 0) first_taken start (asks 0) takes_first)
-    (may_append second_taken (write_finalized ++ write_ended) after_first takes_second
-    (may_append write_finalized write_ended after_second finalizes ends))
+    (may_append second_taken (write_finalized ++ write_ended) after_first takes_second ends)

@@ -1,9 +1,11 @@
 -- Worked examples.
 pub mod BankRowLemmas
+pub mod MissedWriteLemmas
 pub mod OneOverlapLemmas
 pub mod RestartedReadLemmas
 pub mod RetiredPositionLemmas
 pub mod RunPartLemmas
 pub mod StaleReadLemmas
+pub mod StoredBankLemmas
 pub mod WriteAndReadLemmas
 pub mod WriteMoveReadLemmas

@@ -1,5 +1,5 @@
 -- A read whose fetch lacks pieces, and that begins anew.
-use Rattle.std.proofs.Common.{◌≡◌, zero, suc, inl, List, [], ◌∷◌, ◌++◌, Some, None, refl, ap, arith, le_refl}
+use Rattle.std.proofs.Common.{◌≡◌, zero, suc, inl, List, [], ◌∷◌, ◌++◌, Some, None, refl, ap, arith}
 use Rattle.std.specs.FinMap as finmap
 use Rattle.tag.specs.declared.tag.Tag.{Tag}
 use Rattle.tag.specs.Tag.{opening_tag}
@@ -17,8 +17,8 @@ use Rattle.record.specs.Steps.Step.{CallRead, CallWrite, Advance, Again, Supply,
 use Rattle.record_tests.proofs.Examples.BankRowLemmas.{opened_entries, after_pre_write, pre_written_entries, after_finalize}
 use Rattle.record_tests.proofs.Examples.BankRowLemmas.{finalized_entries}
 use Rattle.record_tests.proofs.Examples.BankRowLemmas.{greatest_from, fetched_from}
-use Rattle.record_tests.proofs.Examples.RunPartLemmas.{letter_fits, one_distinct, none_new, id_or, also, Goes, Leads, leads_on, goes_on}
-use Rattle.record_tests.proofs.Examples.WriteAndReadLemmas.{letter, reply_of}
+use Rattle.record_tests.proofs.Examples.RunPartLemmas.{Goes, Leads, also, goes_on, heard, hears, id_or, leads_on, letter}
+use Rattle.record_tests.proofs.Examples.RunPartLemmas.{letter_is_value, none_new, reply_of, settles}
 
 -- The bank, with delta 0
 
@@ -107,135 +107,83 @@ anew_parts = to_ask_anew ++ (to_fetch_anew ++ to_end)
 abbrev pub start : Object
 start = opened_object one_member (Some 0) 2
 
-abbrev asked : Object
-asked = run whole to_ask 3 start
-
 abbrev found : Object
-found = record asked { mail = reply_of 5 2 0 Query 7 (answer.Greatest opening_tag) }
+found = heard to_ask 3 start (reply_of 5 2 0 Query 7 (answer.Greatest opening_tag))
 
 -- the only call has the id 5
 asked_new : IsNewId (run whole (Take 0 ∷ []) 8 found) 2
 asked_new zero call at same = absurd (let e : 5 ≡ call.id = ap (λ o. id_or o) at in omega (arith, e, same))
 asked_new (suc index) call at same = absurd (cc)
 
-abbrev write_asked : Object
-write_asked = run whole to_write 8 found
-
 abbrev write_found : Object
-write_found = record write_asked { mail = reply_of 2 2 0 Query 13 (answer.Greatest opening_tag) }
-
-abbrev lost : Object
-lost = run whole to_lose 14 write_found
+write_found = heard to_write 8 found (reply_of 2 2 0 Query 13 (answer.Greatest opening_tag))
 
 abbrev nothing_there : Object
-nothing_there = record lost { mail = reply_of 5 3 0 (Fetch opening_tag) 26 (answer.Piece None) }
+nothing_there = heard to_lose 14 write_found (reply_of 5 3 0 (Fetch opening_tag) 26 (answer.Piece None))
 
 -- the read's fetch is complete, and lacks pieces
 abbrev pub lacking : Object
 lacking = run whole to_lack 27 nothing_there
 
-abbrev asked_anew : Object
-asked_anew = run whole to_ask_anew 28 lacking
-
 abbrev found_anew : Object
-found_anew = record asked_anew { mail = reply_of 5 5 0 Query 32 (answer.Greatest second_tag) }
-
-abbrev fetched_anew : Object
-fetched_anew = run whole to_fetch_anew 33 found_anew
+found_anew = heard to_ask_anew 28 lacking (reply_of 5 5 0 Query 32 (answer.Greatest second_tag))
 
 abbrev letter_there : Object
-letter_there = record fetched_anew { mail = reply_of 5 6 0 (Fetch second_tag) 35 (answer.Piece (Some (letter 0))) }
+letter_there = heard to_fetch_anew 33 found_anew (reply_of 5 6 0 (Fetch second_tag) 35 (answer.Piece (Some (letter 0))))
 
 asks : Leads to_ask 3 start found
-asks = record {
-  gives = ap (λ tag. record asked { mail = reply_of 5 2 0 Query 7 (answer.Greatest tag) }) new_greatest;
-  may =
-      also (none_new 5) (also (_, (refl, (_, refl))) (also (_, (refl, (_, _, refl))) (also (_, (refl, refl))
-      (also (_, (refl, (_, refl))) tt))));
-}
+asks =
+    hears to_ask 3 start (reply_of 5 2 0 Query 7 (answer.Greatest opening_tag))
+    (ap (λ tag. reply_of 5 2 0 Query 7 (answer.Greatest tag)) new_greatest)
+    (also (none_new 5) (also (_, (refl, (_, refl))) (also (_, (refl, (_, _, refl))) (also (_, (refl, refl))
+    (also (_, (refl, (_, refl))) tt)))))
 
 writes : Leads to_write 8 found write_found
-writes = record {
-  gives = ap (λ tag. record write_asked { mail = reply_of 2 2 0 Query 13 (answer.Greatest tag) }) new_greatest;
-  may =
-      also (_, (refl, (_, _, refl))) (also (asked_new, ((omega arith, tt), letter_fits)) (also (_, (refl, (_, refl)))
-      (also (_, (refl, (_, _, refl))) (also (_, (refl, refl)) (also (_, (refl, (_, refl))) tt)))));
-}
+writes =
+    hears to_write 8 found (reply_of 2 2 0 Query 13 (answer.Greatest opening_tag))
+    (ap (λ tag. reply_of 2 2 0 Query 13 (answer.Greatest tag)) new_greatest)
+    (also (_, (refl, (_, _, refl))) (also (asked_new, letter_is_value) (also (_, (refl, (_, refl)))
+    (also (_, (refl, (_, _, refl))) (also (_, (refl, refl)) (also (_, (refl, (_, refl))) tt))))))
 
 loses : Leads to_lose 14 write_found nothing_there
-loses = record {
-  gives = ap (λ piece. record lost { mail = reply_of 5 3 0 (Fetch opening_tag) 26 (answer.Piece piece) }) opening_gone;
-  may =
-      also (_, (refl, (_, _, refl))) (also record { call = _; takes = inl (_, _, (refl, refl)) } (also (_, (refl, (_, refl)))
-      (also (_, (refl, (_, _, refl))) (also (_, (refl, refl)) (also (_, (refl, (_, refl))) (also (_, (refl, (_, _, refl)))
-      (also (_, (refl, refl)) (also (_, (refl, (_, refl))) (also (_, (refl, (_, _, refl))) (also (_, (refl, refl))
-      (also (_, (refl, refl)) (also (_, (refl, (_, refl))) tt))))))))))));
-}
+loses =
+    hears to_lose 14 write_found (reply_of 5 3 0 (Fetch opening_tag) 26 (answer.Piece None))
+    (ap (λ piece. reply_of 5 3 0 (Fetch opening_tag) 26 (answer.Piece piece)) opening_gone)
+    (also (_, (refl, (_, _, refl))) (also record { call = _; takes = inl (_, _, (refl, refl)) } (also (_, (refl, (_, refl)))
+    (also (_, (refl, (_, _, refl))) (also (_, (refl, refl)) (also (_, (refl, (_, refl))) (also (_, (refl, (_, _, refl)))
+    (also (_, (refl, refl)) (also (_, (refl, (_, refl))) (also (_, (refl, (_, _, refl))) (also (_, (refl, refl))
+    (also (_, (refl, refl)) (also (_, (refl, (_, refl))) tt)))))))))))))
 
 lacks : Leads to_lack 27 nothing_there lacking
 lacks = record { gives = refl; may = also (_, (refl, (_, _, refl))) tt }
 
 asks_anew : Leads to_ask_anew 28 lacking found_anew
-asks_anew = record {
-  gives = ap (λ tag. record asked_anew { mail = reply_of 5 5 0 Query 32 (answer.Greatest tag) }) asked_greatest;
-  may =
-      also (_, (refl, refl)) (also (_, (refl, (_, refl))) (also (_, (refl, (_, _, refl))) (also (_, (refl, refl))
-      (also (_, (refl, (_, refl))) tt))));
-}
+asks_anew =
+    hears to_ask_anew 28 lacking (reply_of 5 5 0 Query 32 (answer.Greatest second_tag))
+    (ap (λ tag. reply_of 5 5 0 Query 32 (answer.Greatest tag)) asked_greatest)
+    (also (_, (refl, refl)) (also (_, (refl, (_, refl))) (also (_, (refl, (_, _, refl))) (also (_, (refl, refl))
+    (also (_, (refl, (_, refl))) tt)))))
 
 fetches_anew : Leads to_fetch_anew 33 found_anew letter_there
-fetches_anew = record {
-  gives = ap (λ piece. record fetched_anew { mail = reply_of 5 6 0 (Fetch second_tag) 35 (answer.Piece piece) }) second_there;
-  may = also (_, (refl, (_, _, refl))) (also (_, (refl, refl)) (also (_, (refl, (_, refl))) tt));
-}
+fetches_anew =
+    hears to_fetch_anew 33 found_anew (reply_of 5 6 0 (Fetch second_tag) 35 (answer.Piece (Some (letter 0))))
+    (ap (λ piece. reply_of 5 6 0 (Fetch second_tag) 35 (answer.Piece piece)) second_there)
+    (also (_, (refl, (_, _, refl))) (also (_, (refl, refl)) (also (_, (refl, (_, refl))) tt)))
 
-settles : MaySettle whole (run whole (Take 0 ∷ []) 36 letter_there) 0 (65 ∷ [])
-settles = record {
-  call = _;
-  k = _;
-  len = _;
-  wants = (refl, refl);
-  phase = _;
-  current = refl;
-  pieces = record {
-    members = 0 ∷ [];
-    distinct = one_distinct;
-    enough = le_refl 1;
-    pieces = (
-      record {
-        place = 0;
-        reply = _;
-        within = refl;
-        same_member = refl;
-        piece = _;
-        same_piece = refl;
-        is_fragment = record { point = refl; len = refl; bytes = refl };
-      },
-      tt,
-    );
-  };
-  is_value = ((omega arith, tt), letter_fits);
-}
+settles_letter : MaySettle whole (run whole (Take 0 ∷ []) 36 letter_there) 0 (65 ∷ [])
+settles_letter = settles (run whole (Take 0 ∷ []) 36 letter_there) 0 (refl, refl) refl refl refl
 
 ends : Goes to_end 36 letter_there anew_entries
 ends = record {
   gives = refl;
   may =
-      also (_, (refl, (_, _, refl))) (also settles (also (_, (refl, refl)) (also (_, (refl, (_, refl))) (also (_, (refl, (_, _, refl)))
-      (also (_, (refl, refl)) tt)))));
+      also (_, (refl, (_, _, refl))) (also settles_letter (also (_, (refl, refl)) (also (_, (refl, (_, refl)))
+      (also (_, (refl, (_, _, refl))) (also (_, (refl, refl)) tt)))));
 }
 
 -- up to the fetch that lacks pieces
 pub comes_to_lack : Leads lacking_parts 3 start lacking
-comes_to_lack =
-    leads_on to_ask (to_write ++ (to_lose ++ to_lack)) 3 8 start found lacking refl asks
-    (leads_on to_write (to_lose ++ to_lack) 8 14 found write_found lacking refl writes
-    (leads_on to_lose to_lack 14 27 write_found nothing_there lacking refl loses lacks))
-
-anew : Goes anew_parts 28 lacking anew_entries
-anew =
-    goes_on to_ask_anew (to_fetch_anew ++ to_end) 28 33 lacking found_anew anew_entries refl asks_anew
-    (goes_on to_fetch_anew to_end 33 36 found_anew letter_there anew_entries refl fetches_anew ends)
+comes_to_lack = leads_on asks (leads_on writes (leads_on loses lacks refl) refl) refl
 
 pub anew_goes : Goes (lacking_parts ++ anew_parts) 3 start anew_entries
-anew_goes = goes_on lacking_parts anew_parts 3 28 start lacking anew_entries refl comes_to_lack anew
+anew_goes = goes_on comes_to_lack (goes_on asks_anew (goes_on fetches_anew ends refl) refl) refl

@@ -3,15 +3,24 @@ use Rattle.std.proofs.Common.{◌≡◌, ◌≢◌, ℕ, nat_eq, suc, ◌+◌, �
 use Rattle.std.proofs.Common.{◌∷◌, ◌++◌, length, refl, sym, subst, ap, ◌∙◌, arith}
 use Rattle.std.specs.List.{AllByRecursion, IsDistinct}
 use Rattle.record.specs.declared.call.Entry.{Entry}
-use Rattle.record.specs.Records.{Call, Object}
+use Rattle.record.specs.Records.{Call, Object, layout_at}
 use Rattle.record.specs.Journals.{entries}
 use Rattle.record_tests.specs.Examples.{whole}
 use Rattle.tag.specs.declared.limits.TheConstants.{LONGEST_VALUE}
-use Rattle.record.specs.Fragments.{IsCode}
-use Rattle.record.specs.Preconditions.{MayRun}
+use Rattle.piece.specs.declared.piece.Piece.{Piece}
+use Rattle.bank.specs.declared.kind.Kind.{Kind}
+use Rattle.bank.specs.declared.reply.Answer.{Answer}
+use Rattle.bank.specs.declared.reply.Answer.TheVariants as answer
+use Rattle.mail.specs.declared.message.Body.TheVariants as body
+use Rattle.mail.specs.declared.message.Message.{Message}
+use Rattle.phase.specs.Phase.{Phase}
+use Rattle.record.specs.declared.stage.Want.TheVariants as want
+use Rattle.record.specs.Fragments.{IsCode, IsValue}
+use Rattle.record.specs.Preconditions.{MayRun, MaySettle}
 use Rattle.record.specs.Steps.{Step, stepped, run}
+use Rattle.record.specs.Wants.{Wants, current_phase}
 
-pub letter_fits : 1 ≤ LONGEST_VALUE
+letter_fits : 1 ≤ LONGEST_VALUE
 letter_fits = omega arith
 
 pub whole_is_code : IsCode whole
@@ -70,9 +79,10 @@ may_append [] ys now then object e first rest = let same : then ≡ now = omega 
 may_append (x ∷ xs) ys now then object e first rest =
     (first.0, may_append xs ys (suc now) then (stepped whole x now object) (omega arith) first.1 rest)
 
-pub goes_on : (xs ys : List Step) (now then : ℕ) (object later : Object) (history : List Entry) → then ≡ now + length xs →
-    Leads xs now object later → Goes ys then later history → Goes (xs ++ ys) now object history
-goes_on xs ys now then object later history e leads goes =
+-- a part that leads to a record, and the rest of the run
+pub goes_on : {xs ys : List Step} {now then : ℕ} {object later : Object} {history : List Entry} → Leads xs now object later →
+    Goes ys then later history → then ≡ now + length xs → Goes (xs ++ ys) now object history
+goes_on {xs} {ys} {now} {then} {object} {history = history} leads goes e =
     let here = subst (λ o. Goes ys then o history) (sym leads.gives) goes in
     record {
       may = may_append xs ys now then object e leads.may here.may;
@@ -80,9 +90,66 @@ goes_on xs ys now then object later history e leads goes =
     }
 
 -- parts that lead one to another
-pub leads_on : (xs ys : List Step) (now then : ℕ) (object middle later : Object) → then ≡ now + length xs →
-    Leads xs now object middle → Leads ys then middle later → Leads (xs ++ ys) now object later
-leads_on xs ys now then object middle later e first rest = record {
+pub leads_on : {xs ys : List Step} {now then : ℕ} {object middle later : Object} → Leads xs now object middle →
+    Leads ys then middle later → then ≡ now + length xs → Leads (xs ++ ys) now object later
+leads_on {xs} {ys} {now} {then} {object} first rest e = record {
   may = may_append xs ys now then object e first.may (subst (λ o. MayRun whole ys then o) (sym first.gives) rest.may);
   gives = run_append xs ys now then object e ∙ (ap (λ o. run whole ys then o) first.gives ∙ rest.gives);
+}
+
+-- the record after these steps, with this mail, which is what a bank answered
+abbrev pub heard : List Step → (now : ℕ) → Object → List Message → Object
+heard steps now object mail = record (run whole steps now object) { mail = mail }
+
+pub hears : (steps : List Step) (now : ℕ) (object : Object) (mail : List Message) →
+    (run whole steps now object).mail ≡ mail → MayRun whole steps now object → Leads steps now object (heard steps now object mail)
+hears steps now object mail told may =
+    record { may = may; gives = ap (λ (m : List Message). heard steps now object m) told }
+
+-- the reply of the only member to a phase of a call
+abbrev pub reply_of : (call phase position : ℕ) → Kind → (step : ℕ) → Answer → List Message
+reply_of call phase position kind step said =
+    record { call = call; phase = phase; position = position; member = 0; body = body.Reply kind (record { step = step; answer = said }) }
+    ∷ []
+
+-- The value
+
+pub letter_is_value : IsValue (65 ∷ [])
+letter_is_value = ((omega arith, tt), letter_fits)
+
+-- a member's piece of the value
+abbrev pub letter : ℕ → Piece
+letter member = record { point = member; len = 1; bytes = 65 ∷ [] }
+
+-- the value may be settled once the only member's piece was taken
+pub settles : (object : Object) (index : ℕ) {call : Call} {k len told taken : ℕ} {phase : Phase} →
+    Wants object index call (want.Settle k len) → current_phase call.phases ≡ Some phase →
+    slice_get phase.replies 0
+    ≡ Some (record { member = 0; reply = record { step = told; answer = answer.Piece (Some (letter 0)) }; step = taken }) →
+    (layout_at object phase.position).k ≡ 1 → MaySettle whole object index (65 ∷ [])
+settles object index {phase = phase} wants current took one = record {
+  call = _;
+  k = _;
+  len = _;
+  wants = wants;
+  phase = phase;
+  current = current;
+  pieces = record {
+    members = 0 ∷ [];
+    distinct = one_distinct;
+    enough = omega arith;
+    pieces = (
+      record {
+        place = 0;
+        reply = _;
+        within = took;
+        same_member = refl;
+        piece = _;
+        same_piece = refl;
+        is_fragment = record { point = refl; len = refl; bytes = refl };
+      },
+      tt,
+    );
+  };
+  is_value = letter_is_value;
 }

@@ -1,84 +1,18 @@
--- A read that misses an answered write is not atomic.
-use Rattle.std.proofs.Common.{◌≡◌, ℕ, zero, false, nat_eq, inl, suc, true, List, [], ◌∷◌, ◌<◌, ◌⊎◌, None}
-use Rattle.std.proofs.Common.{◌==◌, ◌||◌, Bool, inr, map, eqb-true, Some, refl, sym, subst, ap, ◌∙◌, arith}
-use Rattle.std.specs.List.{AllByRecursion, IsDistinct}
-use Rattle.std.proofs.lemmas.Option.{same_Some}
-use Rattle.std.proofs.lemmas.Map.Keys.{IsDistinct-head}
-use Rattle.record.specs.declared.call.Entry.{Entry}
-use Rattle.atomicity.specs.Atomic.{IsAtomic, entry_at, MayStand, IsRegister, KeepsOrder, IsAnsweredBefore}
-use Rattle.layout.specs.Quorum.{has}
+-- The histories of two runs are atomic, and one in which a read misses an answered write is not.
+use Rattle.std.proofs.Common.{None, subst, arith}
+use Rattle.atomicity.specs.Atomic.{IsAtomic}
 use Rattle.record_tests.specs.Examples.{whole, one_member, script_entries, move_entries, stale_entries}
+use Rattle.record_tests.proofs.Examples.MissedWriteLemmas.{missed_is_refused}
 use Rattle.record_tests.proofs.Examples.RunPartLemmas.{whole_is_code}
-use Rattle.record_tests.proofs.Examples.WriteAndReadLemmas.{parts, history, every_step}
-use Rattle.record_tests.proofs.Examples.WriteMoveReadLemmas.{move_parts, move_history, every_step_of_move, one_lawful}
+use Rattle.record_tests.proofs.Examples.WriteAndReadLemmas.{goes, parts}
+use Rattle.record_tests.proofs.Examples.WriteMoveReadLemmas.{move_goes, move_parts, one_lawful}
 use Rattle.atomicity.proofs.AtomicRunLemmas.{run_atomic}
 
 did_is_atomic : IsAtomic script_entries
-did_is_atomic = subst IsAtomic history (run_atomic whole whole_is_code one_member None 2 parts one_lawful every_step)
+did_is_atomic = subst IsAtomic goes.gives (run_atomic whole whole_is_code one_member None 2 parts one_lawful goes.may)
 
 moved_is_atomic : IsAtomic move_entries
-moved_is_atomic = subst IsAtomic move_history (run_atomic whole whole_is_code one_member None 2 move_parts one_lawful every_step_of_move)
-
--- A read that was called after a write's answer and misses it is refused
-
-one_or_two : (number : ℕ) → MayStand (entry_at stale_entries number) → (number ≡ 1) ⊎ (number ≡ 2)
-one_or_two zero stand = absurd (stand.0 refl)
-one_or_two (suc zero) stand = inl refl
-one_or_two (suc (suc zero)) stand = inr refl
-one_or_two (suc (suc (suc index))) stand = absurd (stand.0 refl)
-
-all_has : {A : Type 0} (P : A → Type 0) (f : ℕ → A) (numbers : List ℕ) (number : ℕ) → AllByRecursion P (map f numbers) →
-    has numbers number ≡ true → P (f number)
-all_has P f [] number all there = absurd (cc)
-all_has P f (x ∷ xs) number all there =
-    go (x == number) refl (λ e. all_has P f xs number all.1 (sym (ap (λ b. b || has xs number) e) ∙ there))
-  where
-    go : (b : Bool) → (x == number) ≡ b → ((x == number) ≡ false → P (f number)) → P (f number)
-    go true e later = subst (λ n. P (f n)) (eqb-true x number e) all.0
-    go false e later = later e
-
-abbrev stale_at : List ℕ → List Entry
-stale_at numbers = map (λ number. entry_at stale_entries number) numbers
-
--- the write stands first: the read behind it has another value
-write_first : (next : List ℕ) → Some (65 ∷ []) ≡ Some next → (rest : List ℕ) → IsDistinct nat_eq (1 ∷ rest) →
-    AllByRecursion (λ number. MayStand (entry_at stale_entries number)) rest → has rest 2 ≡ true →
-    IsRegister next (stale_at rest) → ⊥
-write_first next wrote [] distinct fitting second register = cc
-write_first next wrote (b ∷ more) distinct fitting second register = go (one_or_two b fitting.0)
-  where
-    go : (b ≡ 1) ⊎ (b ≡ 2) → ⊥
-    go (inl one) =
-        let twice : nat_eq 1 1 ≡ false = subst (λ n. nat_eq 1 n ≡ false) one (IsDistinct-head nat_eq 1 (b ∷ more) distinct).0 in
-        cc
-    go (inr two) =
-        let here = subst (λ n. IsRegister next (entry_at stale_entries n ∷ stale_at more)) two register in
-        let values : ◌≡◌ {A = List ℕ} [] (65 ∷ []) = same_Some [] (65 ∷ []) (here.1.0 ∙ sym wrote) in cc
-
--- the read stands first: the write behind it was answered before
-read_first : (rest : List ℕ) → has rest 1 ≡ true →
-    AllByRecursion (λ other. IsAnsweredBefore other (entry_at stale_entries 2) → ⊥) (stale_at rest) → ⊥
-read_first rest first in_order =
-    all_has (λ other. IsAnsweredBefore other (entry_at stale_entries 2) → ⊥)
-    (λ number. entry_at stale_entries number) rest 1 in_order first
-    (18, refl, (let less : 18 < 19 = omega arith in less))
+moved_is_atomic = subst IsAtomic move_goes.gives (run_atomic whole whole_is_code one_member None 2 move_parts one_lawful move_goes.may)
 
 pub stale_is_refused : IsAtomic stale_entries → ⊥
-stale_is_refused atomic =
-    go atomic.0 atomic.1.distinct atomic.1.fitting (atomic.1.complete 1 (λ e. cc) refl)
-    (atomic.1.complete 2 (λ e. cc) refl) atomic.1.one_register
-    atomic.1.in_order
-  where
-    go : (order : List ℕ) → IsDistinct nat_eq order → AllByRecursion (λ number. MayStand (entry_at stale_entries number)) order →
-        has order 1 ≡ true → has order 2 ≡ true → IsRegister [] (stale_at order) → KeepsOrder (stale_at order) → ⊥
-    go [] distinct fitting first second register in_order = cc
-    go (a ∷ rest) distinct fitting first second register in_order = at_first (one_or_two a fitting.0)
-      where
-        at_first : (a ≡ 1) ⊎ (a ≡ 2) → ⊥
-        at_first (inl one) =
-            let here = subst (λ n. IsRegister [] (entry_at stale_entries n ∷ stale_at rest)) one register in
-            write_first here.0 here.1 rest (subst (λ n. IsDistinct nat_eq (n ∷ rest)) one distinct) fitting.1
-            (subst (λ n. has (n ∷ rest) 2 ≡ true) one second) here.2
-        at_first (inr two) =
-            read_first rest (subst (λ n. has (n ∷ rest) 1 ≡ true) two first)
-            (subst (λ n. KeepsOrder (entry_at stale_entries n ∷ stale_at rest)) two in_order).0
+stale_is_refused = missed_is_refused 1 2 3 18 19 32 (omega arith)

@@ -1,6 +1,6 @@
 use Rattle.std.proofs.Common.{refl}
 use Rattle.network_tests.proofs.MovedBankLemmas.{kept}
-use Rattle.network_tests.proofs.WriteDuringMoveLemmas.{every_event}
+use Rattle.network_tests.proofs.MoveLemmas.{every_event}
 use Rattle.network_tests.proofs.worked.a_move_while_a_write_is_under_way.Goals as goal
 
 pub returns-clause-may : goal.returns-clause-may

@@ -1,5 +1,5 @@
 use Rattle.std.proofs.Common.{refl, arith}
-use Rattle.network_tests.proofs.MissedWriteLemmas.{missed_is_refused}
+use Rattle.record_tests.proofs.Examples.MissedWriteLemmas.{missed_is_refused}
 use Rattle.network_tests.proofs.TwoFileLemmas.{every_event}
 use Rattle.network_tests.proofs.wrong_rule.two_files_lose_a_write.Goals as goal
 
@@ -10,4 +10,4 @@ pub returns-clause-gives : goal.returns-clause-gives
 returns-clause-gives c = refl
 
 pub returns-clause-not_atomic : goal.returns-clause-not_atomic
-returns-clause-not_atomic c = missed_is_refused 16 17 38 (omega arith)
+returns-clause-not_atomic c = missed_is_refused 7 3 1 16 17 38 (omega arith)
