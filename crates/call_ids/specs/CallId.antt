@@ -1,0 +1,34 @@
+-- The contracts that docs/trusted.md lists do not depend on this file; other contracts and proofs do.
+-- The ids that a node gives its calls.
+use Rattle.std.specs.Prelude.{◌≡◌, ◌+◌, ◌*◌, ◌^◌, ◌<◌, ◌≤◌, ℕ, suc, if◌then◌else◌, nat_lt, Option, None, Some}
+
+-- the id of a call: of the node's number, of the epoch, and of the number of the call in its epoch
+abbrev pub call_id : (node epoch number : ℕ) → ℕ
+call_id node epoch number = (node * 2 ^ 24 + epoch) * 2 ^ 32 + number
+
+-- what gives a node's calls their ids: the node's number, its epoch, and how many ids the epoch gave
+pub record CallIds : Type 0 where
+  pub node : ℕ
+  pub epoch : ℕ
+  pub given : ℕ
+
+-- the next id, if the epoch has one more
+abbrev pub next_id : CallIds → Option ℕ
+next_id ids = if nat_lt ids.given (2 ^ 32) then Some (call_id ids.node ids.epoch ids.given) else None
+
+-- after an id is given, if the epoch has one more
+abbrev pub after_next : CallIds → CallIds
+after_next ids = if nat_lt ids.given (2 ^ 32) then record ids { given = suc ids.given } else ids
+
+-- after the next epoch begins, if there is one more
+abbrev pub begun : CallIds → CallIds
+begun ids = if nat_lt (suc ids.epoch) (2 ^ 24) then record ids { epoch = suc ids.epoch; given = 0 } else ids
+
+-- the numbers have their ranges
+abbrev pub IsWithin : CallIds → Type 0
+IsWithin ids = (ids.epoch < 2 ^ 24) × (ids.given ≤ 2 ^ 32)
+
+-- ids are the same only where the node, the epoch and the number are
+abbrev pub IdsDiffer : Type 0
+IdsDiffer = (node epoch number other later more : ℕ) → epoch < 2 ^ 24 → number < 2 ^ 32 → later < 2 ^ 24 → more < 2 ^ 32
+    → call_id node epoch number ≡ call_id other later more → (node ≡ other) × (epoch ≡ later) × (number ≡ more)

@@ -1,0 +1,84 @@
+//! What gives a node's calls their ids.
+ghost use Rattle.std.specs.Prelude.{◌≡◌, ◌+◌, ◌<◌, ◌^◌, IsTrue, nat_lt, suc, if◌then◌else◌};
+ghost use Rattle.call_ids.specs.CallId.{IdsDiffer, next_id, after_next, begun};
+
+use std::marker::Model;
+use tag::CallId;
+
+// The number of epochs, and of ids in an epoch.
+const EPOCHS: u32 = 1 << 24;
+
+const IDS: u64 = 1 << 32;
+
+/// Gives the calls of one node their ids. The count of an epoch begins at 0 and is not kept anywhere else, so a node
+/// begins an epoch each time it starts, and its log keeps how many it began.
+#[derive(Debug, Drop)]
+pub struct CallIds {
+    node: u8,
+    // How many epochs were begun.
+    epoch: u32,
+    // How many ids the epoch gave.
+    given: u64,
+}
+
+impl Model for CallIds {
+    ghost use Rattle.std.specs.Prelude.{◌<◌, ◌≤◌, ◌^◌};
+    ghost use Rattle.call_ids.specs.CallId.{CallIds as Ids, IsWithin};
+
+    ghost Value = { Ids };
+
+    ghost view = { λ i. record { node = i.node; epoch = i.epoch; given = i.given } };
+
+    ghost invariant = { λ i. IsWithin (record { node = i.node; epoch = i.epoch; given = i.given }) };
+}
+
+impl CallIds {
+    /// Those of the node of this number, before its first epoch.
+    pub fn new(node: u8) -> CallIds
+        ensures { result ≡ record { node = node; epoch = 0; given = 0 } }
+    {
+        CallIds {
+            node,
+            epoch: 0,
+            given: 0,
+        }
+    }
+
+    /// The number of epochs that were begun, below 2^24.
+    pub fn epoch(&self) -> u32
+        ensures { result ≡ self.now.epoch }
+    {
+        self.epoch
+    }
+
+    /// Begins the next epoch, and returns whether there was one more. Where there was none, nothing changes.
+    pub fn begin_epoch(&mut self) -> bool
+        ensures more { result ≡ nat_lt (suc self.old.epoch) (2 ^ 24) }
+        ensures begun { self.new ≡ begun self.old }
+    {
+        if self.epoch + 1 == EPOCHS {
+            return false;
+        }
+        self.epoch += 1;
+        self.given = 0;
+        true
+    }
+
+    /// The next id, which differs from all that were given before. None where the epoch has given all of its 2^32 ids.
+    pub fn next_id(&mut self) -> Option<CallId>
+        ensures id { result ≡ next_id self.old }
+        ensures given { self.new ≡ after_next self.old }
+    {
+        if self.given == IDS {
+            return None;
+        }
+        let id = (u64::from(self.node) << 56) + (u64::from(self.epoch) << 32) + self.given;
+        self.given += 1;
+        Some(id)
+    }
+}
+
+/// A law: two ids are the same only where they are of one node, one epoch and one count.
+pub fn call_ids_differ()
+    ensures { IdsDiffer }
+{}

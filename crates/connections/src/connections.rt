@@ -1,0 +1,122 @@
+//! All connections, by their numbers.
+ghost use Rattle.std.specs.Prelude.{◌≡◌, ◌≢◌, ◌++◌, ◌∷◌, ℕ, [], nat_eq, None, OnOk, IsSome, is_some, if◌then◌else◌};
+ghost use Rattle.indexmap.specs.IndexMap.{get, index_map_len};
+ghost use Rattle.connections.specs.declared.connection.State.TheVariants.{Idle, Quit};
+ghost use Rattle.connections.specs.Connections.{waiting_on, state_of, TakesAt};
+
+use crate::connection::{Connection, State};
+use frames::Frame;
+use indexmap::IndexMap;
+use std::alloc::{AllocError, Global};
+use std::collections::VecDeque;
+
+/// The connections of clients. The commands of one connection are carried out one after another: the next one is given
+/// out only when the one before it is answered.
+#[derive(Debug, Drop)]
+pub struct Connections {
+    alloc: Global,
+    pub by_number: IndexMap<u64, Connection>,
+}
+
+impl Connections {
+    /// No connections.
+    pub fn new(alloc: Global) -> Connections
+        ensures { result.by_number.entries ≡ [] }
+    {
+        Connections {
+            alloc,
+            by_number: IndexMap::new(alloc),
+        }
+    }
+
+    /// How many connections there are.
+    pub fn count(&self) -> usize
+        ensures { result ≡ index_map_len self.now.by_number }
+    {
+        self.by_number.len()
+    }
+
+    /// A command has come on the connection of this number, which is made where there is none. It fails only where
+    /// memory is refused.
+    pub fn push(&mut self, number: u64, command: Frame) -> Result<(), AllocError>
+        ensures waiting { OnOk result (waiting_on (get nat_eq self.new.by_number number)
+            ≡ waiting_on (get nat_eq self.old.by_number number) ++ command ∷ []) }
+        ensures state { OnOk result (state_of (get nat_eq self.new.by_number number)
+            ≡ state_of (get nat_eq self.old.by_number number)) }
+        ensures others { OnOk result ((other : ℕ) → other ≢ number
+            → get nat_eq self.new.by_number other ≡ get nat_eq self.old.by_number other) }
+    {
+        match self.by_number.get_mut(&number) {
+            Some(connection) => connection.push(command),
+            None => self.open(number, command),
+        }
+    }
+
+    // A connection with its first command.
+    fn open(&mut self, number: u64, command: Frame) -> Result<(), AllocError>
+        requires { get nat_eq self.old.by_number number ≡ None }
+        ensures waiting { OnOk result (waiting_on (get nat_eq self.new.by_number number) ≡ command ∷ []) }
+        ensures state { OnOk result (state_of (get nat_eq self.new.by_number number) ≡ Idle) }
+        ensures others { OnOk result ((other : ℕ) → other ≢ number
+            → get nat_eq self.new.by_number other ≡ get nat_eq self.old.by_number other) }
+    {
+        let mut waiting = VecDeque::new(self.alloc);
+        waiting.push_back(command)?;
+        let state = State::Idle;
+        self.by_number
+            .insert(number, Connection { waiting, state })?;
+        Ok(())
+    }
+
+    /// The next command of the connection of this number, which is then busy. None, and nothing changes, where no
+    /// command waits, where the connection is busy or has quit, and where there is none of this number.
+    pub fn next(&mut self, number: u64) -> Option<Frame>
+        ensures taken { TakesAt (get nat_eq self.old.by_number number) (get nat_eq self.new.by_number number) result }
+        ensures others { (other : ℕ) → other ≢ number
+            → get nat_eq self.new.by_number other ≡ get nat_eq self.old.by_number other }
+    {
+        match self.by_number.get_mut(&number) {
+            Some(connection) => connection.next(),
+            None => None,
+        }
+    }
+
+    /// The command of a connection is answered. Returns whether the connection is there to be told.
+    pub fn answered(&mut self, number: u64) -> bool
+        ensures told { result ≡ is_some (get nat_eq self.old.by_number number) }
+        ensures state { state_of (get nat_eq self.new.by_number number) ≡ Idle }
+        ensures waiting { waiting_on (get nat_eq self.new.by_number number)
+            ≡ waiting_on (get nat_eq self.old.by_number number) }
+        ensures others { (other : ℕ) → other ≢ number
+            → get nat_eq self.new.by_number other ≡ get nat_eq self.old.by_number other }
+    {
+        match self.by_number.get_mut(&number) {
+            Some(connection) => {
+                connection.state = State::Idle;
+                true
+            }
+            None => false,
+        }
+    }
+
+    /// The client of a connection has quit, if the connection is there.
+    pub fn quit(&mut self, number: u64)
+        ensures state { IsSome (get nat_eq self.old.by_number number)
+            → state_of (get nat_eq self.new.by_number number) ≡ Quit }
+        ensures others { (other : ℕ) → other ≢ number
+            → get nat_eq self.new.by_number other ≡ get nat_eq self.old.by_number other }
+    {
+        if let Some(connection) = self.by_number.get_mut(&number) {
+            connection.state = State::Quit;
+        }
+    }
+
+    /// A connection has ended, with the commands that waited on it.
+    pub fn leave(&mut self, number: u64)
+        ensures gone { get nat_eq self.new.by_number number ≡ None }
+        ensures others { (other : ℕ) → other ≢ number
+            → get nat_eq self.new.by_number other ≡ get nat_eq self.old.by_number other }
+    {
+        let _ = self.by_number.swap_remove(&number);
+    }
+}

@@ -1,0 +1,66 @@
+-- The contracts that docs/trusted.md lists do not depend on this file; other contracts and proofs do.
+-- The frames that come to a node, and the addresses in front of frames.
+use Rattle.std.specs.Prelude.{◌≢◌, ◌<◌, ◌^◌, ◌-◌, ◌&&◌, ℕ, List, [], ◌∷◌, ◌++◌, Bool, true, false, Option, Some, None}
+use Rattle.std.specs.Prelude.{codes, if◌then◌else◌}
+use Rattle.std.specs.Fmt.{decimal}
+use Rattle.std.specs.Str.{bytes_eq}
+use Rattle.node_strings.specs.declared.arrival.Arrival.{Arrival}
+use Rattle.node_strings.specs.declared.arrival.Arrival.TheVariants as came
+use Rattle.node_strings.specs.Parts.{Strings, and_then, behind, number_from}
+
+-- the address of a client
+abbrev pub client_address : ℕ → List ℕ
+client_address client = codes "client " ++ decimal client
+
+-- the address of a node
+abbrev pub node_address : ℕ → List ℕ
+node_address node = codes "node " ++ decimal node
+
+-- the strings of the frame that says what has come
+abbrev pub arrival_strings : Arrival → Strings
+arrival_strings (came.Command client command) = client_address client ∷ command
+arrival_strings (came.Left client) = client_address client ∷ []
+arrival_strings (came.Message node frame) = node_address node ∷ frame
+arrival_strings came.Tick = codes "tick" ∷ []
+
+-- the numbers of clients and nodes have their ranges, and a command has a string
+abbrev pub IsArrival : Arrival → Type 0
+IsArrival (came.Command client command) = (client < 2 ^ 64) × (command ≢ [])
+IsArrival (came.Left client) = client < 2 ^ 64
+IsArrival (came.Message node frame) = node < 2 ^ 8
+IsArrival came.Tick = Unit {0}
+
+-- whether there are no strings
+abbrev pub is_empty : Strings → Bool
+is_empty [] = true
+is_empty (string ∷ rest) = false
+
+-- what a client of this number sent, or that its connection has ended
+abbrev pub client_from : List ℕ → Strings → Option Arrival
+client_from number rest = and_then (number_from (2 ^ 64 - 1) number)
+    (λ client. if is_empty rest then Some (came.Left client) else Some (came.Command client rest))
+
+-- that time has passed
+abbrev pub tick_from : List ℕ → Strings → Option Arrival
+tick_from address rest = if bytes_eq address (codes "tick") && is_empty rest then Some came.Tick else None
+
+-- what comes from a client, if this is what stands behind `client `, and else what `other` says
+abbrev pub if_behind : Option (List ℕ) → (List ℕ → Option Arrival) → Option Arrival → Option Arrival
+if_behind (Some number) from other = from number
+if_behind None from other = other
+
+-- what comes from a node, or that time has passed
+abbrev pub node_from : List ℕ → Strings → Option Arrival
+node_from address rest = if_behind (behind (codes "node ") address)
+    (λ number. and_then (number_from 255 number) (λ node. Some (came.Message node rest)))
+    (tick_from address rest)
+
+-- what has come, by the address and the strings behind it
+unfoldable pub arrival_from : List ℕ → Strings → Option Arrival
+arrival_from address rest = if_behind (behind (codes "client ") address)
+    (λ number. client_from number rest) (node_from address rest)
+
+-- what has come
+unfoldable pub arrival_at : Strings → Option Arrival
+arrival_at [] = None
+arrival_at (address ∷ rest) = arrival_from address rest

@@ -1,0 +1,4 @@
+pub mod Parts
+pub mod Arrival
+pub mod Record
+pub mod Laws

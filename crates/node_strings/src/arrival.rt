@@ -1,0 +1,90 @@
+//! What has come to a node.
+ghost use Rattle.std.specs.Prelude.{◌≡◌, IfSome, Some};
+ghost use Rattle.node_strings.specs.declared.arrival.Arrival.{Arrival as Came};
+ghost use Rattle.node_strings.specs.Arrival.{IsArrival, arrival_strings, arrival_at, arrival_from, client_from};
+ghost use Rattle.node_strings.specs.Arrival.{node_from, tick_from};
+
+use crate::address::ConnectionId;
+use crate::parts::{behind, is_text, number_of, split};
+use frames::Frame;
+
+/// What has come to a node.
+#[derive(Debug, Drop)]
+pub enum Arrival {
+    /// A command of a client, with at least one string.
+    Command(ConnectionId, Frame),
+    /// The end of a client's connection.
+    Left(ConnectionId),
+    /// A frame that this node sent.
+    Message(u8, Frame),
+    /// Time has passed.
+    Tick,
+}
+
+/// What a frame with an address in front says has come, or none where its address is none. It asks for no memory.
+pub fn read_arrival(frame: Frame) -> Option<Arrival>
+    // The frame says what is read.
+    ensures found { IfSome result (λ arrival. frame ≡ arrival_strings arrival) }
+    // What a frame says is read.
+    ensures only { (arrival : Came) → IsArrival arrival → frame ≡ arrival_strings arrival → result ≡ Some arrival }
+    ensures exact { result ≡ arrival_at frame }
+{
+    read_split(frame)
+}
+
+// The same, by its exact clause.
+#[tactic(auto, unfolding(crate::specs::Arrival::arrival_at))]
+fn read_split(frame: Frame) -> Option<Arrival>
+    ensures { result ≡ arrival_at frame }
+{
+    match split(frame) {
+        Some((address, rest)) => read_behind(&address, rest),
+        None => None,
+    }
+}
+
+// What has come, with this address and these strings behind it.
+#[tactic(auto, unfolding(crate::specs::Arrival::arrival_from))]
+fn read_behind(address: &[u8], rest: Frame) -> Option<Arrival>
+    ensures { result ≡ arrival_from address.now rest }
+{
+    match behind(address, b"client ") {
+        Some(number) => client_of(number, rest),
+        None => read_other(address, rest),
+    }
+}
+
+// The same, where the address is that of no client.
+fn read_other(address: &[u8], rest: Frame) -> Option<Arrival>
+    ensures { result ≡ node_from address.now rest }
+{
+    match behind(address, b"node ") {
+        Some(number) => {
+            let number = number_of(number, 255)?;
+            Some(Arrival::Message(number as u8, rest))
+        }
+        None => tick_of(address, rest),
+    }
+}
+
+// Time has passed, where the address says that and nothing stands behind it.
+fn tick_of(address: &[u8], rest: Frame) -> Option<Arrival>
+    ensures { result ≡ tick_from address.now rest }
+{
+    if is_text(address, b"tick") && rest.strings().is_empty() {
+        Some(Arrival::Tick)
+    } else {
+        None
+    }
+}
+
+// A command of the client of this number, or the end of its connection where nothing stands behind the address.
+fn client_of(number: &[u8], rest: Frame) -> Option<Arrival>
+    ensures { result ≡ client_from number.now rest }
+{
+    let number = number_of(number, u64::MAX)?;
+    if rest.strings().is_empty() {
+        return Some(Arrival::Left(number));
+    }
+    Some(Arrival::Command(number, rest))
+}

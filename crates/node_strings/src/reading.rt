@@ -1,0 +1,91 @@
+//! Records from the strings of entries.
+ghost use Rattle.std.specs.Prelude.{◌≡◌, IfSome, Some};
+ghost use Rattle.node_strings.specs.declared.record.Record.{Record as Kept};
+ghost use Rattle.node_strings.specs.Record.{IsRecord, record_strings, record_at, record_from, start_from};
+ghost use Rattle.node_strings.specs.Record.{cluster_from, move_from};
+
+use crate::parts::{digest_of, is_text, layout_of, number_of, split, string_of};
+use crate::record::Record;
+use bytes::Bytes;
+use frames::Frame;
+
+/// What an entry of these strings records, or none where no node makes such an entry. It asks for no memory.
+pub fn read_record(frame: Frame) -> Option<Record>
+    // The strings are those of what is read.
+    ensures found { IfSome result (λ it. IsRecord it × (frame ≡ record_strings it)) }
+    // The strings of a record are read as that record.
+    ensures only { (it : Kept) → IsRecord it → frame ≡ record_strings it → result ≡ Some it }
+    ensures exact { result ≡ record_at frame }
+{
+    read_split(frame)
+}
+
+// The same, by its exact clause.
+#[tactic(auto, unfolding(crate::specs::Record::record_at))]
+fn read_split(frame: Frame) -> Option<Record>
+    ensures { result ≡ record_at frame }
+{
+    match split(frame) {
+        Some((word, rest)) => read_behind(&word, rest),
+        None => None,
+    }
+}
+
+// What an entry with this word and these strings behind it records.
+#[tactic(auto, unfolding(crate::specs::Record::record_from))]
+fn read_behind(word: &[u8], rest: Frame) -> Option<Record>
+    ensures { result ≡ record_from word.now rest }
+{
+    if is_text(word, b"serve") {
+        Some(Record::Serve(rest))
+    } else if is_text(word, b"take") {
+        Some(Record::Take(rest))
+    } else if is_text(word, b"start") {
+        start_of(rest.strings())
+    } else if is_text(word, b"cluster") {
+        cluster_of(rest.strings())
+    } else if is_text(word, b"move") {
+        move_of(rest.into_strings())
+    } else {
+        None
+    }
+}
+
+fn start_of(strings: &[Bytes]) -> Option<Record>
+    ensures { result ≡ start_from strings.now }
+{
+    match strings {
+        [] => Some(Record::Start),
+        [_, ..] => None,
+    }
+}
+
+#[tactic(auto, unfolding(crate::specs::Record::cluster_from))]
+fn cluster_of(strings: &[Bytes]) -> Option<Record>
+    ensures { result ≡ cluster_from strings.now }
+{
+    let (digest, rest) = string_of(strings)?;
+    let (number, rest) = string_of(rest)?;
+    if !rest.is_empty() {
+        return None;
+    }
+    let digest = digest_of(digest)?;
+    let node = number_of(number, 255)?;
+    Some(Record::Cluster {
+        digest,
+        node: node as u8,
+    })
+}
+
+#[tactic(auto, unfolding(crate::specs::Record::move_from))]
+fn move_of(mut strings: Vec<Bytes>) -> Option<Record>
+    ensures { result ≡ move_from strings.items }
+{
+    if strings.len() != 3 {
+        return None;
+    }
+    let id = number_of(&strings[0], u64::MAX)?;
+    let layout = layout_of(&strings[2])?;
+    let name = strings.swap_remove(1);
+    Some(Record::Move { id, name, layout })
+}

@@ -1,0 +1,27 @@
+use bytes::Bytes;
+use cluster_file::DIGEST_LENGTH;
+use frames::Frame;
+use layout::Layout;
+use tag::CallId;
+
+/// What an entry of a node's log records.
+#[derive(Debug, Drop)]
+pub enum Record {
+    /// The log is that of this node of the cluster whose file has this digest. It is the first entry, and no other.
+    Cluster {
+        digest: [u8; DIGEST_LENGTH],
+        node: u8,
+    },
+    /// The node began an epoch of its calls' ids.
+    Start,
+    /// The node served this request.
+    Serve(Frame),
+    /// The node took this reply.
+    Take(Frame),
+    /// The node began a move of the object of this name to this layout.
+    Move {
+        id: CallId,
+        name: Bytes,
+        layout: Layout,
+    },
+}
