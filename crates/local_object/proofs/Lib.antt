@@ -1,0 +1,13 @@
+pub mod CarriedCallLemmas
+pub mod FoundLemmas
+pub mod PlaceLemmas
+pub mod PieceLemmas
+pub mod LearntLemmas
+pub mod ServeLemmas
+pub mod BeginLemmas
+pub mod SentLemmas
+pub mod DoneLemmas
+pub mod NextLemmas
+pub mod FetchedLemmas
+pub mod OpenLemmas
+pub mod TakeLemmas

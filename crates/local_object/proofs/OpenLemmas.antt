@@ -1,0 +1,206 @@
+-- The calls of an object, as they are found, changed and removed by its events.
+use Rattle.std.proofs.Common.{◌≡◌, ◌≢◌, ℕ, zero, suc, ◌⊎◌, Bool, true, false, cond, IsSome, List, [], ◌∷◌}
+use Rattle.std.proofs.Common.{set, slice_get, Option, Some, None, inl, inr, refl, sym, subst, ap, ◌∙◌}
+use Rattle.std.specs.List.{AllByRecursion, remove}
+use Rattle.bank.specs.declared.kind.Kind.{Kind}
+use Rattle.encoder.specs.Fragment.{fragment}
+use Rattle.layout.specs.Layout.{Layout}
+use Rattle.mail.specs.declared.message.Message.{Message}
+use Rattle.record.specs.PhaseOrder.{due}
+use Rattle.record.specs.Legal.{is_move}
+use Rattle.record.specs.declared.call.CallKind.TheVariants.{Move}
+use Rattle.call.specs.declared.next.Next.TheVariants as next
+use Rattle.call.specs.Call.{OpenCall as Machine, reached}
+use Rattle.call.specs.Steps.{entered, phase_next, taken_call}
+use Rattle.network.specs.Events.{taking_open}
+use Rattle.network.specs.Worlds.{NodeCall, open_call, due_phase, with_open, without_call}
+use Rattle.local_object.specs.declared.letter.Letter.{Letter}
+use Rattle.local_object.specs.declared.progress.Ended.{Ended}
+use Rattle.local_object.specs.Codes.{at_node, carried}
+use Rattle.local_object.specs.Distinct.{AreOthers, AreDistinct, HaveDistinctIds, IsCallAt}
+use Rattle.local_object.specs.Doing.{IsDone, give_up_events, gives_up, is_client}
+use Rattle.local_object.specs.Ended.{told_if, told_of}
+use Rattle.local_object.specs.Events.{LocalEvent, Outcome, advanced_at, advanced_here, done_here, on_call, silent}
+use Rattle.local_object.specs.Going.{HasDone, IsAdvanced, IsFetchedValue, MayAdvance, next_here, settled_here, taken_here}
+use Rattle.local_object.specs.Local.{LocalObject, Place, layout_in, place_at}
+use Rattle.local_object.specs.May.{MayHappenHere}
+use Rattle.local_object.specs.Resent.{IsResent}
+use Rattle.local_object.specs.Sent.{IsCurrent}
+use Rattle.local_object.proofs.BeginLemmas.{open_found}
+use Rattle.local_object.proofs.CarriedCallLemmas.{open_none, other_at, same_call, with_set, without_at}
+use Rattle.local_object.proofs.DoneLemmas.{done_none, done_one}
+use Rattle.local_object.proofs.FetchedLemmas.{may_settle_here}
+use Rattle.local_object.proofs.NextLemmas.{answer_of, begin_of, due_begun, lacking_of, ready_of, restart_of}
+use Rattle.local_object.proofs.NextLemmas.{settle_of}
+
+pub silent_sent : (local : LocalObject) (o : Option NodeCall) (f : NodeCall → LocalObject)
+    → (on_call local o (λ call. silent (f call))).sent ≡ []
+silent_sent local None f = refl
+silent_sent local (Some call) f = refl
+
+abbrev position_or : ℕ → Option (Kind × ℕ) → ℕ
+position_or other None = other
+position_or other (Some asked) = asked.1
+
+module _ (node : ℕ) (delta : Option ℕ) (places : List Place) where
+  abbrev pub object : List Machine → LocalObject
+  object calls = record { node = node; delta = delta; places = places; calls = carried node calls }
+
+  module _ {calls : List Machine} {id index : ℕ} (distinct : HaveDistinctIds calls) (at : IsCallAt calls id index) where
+    pub found : (f : NodeCall → Outcome) → on_call (object calls) (open_call (carried node calls) id) f ≡ f (at_node node at.call)
+    found f = ap (λ o. on_call (object calls) o f) (open_found node calls id index distinct at)
+
+    changed_is : (new : Machine) → new.id ≡ at.call.id
+        → object (set calls index new) ≡ record (object calls) { calls = with_open (at_node node new) (carried node calls) }
+    changed_is new same =
+        ap (λ (cs : List NodeCall). record (object calls) { calls = cs })
+        (sym (with_set node calls index at.call new distinct.distinct at.there same))
+
+    pub taken_is : (message : Message) → id ≡ message.call
+        → object (set calls index (taken_call message 0 at.call)) ≡ (taken_here (object calls) message).local
+    taken_is message named =
+        changed_is (taken_call message 0 at.call) refl
+        ∙ sym (ap (λ (t : Outcome). t.local)
+        (found (λ call. silent (record (object calls) { calls = with_open (taking_open message call) (carried node calls) }))))
+        ∙ ap (λ n. (on_call (object calls) (open_call (carried node calls) n)
+        (λ call. silent (record (object calls) { calls = with_open (taking_open message call) (carried node calls) }))).local) named
+
+    pub settled_is : (value : List ℕ)
+        → object (set calls index (record at.call { settled = Some value })) ≡ (settled_here (object calls) id value).local
+    settled_is value =
+        changed_is (record at.call { settled = Some value }) refl
+        ∙ sym (ap (λ (t : Outcome). t.local)
+        (found (λ call. silent (record (object calls) { calls = with_open (record call { settled = Some value }) (carried node calls) }))))
+
+    -- the call, as it was read
+    module _ (call : Machine) (there : slice_get calls index ≡ Some call) where
+      read_is : at.call ≡ call
+      read_is = same_call at.call call (sym at.there ∙ there)
+
+      is_at : IsCallAt calls id index
+      is_at = record { call = call; there = there; named = ap (λ (m : Machine). m.id) (sym read_is) ∙ at.named }
+
+      open_is : open_call (carried node calls) id ≡ Some (at_node node call)
+      unfolding is_at
+      open_is = open_found node calls id index distinct is_at
+
+      pub may_settle : (value : List ℕ) → next_here call ≡ next.Settle → IsFetchedValue places call value
+          → MayHappenHere fragment (object calls) (LocalEvent.Settle id value)
+      may_settle value step fetched =
+          (at_node node call, open_is, may_settle_here node delta places (carried node calls) call value (settle_of call step) fetched)
+
+      pub resent : (layout : Layout) → layout_in (place_at places call.phase.position) ≡ Some layout → (letter : Letter)
+          → IsCurrent places call layout letter → IsResent fragment (object calls) letter
+      resent layout known letter current = record {
+        id = id;
+        call = at_node node call;
+        carried = open_is;
+        layout = layout;
+        known = known;
+        place = current.place;
+        at = current.at;
+      }
+
+      pub answered_done : (new : List Machine) (letters : List Letter) (ended : List Ended) → next_here call ≡ next.Answer
+          → new ≡ remove calls index → letters ≡ [] → ended ≡ told_of (at_node node call) ∷ []
+          → HasDone (object calls) (object new) letters ended
+      answered_done new letters ended step rest none tells =
+          let is = answer_of call step in
+          done_one (object calls) (LocalEvent.Answer id) (object new) letters ended
+          (at_node node call, open_is, ready_of node call None is, due_begun (reached call) ∙ is.due)
+          (ap (λ (cs : List NodeCall). record (object calls) { calls = cs })
+          (ap (carried node) rest ∙ sym (without_at node calls index call distinct.distinct there)
+          ∙ ap (λ n. without_call n (carried node calls)) (ap (λ (m : Machine). m.id) (sym read_is) ∙ at.named)))
+          none (tells ∙ sym (ap told_if open_is))
+
+      module _ (kind : Kind) (position : ℕ) (asked : due (reached call) ≡ Some (kind, position)) where
+        next_is : due_phase (at_node node call) ≡ Some (kind, position)
+        next_is = due_begun (reached call) ∙ asked
+
+        begun : (new : List Machine) (letters : List Letter) → IsAdvanced places calls call index kind position new letters
+            → MayHappenHere fragment (object calls) (LocalEvent.Advance id) → HasDone (object calls) (object new) letters []
+        begun new letters adv may =
+            let outcome : done_here fragment (object calls) (LocalEvent.Advance id)
+            ≡ advanced_at fragment (object calls) (at_node node call) (kind, position) (Some adv.layout) =
+            ap (λ o. on_call (object calls) o (λ call. advanced_here fragment (object calls) call (due_phase call))) open_is
+            ∙ ap (λ n. advanced_here fragment (object calls) (at_node node call) n) next_is
+            ∙ ap (λ o. advanced_at fragment (object calls) (at_node node call) (kind, position) o) adv.known in
+            done_one (object calls) (LocalEvent.Advance id) (object new) letters [] may
+            (ap object adv.calls
+            ∙ ap (λ (cs : List NodeCall). record (object calls) { calls = cs })
+            (sym (with_set node calls index call (entered call (phase_next call kind position adv.layout 0)) distinct.distinct there refl))
+            ∙ sym (ap (λ (t : Outcome). t.local) outcome))
+            (adv.sent ∙ sym (ap (λ (t : Outcome). t.sent) outcome)) refl
+
+        known_next : (layout : Layout) → layout_in (place_at places position) ≡ Some layout → (k : Kind) (p : ℕ)
+            → due_phase (at_node node call) ≡ Some (k, p) → IsSome (layout_in (place_at places p))
+        known_next layout known k p e =
+            let same : position ≡ p = ap (position_or position) (sym next_is ∙ e) in
+            subst (λ n. IsSome (layout_in (place_at places n))) same (subst IsSome (sym known) refl)
+
+      pub advanced_done : (kind : Kind) (position : ℕ) (new : List Machine) (letters : List Letter)
+          → (next_here call ≡ next.Restart kind position) ⊎ (next_here call ≡ next.Begin kind position)
+          → MayAdvance places calls call index kind position new letters → HasDone (object calls) (object new) letters []
+      advanced_done kind position new letters step (inl same) =
+          done_none (object calls) (object new) letters [] (ap object same.0) same.1 refl
+      advanced_done kind position new letters (inl step) (inr adv) =
+          let both = restart_of call kind position step in
+          begun kind position both.0.due new letters adv
+          (at_node node call, open_is, inr (lacking_of node call both.1), known_next kind position both.0.due adv.layout adv.known)
+      advanced_done kind position new letters (inr step) (inr adv) =
+          let is = begin_of call kind position step in
+          begun kind position is.due new letters adv (
+            at_node node call,
+            open_is,
+            inl (ready_of node call (Some (kind, position)) is, subst IsSome (sym (next_is kind position is.due)) refl),
+            known_next kind position is.due adv.layout adv.known,
+          )
+
+  pub taken_none : (calls : List Machine) (message : Message) → AreOthers message.call calls
+      → object calls ≡ (taken_here (object calls) message).local
+  taken_none calls message others =
+      sym (ap (λ o. (on_call (object calls) o
+      (λ call. silent (record (object calls) { calls = with_open (taking_open message call) (carried node calls) }))).local)
+      (open_none node calls message.call others))
+
+  pub settled_none : (calls : List Machine) (id : ℕ) (value : List ℕ) → AreOthers id calls
+      → object calls ≡ (settled_here (object calls) id value).local
+  settled_none calls id value others =
+      sym (ap (λ o. (on_call (object calls) o
+      (λ call. silent (record (object calls) { calls = with_open (record call { settled = Some value }) (carried node calls) }))).local)
+      (open_none node calls id others))
+
+-- giving up a call changes no call but this one
+other_kept : (node id : ℕ) (calls : List Machine) → AreOthers id calls
+    → AllByRecursion (λ (call : NodeCall). call.id ≡ id → call.kind ≢ Move) (carried node calls)
+other_kept node id [] others = tt
+other_kept node id (c ∷ cs) others = ((λ e. absurd (others.0 e)), other_kept node id cs others.1)
+
+pub give_up_may : (node : ℕ) (calls : List Machine) (i : ℕ) (call : Machine) → AreDistinct calls → slice_get calls i ≡ Some call
+    → is_move call.kind ≡ false → AllByRecursion (λ (other : NodeCall). other.id ≡ call.id → other.kind ≢ Move) (carried node calls)
+give_up_may node [] i call distinct at client = tt
+give_up_may node (c ∷ cs) zero call distinct at client =
+    let same = same_call c call at in (
+      (λ _ e. absurd (let t : is_move call.kind ≡ true = ap (λ (m : Machine). is_move m.kind) (sym same) ∙ ap is_move e in cc)),
+      other_kept node call.id cs (subst (λ (m : Machine). AreOthers m.id cs) same distinct.0),
+    )
+give_up_may node (c ∷ cs) (suc i) call distinct at client =
+    ((λ e. absurd (other_at c.id cs i call distinct.0 at (sym e))), give_up_may node cs i call distinct.1 at client)
+
+module _ (o old : LocalObject) (view : o ≡ old) (id : ℕ) where
+  pub gives_is : (r : Bool) → r ≡ is_client (open_call o.calls id) → r ≡ gives_up old id
+  gives_is r is = is ∙ ap (λ (l : LocalObject). gives_up l id) view
+
+  pub give_up_none : (new : LocalObject) → false ≡ is_client (open_call o.calls id) → new ≡ old
+      → IsDone old (give_up_events old id) new []
+  give_up_none new is same =
+      subst (λ b. IsDone old (cond b (LocalEvent.GiveUp id ∷ []) []) new []) (gives_is false is)
+      (record { may = tt; local = same; letters = refl })
+
+  pub give_up_done : (new : LocalObject) → true ≡ is_client (open_call o.calls id)
+      → AllByRecursion (λ (call : NodeCall). call.id ≡ id → call.kind ≢ Move) o.calls
+      → new ≡ record o { calls = without_call id o.calls } → IsDone old (give_up_events old id) new []
+  give_up_done new is may same =
+      subst (λ b. IsDone old (cond b (LocalEvent.GiveUp id ∷ []) []) new []) (gives_is true is)
+      (subst (λ (l : LocalObject). IsDone l (LocalEvent.GiveUp id ∷ []) new []) view
+      (record { may = (may, tt); local = same; letters = refl }))

@@ -1,0 +1,43 @@
+-- Replies that calls take.
+use Rattle.std.proofs.Common.{◌≡◌, ◌+◌, ◌^◌, ◌&&◌, Bool, true, false, cond, ltb, is_some, [], refl, sym, ap, ◌∙◌}
+use Rattle.bank.specs.declared.kind.Kind.{Kind}
+use Rattle.bank.specs.declared.reply.Reply.{Reply}
+use Rattle.mail.specs.declared.message.Body.{Body}
+use Rattle.mail.specs.declared.message.Body.TheVariants as body
+use Rattle.network.specs.Events.{taking_open}
+use Rattle.network.specs.Worlds.{open_call, with_open}
+use Rattle.local_object.specs.declared.letter.Letter.{Letter}
+use Rattle.local_object.specs.Doing.{is_request, is_taken}
+use Rattle.local_object.specs.Events.{LocalEvent, learnt_from}
+use Rattle.local_object.specs.Going.{HasDone, taken_here}
+use Rattle.local_object.specs.Local.{LocalObject}
+use Rattle.local_object.proofs.DoneLemmas.{done_one}
+use Rattle.local_object.proofs.OpenLemmas.{silent_sent}
+
+not_request : (b c : Bool) → cond b false c ≡ true → b ≡ false
+not_request true c e = absurd (cc)
+not_request false c e = refl
+
+reply_of : (b : Body) → is_request b ≡ false → (kind : Kind) × (made : Reply) × (b ≡ body.Reply kind made)
+reply_of (body.Request asked) e = absurd (cc)
+reply_of (body.Reply kind made) e = (kind, made, refl)
+
+pub take_done : (old : LocalObject) (letter : Letter) (mid new : LocalObject) → is_taken old letter ≡ true
+    → mid ≡ learnt_from old letter → new ≡ (taken_here mid letter.message).local → HasDone old new [] []
+take_done old letter mid new taken learnt is =
+    let next = learnt_from old letter in
+    done_one old (LocalEvent.Take letter) new [] []
+    (reply_of letter.message.body
+    (not_request (is_request letter.message.body)
+    (ltb (letter.message.position + 1) (2 ^ 32) && is_some (open_call old.calls letter.message.call)) taken))
+    (is ∙ ap (λ (l : LocalObject). (taken_here l letter.message).local) learnt)
+    (sym (silent_sent next (open_call next.calls letter.message.call)
+    (λ call. record next { calls = with_open (taking_open letter.message call) next.calls }))) refl
+
+pub taken_by : (local : LocalObject) (letter : Letter) (kind : Kind) (made : Reply) (r : Bool) → letter.message.body ≡ body.Reply kind made
+    → ltb (letter.message.position + 1) (2 ^ 32) ≡ true → r ≡ is_some (open_call local.calls letter.message.call)
+    → r ≡ is_taken local letter
+taken_by local letter kind made r is next open_is =
+    let open_here = is_some (open_call local.calls letter.message.call) in
+    open_is ∙ sym (ap (λ b. b && open_here) next)
+    ∙ sym (ap (λ b. cond (is_request b) false (ltb (letter.message.position + 1) (2 ^ 32) && open_here)) is)

@@ -1,0 +1,20 @@
+use Rattle.std.proofs.Common.{◌+◌, IsSome, sym, subst}
+use Rattle.local_object.specs.Codes.{carried}
+use Rattle.local_object.specs.Local.{LocalObject, layout_here, layout_in, place_at}
+use Rattle.local_object.proofs.BeginLemmas.{known_added, move_done, ok_both}
+use Rattle.local_object.proofs.local_object.LocalObject.begin_from.Goals as goal
+
+pub begin-requires-clause-known : goal.begin-requires-clause-known
+begin-requires-clause-known c =
+    let places = c.self.inside.places in
+    subst (λ ps. IsSome (layout_in (place_at ps c.args.last))) (sym c.in_ok-learn.ensures.places)
+    (known_added places (place_at places (c.args.last + 1)) (c.args.last + 1) c.args.layout.now c.args.last
+    (subst (λ (l : LocalObject). IsSome (layout_here l c.args.last)) (sym c.self.view_is) c.requires.known))
+
+pub returns-clause-done : goal.returns-clause-done
+returns-clause-done c =
+    let o = c.self.inside in
+    let local : LocalObject = record { node = o.node; delta = o.delta; places = o.places; calls = carried o.node o.calls } in
+    ok_both c.begin.result c.begin.ensures.local c.begin.ensures.letters
+    (λ letters is sent. move_done {o = local} c.self.view_is c.args.id c.args.layout.now c.requires.last c.in_ok-learn.ensures.places
+    c.k.ensures.lawful c.requires.still c.begin.new.self letters.items is sent)

@@ -1,0 +1,40 @@
+use Rattle.std.proofs.Common.{◌≡◌, ◌⊎◌, List, ◌∷◌, [], ap, sym, subst, ◌∙◌}
+use Rattle.std.specs.Option.{option_to_list}
+use Rattle.call.specs.declared.next.Next.TheVariants as next
+use Rattle.call.specs.Call.{OpenCall as Machine}
+use Rattle.local_object.specs.declared.letter.Letter.{Letter}
+use Rattle.local_object.specs.declared.progress.Ended.{Ended}
+use Rattle.local_object.specs.Codes.{at_node}
+use Rattle.local_object.specs.Ended.{told_of}
+use Rattle.local_object.specs.Going.{HasDone}
+use Rattle.local_object.proofs.CarriedCallLemmas.{same_call}
+use Rattle.local_object.proofs.DoneLemmas.{done_from}
+use Rattle.local_object.proofs.OpenLemmas.{advanced_done, answered_done, object}
+use Rattle.local_object.proofs.local_object.LocalObject.lead.Goals as goal
+
+pub returns-in_ok-ended-in-Answer-clause-done : goal.returns-in_ok-ended-in-Answer-clause-done
+returns-in_ok-ended-in-Answer-clause-done c =
+    let o = c.self.inside in
+    let call = c.at.result.now in
+    let removed = same_call c.remove-call.result call (sym c.remove-call.ensures.call ∙ c.at.ensures) in
+    done_from c.self.view_is
+    (answered_done o.node o.delta o.places c.in-Some.ensures.distinct c.in-Some.ensures.index call c.at.ensures c.remove-call.new.self
+    c.answered.result.letters.items (option_to_list c.answered.result.ended) (sym c.next_here.ensures.next ∙ c.in-Answer.is)
+    c.remove-call.ensures.rest c.answered.ensures.letters
+    (ap option_to_list c.answered.ensures.ended
+    ∙ ap (λ ended. ended ∷ []) (c.in_ok-ended-in-Answer.ensures.told ∙ ap (λ (m : Machine). told_of (at_node o.node m)) removed)))
+
+pub returns-in_ok-letters-in-Restart-clause-done : goal.returns-in_ok-letters-in-Restart-clause-done
+returns-in_ok-letters-in-Restart-clause-done c =
+    let o = c.self.inside in
+    let call = c.at.result.now in
+    let kind = c.in-Restart.kind in
+    let position = c.in-Restart.position in
+    let new = object o.node o.delta o.places c.advance.new.calls in
+    let step = subst (λ s. (s ≡ next.Restart kind position) ⊎ (s ≡ next.Begin kind position)) c.next_here.ensures.next c.in-Restart.is in
+    subst (λ (ended : List Ended). HasDone c.args.self.now new c.sent.result.letters.items ended)
+    (sym (ap option_to_list c.sent.ensures.ended))
+    (subst (λ (letters : List Letter). HasDone c.args.self.now new letters []) (sym c.sent.ensures.letters)
+    (done_from c.self.view_is
+    (advanced_done o.node o.delta o.places c.in-Some.ensures.distinct c.in-Some.ensures.index call c.at.ensures kind position
+    c.advance.new.calls c.in_ok-letters-in-Restart.letters.items step (c.in_ok-letters-in-Restart.ensures.advanced call c.at.ensures))))

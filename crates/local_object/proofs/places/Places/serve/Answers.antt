@@ -1,0 +1,29 @@
+use Rattle.std.proofs.Common.{◌≡◌, Option, IfOk, ap, subst, ◌∙◌}
+use Rattle.std.proofs.lemmas.Result.{on_ok_weaker}
+use Rattle.bank.specs.Bank.{Bank}
+use Rattle.bank.specs.Serve.{served_bank, reply_to}
+use Rattle.local_object.specs.Local.{bank_in, bank_or_opened, place_at, with_bank}
+use Rattle.local_object.proofs.PlaceLemmas.{bank_is, bank_put, known_set, there_at}
+use Rattle.local_object.proofs.places.Places.serve.Goals as goal
+
+pub invariant_of-self : goal.invariant_of-self
+invariant_of-self c = record {
+  known = known_set 0 c.self.inside.places.items c.in-Some.index c.index_mut.result.now c.serve.new.self
+      (there_at c.deref.ensures.value c.self.view_is c.in-Some.ensures c.index_mut.ensures.value) c.serve.ensures.same
+      c.self.invariant.known;
+}
+
+pub returns-clause-places : goal.returns-clause-places
+returns-clause-places c =
+    let served : Option Bank → Bank = λ o. served_bank (bank_or_opened o c.args.member c.args.delta) c.args.request.now 0 in
+    on_ok_weaker c.serve.result
+    (λ made. bank_put c.deref.ensures.value c.self.view_is c.in-Some.ensures c.index_mut.ensures.value served c.serve.new.self made
+    ∙ ap (λ n. with_bank c.args.self.now n (served (bank_in (place_at c.args.self.now n)))) c.from.ensures)
+    c.serve.ensures.bank
+
+pub returns-clause-reply : goal.returns-clause-reply
+returns-clause-reply c =
+    subst (λ o. IfOk c.serve.result (λ r. r ≡ reply_to (bank_or_opened o c.args.member c.args.delta) c.args.request.now 0))
+    (bank_is c.deref.ensures.value c.self.view_is c.in-Some.ensures c.index_mut.ensures.value
+    ∙ ap (λ n. bank_in (place_at c.args.self.now n)) c.from.ensures)
+    c.serve.ensures.reply

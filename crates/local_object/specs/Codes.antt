@@ -1,0 +1,39 @@
+-- The contracts that docs/trusted.md lists do not depend on this file; other contracts and proofs do.
+-- How the parts of a node's object are encoded, and its calls as the machines that carry them out.
+use Rattle.std.specs.Prelude.{ℕ, List, map, Option, refl}
+use Rattle.std.specs.Coded.{Coded, code_by, coded×, coded_list, coded_ℕ, coded_option}
+use Rattle.layout.specs.Layout.{Layout}
+use Rattle.bank.specs.Bank.{Bank}
+use Rattle.call.specs.Call.{OpenCall as Machine}
+use Rattle.network.specs.Worlds.{NodeCall}
+use Rattle.local_object.specs.Local.{Place, LocalObject}
+
+-- how a place is encoded: as the tuple of its parts
+abbrev pub place_code : Coded Layout → Coded Bank → Coded Place
+place_code layout bank =
+    code_by (ℕ × (Layout × Option Bank)) (coded× coded_ℕ (coded× layout (coded_option bank)))
+    (λ p. (p.position, (p.layout, p.bank)))
+    (λ t. record { position = t.0; layout = t.1.0; bank = t.1.1 }) (λ _. refl)
+
+-- how an object is encoded: as the tuple of its parts
+abbrev pub local_code : Coded Place → Coded NodeCall → Coded LocalObject
+local_code place call =
+    code_by (ℕ × (Option ℕ × (List Place × List NodeCall)))
+    (coded× coded_ℕ (coded× (coded_option coded_ℕ) (coded× (coded_list place) (coded_list call))))
+    (λ o. (o.node, (o.delta, (o.places, o.calls))))
+    (λ t. record { node = t.0; delta = t.1.0; places = t.1.1.0; calls = t.1.1.1 }) (λ _. refl)
+
+-- a machine as a call of this node
+abbrev pub at_node : (node : ℕ) → Machine → NodeCall
+at_node node call = record {
+  node = node;
+  id = call.id;
+  kind = call.kind;
+  settled = call.settled;
+  stage = call.stage;
+  phase = call.phase;
+}
+
+-- these machines as calls of this node
+abbrev pub carried : (node : ℕ) → List Machine → List NodeCall
+carried node calls = map (at_node node) calls

@@ -1,0 +1,38 @@
+-- The contracts that docs/trusted.md lists do not depend on this file; other contracts and proofs do.
+-- What is true of the parts of a node's object at any time.
+use Rattle.std.specs.Prelude.{◌≡◌, ◌≢◌, ℕ, List, [], ◌∷◌, Some, IsSome, slice_get, slice_set}
+use Rattle.bank.specs.Bank.{Bank}
+use Rattle.call.specs.Call.{OpenCall as Machine}
+use Rattle.local_object.specs.Local.{Place, place_at, with_bank}
+
+-- none of the calls has this id
+abbrev pub AreOthers : (id : ℕ) → List Machine → Type 0
+AreOthers id [] = Unit {0}
+AreOthers id (call ∷ calls) = (call.id ≢ id) × AreOthers id calls
+
+-- no two of the calls have the same id
+abbrev pub AreDistinct : List Machine → Type 0
+AreDistinct [] = Unit {0}
+AreDistinct (call ∷ calls) = AreOthers call.id calls × AreDistinct calls
+
+-- no two of the calls have the same id
+pub record HaveDistinctIds (calls : List Machine) : Type 0 where
+  pub distinct : AreDistinct calls
+
+-- the call with this id is at this index
+pub record IsCallAt (calls : List Machine) (id index : ℕ) : Type 0 where
+  pub call : Machine
+  pub there : slice_get calls index ≡ Some call
+  pub named : call.id ≡ id
+
+-- the place of a position is at this index, where a new bank would change it
+pub record IsPlaceAt (places : List Place) (number index : ℕ) : Type 0 where
+  pub place : Place
+  pub there : slice_get places index ≡ Some place
+  pub found : place_at places number ≡ Some place
+  pub changed : (bank : Bank) →
+      with_bank places number bank ≡ slice_set places index (record place { bank = Some bank })
+
+-- the node has heard of position 0
+pub record KnowsFirst (places : List Place) : Type 0 where
+  pub known : IsSome (place_at places 0)

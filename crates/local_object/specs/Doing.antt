@@ -1,0 +1,109 @@
+-- The contracts that docs/trusted.md lists do not depend on this file; other contracts and proofs do.
+-- What the functions of a node's object promise: which events they are, and why they are refused.
+use Rattle.std.specs.Prelude.{◌≡◌, ℕ, ◌+◌, ◌^◌, ◌&&◌, not, Bool, true, false, ◌==◌, is_some, if◌then◌else◌, nat_lt}
+use Rattle.std.specs.Prelude.{List, [], ◌∷◌, length, Option, Some, None, slice_get}
+use Rattle.std.specs.List.{list_any}
+use Rattle.tag.specs.declared.limits.TheConstants.{LONGEST_VALUE}
+use Rattle.tag.specs.declared.refusal.Refusal.{Refusal}
+use Rattle.tag.specs.declared.refusal.Refusal.TheVariants.{NotNow, TooLong, MovePending, Full}
+use Rattle.encoder.specs.Fragment.{fragment}
+use Rattle.layout.specs.Layout.{Layout}
+use Rattle.mail.specs.declared.message.Body.{Body}
+use Rattle.mail.specs.declared.message.Body.TheVariants as body
+use Rattle.record.specs.Legal.{is_move}
+use Rattle.network.specs.Worlds.{NodeCall, open_call}
+use Rattle.local_object.specs.declared.letter.Letter.{Letter}
+use Rattle.local_object.specs.Events.{LocalEvent, all_done, learnt_from}
+use Rattle.local_object.specs.Local.{LocalObject, last_position, layout_here}
+use Rattle.local_object.specs.May.{MayAllHappen}
+
+-- these events may happen, and after them the node keeps this and has sent these letters
+pub record IsDone (old : LocalObject) (events : List LocalEvent) (new : LocalObject) (sent : List Letter) : Type 0 where
+  pub may : MayAllHappen fragment old events
+  pub local : new ≡ (all_done fragment old events).local
+  pub letters : sent ≡ (all_done fragment old events).sent
+
+-- Refusals
+
+-- NotNow where a call with this id is open here, and else what comes after
+abbrev pub unless_open : LocalObject → (id : ℕ) → Option Refusal → Option Refusal
+unless_open local id later = if is_some (open_call local.calls id) then Some NotNow else later
+
+-- why a read is refused
+abbrev pub read_cause : LocalObject → (id : ℕ) → Option Refusal
+read_cause local id = unless_open local id None
+
+-- why a write is refused: its value is too long
+abbrev pub write_cause : LocalObject → (id : ℕ) → List ℕ → Option Refusal
+write_cause local id value = unless_open local id (if nat_lt LONGEST_VALUE (length value) then Some TooLong else None)
+
+-- whether the node carries out a move
+abbrev pub is_moving : LocalObject → Bool
+is_moving local = list_any (λ call. is_move call.kind) local.calls
+
+-- whether this is a call, and a move
+abbrev pub is_move_call : Option NodeCall → Bool
+is_move_call None = false
+is_move_call (Some call) = is_move call.kind
+
+-- whether a move with this id is open here
+abbrev pub is_open_move : LocalObject → (id : ℕ) → Bool
+is_open_move local id = is_move_call (open_call local.calls id)
+
+-- why a move is refused: a move is open here, or there are no numbers for the position after the last one and its next
+abbrev pub move_cause : LocalObject → (id : ℕ) → Option Refusal
+move_cause local id = unless_open local id
+    (if is_moving local then Some MovePending
+    else (if nat_lt (last_position local + 2) (2 ^ 32) then None else Some Full))
+
+-- Messages
+
+-- whether a message with this body is a request
+abbrev pub is_request : Body → Bool
+is_request (body.Request asked) = true
+is_request (body.Reply kind made) = false
+
+-- whether this is a server, and it is the node
+abbrev pub names_node : Option ℕ → (node : ℕ) → Bool
+names_node None node = false
+names_node (Some server) node = server == node
+
+-- whether a layout has this node as the member
+abbrev pub has_member : Layout → (member node : ℕ) → Bool
+has_member layout member node = names_node (slice_get layout.members member) node
+
+-- whether there is a layout that has this node as the member
+abbrev pub is_member : Option Layout → (member node : ℕ) → Bool
+is_member None member node = false
+is_member (Some layout) member node = has_member layout member node
+
+-- whether the node serves a letter: it is a request, its position has a next one, and the node is the member it names
+abbrev pub is_served : LocalObject → Letter → Bool
+is_served local letter =
+    is_request letter.message.body && (nat_lt (letter.message.position + 1) (2 ^ 32)
+    && is_member (layout_here (learnt_from local letter) letter.message.position) letter.message.member local.node)
+
+-- what a node does with a letter that is to be served
+abbrev pub serve_events : LocalObject → Letter → List LocalEvent
+serve_events local letter = if is_served local letter then LocalEvent.Serve letter ∷ [] else []
+
+-- whether the node takes a letter: it is a reply to a call that is open here, and its position has a next one
+abbrev pub is_taken : LocalObject → Letter → Bool
+is_taken local letter =
+    if is_request letter.message.body then false
+    else nat_lt (letter.message.position + 1) (2 ^ 32) && is_some (open_call local.calls letter.message.call)
+
+-- Calls that are given up
+
+-- whether this is a call, and a read or a write
+abbrev pub is_client : Option NodeCall → Bool
+is_client None = false
+is_client (Some call) = not (is_move call.kind)
+
+-- whether a read or a write with this id is open here
+abbrev pub gives_up : LocalObject → (id : ℕ) → Bool
+gives_up local id = is_client (open_call local.calls id)
+
+-- what a node does to give up a call: nothing where no read or write with this id is open here
+abbrev pub give_up_events : LocalObject → (id : ℕ) → List LocalEvent
+give_up_events local id = if gives_up local id then LocalEvent.GiveUp id ∷ [] else []

@@ -1,0 +1,87 @@
+-- The contracts that docs/trusted.md lists do not depend on this file; other contracts and proofs do.
+-- How a call goes on once its phase is complete.
+use Rattle.std.specs.Prelude.{◌≡◌, ◌⊎◌, ℕ, suc, if◌then◌else◌, List, [], map}
+use Rattle.std.specs.Prelude.{Some, slice_set}
+use Rattle.bank.specs.declared.kind.Kind.{Kind}
+use Rattle.encoder.specs.Fragment.{fragment}
+use Rattle.layout.specs.Layout.{Layout}
+use Rattle.decoder.specs.Decoded.{IsDecoded}
+use Rattle.record.specs.Sending.{fragment_piece, requests}
+use Rattle.call.specs.declared.next.Next.{Next}
+use Rattle.call.specs.declared.next.Next.TheVariants as next
+use Rattle.call.specs.Call.{OpenCall as Machine}
+use Rattle.call.specs.Limits.{is_within_limits}
+use Rattle.call.specs.Next.{is_unsettled, next_of}
+use Rattle.call.specs.Steps.{entered, phase_next}
+use Rattle.local_object.specs.declared.letter.Letter.{Letter}
+use Rattle.local_object.specs.declared.progress.Ended.{Ended}
+use Rattle.local_object.specs.Coding.{value_of}
+use Rattle.local_object.specs.Doing.{IsDone}
+use Rattle.local_object.specs.Ended.{all_told}
+use Rattle.local_object.specs.Events.{LocalEvent, Outcome, on_call, silent}
+use Rattle.mail.specs.declared.message.Message.{Message}
+use Rattle.network.specs.Events.{taking_open}
+use Rattle.network.specs.Worlds.{open_call, with_open}
+use Rattle.local_object.specs.Letters.{letter_in}
+use Rattle.local_object.specs.Pieces.{first_pieces}
+use Rattle.local_object.specs.Local.{LocalObject, Place, layout_in, place_at}
+
+-- a call that fetched and has settled nothing is not answered
+abbrev pub unless_unsettled : Machine → Next → Next
+unless_unsettled call next.Answer = if is_unsettled call then next.Wait else next.Answer
+unless_unsettled call step = step
+
+-- what a call does next here: it waits where the numbers of its next position or tag have no successors
+abbrev pub next_here : Machine → Next
+next_here call = if is_within_limits call then unless_unsettled call (next_of call) else next.Wait
+
+-- this holds, if the call does anything but wait
+abbrev pub UnlessWaiting : Next → Type 0 → Type 0
+UnlessWaiting next.Wait fact = Unit {0}
+UnlessWaiting _ fact = fact
+
+-- the letters that a call sends as it begins its next phase at a position with this layout
+abbrev pub next_letters : List Place → Machine → Kind → (position : ℕ) → Layout → List Letter
+next_letters places call kind position layout =
+    map (letter_in places layout)
+    (requests call.id (suc call.phase.number) kind position layout.members 0
+    (fragment_piece fragment layout (value_of call)))
+
+-- the call at an index began its next phase at a position of which the node has heard, and these letters were sent
+pub record IsAdvanced (places : List Place) (old : List Machine) (call : Machine) (index : ℕ) (kind : Kind)
+    (position : ℕ) (new : List Machine) (letters : List Letter) : Type 0 where
+  pub layout : Layout
+  pub known : layout_in (place_at places position) ≡ Some layout
+  pub calls : new ≡ slice_set old index (entered call (phase_next call kind position layout 0))
+  pub sent : letters ≡ next_letters places call kind position layout
+
+-- either nothing changed and nothing was sent, or the call began its next phase
+abbrev pub MayAdvance : List Place → (old : List Machine) → Machine → (index : ℕ) → Kind → (position : ℕ) →
+    (new : List Machine) → (letters : List Letter) → Type 0
+MayAdvance places old call index kind position new letters =
+    ((new ≡ old) × (letters ≡ [])) ⊎ IsAdvanced places old call index kind position new letters
+
+-- the value that a call fetched: it is decoded from the first k pieces of its replies, by its phase's position's layout
+pub record IsFetchedValue (places : List Place) (call : Machine) (value : List ℕ) : Type 0 where
+  pub layout : Layout
+  pub known : layout_in (place_at places call.phase.position) ≡ Some layout
+  pub decoded : IsDecoded
+      (record { k = layout.k; pieces = first_pieces layout.k call.phase.replies; value = value })
+
+-- what the node keeps after the call that a message names takes it, if it carries out the call
+abbrev pub taken_here : LocalObject → Message → Outcome
+taken_here local message =
+    on_call local (open_call local.calls message.call)
+    (λ call. silent (record local { calls = with_open (taking_open message call) local.calls }))
+
+-- what the node keeps after a call with this id settles a value, if it carries out the call
+abbrev pub settled_here : LocalObject → (id : ℕ) → (value : List ℕ) → Outcome
+settled_here local id value =
+    on_call local (open_call local.calls id)
+    (λ call. silent (record local { calls = with_open (record call { settled = Some value }) local.calls }))
+
+-- some events may happen, after which the node keeps this, has sent these letters, and has answered these calls
+pub record HasDone (old new : LocalObject) (letters : List Letter) (ended : List Ended) : Type 0 where
+  pub events : List LocalEvent
+  pub done : IsDone old events new letters
+  pub told : ended ≡ all_told fragment old events

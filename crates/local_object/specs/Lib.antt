@@ -1,0 +1,13 @@
+pub mod Local
+pub mod Events
+pub mod May
+pub mod Codes
+pub mod Distinct
+pub mod Ended
+pub mod Pieces
+pub mod Letters
+pub mod Doing
+pub mod Coding
+pub mod Going
+pub mod Resent
+pub mod Sent

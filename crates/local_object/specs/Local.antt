@@ -1,0 +1,89 @@
+-- The contracts that docs/trusted.md lists do not depend on this file; other contracts and proofs do.
+-- What one node keeps of one object: the layouts that it has heard of, its banks, and the calls that it carries out.
+use Rattle.std.specs.Prelude.{ℕ, ◌==◌, if◌then◌else◌, List, [], ◌∷◌, ◌++◌, Option, None, Some, nat_lt}
+use Rattle.layout.specs.Layout.{Layout}
+use Rattle.bank.specs.Bank.{Bank, opened_bank}
+use Rattle.network.specs.Worlds.{NodeCall}
+
+-- what a node keeps for a position that it has heard of: the layout, and its bank once a request has reached it
+pub record Place : Type 0 where
+  pub position : ℕ
+  pub layout : Layout
+  pub bank : Option Bank
+
+-- what one node keeps of one object: the node's number, how many finalized versions its banks keep beside the newest
+-- (None: all), the positions that it has heard of, each once, and the calls that it carries out
+pub record LocalObject : Type 0 where
+  pub node : ℕ
+  pub delta : Option ℕ
+  pub places : List Place
+  pub calls : List NodeCall
+
+-- what a node keeps of an object that it has not heard of: the layout of position 0, which its cluster file gives
+abbrev pub new_local : (node : ℕ) → (delta : Option ℕ) → (first : Layout) → LocalObject
+new_local node delta first = record {
+  node = node;
+  delta = delta;
+  places = record { position = 0; layout = first; bank = None } ∷ [];
+  calls = [];
+}
+
+-- what is kept for a position, if the node has heard of it
+abbrev pub place_at : List Place → (position : ℕ) → Option Place
+place_at [] position = None
+place_at (place ∷ places) position = if place.position == position then Some place else place_at places position
+
+-- the layout of a position, if there is a place for it
+abbrev pub layout_in : Option Place → Option Layout
+layout_in None = None
+layout_in (Some place) = Some place.layout
+
+-- the layout of a position, if the node has heard of it
+abbrev pub layout_here : LocalObject → (position : ℕ) → Option Layout
+layout_here local position = layout_in (place_at local.places position)
+
+-- a bank, or a newly opened one where there is none
+abbrev pub bank_or_opened : Option Bank → (member : ℕ) → (delta : Option ℕ) → Bank
+bank_or_opened None member delta = opened_bank member delta 0
+bank_or_opened (Some bank) member delta = bank
+
+-- the bank kept in a place, if there is one
+abbrev pub bank_in : Option Place → Option Bank
+bank_in None = None
+bank_in (Some place) = place.bank
+
+-- the bank that the node keeps for a position as this member; before the first request it is a newly opened one
+abbrev pub bank_here : LocalObject → (position member : ℕ) → Bank
+bank_here local position member = bank_or_opened (bank_in (place_at local.places position)) member local.delta
+
+-- the places with this bank at the position
+abbrev pub with_bank : List Place → (position : ℕ) → Bank → List Place
+with_bank [] position bank = []
+with_bank (place ∷ places) position bank =
+    if place.position == position then record place { bank = Some bank } ∷ places
+    else place ∷ with_bank places position bank
+
+-- the places after the node hears of a position and its layout: one more where it had not heard of that position
+abbrev pub added_place : List Place → Option Place → (position : ℕ) → Layout → List Place
+added_place places None position layout = places ++ record { position = position; layout = layout; bank = None } ∷ []
+added_place places (Some place) position layout = places
+
+-- what the node keeps after it hears of a position and its layout
+abbrev pub learnt : LocalObject → (position : ℕ) → Layout → LocalObject
+learnt local position layout =
+    record local { places = added_place local.places (place_at local.places position) position layout }
+
+-- what the node keeps after it hears of a position and maybe its layout
+abbrev pub learnt_if : LocalObject → (position : ℕ) → Option Layout → LocalObject
+learnt_if local position None = local
+learnt_if local position (Some layout) = learnt local position layout
+
+-- the greatest of these positions, or the one that is given
+abbrev pub greatest_position : List Place → ℕ → ℕ
+greatest_position [] greatest = greatest
+greatest_position (place ∷ places) greatest =
+    greatest_position places (if nat_lt greatest place.position then place.position else greatest)
+
+-- the last position that the node has heard of
+abbrev pub last_position : LocalObject → ℕ
+last_position local = greatest_position local.places 0

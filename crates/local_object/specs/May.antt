@@ -1,0 +1,65 @@
+-- The contracts that docs/trusted.md lists do not depend on this file; other contracts and proofs do.
+-- When a node may do something with an object, as far as it can tell by what it keeps.
+use Rattle.std.specs.Prelude.{◌≡◌, ◌≢◌, ◌⊎◌, ℕ, List, [], ◌∷◌, None, Some, IsSome, false, slice_get}
+use Rattle.std.specs.List.{AllByRecursion}
+use Rattle.layout.specs.Layout.{Layout, IsLawful}
+use Rattle.bank.specs.declared.kind.Kind.{Kind}
+use Rattle.bank.specs.declared.reply.Reply.{Reply}
+use Rattle.bank.specs.declared.request.Request.{Request}
+use Rattle.mail.specs.declared.message.Body.TheVariants as body
+use Rattle.phase.specs.Phase.{lacks_pieces}
+use Rattle.record.specs.declared.call.CallKind.TheVariants.{Move}
+use Rattle.record.specs.Fragments.{Code, IsValue, IsFetch, HasPieces}
+use Rattle.record.specs.Records.{Object, layout_at}
+use Rattle.network.specs.Worlds.{NodeCall, open_call, due_phase}
+use Rattle.network.specs.Events.{IsReady, IsLacking}
+use Rattle.local_object.specs.declared.letter.Letter.{Letter}
+use Rattle.local_object.specs.Local.{LocalObject, layout_here}
+use Rattle.local_object.specs.Events.{LocalEvent, done_here, learnt_from}
+
+-- the node carries out the call with this id
+abbrev pub IsCarriedOut : LocalObject → (id : ℕ) → NodeCall → Type 0
+IsCarriedOut local id call = open_call local.calls id ≡ Some call
+
+-- the node is the member that the letter names, by the layout of the letter's position
+abbrev pub IsAddressed : LocalObject → Letter → Type 0
+IsAddressed local letter = (layout : Layout) × (layout_here local letter.message.position ≡ Some layout)
+    × (slice_get layout.members letter.message.member ≡ Some local.node)
+
+-- the value may be settled: the current phase is a complete fetch, which took k pieces of it by its position's layout
+pub record IsFetchedHere (fragment : Code) (local : LocalObject) (call : NodeCall) (value : List ℕ) : Type 0 where
+  pub complete : IsSome call.phase.end
+  pub fetch : IsFetch call.phase.kind
+  pub unsettled : call.settled ≡ None
+  pub enough : lacks_pieces call.phase ≡ false
+  pub layout : Layout
+  pub known : layout_here local call.phase.position ≡ Some layout
+  pub pieces : (object : Object) → layout_at object call.phase.position ≡ layout →
+      HasPieces fragment object call.phase value
+  pub is_value : IsValue value
+
+-- the event may happen, as far as the node can tell
+abbrev pub MayHappenHere : Code → LocalObject → LocalEvent → Type 0
+MayHappenHere fragment local (LocalEvent.BeginRead id) = IsSome (layout_here local 0)
+MayHappenHere fragment local (LocalEvent.BeginWrite id value) = IsSome (layout_here local 0) × IsValue value
+MayHappenHere fragment local (LocalEvent.BeginMove id layout) =
+    IsLawful layout × AllByRecursion (λ call. call.kind ≢ Move) local.calls
+MayHappenHere fragment local (LocalEvent.Advance id) =
+    (call : NodeCall) × IsCarriedOut local id call × ((IsReady call × IsSome (due_phase call)) ⊎ IsLacking call)
+    × ((kind : Kind) (position : ℕ) → due_phase call ≡ Some (kind, position) → IsSome (layout_here local position))
+MayHappenHere fragment local (LocalEvent.Serve letter) =
+    ((asked : Request) × (letter.message.body ≡ body.Request asked)) × IsAddressed (learnt_from local letter) letter
+MayHappenHere fragment local (LocalEvent.Take letter) =
+    (kind : Kind) × (made : Reply) × (letter.message.body ≡ body.Reply kind made)
+MayHappenHere fragment local (LocalEvent.Settle id value) =
+    (call : NodeCall) × IsCarriedOut local id call × IsFetchedHere fragment local call value
+MayHappenHere fragment local (LocalEvent.Answer id) =
+    (call : NodeCall) × IsCarriedOut local id call × IsReady call × (due_phase call ≡ None)
+MayHappenHere fragment local (LocalEvent.GiveUp id) =
+    AllByRecursion (λ call. call.id ≡ id → call.kind ≢ Move) local.calls
+
+-- these events may happen here one after another
+abbrev pub MayAllHappen : Code → LocalObject → List LocalEvent → Type 0
+MayAllHappen fragment local [] = Unit {0}
+MayAllHappen fragment local (event ∷ events) =
+    MayHappenHere fragment local event × MayAllHappen fragment (done_here fragment local event).local events

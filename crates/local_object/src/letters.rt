@@ -1,0 +1,88 @@
+//! Messages as letters, with the layouts that their receivers may not have heard of.
+
+ghost use Rattle.std.specs.Prelude.{◌≡◌, suc, map, IfOk, IfErr};
+ghost use Rattle.tag.specs.declared.refusal.Refusal.TheVariants.{NoMemory};
+ghost use Rattle.local_object.specs.Local.{layout_in, place_at};
+ghost use Rattle.local_object.specs.Letters.{is_set, letter_in, tells_next};
+
+use crate::Letter;
+use crate::places::Places;
+use bank::{Answer, Request, Status};
+use layout::Layout;
+use mail::{Body, Message};
+use std::alloc::Global;
+use tag::Refusal;
+
+/// A letter for each message to or from members of a position with this layout. `NoMemory` is the only refusal.
+pub(crate) fn letters_of(
+    alloc: Global,
+    places: &Places,
+    layout: &Layout,
+    messages: Vec<Message>,
+) -> Result<Vec<Letter>, Refusal>
+    ensures letters { IfOk result (λ ls. ls.items ≡ map (letter_in places.now layout.now) messages.items) }
+    ensures refused { IfErr result (λ e. e ≡ NoMemory) }
+{
+    let mut letters = Vec::with_capacity(alloc, messages.len())?;
+    for message in messages {
+        letters.push(letter_of(places, layout.clone()?, message)?)?;
+    }
+    Ok(letters)
+}
+
+/// The message as a letter: with the layout of its position, and that of the next one if the message says that there is
+/// one. `NoMemory` is the only refusal.
+pub(crate) fn letter_of(
+    places: &Places,
+    layout: Layout,
+    message: Message,
+) -> Result<Letter, Refusal>
+    ensures letter { IfOk result (λ l. l ≡ letter_in places.now layout message) }
+    ensures refused { IfErr result (λ e. e ≡ NoMemory) }
+{
+    let next = if tells_next(&message.body) {
+        next_layout(places, message.position)?
+    } else {
+        None
+    };
+    Ok(Letter {
+        layout,
+        next,
+        message,
+    })
+}
+
+// The layout of the position after this one, if the node has heard of it.
+fn next_layout(places: &Places, position: u32) -> Result<Option<Layout>, Refusal>
+    ensures layout { IfOk result (λ l. l ≡ layout_in (place_at places.now (suc position))) }
+    ensures refused { IfErr result (λ e. e ≡ NoMemory) }
+{
+    match places.layout_of(u64::from(position) + 1) {
+        Some(layout) => Ok(Some(layout.clone()?)),
+        None => Ok(None),
+    }
+}
+
+// Whether a message with this body says that there is a next position.
+fn tells_next(body: &Body) -> bool
+    ensures { result ≡ tells_next body.now }
+{
+    match body {
+        Body::Request(Request::Spread(status)) => is_set(*status),
+        Body::Reply { kind: _, reply } => match &reply.answer {
+            Answer::Pointer(status) => is_set(*status),
+            _ => false,
+        },
+        _ => false,
+    }
+}
+
+// Whether a pointer with this status says that there is a next position.
+fn is_set(status: Status) -> bool
+    ensures { result ≡ is_set status }
+{
+    match status {
+        Status::Unset => false,
+        Status::Pending | Status::Final => true,
+    }
+}

@@ -1,0 +1,19 @@
+//! What one node of a cluster of processes keeps of one object, and what it does with it: it serves requests, and
+//! carries out calls. The node that holds the objects hands in each letter, and sends those that come out.
+#![tactic(auto)]
+
+pub use letter::Letter;
+pub use local_object::LocalObject;
+pub use progress::{Ended, Progress};
+
+mod calls;
+mod coding;
+mod going;
+mod letter;
+mod letters;
+mod local_object;
+mod missing;
+mod pieces;
+mod place;
+mod places;
+mod progress;

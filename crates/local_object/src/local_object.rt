@@ -1,0 +1,178 @@
+ghost use Rattle.std.specs.Prelude.{◌≡◌, ◌+◌, ◌<◌, ◌^◌, IfOk, IfErr, OnOk, IsSome, nat_lt, option_to_list};
+ghost use Rattle.tag.specs.declared.refusal.Refusal.TheVariants.{NoMemory};
+ghost use Rattle.local_object.specs.Local.{new_local, place_at};
+ghost use Rattle.local_object.specs.Events.{learnt_from, served_here};
+ghost use Rattle.local_object.specs.Doing.{IsDone, has_member, is_served, serve_events};
+
+use crate::Letter;
+use crate::calls::Calls;
+use crate::letters::letter_of;
+use crate::places::Places;
+use layout::Layout;
+use mail::{Body, Message};
+use std::alloc::Global;
+use std::marker::Model;
+use tag::Refusal;
+
+mod begin;
+mod go_on;
+mod resend;
+mod take;
+mod views;
+
+/// What one node of a cluster keeps of one object: the positions that it has heard of with their layouts, its banks,
+/// and the calls that it carries out.
+///
+/// Where a function is refused with `NoMemory`, an allocation was refused, and nothing is said of what the object is
+/// afterwards: the node stops, and starts again from its log. Every other refusal changes nothing. Of several refusals
+/// that apply, the first in the order NotNow, MovePending, TooLong, Full, NoMemory comes.
+#[derive(Debug, Drop)]
+pub struct LocalObject {
+    // The number of the node.
+    node: u8,
+    // How many finalized versions the banks keep beside the newest. None where they keep all.
+    delta: Option<u32>,
+    places: Places,
+    calls: Calls,
+    alloc: Global,
+}
+
+impl Model for LocalObject {
+    ghost use Rattle.std.specs.Coded.{codes};
+    ghost use Rattle.local_object.specs.contracts.place.Place as heard;
+    ghost use Rattle.local_object.specs.Local.{LocalObject as Local};
+    ghost use Rattle.local_object.specs.Codes.{carried, local_code};
+
+    ghost Value = { Local };
+
+    ghost coded = { local_code heard.the_row.coded (Prim.hlevel codes) };
+
+    ghost view = { λ o. record { node = o.node; delta = o.delta; places = o.places; calls = carried o.node o.calls } };
+}
+
+impl LocalObject {
+    /// What the node of this number keeps of an object of which it has not heard: position 0 with its layout.
+    ///
+    /// `delta` is how many finalized versions the node's banks keep beside the newest; without it they keep all pieces.
+    /// `NoMemory` is the only refusal.
+    pub fn new(
+        alloc: Global,
+        node: u8,
+        delta: Option<u32>,
+        first: Layout,
+    ) -> Result<LocalObject, Refusal>
+        ensures new { IfOk result (λ o. o ≡ new_local node delta first) }
+        ensures refused { IfErr result (λ e. e ≡ NoMemory) }
+    {
+        Ok(LocalObject {
+            node,
+            delta,
+            places: Places::new(alloc, first)?,
+            calls: Calls::new(alloc),
+            alloc,
+        })
+    }
+
+    /// The node serves a request, and its reply is to be sent to the node from which the request came. None, and
+    /// nothing changes, where the letter is no request, where its position has no next one in 32 bits, or where the
+    /// node is not the member that it names.
+    ///
+    /// `NoMemory` is the only refusal.
+    pub fn serve(&mut self, letter: Letter) -> Result<Option<Letter>, Refusal>
+        ensures done { IfOk result (λ reply.
+            IsDone self.old (serve_events self.old letter) self.new (option_to_list reply)) }
+
+        ensures refused { IfErr result (λ e. e ≡ NoMemory) }
+    {
+        if !self.is_served(&letter) {
+            return Ok(None);
+        }
+        self.learn(&letter)?;
+        self.handle(letter)
+    }
+
+    // Whether the node serves the letter.
+    fn is_served(&self, letter: &Letter) -> bool
+        ensures { result ≡ is_served self.now letter.now }
+    {
+        let Body::Request(_) = &letter.message.body else {
+            return false;
+        };
+        if !has_next(letter.message.position) {
+            return false;
+        }
+        match self.places.layout_of(u64::from(letter.message.position)) {
+            Some(layout) => has_member(layout, letter.message.member, self.node),
+            None => has_member(&letter.layout, letter.message.member, self.node),
+        }
+    }
+
+    // The node hears of the layouts in a letter.
+    fn learn(&mut self, letter: &Letter) -> Result<(), Refusal>
+        requires { letter.now.message.position + 1 < 2 ^ 32 }
+        ensures learnt { OnOk result (self.new ≡ learnt_from self.old letter.now) }
+        ensures refused { IfErr result (λ e. e ≡ NoMemory) }
+    {
+        let position = letter.message.position;
+        self.places.learn(position, &letter.layout)?;
+        if let Some(next) = &letter.next {
+            self.places.learn(position + 1, next)?;
+        }
+        Ok(())
+    }
+
+    // The node's bank serves the request in a letter. None where it is none.
+    fn handle(&mut self, letter: Letter) -> Result<Option<Letter>, Refusal>
+        requires { IsSome (place_at self.old.places letter.message.position) }
+        ensures local { OnOk result (self.new ≡ (served_here self.old letter letter.message.body).local) }
+        ensures sent { IfOk result (λ reply.
+            option_to_list reply ≡ (served_here self.old letter letter.message.body).sent) }
+
+        ensures refused { IfErr result (λ e. e ≡ NoMemory) }
+    {
+        let Letter {
+            layout,
+            next: _,
+            message,
+        } = letter;
+        let Message {
+            call,
+            phase,
+            position,
+            member,
+            body,
+        } = message;
+        let Body::Request(request) = body else {
+            return Ok(None);
+        };
+        let reply = self.places.serve(position, member, self.delta, &request)?;
+        let answer = Message {
+            call,
+            phase,
+            position,
+            member,
+            body: Body::Reply {
+                kind: request.kind(),
+                reply,
+            },
+        };
+        Ok(Some(letter_of(&self.places, layout, answer)?))
+    }
+}
+
+// Whether there is a number for the position after this one.
+fn has_next(position: u32) -> bool
+    ensures { result ≡ nat_lt (position + 1) (2 ^ 32) }
+{
+    position < u32::MAX
+}
+
+// Whether the layout has this node as the member.
+fn has_member(layout: &Layout, member: u8, node: u8) -> bool
+    ensures { result ≡ has_member layout.now member node }
+{
+    if member >= layout.n() {
+        return false;
+    }
+    layout.member(member) == node
+}

@@ -1,0 +1,165 @@
+//! Calls that begin.
+
+ghost use Rattle.std.specs.Prelude.{◌≡◌, ℕ, ◌+◌, ◌<◌, ◌^◌, ◌∷◌, [], false, None, IfOk, IfErr, OnOk, IsSome, length};
+ghost use Rattle.std.specs.Prelude.{nat_le};
+ghost use Rattle.tag.specs.Refusal.{IsByCause, IsExactlyByCause};
+ghost use Rattle.tag.specs.declared.refusal.Refusal.TheVariants.{NoMemory};
+ghost use Rattle.record.specs.Fragments.{AreBytes};
+ghost use Rattle.record.specs.PhaseOrder.{begun_at};
+ghost use Rattle.call.specs.Pieces.{HavePieces};
+ghost use Rattle.network.specs.Worlds.{open_call};
+ghost use Rattle.local_object.specs.Local.{last_position, layout_here};
+ghost use Rattle.local_object.specs.Events.{LocalEvent, begun_here};
+ghost use Rattle.local_object.specs.Doing.{IsDone, is_moving, move_cause, read_cause, unless_open, write_cause};
+
+use crate::letters::letters_of;
+use crate::{Letter, LocalObject};
+use bank::{Kind, Status};
+use bytes::Bytes;
+use call::{Call, requests};
+use layout::Layout;
+use phase::Ask;
+use record::{CallKind, Stage};
+use tag::{CallId, LONGEST_VALUE, Refusal};
+
+impl LocalObject {
+    /// The node begins a read, with an id that no other call of the object has in the whole cluster. The letters are
+    /// its requests to the members of position 0.
+    ///
+    /// `NotNow` where a call with this id is open here, and `NoMemory`.
+    pub fn begin_read(&mut self, id: CallId) -> Result<Vec<Letter>, Refusal>
+        ensures done { IfOk result (λ letters. IsDone self.old (LocalEvent.BeginRead id ∷ []) self.new letters.items) }
+        ensures cause { IsByCause (read_cause self.old id) result }
+    {
+        self.refuse_open(id)?;
+        let first = self.places.first();
+        self.begin(id, CallKind::Read, Stage::ReadBegin, Kind::Next, first)
+    }
+
+    /// The node begins a write of this value, with an id that no other call of the object has in the whole cluster.
+    /// The letters are its requests to the members of position 0.
+    ///
+    /// `NotNow` where a call with this id is open here, `TooLong` where the value has more than `LONGEST_VALUE` bytes,
+    /// and `NoMemory`.
+    pub fn begin_write(&mut self, id: CallId, value: Bytes) -> Result<Vec<Letter>, Refusal>
+        ensures done { IfOk result (λ letters.
+            IsDone self.old (LocalEvent.BeginWrite id value ∷ []) self.new letters.items) }
+
+        ensures cause { IsByCause (write_cause self.old id value) result }
+    {
+        self.refuse_open(id)?;
+        if !is_short(value.as_slice()) {
+            return Err(Refusal::TooLong);
+        }
+        let first = self.places.first();
+        self.begin(
+            id,
+            CallKind::Write(value),
+            Stage::ReadBegin,
+            Kind::Next,
+            first,
+        )
+    }
+
+    /// The node begins a move from the last position of which it has heard to a new one with this layout. The letters
+    /// are its requests to the members of that last position.
+    ///
+    /// `NotNow` where a call with this id is open here, `MovePending` where a move is, `Full` where there is no number
+    /// for one more position and its next one, and `NoMemory`.
+    pub fn begin_move(&mut self, id: CallId, layout: Layout) -> Result<Vec<Letter>, Refusal>
+        ensures done { IfOk result (λ letters.
+            IsDone self.old (LocalEvent.BeginMove id layout ∷ []) self.new letters.items) }
+
+        ensures cause { IsByCause (move_cause self.old id) result }
+    {
+        self.refuse_open(id)?;
+        if self.is_moving() {
+            return Err(Refusal::MovePending);
+        }
+        let last = self.places.last();
+        if last >= u32::MAX - 1 {
+            return Err(Refusal::Full);
+        }
+        self.begin_from(id, last, &layout)
+    }
+
+    // Begins a move from the last position to a new one with this layout.
+    fn begin_from(&mut self, id: CallId, last: u32, layout: &Layout) -> Result<Vec<Letter>, Refusal>
+        requires last { last ≡ last_position self.old }
+        requires known { IsSome (layout_here self.old last) }
+        requires room { last + 2 < 2 ^ 32 }
+        requires new { open_call self.old.calls id ≡ None }
+        requires still { is_moving self.old ≡ false }
+        ensures done { IfOk result (λ letters.
+            IsDone self.old (LocalEvent.BeginMove id layout.now ∷ []) self.new letters.items) }
+
+        ensures refused { IfErr result (λ e. e ≡ NoMemory) }
+    {
+        prove!(layout.k() >= 1);
+        self.places.learn(last + 1, layout)?;
+        let stage = Stage::MoveSpread { position: last };
+        self.begin(
+            id,
+            CallKind::Move,
+            stage,
+            Kind::Spread(Status::Pending),
+            last,
+        )
+    }
+
+    // Refused with `NotNow` where a call with this id is open here.
+    fn refuse_open(&self, id: CallId) -> Result<(), Refusal>
+        ensures cause { IsExactlyByCause (unless_open self.now id None) result }
+        ensures new { OnOk result (open_call self.now.calls id ≡ None) }
+    {
+        match self.calls.index_of(id) {
+            Some(_) => Err(Refusal::NotNow),
+            None => Ok(()),
+        }
+    }
+
+    // Begins a call with a first phase of this kind, which sends no pieces, at this position.
+    fn begin(
+        &mut self,
+        id: CallId,
+        kind: CallKind,
+        stage: Stage,
+        asked: Kind,
+        position: u32,
+    ) -> Result<Vec<Letter>, Refusal>
+        requires known { IsSome (layout_here self.old position) }
+        requires new { open_call self.old.calls id ≡ None }
+        requires plain { (members : ℕ) → HavePieces asked members None }
+        ensures local { OnOk result (self.new ≡ (begun_here self.old id kind (begun_at stage position) asked position
+            (layout_here self.old position)).local) }
+
+        ensures letters { IfOk result (λ letters. letters.items
+            ≡ (begun_here self.old id kind (begun_at stage position) asked position
+            (layout_here self.old position)).sent) }
+
+        ensures refused { IfErr result (λ e. e ≡ NoMemory) }
+    {
+        let Some(layout) = self.places.layout_of(u64::from(position)) else {
+            unreachable!();
+        };
+        let ask = Ask {
+            call: id,
+            number: 1,
+            position,
+            kind: asked,
+        };
+        let messages = requests(self.alloc, ask, layout.n(), None)?;
+        let letters = letters_of(self.alloc, &self.places, layout, messages)?;
+        let call = Call::begin(self.alloc, ask, kind, stage, layout, 0)?;
+        self.calls.add(call)?;
+        Ok(letters)
+    }
+}
+
+// Whether the value is within the limit on its length.
+fn is_short(value: &[u8]) -> bool
+    ensures short { result ≡ nat_le (length value.now) LONGEST_VALUE }
+    ensures bytes { AreBytes value.now }
+{
+    value.len() <= LONGEST_VALUE
+}

@@ -1,0 +1,90 @@
+//! How a call goes on once its phase is complete.
+
+ghost use Rattle.std.specs.Prelude.{◌≡◌, [], IfOk, IfErr, IfSome, OnOk, option_to_list};
+ghost use Rattle.tag.specs.declared.refusal.Refusal.TheVariants.{NoMemory};
+ghost use Rattle.encoder.specs.Fragment.{fragment};
+ghost use Rattle.local_object.specs.Events.{LocalEvent};
+ghost use Rattle.local_object.specs.Going.{HasDone, settled_here};
+ghost use Rattle.local_object.specs.May.{MayHappenHere};
+
+use crate::going::{advance, ended, fetched, next_here};
+use crate::{LocalObject, Progress};
+use bytes::Bytes;
+use call::Next;
+use tag::{CallId, Refusal};
+
+impl LocalObject {
+    /// If the call with this id is to settle the value that it fetched, and the pieces decode, it settles the value.
+    ///
+    /// `NoMemory` is the only refusal.
+    pub(crate) fn settle(&mut self, id: CallId) -> Result<(), Refusal>
+        ensures done { OnOk result (HasDone self.old self.new [] []) }
+        ensures refused { IfErr result (λ e. e ≡ NoMemory) }
+    {
+        let Some(value) = self.fetched(id)? else {
+            return Ok(());
+        };
+        self.put_value(id, value);
+        Ok(())
+    }
+
+    // The value that the call with this id is to settle, if it is to settle one, and the pieces decode.
+    fn fetched(&self, id: CallId) -> Result<Option<Bytes>, Refusal>
+        ensures may { IfOk result (λ value. IfSome value
+            (λ value. MayHappenHere fragment self.now (LocalEvent.Settle id value))) }
+
+        ensures refused { IfErr result (λ e. e ≡ NoMemory) }
+    {
+        let Some(index) = self.calls.index_of(id) else {
+            return Ok(None);
+        };
+        let call = self.calls.at(index);
+        let Next::Settle = next_here(call) else {
+            return Ok(None);
+        };
+        fetched(self.alloc, &self.places, call)
+    }
+
+    // The call with this id settles a value, if it is open here.
+    fn put_value(&mut self, id: CallId, value: Bytes)
+        ensures { self.new ≡ (settled_here self.old id value).local }
+    {
+        match self.calls.index_of(id) {
+            Some(index) => self.calls.settle(index, value),
+            None => (),
+        }
+    }
+
+    /// The call with this id begins the phase that is due, or is answered where none is due. It waits where it cannot
+    /// go on.
+    ///
+    /// `NoMemory` is the only refusal.
+    pub(crate) fn lead(&mut self, id: CallId) -> Result<Progress, Refusal>
+        ensures done { IfOk result (λ progress.
+            HasDone self.old self.new progress.letters.items (option_to_list progress.ended)) }
+
+        ensures refused { IfErr result (λ e. e ≡ NoMemory) }
+    {
+        let Some(index) = self.calls.index_of(id) else {
+            return Ok(Progress::none(self.alloc));
+        };
+        match next_here(self.calls.at(index)) {
+            Next::Wait | Next::Settle => Ok(Progress::none(self.alloc)),
+            Next::Restart(kind, position) | Next::Begin(kind, position) => {
+                let letters = advance(
+                    self.alloc,
+                    &self.places,
+                    &mut self.calls,
+                    index,
+                    kind,
+                    position,
+                )?;
+                Ok(Progress::sent(letters))
+            }
+            Next::Answer => {
+                let call = self.calls.remove(index);
+                Ok(Progress::answered(self.alloc, ended(&call)?))
+            }
+        }
+    }
+}

@@ -1,0 +1,79 @@
+//! Replies that calls take.
+
+ghost use Rattle.std.specs.Prelude.{◌≡◌, [], true, IfOk, IfErr, OnOk, option_to_list};
+ghost use Rattle.tag.specs.declared.refusal.Refusal.TheVariants.{NoMemory};
+ghost use Rattle.local_object.specs.Doing.{is_taken};
+ghost use Rattle.local_object.specs.Going.{HasDone, taken_here};
+
+use super::has_next;
+use crate::{Letter, LocalObject, Progress};
+use mail::{Body, Message};
+use tag::Refusal;
+
+impl LocalObject {
+    /// A call that the node carries out takes a reply, and goes on as far as it comes: it settles the value that it
+    /// fetched, and begins its next phase or is answered. Nothing changes where the letter is no reply to a call that
+    /// is open here, or its position has no next one in 32 bits.
+    ///
+    /// The call waits, and `give_up` ends it, where it cannot go on: the node has not heard of the layout that it
+    /// needs, or there is no number for its next position, phase or tag, or the pieces that it fetched do not decode.
+    /// None of these happens while all nodes follow the rules.
+    ///
+    /// `NoMemory` is the only refusal.
+    pub fn take(&mut self, letter: Letter) -> Result<Progress, Refusal>
+        ensures done { IfOk result (λ progress.
+            HasDone self.old self.new progress.letters.items (option_to_list progress.ended)) }
+
+        ensures refused { IfErr result (λ e. e ≡ NoMemory) }
+    {
+        if !self.is_taken(&letter) {
+            return Ok(Progress::none(self.alloc));
+        }
+        let id = letter.message.call;
+        self.take_reply(letter)?;
+        self.settle(id)?;
+        self.lead(id)
+    }
+
+    // Whether the letter is a reply to a call that is open here, and its position has a next one.
+    fn is_taken(&self, letter: &Letter) -> bool
+        ensures { result ≡ is_taken self.now letter.now }
+    {
+        let Body::Reply { kind: _, reply: _ } = &letter.message.body else {
+            return false;
+        };
+        if !has_next(letter.message.position) {
+            return false;
+        }
+        match self.calls.index_of(letter.message.call) {
+            Some(_) => true,
+            None => false,
+        }
+    }
+
+    // The call that the reply names takes it, and the node hears of its layouts.
+    fn take_reply(&mut self, letter: Letter) -> Result<(), Refusal>
+        requires { is_taken self.old letter ≡ true }
+        ensures done { OnOk result (HasDone self.old self.new [] []) }
+        ensures refused { IfErr result (λ e. e ≡ NoMemory) }
+    {
+        self.learn(&letter)?;
+        let Letter {
+            layout: _,
+            next: _,
+            message,
+        } = letter;
+        self.take_message(message);
+        Ok(())
+    }
+
+    // The call that a message names takes it, if the call is open here.
+    fn take_message(&mut self, message: Message)
+        ensures { self.new ≡ (taken_here self.old message).local }
+    {
+        match self.calls.index_of(message.call) {
+            Some(index) => self.calls.take(index, message),
+            None => (),
+        }
+    }
+}

@@ -1,0 +1,106 @@
+//! What a node keeps for one position.
+
+ghost use Rattle.std.specs.Prelude.{◌≡◌, IfOk, IfErr, OnOk, Some, option_copied};
+ghost use Rattle.tag.specs.declared.refusal.Refusal.TheVariants.{NoMemory};
+
+use bank::{Bank, Reply, Request};
+use layout::Layout;
+use std::alloc::Global;
+use std::marker::Model;
+use tag::Refusal;
+
+/// A position that a node has heard of.
+#[derive(Debug, Drop)]
+pub struct Place {
+    position: u32,
+    layout: Layout,
+    // The node's bank for this position. None before a request has reached it.
+    bank: Option<Bank>,
+}
+
+impl Model for Place {
+    ghost use Rattle.layout.specs.contracts.layout.Layout as arrangement;
+    ghost use Rattle.bank.specs.contracts.bank.Bank as table;
+    ghost use Rattle.local_object.specs.Local.{Place as Heard};
+    ghost use Rattle.local_object.specs.Codes.{place_code};
+
+    ghost Value = { Heard };
+
+    ghost coded = { place_code arrangement.the_row.coded table.the_row.coded };
+
+    ghost view = { λ p. record { position = p.position; layout = p.layout; bank = p.bank } };
+}
+
+impl Place {
+    ghost use Rattle.bank.specs.Serve.{served_bank, reply_to};
+    ghost use Rattle.local_object.specs.Local.{bank_or_opened};
+
+    /// A position of this layout, without a bank.
+    pub(crate) fn new(position: u32, layout: Layout) -> Place
+        ensures { result ≡ record { position = position; layout = layout; bank = None } }
+    {
+        Place {
+            position,
+            layout,
+            bank: None,
+        }
+    }
+
+    /// The number of the position, from 0.
+    pub(crate) fn position(&self) -> u32
+        ensures { result ≡ self.now.position }
+    {
+        self.position
+    }
+
+    /// The layout of the position.
+    pub(crate) fn layout(&self) -> &Layout
+        ensures { result.now ≡ self.now.layout }
+    {
+        &self.layout
+    }
+
+    /// The bank, once a request has reached it.
+    pub(crate) fn bank(&self) -> Option<&Bank>
+        ensures { option_copied result ≡ self.now.bank }
+    {
+        self.bank.as_ref()
+    }
+
+    /// The number of bytes of all pieces in the bank, or `u64::MAX` where it is greater.
+    pub(crate) fn bytes(&self) -> u64 {
+        match &self.bank {
+            Some(bank) => bank.bytes_anew(),
+            None => 0,
+        }
+    }
+
+    /// The node's bank serves a request as this member. It is opened first where it is not there.
+    ///
+    /// `NoMemory` is the only refusal.
+    pub(crate) fn serve(
+        &mut self,
+        alloc: Global,
+        member: u8,
+        delta: Option<u32>,
+        request: &Request,
+    ) -> Result<Reply, Refusal>
+        ensures bank { OnOk result (self.new ≡ record self.old {
+          bank = Some (served_bank (bank_or_opened self.old.bank member delta) request.now 0);
+        }) }
+
+        ensures reply { IfOk result (λ r. r ≡ reply_to (bank_or_opened self.old.bank member delta) request.now 0) }
+        ensures refused { IfErr result (λ e. e ≡ NoMemory) }
+        ensures same { self.new.position ≡ self.old.position }
+    {
+        match &mut self.bank {
+            Some(bank) => bank.serve(request, 0),
+            None => {
+                let mut bank = Bank::new(alloc, member, delta, 0)?;
+                let reply = bank.serve(request, 0)?;
+                self.bank = Some(bank);
+                Ok(reply)
+            }
+        }
+    }
+}

@@ -1,0 +1,176 @@
+//! The positions that a node has heard of.
+
+ghost use Rattle.std.specs.Prelude.{◌≡◌, ◌==◌, [], ◌∷◌, None, IfOk, IfErr, OnOk, IsSome, MatchOption, option_copied};
+ghost use Rattle.std.specs.Prelude.{if◌then◌else◌, nat_lt, position};
+ghost use Rattle.tag.specs.declared.refusal.Refusal.TheVariants.{NoMemory};
+ghost use Rattle.bank.specs.Serve.{served_bank, reply_to};
+ghost use Rattle.local_object.specs.Local.{added_place, bank_in, bank_or_opened, greatest_position, layout_in};
+ghost use Rattle.local_object.specs.Local.{place_at, with_bank};
+ghost use Rattle.local_object.specs.Distinct.{IsPlaceAt};
+
+use crate::place::Place;
+use bank::{Bank, Reply, Request};
+use layout::Layout;
+use std::alloc::Global;
+use std::marker::Model;
+use tag::Refusal;
+
+/// The positions of an object that a node has heard of, in the order in which it heard of them. Position 0 is among
+/// them.
+#[derive(Debug, Drop)]
+pub struct Places {
+    places: Vec<Place>,
+}
+
+impl Model for Places {
+    ghost use Rattle.std.specs.Prelude.{List};
+    ghost use Rattle.std.specs.Coded.{coded_list};
+    ghost use Rattle.local_object.specs.contracts.place.Place as heard;
+    ghost use Rattle.local_object.specs.Local.{Place as Heard};
+    ghost use Rattle.local_object.specs.Distinct.{KnowsFirst};
+
+    ghost Value = { List Heard };
+
+    ghost coded = { coded_list heard.the_row.coded };
+
+    ghost view = { λ p. p.places.items };
+
+    ghost invariant = { λ p. KnowsFirst p.places.items };
+}
+
+impl Places {
+    /// Position 0 alone, with this layout. `NoMemory` is the only refusal.
+    pub(crate) fn new(alloc: Global, first: Layout) -> Result<Places, Refusal>
+        ensures places { IfOk result (λ p. p ≡ record { position = 0; layout = first; bank = None } ∷ []) }
+        ensures refused { IfErr result (λ e. e ≡ NoMemory) }
+    {
+        let mut places = Vec::new(alloc);
+        places.push(Place::new(0, first))?;
+        Ok(Places { places })
+    }
+
+    /// The layout of a position, if the node has heard of it. The number of the position has 64 bits, so that each
+    /// position has a next one.
+    pub(crate) fn layout_of(&self, position: u64) -> Option<&Layout>
+        ensures { option_copied result ≡ layout_in (place_at self.now position) }
+    {
+        match place_of(&self.places, position) {
+            Some(index) => Some(self.places[index].layout()),
+            None => None,
+        }
+    }
+
+    /// The bank that the node keeps for a position, if a request has reached it.
+    pub(crate) fn bank_of(&self, position: u32) -> Option<&Bank>
+        ensures { option_copied result ≡ bank_in (place_at self.now position) }
+    {
+        match place_of(&self.places, u64::from(position)) {
+            Some(index) => self.places[index].bank(),
+            None => None,
+        }
+    }
+
+    /// The number of bytes of all pieces in the banks, or `u64::MAX` where it is greater.
+    pub(crate) fn bytes(&self) -> u64 {
+        let mut bytes: u64 = 0;
+        for place in &self.places {
+            bytes = bytes.saturating_add(place.bytes());
+        }
+        bytes
+    }
+
+    /// The first position, which is 0, and of which the node has always heard.
+    pub(crate) fn first(&self) -> u32
+        ensures first { result ≡ 0 }
+        ensures known { IsSome (layout_in (place_at self.now 0)) }
+    {
+        let _places = &self.places;
+        0
+    }
+
+    /// The last position that the node has heard of.
+    pub(crate) fn last(&self) -> u32
+        ensures last { result ≡ greatest_position self.now 0 }
+        ensures known { IsSome (layout_in (place_at self.now result)) }
+    {
+        last_of(&self.places)
+    }
+
+    /// The node hears of a position and its layout. Nothing changes where it had heard of the position.
+    ///
+    /// `NoMemory` is the only refusal.
+    pub(crate) fn learn(&mut self, position: u32, layout: &Layout) -> Result<(), Refusal>
+        ensures places { OnOk result
+            (self.new ≡ added_place self.old (place_at self.old position) position layout.now) }
+
+        ensures refused { IfErr result (λ e. e ≡ NoMemory) }
+    {
+        match place_of(&self.places, u64::from(position)) {
+            Some(_) => Ok(()),
+            None => {
+                self.places.push(Place::new(position, layout.clone()?))?;
+                Ok(())
+            }
+        }
+    }
+
+    /// The node's bank for a position serves a request as this member.
+    ///
+    /// `NoMemory` is the only refusal.
+    pub(crate) fn serve(
+        &mut self,
+        position: u32,
+        member: u8,
+        delta: Option<u32>,
+        request: &Request,
+    ) -> Result<Reply, Refusal>
+        requires known { IsSome (place_at self.old position) }
+        ensures places { OnOk result (self.new ≡ with_bank self.old position
+            (served_bank (bank_or_opened (bank_in (place_at self.old position)) member delta) request.now 0)) }
+
+        ensures reply { IfOk result (λ r. r
+            ≡ reply_to (bank_or_opened (bank_in (place_at self.old position)) member delta) request.now 0) }
+
+        ensures refused { IfErr result (λ e. e ≡ NoMemory) }
+    {
+        let Some(index) = place_of(&self.places, u64::from(position)) else {
+            unreachable!();
+        };
+        let alloc = *self.places.allocator();
+        self.places[index].serve(alloc, member, delta, request)
+    }
+}
+
+// The greatest of these positions, or 0 where there are none.
+fn last_of(places: &[Place]) -> u32
+    ensures { result ≡ greatest_position places.now 0 }
+{
+    let mut greatest = 0;
+    for place in places {
+        greatest = later(greatest, place.position());
+    }
+    greatest
+}
+
+// The later of two positions.
+fn later(a: u32, b: u32) -> u32
+    ensures { result ≡ (if nat_lt a b then b else a) }
+{
+    if a < b { b } else { a }
+}
+
+// Where in the list a position is, if it is there.
+fn place_of(places: &[Place], number: u64) -> Option<usize>
+    ensures { MatchOption result (place_at places.now number ≡ None) (IsPlaceAt places.now number) }
+{
+    first_of(places, number)
+}
+
+// The index of the first place with this position, if there is one.
+fn first_of(places: &[Place], number: u64) -> Option<usize>
+    ensures { result ≡ position (λ place. place.position == number) places.now }
+{
+    places
+        .iter()
+        .position(|place| u64::from(place.position()) == number)
+}
