@@ -1,0 +1,79 @@
+-- The banks of a world by position and member, after one of them changes.
+use Rattle.std.proofs.Common.{◌≡◌, ℕ, zero, suc, ◌<◌, Bool, true, false, eqb, nat_eq, length, List, [], ◌∷◌, map, set}
+use Rattle.std.proofs.Common.{Some, get_or, slice_get, refl, sym, subst, ap, ◌∙◌, eqb-true, eq-eqb, arith}
+use Rattle.std.proofs.lemmas.List.{get_or-set_same, get_or-set_other}
+use Rattle.std.proofs.lemmas.Option.{get_or_from_slice_get, same_Some, slice_get_within}
+use Rattle.std.proofs.Math.ListN.{get_or-map, length-set}
+use Rattle.std.proofs.Math.Seq.{map-set_same}
+use Rattle.std.specs.List.{IsDistinct}
+use Rattle.layout.specs.Layout.{Layout, IsLawful}
+use Rattle.bank.specs.Bank.{Bank}
+use Rattle.record.specs.Records.{no_bank, no_layout}
+use Rattle.soundness.proofs.ListLemmas.{all_get}
+use Rattle.refinement.specs.WellFormed.{member_count}
+
+-- a member of a layout has a bank
+pub has_bank : (banks : List (List Bank)) (layouts : List Layout) (p member server : ℕ) (layout : Layout) →
+    map length banks ≡ map member_count layouts → slice_get layouts p ≡ Some layout →
+    slice_get layout.members member ≡ Some server → member < length (get_or banks p [])
+has_bank banks layouts p member server layout counts at is =
+    let within = slice_get_within layout.members member server is in
+    let count : length (get_or banks p []) ≡ length layout.members =
+    sym (get_or-map length banks p []) ∙ ap (λ l. get_or l p 0) counts ∙ get_or-map member_count layouts p no_layout
+    ∙ ap member_count (get_or_from_slice_get layouts p layout no_layout at) in omega (arith, within, count)
+
+-- where a position has banks, it is one of the list
+pub has_row : (banks : List (List Bank)) (p member : ℕ) → member < length (get_or banks p []) → p < length banks
+has_row [] p member within = absurd (omega (arith, within))
+has_row (row ∷ banks) zero member within = omega arith
+has_row (row ∷ banks) (suc p) member within = let rest = has_row banks p member within in omega (arith, rest)
+
+module _ (banks : List (List Bank)) (p member : ℕ) (new : Bank) where
+  -- the banks with another one for this member
+  abbrev pub with_served : List (List Bank)
+  with_served = set banks p (set (get_or banks p []) member new)
+
+  pub bank_set_here : member < length (get_or banks p []) → get_or (get_or with_served p []) member no_bank ≡ new
+  bank_set_here within =
+      ap (λ row. get_or row member no_bank)
+      (get_or-set_same banks p (set (get_or banks p []) member new) [] (has_row banks p member within))
+      ∙ get_or-set_same (get_or banks p []) member new no_bank within
+
+  pub bank_set_there : member < length (get_or banks p []) → (q other : ℕ) → (p ≡ q → member ≡ other → ⊥) →
+      get_or (get_or with_served q []) other no_bank ≡ get_or (get_or banks q []) other no_bank
+  bank_set_there within q other apart = go (eqb q p) refl
+    where
+      go : (b : Bool) → eqb q p ≡ b → get_or (get_or with_served q []) other no_bank ≡ get_or (get_or banks q []) other no_bank
+      go true t =
+          let same = eqb-true q p t in
+          subst (λ n. get_or (get_or with_served n []) other no_bank ≡ get_or (get_or banks n []) other no_bank) (sym same)
+          (ap (λ row. get_or row other no_bank)
+          (get_or-set_same banks p (set (get_or banks p []) member new) [] (has_row banks p member within))
+          ∙ get_or-set_other (get_or banks p []) member other new no_bank (λ e. apart (sym same) (sym e)))
+      go false t =
+          ap (λ row. get_or row other no_bank) (get_or-set_other banks p q (set (get_or banks p []) member new) [] (apart_rows t))
+        where
+          apart_rows : eqb q p ≡ false → q ≡ p → ⊥
+          apart_rows t e = absurd (let wrong : false ≡ true = sym t ∙ eq-eqb q p e in cc)
+
+  pub counts_set : map length with_served ≡ map length banks
+  counts_set = map-set_same length banks p (set (get_or banks p []) member new) [] (length-set (get_or banks p []) member new)
+
+-- a server is one member of a lawful layout at most
+one_place : (servers : List ℕ) (i j server : ℕ) → IsDistinct nat_eq servers → slice_get servers i ≡ Some server →
+    slice_get servers j ≡ Some server → i ≡ j
+unfolding IsDistinct
+one_place [] i j server distinct at there = absurd (cc)
+one_place (first ∷ servers) zero zero server distinct at there = refl
+one_place (first ∷ servers) zero (suc j) server distinct at there =
+    absurd (let apart = all_get (λ y. eqb first y ≡ false) servers j server distinct.0 there in
+    let wrong : false ≡ true = sym apart ∙ eq-eqb first server (same_Some first server at) in cc)
+one_place (first ∷ servers) (suc i) zero server distinct at there =
+    absurd (let apart = all_get (λ y. eqb first y ≡ false) servers i server distinct.0 at in
+    let wrong : false ≡ true = sym apart ∙ eq-eqb first server (same_Some first server there) in cc)
+one_place (first ∷ servers) (suc i) (suc j) server distinct at there =
+    ap suc (one_place servers i j server distinct.1 at there)
+
+pub one_member : (layout : Layout) (i j server : ℕ) → IsLawful layout → slice_get layout.members i ≡ Some server →
+    slice_get layout.members j ≡ Some server → i ≡ j
+one_member layout i j server lawful at there = one_place layout.members i j server lawful.distinct at there

@@ -1,0 +1,42 @@
+-- Events of the world, and then more events.
+use Rattle.std.proofs.Common.{◌≡◌, List, [], ◌∷◌, ◌++◌}
+use Rattle.std.proofs.Common.{refl, sym, subst}
+use Rattle.std.specs.List.{AllByRecursion}
+use Rattle.record.specs.Fragments.{Code}
+use Rattle.network.specs.Worlds.{World}
+use Rattle.network.specs.Events.{Event, happens, world_after}
+use Rattle.network.specs.Premises.{MayHappenInTurn}
+use Rattle.refinement.specs.Systems.{IsWorldOf, System}
+use Rattle.refinement.specs.WellFormed.{IsWellFormed}
+
+pub all_append : {A : Type 0} (P : A → Type 0) (xs ys : List A) → AllByRecursion P xs → AllByRecursion P ys → AllByRecursion P (xs ++ ys)
+all_append P [] ys first second = second
+all_append P (x ∷ xs) ys first second = (first.0, all_append P xs ys first.1 second)
+
+pub run_append : (fragment : Code) (first second : List Event) (world : World) →
+    world_after fragment (first ++ second) world ≡ world_after fragment second (world_after fragment first world)
+run_append fragment [] second world = refl
+run_append fragment (event ∷ first) second world = run_append fragment first second (happens fragment world event)
+
+pub may_append : (fragment : Code) (first second : List Event) (world : World) → MayHappenInTurn fragment first world →
+    MayHappenInTurn fragment second (world_after fragment first world) → MayHappenInTurn fragment (first ++ second) world
+may_append fragment [] second world a b = b
+may_append fragment (event ∷ first) second world a b =
+    (a.0, a.1, may_append fragment first second (happens fragment world event) a.2 b)
+
+-- events of the world lead to that of these nodes
+pub record HasWorld (fragment : Code) (world : World) (system : System) : Type 0 where
+  pub events : List Event
+  pub may : MayHappenInTurn fragment events world
+  pub formed : IsWellFormed fragment (world_after fragment events world)
+  pub is : IsWorldOf (world_after fragment events world) system
+
+pub then_world : (fragment : Code) (world : World) (first second : System) (led : HasWorld fragment world first) →
+    HasWorld fragment (world_after fragment led.events world) second → HasWorld fragment world second
+then_world fragment world first second led next =
+    let same = sym (run_append fragment led.events next.events world) in record {
+      events = led.events ++ next.events;
+      may = may_append fragment led.events next.events world led.may next.may;
+      formed = subst (IsWellFormed fragment) same next.formed;
+      is = subst (λ w. IsWorldOf w second) same next.is;
+    }

@@ -1,0 +1,68 @@
+-- No event changes the number of a node.
+use Rattle.std.proofs.Common.{◌≡◌, ℕ, suc, Option, Some, None, refl, ◌∙◌}
+use Rattle.layout.specs.Layout.{Layout}
+use Rattle.bank.specs.declared.kind.Kind.{Kind}
+use Rattle.bank.specs.declared.kind.Kind.TheVariants.{Next, Spread}
+use Rattle.bank.specs.declared.status.Status.TheVariants.{Pending}
+use Rattle.mail.specs.declared.message.Body.{Body}
+use Rattle.mail.specs.declared.message.Body.TheVariants as body
+use Rattle.record.specs.declared.call.CallKind.{CallKind}
+use Rattle.record.specs.declared.call.CallKind.TheVariants.{Read, Write, Move}
+use Rattle.record.specs.declared.stage.Stage.{Stage}
+use Rattle.record.specs.Fragments.{Code}
+use Rattle.record.specs.Legal.{first_stage}
+use Rattle.record.specs.PhaseOrder.{begun_at}
+use Rattle.network.specs.Worlds.{NodeCall, due_phase, open_call, with_open}
+use Rattle.network.specs.Events.{taking_open}
+use Rattle.local_object.specs.declared.letter.Letter.{Letter}
+use Rattle.local_object.specs.Local.{LocalObject, last_position, layout_here, learnt}
+use Rattle.local_object.specs.Events.{LocalEvent, Outcome, advanced_at, advanced_here, begun_here, done_here, learnt_from, on_call}
+use Rattle.local_object.specs.Events.{served_here, silent}
+use Rattle.refinement.proofs.LearntPartLemmas.{node_learnt}
+
+begun_node : (local : LocalObject) (id : ℕ) (call_kind : CallKind) (stage : Stage) (kind : Kind) (position : ℕ) (o : Option Layout) →
+    (begun_here local id call_kind stage kind position o).local.node ≡ local.node
+begun_node local id call_kind stage kind position None = refl
+begun_node local id call_kind stage kind position (Some layout) = refl
+
+advanced_node : (fragment : Code) (local : LocalObject) (call : NodeCall) (o : Option (Kind × ℕ)) →
+    (advanced_here fragment local call o).local.node ≡ local.node
+advanced_node fragment local call None = refl
+advanced_node fragment local call (Some next) = go (layout_here local next.1)
+  where
+    go : (o : Option Layout) → (advanced_at fragment local call next o).local.node ≡ local.node
+    go None = refl
+    go (Some layout) = refl
+
+call_node : (local : LocalObject) (o : Option NodeCall) (change : NodeCall → Outcome) →
+    ((call : NodeCall) → (change call).local.node ≡ local.node) → (on_call local o change).local.node ≡ local.node
+call_node local None change each = refl
+call_node local (Some call) change each = each call
+
+served_node : (local : LocalObject) (letter : Letter) (b : Body) → (served_here local letter b).local.node ≡ local.node
+served_node local letter (body.Request asked) = refl
+served_node local letter (body.Reply kind made) = refl
+
+pub node_kept : (fragment : Code) (local : LocalObject) (event : LocalEvent) → (done_here fragment local event).local.node ≡ local.node
+node_kept fragment local (LocalEvent.BeginRead id) = begun_node local id Read (begun_at (first_stage Read 0) 0) Next 0 (layout_here local 0)
+node_kept fragment local (LocalEvent.BeginWrite id value) =
+    begun_node local id (Write value) (begun_at (first_stage (Write value) 0) 0) Next 0 (layout_here local 0)
+node_kept fragment local (LocalEvent.BeginMove id layout) =
+    let last = last_position local in
+    let next = learnt local (suc last) layout in
+    begun_node next id Move (first_stage Move last) (Spread Pending) last (layout_here next last)
+node_kept fragment local (LocalEvent.Advance id) =
+    call_node local (open_call local.calls id) (λ call. advanced_here fragment local call (due_phase call))
+    (λ call. advanced_node fragment local call (due_phase call))
+node_kept fragment local (LocalEvent.Serve letter) =
+    served_node (learnt_from local letter) letter letter.message.body ∙ node_learnt local letter
+node_kept fragment local (LocalEvent.Take letter) =
+    let next = learnt_from local letter in
+    call_node next (open_call next.calls letter.message.call)
+    (λ call. silent (record next { calls = with_open (taking_open letter.message call) next.calls })) (λ call. refl)
+    ∙ node_learnt local letter
+node_kept fragment local (LocalEvent.Settle id value) =
+    call_node local (open_call local.calls id)
+    (λ call. silent (record local { calls = with_open (record call { settled = Some value }) local.calls })) (λ call. refl)
+node_kept fragment local (LocalEvent.Answer id) = refl
+node_kept fragment local (LocalEvent.GiveUp id) = refl

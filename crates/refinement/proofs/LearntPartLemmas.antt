@@ -1,0 +1,71 @@
+-- What a node keeps stays its part of the world where it hears of positions.
+use Rattle.std.proofs.Common.{◌≡◌, ℕ, suc, ◌⊎◌, inl, inr, true, Option, Some, None, is_some}
+use Rattle.std.proofs.Common.{refl, sym, ap, ◌∙◌, slice_get}
+use Rattle.layout.specs.Layout.{Layout}
+use Rattle.network.specs.Worlds.{World, known_layouts}
+use Rattle.network.specs.Premises.{IsOneFile}
+use Rattle.network.proofs.OneFileLemmas.{layouts_known}
+use Rattle.local_object.specs.declared.letter.Letter.{Letter}
+use Rattle.local_object.specs.Local.{LocalObject, layout_here, learnt, learnt_if}
+use Rattle.local_object.specs.Events.{learnt_from}
+use Rattle.refinement.specs.Parts.{IsPartOf, WasSentAs}
+use Rattle.refinement.proofs.PlaceLemmas.{bank_learnt, layout_learnt, layout_stays}
+
+-- the layouts that a node knows are those that node 0 knows
+pub known_to_all : (world : World) → IsOneFile world.files → (node position : ℕ) (layout : Layout) →
+    slice_get (known_layouts world 0) position ≡ Some layout → slice_get (known_layouts world node) position ≡ Some layout
+known_to_all world one node position layout e = ap (λ l. slice_get l position) (sym (layouts_known world one node)) ∙ e
+
+pub known_by_all : (world : World) → IsOneFile world.files → (node position : ℕ) (layout : Layout) →
+    slice_get (known_layouts world node) position ≡ Some layout → slice_get (known_layouts world 0) position ≡ Some layout
+known_by_all world one node position layout e = ap (λ l. slice_get l position) (layouts_known world one node) ∙ e
+
+pub part_learnt : (world : World) (local : LocalObject) (position : ℕ) (layout : Layout) → IsPartOf world local →
+    slice_get (known_layouts world local.node) position ≡ Some layout → IsPartOf world (learnt local position layout)
+part_learnt world local position layout part at = record {
+  delta = part.delta;
+  layouts = λ q other e. go q other (layout_learnt local position layout q other e);
+  first = first_still (layout_here local 0) refl part.first;
+  banks = λ q member other there is. part.banks q member other there is ∙ sym (bank_learnt local position layout q member);
+  calls = part.calls;
+  mover = λ moves q other there. layout_stays local position layout q other (part.mover moves q other there);
+}
+  where
+    go : (q : ℕ) (other : Layout) → (layout_here local q ≡ Some other) ⊎ ((position ≡ q) × (layout ≡ other)) →
+        slice_get (known_layouts world local.node) q ≡ Some other
+    go q other (inl known) = part.layouts q other known
+    go q other (inr new) = ap (slice_get (known_layouts world local.node)) (sym new.0) ∙ at ∙ ap Some new.1
+
+    first_still : (o : Option Layout) → layout_here local 0 ≡ o → is_some o ≡ true →
+        is_some (layout_here (learnt local position layout) 0) ≡ true
+    first_still None e some = absurd (cc)
+    first_still (Some other) e some = ap is_some (layout_stays local position layout 0 other e)
+
+pub part_learnt_if : (world : World) (local : LocalObject) (position : ℕ) (o : Option Layout) → IsPartOf world local →
+    ((layout : Layout) → o ≡ Some layout → slice_get (known_layouts world local.node) position ≡ Some layout) →
+    IsPartOf world (learnt_if local position o)
+part_learnt_if world local position None part at = part
+part_learnt_if world local position (Some layout) part at = part_learnt world local position layout part (at layout refl)
+
+node_if : (local : LocalObject) (position : ℕ) (o : Option Layout) → (learnt_if local position o).node ≡ local.node
+node_if local position None = refl
+node_if local position (Some layout) = refl
+
+calls_if : (local : LocalObject) (position : ℕ) (o : Option Layout) → (learnt_if local position o).calls ≡ local.calls
+calls_if local position None = refl
+calls_if local position (Some layout) = refl
+
+pub node_learnt : (local : LocalObject) (letter : Letter) → (learnt_from local letter).node ≡ local.node
+node_learnt local letter = node_if (learnt local letter.message.position letter.layout) (suc letter.message.position) letter.next
+
+pub calls_learnt : (local : LocalObject) (letter : Letter) → (learnt_from local letter).calls ≡ local.calls
+calls_learnt local letter = calls_if (learnt local letter.message.position letter.layout) (suc letter.message.position) letter.next
+
+-- what the node keeps after it hears of the layouts of a letter that was sent is its part
+pub part_learnt_from : (world : World) (local : LocalObject) (letter : Letter) → IsOneFile world.files → IsPartOf world local →
+    WasSentAs world letter → IsPartOf world (learnt_from local letter)
+part_learnt_from world local letter one part was =
+    part_learnt_if world (learnt local letter.message.position letter.layout) (suc letter.message.position) letter.next
+    (part_learnt world local letter.message.position letter.layout part
+    (known_to_all world one local.node letter.message.position letter.layout was.layout))
+    (λ layout e. known_to_all world one local.node (suc letter.message.position) layout (was.next layout e))

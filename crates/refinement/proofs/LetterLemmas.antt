@@ -1,0 +1,84 @@
+-- The letters that a node sends were sent in the world.
+use Rattle.std.proofs.Common.{◌≡◌, ℕ, suc, zero, List, [], ◌∷◌, ◌++◌, map, Option, Some}
+use Rattle.std.proofs.Common.{refl, slice_get}
+use Rattle.std.specs.List.{AllByRecursion}
+use Rattle.layout.specs.Layout.{Layout}
+use Rattle.piece.specs.declared.piece.Piece.{Piece}
+use Rattle.bank.specs.declared.kind.Kind.{Kind}
+use Rattle.bank.specs.declared.reply.Answer.{Answer}
+use Rattle.bank.specs.declared.reply.Answer.TheVariants as answer
+use Rattle.bank.specs.declared.request.Request.{Request}
+use Rattle.bank.specs.declared.request.Request.TheVariants as request
+use Rattle.bank.specs.declared.status.Status.{Status}
+use Rattle.bank.specs.declared.status.Status.TheVariants.{Unset, Pending, Final}
+use Rattle.mail.specs.declared.message.Body.{Body}
+use Rattle.mail.specs.declared.message.Body.TheVariants as body
+use Rattle.mail.specs.declared.message.Message.{Message}
+use Rattle.record.specs.Sending.{requests}
+use Rattle.network.specs.Worlds.{World, known_layouts}
+use Rattle.network.specs.Premises.{WasSent}
+use Rattle.local_object.specs.Local.{LocalObject, layout_here}
+use Rattle.local_object.specs.Events.{if_pointed, letter_of, next_in_answer, next_in_body, next_in_request}
+use Rattle.refinement.specs.Parts.{WasSentAs}
+
+pub in_front : {A : Type 0} (xs ys : List A) (i : ℕ) (x : A) → slice_get xs i ≡ Some x → slice_get (xs ++ ys) i ≡ Some x
+in_front [] ys i x e = absurd (cc)
+in_front (y ∷ xs) ys zero x e = e
+in_front (y ∷ xs) ys (suc i) x e = in_front xs ys i x e
+
+pub behind : {A : Type 0} (xs ys : List A) (i : ℕ) (x : A) → slice_get ys i ≡ Some x →
+    (place : ℕ) × (slice_get (xs ++ ys) place ≡ Some x)
+behind [] ys i x e = (i, e)
+behind (y ∷ xs) ys i x e = let rest = behind xs ys i x e in (suc rest.0, rest.1)
+
+pointed : (status : Status) (o : Option Layout) (layout : Layout) → if_pointed status o ≡ Some layout → o ≡ Some layout
+pointed Unset o layout e = absurd (cc)
+pointed Pending o layout e = e
+pointed Final o layout e = e
+
+in_request : (asked : Request) (o : Option Layout) (layout : Layout) → next_in_request asked o ≡ Some layout → o ≡ Some layout
+in_request request.Next o layout e = absurd (cc)
+in_request (request.Spread status) o layout e = pointed status o layout e
+in_request request.Query o layout e = absurd (cc)
+in_request (request.PreWrite tag piece) o layout e = absurd (cc)
+in_request (request.Finalize tag) o layout e = absurd (cc)
+in_request (request.Fetch tag) o layout e = absurd (cc)
+
+in_answer : (made : Answer) (o : Option Layout) (layout : Layout) → next_in_answer made o ≡ Some layout → o ≡ Some layout
+in_answer (answer.Pointer status) o layout e = pointed status o layout e
+in_answer answer.Done o layout e = absurd (cc)
+in_answer (answer.Greatest tag) o layout e = absurd (cc)
+in_answer (answer.Piece piece) o layout e = absurd (cc)
+
+in_body : (b : Body) (o : Option Layout) (layout : Layout) → next_in_body b o ≡ Some layout → o ≡ Some layout
+in_body (body.Request asked) o layout e = in_request asked o layout e
+in_body (body.Reply kind made) o layout e = in_answer made.answer o layout e
+
+-- a message that was sent is a letter with the layouts of the position and the next
+pub letter_was_sent : (world : World) (local : LocalObject) (layout : Layout) (message : Message) → WasSent world message →
+    slice_get (known_layouts world 0) message.position ≡ Some layout →
+    ((position : ℕ) (other : Layout) → layout_here local position ≡ Some other → slice_get (known_layouts world 0) position ≡ Some other) →
+    WasSentAs world (letter_of local layout message)
+letter_was_sent world local layout message sent at known = record {
+  sent = sent;
+  layout = at;
+  next = λ other e. known (suc message.position) other (in_body message.body (layout_here local (suc message.position)) other e);
+}
+
+pub letters_were_sent : (world : World) (local : LocalObject) (layout : Layout) (messages : List Message) →
+    ((place : ℕ) (message : Message) → slice_get messages place ≡ Some message → WasSent world message) →
+    AllByRecursion (λ message. slice_get (known_layouts world 0) message.position ≡ Some layout) messages →
+    ((position : ℕ) (other : Layout) → layout_here local position ≡ Some other → slice_get (known_layouts world 0) position ≡ Some other) →
+    AllByRecursion (WasSentAs world) (map (letter_of local layout) messages)
+letters_were_sent world local layout [] sent at known = tt
+letters_were_sent world local layout (message ∷ messages) sent at known = (
+  letter_was_sent world local layout message (sent 0 message refl) at.0 known,
+  letters_were_sent world local layout messages (λ place other is. sent (suc place) other is) at.1 known,
+)
+
+-- the requests of a phase speak of its position
+pub requests_speak : (P : ℕ → Type 0) (call phase : ℕ) (kind : Kind) (position : ℕ) (servers : List ℕ) (member : ℕ) (piece : ℕ → Piece) →
+    P position → AllByRecursion (λ message. P message.position) (requests call phase kind position servers member piece)
+requests_speak P call phase kind position [] member piece p = tt
+requests_speak P call phase kind position (server ∷ servers) member piece p =
+    (p, requests_speak P call phase kind position servers (suc member) piece p)

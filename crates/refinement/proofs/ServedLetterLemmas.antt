@@ -1,0 +1,177 @@
+-- A node serves a request.
+use Rattle.std.proofs.Common.{◌≡◌, ℕ, suc, ◌<◌, Bool, true, false, eqb, eq-eqb, eqb-true, length, [], ◌∷◌, ◌++◌, Some}
+use Rattle.std.proofs.Common.{IsSome, is_some, get_or, slice_get, refl, sym, subst, ap, ◌∙◌, arith}
+use Rattle.std.proofs.lemmas.Option.{same_Some}
+use Rattle.layout.specs.Layout.{Layout, IsLawful}
+use Rattle.bank.specs.Bank.{Bank}
+use Rattle.bank.specs.Serve.{served_bank, reply_to}
+use Rattle.bank.specs.declared.request.Request.{Request}
+use Rattle.mail.specs.Message.{answered}
+use Rattle.mail.specs.declared.message.Message.{Message}
+use Rattle.soundness.proofs.ListLemmas.{all_get, all_weaker}
+use Rattle.record.specs.Fragments.{Code}
+use Rattle.network.specs.Worlds.{World, member_bank, known_layouts}
+use Rattle.network.specs.Events.{Event, handled_world, served_world}
+use Rattle.local_object.specs.declared.letter.Letter.{Letter}
+use Rattle.local_object.specs.Local.{LocalObject, bank_here, with_bank}
+use Rattle.local_object.specs.Events.{LocalEvent, handled_here, learnt_from, letter_of, served_here}
+use Rattle.local_object.specs.May.{IsAddressed}
+use Rattle.refinement.specs.Laws.{IsEventOfWorld}
+use Rattle.refinement.specs.Parts.{IsPartOf, WasSentAs}
+use Rattle.refinement.specs.WellFormed.{HasAsked, IsWellFormed}
+use Rattle.refinement.proofs.BankRowLemmas.{bank_set_here, bank_set_there, counts_set, has_bank, one_member, with_served}
+use Rattle.refinement.proofs.BegunCallLemmas.{ticked}
+use Rattle.refinement.proofs.PartLemmas.{IsKept, refined}
+use Rattle.refinement.proofs.PlaceLemmas.{bank_with_here, bank_with_there, layout_with}
+use Rattle.refinement.proofs.LetterLemmas.{behind, in_front, letter_was_sent}
+use Rattle.refinement.proofs.LearntPartLemmas.{known_by_all, part_learnt_from}
+
+module _ (fragment : Code) (world : World) (local : LocalObject) (letter : Letter) (asked : Request) (formed : IsWellFormed fragment world)
+    (part : IsPartOf world local) (was : WasSentAs world letter) (addressed : IsAddressed local letter) where
+  -- the layout of the letter's position
+  at_position : slice_get (known_layouts world 0) letter.message.position ≡ Some addressed.0
+  at_position =
+      known_by_all world formed.one local.node letter.message.position addressed.0
+      (part.layouts letter.message.position addressed.0 addressed.1)
+
+  within : letter.message.member < length (get_or world.banks letter.message.position [])
+  within =
+      has_bank world.banks (known_layouts world 0) letter.message.position letter.message.member local.node addressed.0 formed.banks
+      at_position addressed.2
+
+  lawful_there : IsLawful addressed.0
+  lawful_there = all_get IsLawful (known_layouts world 0) letter.message.position addressed.0 formed.lawful at_position
+
+  -- the layout of a position that is the letter's is that layout
+  same_layout : (node q : ℕ) (layout : Layout) → slice_get (known_layouts world node) q ≡ Some layout → letter.message.position ≡ q →
+      addressed.0 ≡ layout
+  same_layout node q layout at same =
+      same_Some addressed.0 layout
+      (sym at_position ∙ ap (slice_get (known_layouts world 0)) same ∙ known_by_all world formed.one node q layout at)
+
+  -- the reply of a bank
+  abbrev reply_of : Bank → Message
+  reply_of bank = answered letter.message (reply_to bank asked 0)
+
+  -- the world after this bank serves the request
+  abbrev served_to : Bank → World
+  served_to bank = record world {
+    banks = with_served world.banks letter.message.position letter.message.member (served_bank bank asked 0);
+    sent = world.sent ++ reply_of bank ∷ [];
+    now = suc world.now;
+  }
+
+  abbrev served_local : Bank → LocalObject
+  served_local bank =
+      record local { places = with_bank local.places letter.message.position (served_bank bank asked 0) }
+
+  -- the node's own bank is the one that changed
+  own_bank : (bank : Bank) (q other : ℕ) (layout : Layout) → slice_get (known_layouts world local.node) q ≡ Some layout →
+      slice_get layout.members other ≡ Some local.node →
+      member_bank (served_to bank) q other ≡ bank_here (served_local bank) q other
+  own_bank bank q other layout at is = go (eqb letter.message.position q) refl
+    where
+      here : letter.message.position ≡ q → member_bank (served_to bank) q other ≡ bank_here (served_local bank) q other
+      here same =
+          let member : letter.message.member ≡ other =
+          one_member addressed.0 letter.message.member other local.node lawful_there addressed.2
+          (ap (λ (l : Layout). slice_get l.members other) (same_layout local.node q layout at same) ∙ is) in
+          ap (λ n. member_bank (served_to bank) n other) (sym same)
+          ∙ ap (member_bank (served_to bank) letter.message.position) (sym member)
+          ∙ bank_set_here world.banks letter.message.position letter.message.member (served_bank bank asked 0) within
+          ∙ sym (bank_with_here local letter.message.position (served_bank bank asked 0) letter.message.member (ap is_some addressed.1))
+          ∙ ap (bank_here (served_local bank) letter.message.position) member
+          ∙ ap (λ n. bank_here (served_local bank) n other) same
+
+      there : (letter.message.position ≡ q → ⊥) → member_bank (served_to bank) q other ≡ bank_here (served_local bank) q other
+      there apart =
+          bank_set_there world.banks letter.message.position letter.message.member (served_bank bank asked 0) within q other
+          (λ same member. apart same)
+          ∙ part.banks q other layout at is
+          ∙ sym (bank_with_there local letter.message.position (served_bank bank asked 0) q other apart)
+
+      go : (b : Bool) → eqb letter.message.position q ≡ b → member_bank (served_to bank) q other ≡ bank_here (served_local bank) q other
+      go true e = here (eqb-true letter.message.position q e)
+      go false e = there (λ same. absurd (let wrong : false ≡ true = sym e ∙ eq-eqb letter.message.position q same in cc))
+
+  served_part : (bank : Bank) → IsPartOf (served_to bank) (served_local bank)
+  served_part bank =
+      let served = served_bank bank asked 0 in
+      let position = letter.message.position in record {
+        delta = part.delta;
+        layouts = λ q layout e. part.layouts q layout (sym (layout_with local position served q) ∙ e);
+        first = subst IsSome (sym (layout_with local position served 0)) part.first;
+        banks = own_bank bank;
+        calls = part.calls;
+        mover = λ moves q layout at. layout_with local position served q ∙ part.mover moves q layout at;
+      }
+
+  other_part : (bank : Bank) (other : LocalObject) → (other.node ≡ local.node → ⊥) → IsPartOf world other →
+      IsPartOf (served_to bank) other
+  other_part bank other apart is = record {
+    delta = is.delta;
+    layouts = is.layouts;
+    first = is.first;
+    banks = λ q member layout at holds.
+        bank_set_there world.banks letter.message.position letter.message.member (served_bank bank asked 0) within q member
+        (λ same here. apart (same_Some other.node local.node
+        (sym holds ∙ ap (λ (l : Layout). slice_get l.members member) (sym (same_layout other.node q layout at same))
+        ∙ ap (slice_get addressed.0.members) (sym here) ∙ addressed.2)))
+        ∙ is.banks q member layout at holds;
+    calls = is.calls;
+    mover = is.mover;
+  }
+
+  served_with : (bank : Bank) →
+      IsKept fragment world (served_to bank)
+      (record { local = served_local bank; sent = letter_of local letter.layout (reply_of bank) ∷ [] }) 1 world.history
+  served_with bank = record {
+    formed = record {
+      one = formed.one;
+      lawful = formed.lawful;
+      banks = counts_set world.banks letter.message.position letter.message.member (served_bank bank asked 0) ∙ formed.banks;
+      ids = formed.ids;
+      entries = formed.entries;
+      asked = all_weaker (HasAsked fragment world) (HasAsked fragment (served_to bank)) (λ call has. record {
+        layout = has.layout;
+        at = has.at;
+        asked = λ place message at.
+            let was = has.asked place message at in (was.0, in_front world.sent (reply_of bank ∷ []) was.0 message was.1);
+      }) world.calls formed.asked;
+    };
+    part = served_part bank;
+    sent = (
+      letter_was_sent (served_to bank) local letter.layout (reply_of bank) (behind world.sent (reply_of bank ∷ []) 0 (reply_of bank) refl)
+          was.layout (λ q layout e. known_by_all world formed.one local.node q layout (part.layouts q layout e)),
+      tt,
+    );
+    others = other_part bank;
+    kept = λ other sent. record {
+      sent = (sent.sent.0, in_front world.sent (reply_of bank ∷ []) sent.sent.0 other.message sent.sent.1);
+      layout = sent.layout;
+      next = sent.next;
+    };
+    files = refl;
+    now = omega arith;
+    entries = refl;
+  }
+
+  pub served_kept :
+      IsKept fragment world (handled_world (ticked world) letter.message asked) (handled_here local letter asked) 1 world.history
+  served_kept =
+      let bank = bank_here local letter.message.position letter.message.member in
+      let same : member_bank world letter.message.position letter.message.member ≡ bank =
+      part.banks letter.message.position letter.message.member addressed.0
+      (part.layouts letter.message.position addressed.0 addressed.1) addressed.2 in
+      subst (λ b. IsKept fragment world (served_to b) (handled_here local letter asked) 1 world.history) (sym same) (served_with bank)
+
+pub serve_refined : (letter : Letter) → IsEventOfWorld (LocalEvent.Serve letter)
+serve_refined letter fragment world local formed part may premised =
+    let next = learnt_from local letter in
+    let asked = may.0.0 in
+    let known = part_learnt_from world local letter formed.one part premised in
+    refined fragment world (Event.Serve letter.message ∷ []) (handled_world (ticked world) letter.message asked)
+    (handled_here next letter asked) (served_here next letter letter.message.body) world.history
+    (ap (served_world (ticked world) letter.message) (sym may.0.1)) (ap (served_here next letter) (sym may.0.1))
+    (may.0, record { network = premised.sent; log = tt; ids = tt }, tt)
+    (served_kept fragment world next letter asked formed known premised may.1)

@@ -1,0 +1,94 @@
+-- All nodes, each by what it keeps, have a world that is reached.
+use Rattle.std.proofs.Common.{◌≡◌, ℕ, zero, suc, ◌+◌, cond, List, [], ◌∷◌}
+use Rattle.std.proofs.Common.{Some, None, slice_get, refl, sym, ap, ◌∙◌, arith}
+use Rattle.std.proofs.lemmas.Option.{same_Some}
+use Rattle.layout.specs.Layout.{Layout, IsLawful}
+use Rattle.bank.specs.Bank.{opened_bank}
+use Rattle.record.specs.Fragments.{Code}
+use Rattle.network.specs.Worlds.{ClusterFile, World, member_bank, known_layouts, opened_world}
+use Rattle.network.specs.Events.{world_after}
+use Rattle.network.specs.Premises.{IsOneFile}
+use Rattle.local_object.specs.Local.{LocalObject, Place, bank_here, layout_here, layout_in, new_local}
+use Rattle.refinement.specs.Parts.{IsPartOf}
+use Rattle.refinement.specs.Systems.{IsWorldOf, MayRunIn, System, SystemEvent, opened_system, system_after}
+use Rattle.refinement.specs.Systems.{system_run}
+use Rattle.refinement.specs.WellFormed.{IsWellFormed}
+use Rattle.refinement.proofs.CallsOfNodeLemmas.{differs}
+use Rattle.refinement.proofs.EventRunLemmas.{HasWorld, then_world}
+use Rattle.refinement.proofs.SystemEventLemmas.{one_event}
+use Rattle.refinement.proofs.GrownWorldLemmas.{new_bank, new_count}
+
+all_events : (fragment : Code) (events : List SystemEvent) (world : World) (system : System) → IsWellFormed fragment world →
+    IsWorldOf world system → MayRunIn fragment events system → HasWorld fragment world (system_run fragment events system)
+all_events fragment [] world system formed is may = record { events = []; may = tt; formed = formed; is = is }
+all_events fragment (event ∷ events) world system formed is may =
+    let led = one_event fragment world system formed is event may.0 in
+    then_world fragment world (system_after fragment system event) (system_run fragment events (system_after fragment system event)) led
+    (all_events fragment events (world_after fragment led.events world) (system_after fragment system event) led.formed led.is may.1)
+
+-- The first world
+
+module _ (files : ℕ → ClusterFile) (one : IsOneFile files) where
+  opened_formed : (fragment : Code) → IsLawful (files 0).first → IsWellFormed fragment (opened_world files)
+  opened_formed fragment lawful = record {
+    one = one;
+    lawful = (lawful, tt);
+    banks = ap (λ n. n ∷ []) (new_count files (files 0).first.members 0);
+    ids = tt;
+    entries = tt;
+    asked = tt;
+  }
+
+  abbrev opened_local : ℕ → LocalObject
+  opened_local node = new_local node (files node).delta (files node).first
+
+  unheard_later : (node q : ℕ) → layout_here (opened_local node) (suc q) ≡ None
+  unheard_later node q =
+      let first : Place = record { position = 0; layout = (files node).first; bank = None } in
+      ap (λ b. layout_in (cond b (Some first) None)) (differs 0 (suc q) (λ same. absurd (omega arith)))
+
+  opened_part : (node : ℕ) → IsPartOf (opened_world files) (opened_local node)
+  opened_part node = record {
+    delta = refl;
+    layouts = layouts;
+    first = refl;
+    banks = banks;
+    calls = refl;
+    mover = λ moves. mover;
+  }
+    where
+      layouts : (q : ℕ) (layout : Layout) → layout_here (opened_local node) q ≡ Some layout →
+          slice_get (known_layouts (opened_world files) node) q ≡ Some layout
+      layouts zero layout e = e
+      layouts (suc q) layout e = absurd (let wrong : None ≡ Some layout = sym (unheard_later node q) ∙ e in cc)
+
+      banks : (q member : ℕ) (layout : Layout) → slice_get (known_layouts (opened_world files) node) q ≡ Some layout →
+          slice_get layout.members member ≡ Some node → member_bank (opened_world files) q member ≡ bank_here (opened_local node) q member
+      banks zero member layout at holds =
+          let same : 0 + member ≡ member = omega arith in
+          let there : slice_get (files 0).first.members member ≡ Some node =
+          ap (λ (file : ClusterFile). slice_get file.first.members member) (sym (one node))
+          ∙ ap (λ (l : Layout). slice_get l.members member) (same_Some (files node).first layout at) ∙ holds in
+          new_bank files (files 0).first.members 0 member node there ∙ ap (λ n. opened_bank n (files node).delta 0) same
+      banks (suc q) member layout at holds = absurd (cc)
+
+      mover : (q : ℕ) (layout : Layout) → slice_get (known_layouts (opened_world files) node) q ≡ Some layout →
+          layout_here (opened_local node) q ≡ Some layout
+      mover zero layout e = e
+      mover (suc q) layout e = absurd (cc)
+
+  opened_is : IsWorldOf (opened_world files) (opened_system files)
+  opened_is = record {
+    files = refl;
+    nodes = λ node. refl;
+    parts = opened_part;
+    letters = tt;
+    history = refl;
+    now = refl;
+  }
+
+  pub from_opened : (fragment : Code) (events : List SystemEvent) → IsLawful (files 0).first →
+      MayRunIn fragment events (opened_system files) →
+      HasWorld fragment (opened_world files) (system_run fragment events (opened_system files))
+  from_opened fragment events lawful may =
+      all_events fragment events (opened_world files) (opened_system files) (opened_formed fragment lawful) opened_is may

@@ -1,0 +1,32 @@
+-- The contracts that docs/trusted.md lists do not depend on this file; other contracts and proofs do.
+-- When what a node keeps of an object is its part of a world, and when a letter was sent in the world.
+use Rattle.std.specs.Prelude.{◌≡◌, ℕ, suc, ◌==◌, Some, IsSome, slice_get}
+use Rattle.std.specs.List.{filter}
+use Rattle.layout.specs.Layout.{Layout}
+use Rattle.network.specs.Worlds.{World, known_layouts, member_bank}
+use Rattle.network.specs.Premises.{WasSent}
+use Rattle.local_object.specs.declared.letter.Letter.{Letter}
+use Rattle.local_object.specs.Local.{LocalObject, layout_here, bank_here}
+
+-- what the node keeps of the object is its part of the world: it has the delta of its cluster file; it has heard of
+-- position 0, and the layouts that it has heard of are the world's; each bank that a layout gives to the node is the
+-- one it keeps; its calls are those that it carries out; and if it moves objects, it has heard of all positions
+pub record IsPartOf (world : World) (local : LocalObject) : Type 0 where
+  pub delta : local.delta ≡ (world.files local.node).delta
+  pub layouts : (position : ℕ) (layout : Layout) → layout_here local position ≡ Some layout →
+      slice_get (known_layouts world local.node) position ≡ Some layout
+  pub first : IsSome (layout_here local 0)
+  pub banks : (position member : ℕ) (layout : Layout) →
+      slice_get (known_layouts world local.node) position ≡ Some layout →
+      slice_get layout.members member ≡ Some local.node →
+      member_bank world position member ≡ bank_here local position member
+  pub calls : local.calls ≡ filter (λ call. call.node == local.node) world.calls
+  pub mover : local.node ≡ (world.files local.node).mover → (position : ℕ) (layout : Layout) →
+      slice_get (known_layouts world local.node) position ≡ Some layout → layout_here local position ≡ Some layout
+
+-- the letter was sent: its message was, and its layouts are those of the world's positions
+pub record WasSentAs (world : World) (letter : Letter) : Type 0 where
+  pub sent : WasSent world letter.message
+  pub layout : slice_get (known_layouts world 0) letter.message.position ≡ Some letter.layout
+  pub next : (layout : Layout) → letter.next ≡ Some layout →
+      slice_get (known_layouts world 0) (suc letter.message.position) ≡ Some layout

@@ -1,0 +1,111 @@
+-- The contracts that docs/trusted.md lists do not depend on this file; other contracts and proofs do.
+-- Which events of the world a node's event is, and when the world after them is what the node and the others see.
+use Rattle.std.specs.Prelude.{slice_get, ◌≡◌, ◌≢◌, ◌+◌, ℕ, List, [], ◌∷◌, ◌++◌, length, map, Option, None, Some, IsSome}
+use Rattle.std.specs.List.{AllByRecursion, filter}
+use Rattle.layout.specs.Layout.{Layout}
+use Rattle.record.specs.declared.call.CallKind.{CallKind}
+use Rattle.record.specs.declared.call.CallKind.TheVariants.{Read, Write, Move}
+use Rattle.record.specs.declared.call.Entry.{Entry}
+use Rattle.record.specs.Fragments.{Code}
+use Rattle.record.specs.Journals.{operation_of, entry_value}
+use Rattle.record.specs.Legal.{is_move}
+use Rattle.network.specs.Worlds.{World, NodeCall, open_call, after_restart}
+use Rattle.network.specs.Events.{Event, world_after, answered_entry}
+use Rattle.network.specs.Premises.{IsUnused, MayHappenInTurn}
+use Rattle.local_object.specs.declared.letter.Letter.{Letter}
+use Rattle.local_object.specs.Local.{LocalObject, layout_here, bank_here}
+use Rattle.local_object.specs.Events.{LocalEvent, Outcome}
+use Rattle.refinement.specs.Parts.{IsPartOf, WasSentAs}
+use Rattle.refinement.specs.WellFormed.{IsWellFormed}
+
+-- the event, if there is a call
+abbrev pub if_carried : Option NodeCall → Event → List Event
+if_carried None event = []
+if_carried (Some call) event = event ∷ []
+
+-- the events of the world that a node's event is: one, or none where the node takes a reply to a call, or gives a call
+-- up, that it does not carry out
+abbrev pub world_events : LocalObject → LocalEvent → List Event
+world_events local (LocalEvent.BeginRead id) = Event.BeginRead local.node id ∷ []
+world_events local (LocalEvent.BeginWrite id value) = Event.BeginWrite local.node id value ∷ []
+world_events local (LocalEvent.BeginMove id layout) = Event.BeginMove local.node id layout ∷ []
+world_events local (LocalEvent.Advance id) = Event.Advance id ∷ []
+world_events local (LocalEvent.Serve letter) = Event.Serve letter.message ∷ []
+world_events local (LocalEvent.Take letter) =
+    if_carried (open_call local.calls letter.message.call) (Event.Take letter.message)
+world_events local (LocalEvent.Settle id value) = Event.Settle id value ∷ []
+world_events local (LocalEvent.Answer id) = Event.Answer id ∷ []
+world_events local (LocalEvent.GiveUp id) = if_carried (open_call local.calls id) (Event.GiveUp id)
+
+-- what is assumed of an event at a node: a letter came as it was sent, the id of a call is new, and only the node that
+-- moves objects begins a move
+abbrev pub IsPremisedHere : World → LocalObject → LocalEvent → Type 0
+IsPremisedHere world local (LocalEvent.BeginRead id) = IsUnused world id
+IsPremisedHere world local (LocalEvent.BeginWrite id value) = IsUnused world id
+IsPremisedHere world local (LocalEvent.BeginMove id layout) =
+    IsUnused world id × (local.node ≡ (world.files local.node).mover)
+IsPremisedHere world local (LocalEvent.Serve letter) = WasSentAs world letter
+IsPremisedHere world local (LocalEvent.Take letter) = WasSentAs world letter
+IsPremisedHere world local _ = Unit {0}
+
+-- The history
+
+-- the entry of a call that begins at this event
+abbrev pub begun_entry : (id : ℕ) → CallKind → (now : ℕ) → Entry
+begun_entry id kind now = record {
+  call = id;
+  kind = operation_of kind;
+  called = now;
+  answered = None;
+  value = entry_value kind None None;
+}
+
+-- the history with the answer of a call, if there is one
+abbrev pub with_answer : Option NodeCall → (now : ℕ) → List Entry → List Entry
+with_answer None now history = history
+with_answer (Some call) now history = map (answered_entry call now) history
+
+-- the history after an event at a node
+abbrev pub history_after : LocalObject → LocalEvent → (now : ℕ) → List Entry → List Entry
+history_after local (LocalEvent.BeginRead id) now history = history ++ begun_entry id Read now ∷ []
+history_after local (LocalEvent.BeginWrite id value) now history = history ++ begun_entry id (Write value) now ∷ []
+history_after local (LocalEvent.BeginMove id layout) now history = history ++ begun_entry id Move now ∷ []
+history_after local (LocalEvent.Answer id) now history = with_answer (open_call local.calls id) now history
+history_after local _ now history = history
+
+-- Refinement
+
+-- these events may happen in the world, and lead to one that is well formed, in which what the node keeps afterwards is
+-- its part, and in which its letters were sent; the parts of other nodes and the letters of before stay what they are
+pub record IsRefined (fragment : Code) (world : World) (events : List Event) (after : Outcome) : Type 0 where
+  pub may : MayHappenInTurn fragment events world
+  pub formed : IsWellFormed fragment (world_after fragment events world)
+  pub part : IsPartOf (world_after fragment events world) after.local
+  pub sent : AllByRecursion (WasSentAs (world_after fragment events world)) after.sent
+  pub others : (other : LocalObject) → other.node ≢ after.local.node → IsPartOf world other →
+      IsPartOf (world_after fragment events world) other
+  pub kept : (letter : Letter) → WasSentAs world letter → WasSentAs (world_after fragment events world) letter
+  pub files : (world_after fragment events world).files ≡ world.files
+  pub now : (world_after fragment events world).now ≡ world.now + length events
+
+-- Restarts
+
+-- what a node keeps after it stopped and started again from its log: its moves, the banks that layouts give to it (one
+-- that was only opened need not be opened yet), and the layouts of some positions, among them position 0, and of all
+-- that it had heard of if it moves objects
+pub record IsKeptHere (moves : Type 0) (before after : LocalObject) : Type 0 where
+  pub node : after.node ≡ before.node
+  pub delta : after.delta ≡ before.delta
+  pub layouts : (position : ℕ) (layout : Layout) → layout_here after position ≡ Some layout →
+      layout_here before position ≡ Some layout
+  pub first : IsSome (layout_here after 0)
+  pub banks : (position member : ℕ) (layout : Layout) → layout_here before position ≡ Some layout →
+      slice_get layout.members member ≡ Some before.node →
+      bank_here after position member ≡ bank_here before position member
+  pub calls : after.calls ≡ filter (λ call. is_move call.kind) before.calls
+  pub mover : moves → (position : ℕ) (layout : Layout) → layout_here before position ≡ Some layout →
+      layout_here after position ≡ Some layout
+
+-- the event of the world that a restart of a node is
+abbrev pub restart_event : World → (node : ℕ) → Event
+restart_event world node = Event.Restart node world.banks (after_restart node world.calls)

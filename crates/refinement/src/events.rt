@@ -1,0 +1,18 @@
+//! Each event at a node is an event of the world.
+ghost use Rattle.refinement.specs.Laws.{LocalEventsAreWorldEvents, ResentLettersWereSent, RestartsAreWorldEvents};
+
+/// A law: what a node does by what it keeps, the events of the world do too, or there is no event and nothing else
+/// changes.
+pub fn local_events_are_world_events()
+    ensures { LocalEventsAreWorldEvents }
+{}
+
+/// A law: a node that stops, starts again and keeps what its log keeps is an event of the world.
+pub fn restarts_are_world_events()
+    ensures { RestartsAreWorldEvents }
+{}
+
+/// A law: the requests of an open call's current phase were sent, so a node may send them again at any time.
+pub fn resent_letters_were_sent()
+    ensures { ResentLettersWereSent }
+{}

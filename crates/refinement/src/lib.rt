@@ -1,0 +1,16 @@
+//! What separate nodes do by themselves, each by what it keeps, are events of the world of all nodes.
+//!
+//! The definitions, which a reader has to believe, are in `specs/`. Each law is the contract of a function with an
+//! empty body.
+#![tactic(auto)]
+
+pub use events::{
+    local_events_are_world_events, resent_letters_were_sent, restarts_are_world_events,
+};
+pub use systems::{
+    answered_reads_have_values, answers_are_in_history, events_in_a_row_are_events,
+    systems_are_atomic, systems_have_worlds, systems_keep_values,
+};
+
+mod events;
+mod systems;

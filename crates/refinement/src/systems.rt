@@ -1,0 +1,36 @@
+//! What each world that is reached promises holds of all nodes.
+ghost use Rattle.refinement.specs.Laws.{AnsweredReadsHaveValues, AnswersAreInHistory, EventsInARowAreEvents};
+ghost use Rattle.refinement.specs.Laws.{SystemsAreAtomic, SystemsHaveWorlds, SystemsKeepValues};
+
+/// A law: whatever nodes do, and however often they stop and start again, there is a world that is reached, of which
+/// what each node keeps is its part.
+pub fn systems_have_worlds()
+    ensures { SystemsHaveWorlds }
+{}
+
+/// A law: the history of the calls of all nodes is atomic.
+pub fn systems_are_atomic()
+    ensures { SystemsAreAtomic }
+{}
+
+/// A law: a tag has one value. Each piece in a bank that a node keeps, and each piece in a letter ever sent, is its
+/// member's fragment of its tag's value, and each answered read returned the value of a tag.
+pub fn systems_keep_values()
+    ensures { SystemsKeepValues }
+{}
+
+/// A law: a read that a node may answer has settled a value.
+pub fn answered_reads_have_values()
+    ensures { AnsweredReadsHaveValues }
+{}
+
+/// A law: after a node answers a call, the history has the answer, with the value that the client is told.
+pub fn answers_are_in_history()
+    ensures { AnswersAreInHistory }
+{}
+
+/// A law: what a node does in a row, each thing allowed by what it keeps then, are events of all nodes. They lead to
+/// what the node keeps and sends by itself.
+pub fn events_in_a_row_are_events()
+    ensures { EventsInARowAreEvents }
+{}

@@ -1,0 +1,4 @@
+pub mod ReadLemmas
+pub mod RunLemmas
+pub mod WriteAndReadLemmas
+pub mod WriteLemmas
