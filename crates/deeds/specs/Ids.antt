@@ -1,0 +1,43 @@
+-- The contracts that docs/trusted.md lists do not depend on this file; other contracts and proofs do.
+-- Which ids the calls have that a node begins.
+use Rattle.std.specs.Prelude.{◌≡◌, ◌⊎◌, ◌<◌, ◌≤◌, ℕ, List, [], ◌∷◌, Option, None, Some}
+use Rattle.call_ids.specs.CallId.{CallIds, IsWithin, after_next, next_id}
+use Rattle.local_object.specs.Events.{LocalEvent}
+use Rattle.deeds.specs.Deeds.{Deed}
+
+-- what gives ids at a later time is this: it has the same node, and a greater epoch, or in the same epoch it gave as
+-- many ids or more
+pub record IsLater (before after : CallIds) : Type 0 where
+  pub node : after.node ≡ before.node
+  pub within : IsWithin after
+  pub order : (before.epoch < after.epoch) ⊎ ((before.epoch ≡ after.epoch) × (before.given ≤ after.given))
+
+-- the id of the call that an event begins, if it begins one
+abbrev pub begun_id : LocalEvent → Option ℕ
+begun_id (LocalEvent.BeginRead id) = Some id
+begun_id (LocalEvent.BeginWrite id value) = Some id
+begun_id (LocalEvent.BeginMove id layout) = Some id
+begun_id event = None
+
+-- the id of the call that a deed begins, if it begins one
+abbrev pub deed_id : Deed → Option ℕ
+deed_id (Deed.Does name event) = begun_id event
+deed_id (Deed.Resends name letters) = None
+
+-- the id was the next one at some time after the first of these, and before the second
+pub record IsNextId (before : CallIds) (id : ℕ) (after : CallIds) : Type 0 where
+  pub now : CallIds
+  pub reached : IsLater before now
+  pub next : next_id now ≡ Some id
+  pub left : after_next now ≡ after
+
+-- from the first of these to the second the id is given, if there is one
+abbrev pub IsGiven : (before : CallIds) → Option ℕ → (after : CallIds) → Type 0
+IsGiven before None after = before ≡ after
+IsGiven before (Some id) after = IsNextId before id after
+
+-- the calls that these deeds begin have ids that are given between the first and the second of these, in this order
+abbrev pub HaveNextIds : (before : CallIds) → List Deed → (after : CallIds) → Type 0
+HaveNextIds before [] after = IsLater before after
+HaveNextIds before (deed ∷ deeds) after =
+    (now : CallIds) × IsGiven before (deed_id deed) now × HaveNextIds now deeds after

@@ -1,0 +1,27 @@
+-- The contracts that docs/trusted.md lists do not depend on this file; other contracts and proofs do.
+-- What a node keeps of all objects.
+use Rattle.std.specs.Prelude.{ℕ, List, Option}
+use Rattle.layout.specs.Layout.{Layout}
+use Rattle.call_ids.specs.CallId.{CallIds}
+use Rattle.local_object.specs.Local.{LocalObject, new_local}
+
+-- what a cluster file says: how many finalized versions banks keep beside the newest (None: all), which node moves
+-- objects, and the layout of position 0 of the object of each name
+pub record FileOfNames : Type 0 where
+  pub delta : Option ℕ
+  pub mover : ℕ
+  pub first : (name : List ℕ) → Layout
+
+-- what a node keeps: its cluster file, the object of each name, and what gives its calls their ids
+pub record KeptNode : Type 0 where
+  pub file : FileOfNames
+  pub objects : (name : List ℕ) → LocalObject
+  pub ids : CallIds
+
+-- what the node of this number keeps before it has heard of any object
+abbrev pub new_node : FileOfNames → (number : ℕ) → KeptNode
+new_node file number = record {
+  file = file;
+  objects = λ name. new_local number file.delta (file.first name);
+  ids = record { node = number; epoch = 0; given = 0 };
+}

@@ -1,0 +1,50 @@
+-- The contracts that docs/trusted.md lists do not depend on this file; other contracts and proofs do.
+-- When a node may do deeds, one after another.
+use Rattle.std.specs.Prelude.{◌≡◌, ℕ, List, [], ◌∷◌, ◌++◌}
+use Rattle.std.specs.List.{AllByRecursion}
+use Rattle.record.specs.Fragments.{Code}
+use Rattle.local_object.specs.Local.{LocalObject}
+use Rattle.local_object.specs.Events.{LocalEvent}
+use Rattle.local_object.specs.May.{MayHappenHere}
+use Rattle.local_object.specs.Resent.{IsResent}
+use Rattle.deeds.specs.Named.{NamedLetter, IsOneOf}
+use Rattle.deeds.specs.Deeds.{Deed, after_deed}
+
+-- the deed may be done by what the node keeps: the event may happen at the object, or each letter is of a current phase
+abbrev pub MayBeDone : Code → (objects : List ℕ → LocalObject) → Deed → Type 0
+MayBeDone fragment objects (Deed.Does name event) = MayHappenHere fragment (objects name) event
+MayBeDone fragment objects (Deed.Resends name letters) = AllByRecursion (IsResent fragment (objects name)) letters
+
+-- these deeds may be done one after another
+abbrev pub MayAllBeDone : Code → (objects : List ℕ → LocalObject) → List Deed → Type 0
+MayAllBeDone fragment objects [] = Unit {0}
+MayAllBeDone fragment objects (deed ∷ deeds) =
+    MayBeDone fragment objects deed × MayAllBeDone fragment (after_deed fragment objects deed).objects deeds
+
+-- the letter that an event at the object of a name serves or takes, if there is one, is one of these
+abbrev pub IsEventFed : List NamedLetter → (name : List ℕ) → LocalEvent → Type 0
+IsEventFed got name (LocalEvent.Serve letter) = IsOneOf got (record { name = name; letter = letter })
+IsEventFed got name (LocalEvent.Take letter) = IsOneOf got (record { name = name; letter = letter })
+IsEventFed got name event = Unit {0}
+
+-- the letter that a deed serves or takes, if there is one, is one of these
+abbrev pub IsFed : List NamedLetter → Deed → Type 0
+IsFed got (Deed.Does name event) = IsEventFed got name event
+IsFed got (Deed.Resends name letters) = Unit {0}
+
+-- each letter that a deed serves or takes is one of these, or one that an earlier deed sent
+abbrev pub AreFed : Code → (objects : List ℕ → LocalObject) → (got : List NamedLetter) → List Deed → Type 0
+AreFed fragment objects got [] = Unit {0}
+AreFed fragment objects got (deed ∷ deeds) =
+    let first = after_deed fragment objects deed in
+    IsFed got deed × AreFed fragment first.objects (got ++ first.sent) deeds
+
+-- the event begins no move, or the node with this number is the one that moves objects
+abbrev pub IsEventAllowed : (number mover : ℕ) → LocalEvent → Type 0
+IsEventAllowed number mover (LocalEvent.BeginMove id layout) = number ≡ mover
+IsEventAllowed number mover event = Unit {0}
+
+-- the deed begins no move, or the node with this number is the one that moves objects
+abbrev pub IsAllowed : (number mover : ℕ) → Deed → Type 0
+IsAllowed number mover (Deed.Does name event) = IsEventAllowed number mover event
+IsAllowed number mover (Deed.Resends name letters) = Unit {0}

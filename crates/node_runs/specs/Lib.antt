@@ -1,0 +1,4 @@
+pub mod Clusters
+pub mod Premises
+pub mod Histories
+pub mod Laws
