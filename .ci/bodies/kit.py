@@ -67,8 +67,10 @@ ABOVE = "tried"
 def words_above(crate, jobs):
     """The words of a check of the empty crate over a copy of the crate, which lies where the check runs and is read from
     its source. Of a crate that is checked itself, and not read so, a check prints how to begin each proof that fails, for
-    which it searches a second time."""
+    which it searches a second time. A program cannot be read as a library, so it is checked itself."""
     words = crate.words(["--jobs", str(jobs)], keeps=False)
+    if "src/lib.rt" not in words:
+        return words
     words[words.index("--crate-name") + 1] = ABOVE
     for option in ("--links", "--crate-type"):
         if option in words:
