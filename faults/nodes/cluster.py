@@ -151,7 +151,7 @@ class Cluster:
         client, _, key = self.open.pop(connection)
         self.ended.append(client)
         if key is None:
-            self.history.moves += answer == b"+OK\r\n"
+            self.take_move_answer(answer)
         elif answer == b"+OK\r\n":
             self.history.end(key, None)
         elif answer.startswith(b"$"):
@@ -159,6 +159,12 @@ class Cluster:
         elif answer.startswith(b"-ERR no quorum answered in time"):
             self.history.give_up(key)
         else:
+            raise NodeEnded(f"unexpected answer: {answer[:80]}")
+
+    def take_move_answer(self, answer):
+        """A move that is still open, or that the node refuses because an earlier one is open, is no fault."""
+        self.history.moves += answer == b"+OK\r\n"
+        if not answer.startswith((b"+OK", b"-ERR refused: 11 MovePending", b"-ERR no quorum")):
             raise NodeEnded(f"unexpected answer: {answer[:80]}")
 
     def leave(self, connection):
