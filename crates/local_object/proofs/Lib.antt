@@ -11,3 +11,4 @@ pub mod NextLemmas
 pub mod FetchedLemmas
 pub mod OpenLemmas
 pub mod TakeLemmas
+pub mod AdvanceLemmas

@@ -9,5 +9,6 @@ pub mod Letters
 pub mod Doing
 pub mod Coding
 pub mod Going
+pub mod Taking
 pub mod Resent
 pub mod Sent
