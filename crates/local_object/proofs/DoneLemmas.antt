@@ -6,6 +6,7 @@ use Rattle.local_object.specs.declared.progress.Ended.{Ended}
 use Rattle.local_object.specs.Ended.{all_told, told}
 use Rattle.local_object.specs.Events.{LocalEvent, all_done, done_here}
 use Rattle.local_object.specs.Going.{HasDone}
+use Rattle.local_object.specs.Taking.{HasDoneBy}
 use Rattle.local_object.specs.Local.{LocalObject}
 use Rattle.local_object.specs.May.{MayAllHappen, MayHappenHere}
 use Rattle.local_object.proofs.PieceLemmas.{nil_right}
@@ -39,50 +40,50 @@ told_append local (e ∷ es) fs =
     ap (λ (s : List Ended). told local e ++ s) (told_append next es fs)
     ∙ sym (append_assoc (told local e) (all_told fragment next es) (all_told fragment (all_done fragment next es).local fs))
 
+-- what was done by these events
+pub done_by : {old new : LocalObject} {events : List LocalEvent} {letters : List Letter} {ended : List Ended}
+    → HasDoneBy old events new letters ended → HasDone old new letters ended
+done_by {events = events} by = record { events = events; done = by.done; told = by.told }
+
 -- nothing was done
-pub done_none : (local new : LocalObject) (letters : List Letter) (ended : List Ended) → new ≡ local → letters ≡ [] → ended ≡ []
-    → HasDone local new letters ended
-done_none local new letters ended same sent told = record {
-  events = [];
+pub by_none : (local new : LocalObject) (letters : List Letter) (ended : List Ended) → new ≡ local → letters ≡ [] → ended ≡ []
+    → HasDoneBy local [] new letters ended
+by_none local new letters ended same sent told = record {
   done = record { may = tt; local = same; letters = sent };
   told = told;
 }
 
 -- one event
-pub done_one : (local : LocalObject) (event : LocalEvent) (new : LocalObject) (letters : List Letter) (ended : List Ended)
+pub by_one : (local : LocalObject) (event : LocalEvent) (new : LocalObject) (letters : List Letter) (ended : List Ended)
     → MayHappenHere fragment local event → new ≡ (done_here fragment local event).local
-    → letters ≡ (done_here fragment local event).sent → ended ≡ told local event → HasDone local new letters ended
-done_one local event new letters ended may is sent tells = record {
-  events = event ∷ [];
+    → letters ≡ (done_here fragment local event).sent → ended ≡ told local event → HasDoneBy local (event ∷ []) new letters ended
+by_one local event new letters ended may is sent tells = record {
   done = record { may = (may, tt); local = is; letters = sent ∙ sym (nil_right (done_here fragment local event).sent) };
   told = tells ∙ sym (nil_right (told local event));
 }
 
 -- one after another
-pub done_then : (a b c : LocalObject) (letters later : List Letter) (ended more : List Ended) → HasDone a b letters ended
-    → HasDone b c later more → HasDone a c (letters ++ later) (ended ++ more)
-done_then a b c letters later ended more first second =
-    let es = first.events in
-    let fs = second.events in
-    record {
-      events = es ++ fs;
-      done = record {
-        may = may_append a es fs first.done.may (subst (λ (l : LocalObject). MayAllHappen fragment l fs) first.done.local second.done.may);
-        local = second.done.local ∙ ap (λ (l : LocalObject). (all_done fragment l fs).local) first.done.local
-            ∙ sym (local_append a es fs);
-        letters = ap (λ (s : List Letter). s ++ later) first.done.letters
-            ∙ ap (λ (s : List Letter). (all_done fragment a es).sent ++ s)
-            (second.done.letters ∙ ap (λ (l : LocalObject). (all_done fragment l fs).sent) first.done.local)
-            ∙ sym (sent_append a es fs);
-      };
-      told = ap (λ (s : List Ended). s ++ more) first.told
-          ∙ ap (λ (s : List Ended). all_told fragment a es ++ s)
-          (second.told ∙ ap (λ (l : LocalObject). all_told fragment l fs) first.done.local)
-          ∙ sym (told_append a es fs);
-    }
+pub by_then : (a b c : LocalObject) (es fs : List LocalEvent) (letters later : List Letter) (ended more : List Ended)
+    → HasDoneBy a es b letters ended → HasDoneBy b fs c later more → HasDoneBy a (es ++ fs) c (letters ++ later) (ended ++ more)
+by_then a b c es fs letters later ended more first second = record {
+  done = record {
+    may = may_append a es fs first.done.may (subst (λ (l : LocalObject). MayAllHappen fragment l fs) first.done.local second.done.may);
+    local = second.done.local ∙ ap (λ (l : LocalObject). (all_done fragment l fs).local) first.done.local
+        ∙ sym (local_append a es fs);
+    letters = ap (λ (s : List Letter). s ++ later) first.done.letters
+        ∙ ap (λ (s : List Letter). (all_done fragment a es).sent ++ s)
+        (second.done.letters ∙ ap (λ (l : LocalObject). (all_done fragment l fs).sent) first.done.local)
+        ∙ sym (sent_append a es fs);
+  };
+  told = ap (λ (s : List Ended). s ++ more) first.told
+      ∙ ap (λ (s : List Ended). all_told fragment a es ++ s)
+      (second.told ∙ ap (λ (l : LocalObject). all_told fragment l fs) first.done.local)
+      ∙ sym (told_append a es fs);
+}
 
 -- the same for another description of the object before
-pub done_from : {o old : LocalObject} {new : LocalObject} {letters : List Letter} {ended : List Ended} → o ≡ old
-    → HasDone o new letters ended → HasDone old new letters ended
-done_from {new = new} {letters = letters} {ended = ended} view done =
-    subst (λ (l : LocalObject). HasDone l new letters ended) view done
+pub by_from : {o old : LocalObject} {new : LocalObject} {letters : List Letter} {ended : List Ended}
+    (events : LocalObject → List LocalEvent) → o ≡ old → HasDoneBy o (events o) new letters ended
+    → HasDoneBy old (events old) new letters ended
+by_from {new = new} {letters = letters} {ended = ended} events view done =
+    subst (λ (l : LocalObject). HasDoneBy l (events l) new letters ended) view done

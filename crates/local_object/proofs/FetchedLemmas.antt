@@ -9,7 +9,10 @@ use Rattle.bank.specs.declared.reply.Answer.{Answer}
 use Rattle.bank.specs.declared.reply.Answer.TheVariants as answer
 use Rattle.encoder.specs.Fragment.{fragment}
 use Rattle.piece.specs.declared.piece.Piece.{Piece}
-use Rattle.decoder.specs.Pieces.{points_of}
+use Rattle.decoder.specs.Pieces.{AreLawful, HaveNoValue, IsInterpolated, points_of}
+use Rattle.decoder.specs.Decoded.{IsDecoded}
+use Rattle.std.proofs.Common.{◌⊎◌, inl, inr, subst}
+use Rattle.std.proofs.lemmas.Option.{none-some, same_Some}
 use Rattle.layout.specs.Layout.{Layout}
 use Rattle.phase.specs.declared.phase.Taken.{Taken}
 use Rattle.record.specs.Fragments.{answer_piece, HasPiece, HasPieces}
@@ -18,7 +21,7 @@ use Rattle.call.specs.Call.{OpenCall as Machine}
 use Rattle.network.specs.Worlds.{NodeCall}
 use Rattle.local_object.specs.Codes.{at_node}
 use Rattle.local_object.specs.Going.{IsFetchedValue}
-use Rattle.local_object.specs.Local.{Place}
+use Rattle.local_object.specs.Local.{Place, layout_in, place_at}
 use Rattle.local_object.specs.May.{IsFetchedHere}
 use Rattle.local_object.specs.Pieces.{at_point, first_pieces, own_pieces}
 use Rattle.local_object.proofs.NextLemmas.{IsSettling, fetching_of}
@@ -113,10 +116,10 @@ module _ (places : List Place) (call : Machine) (value : List ℕ) (is : IsFetch
             (all_by _ pieces is.decoded.lawful.lens) (all_by _ pieces is.decoded.interpolated.fragments);
       }
 
-pub may_settle_here : (node : ℕ) (delta : Option ℕ) (places : List Place) (calls : List NodeCall) (call : Machine) (value : List ℕ)
+pub may_settle_here : (owner node : ℕ) (delta : Option ℕ) (places : List Place) (calls : List NodeCall) (call : Machine) (value : List ℕ)
     → IsSettling call false → IsFetchedValue places call value
-    → IsFetchedHere fragment (record { node = node; delta = delta; places = places; calls = calls }) (at_node node call) value
-may_settle_here node delta places calls call value settling is =
+    → IsFetchedHere fragment (record { node = owner; delta = delta; places = places; calls = calls }) (at_node node call) value
+may_settle_here owner node delta places calls call value settling is =
     let fetching = fetching_of call false settling in record {
       complete = settling.complete;
       fetch = fetching.0;
@@ -127,3 +130,52 @@ may_settle_here node delta places calls call value settling is =
       pieces = λ object same. has_pieces places call value is object same;
       is_value = (all_by (λ b. b < 256) value is.decoded.interpolated.bytes, is.decoded.lawful.longest);
     }
+
+-- where these pieces do not decode
+
+first_len : (pieces : List Piece) (piece : Piece) (len : ℕ) → slice_get pieces 0 ≡ Some piece
+    → AllByRecursion (λ (p : Piece). p.len ≡ len) pieces → piece.len ≡ len
+first_len [] piece len at all = absurd (cc)
+first_len (p ∷ ps) piece len at all = subst (λ (q : Piece). q.len ≡ len) (same_Some p piece at) all.0
+
+-- no value is decoded from no piece
+pub none_decoded : (k : ℕ) (pieces : List Piece) (value : List ℕ) → pieces ≡ []
+    → IsDecoded (record { k = k; pieces = pieces; value = value }) → ⊥
+none_decoded k pieces value none is =
+    let count = is.lawful.count in
+    let some = is.lawful.some in
+    let empty : length pieces ≡ 0 = ap length none in
+    absurd (omega arith)
+
+pub not_decoded : (k len : ℕ) (pieces : List Piece) (piece : Piece) (value : List ℕ) → slice_get pieces 0 ≡ Some piece → len ≡ piece.len
+    → ((¬ AreLawful k len pieces) ⊎ HaveNoValue k len pieces)
+    → IsDecoded (record { k = k; pieces = pieces; value = value }) → ⊥
+not_decoded k len pieces piece value at same bad is =
+    let e : length value ≡ len = sym (first_len pieces piece (length value) at (all_by _ pieces is.lawful.lens)) ∙ sym same in
+    go bad (subst (λ n. AreLawful k n pieces) e is.lawful) (subst (λ n. IsInterpolated k n pieces value) e is.interpolated)
+  where
+    go : ((¬ AreLawful k len pieces) ⊎ HaveNoValue k len pieces) → AreLawful k len pieces → IsInterpolated k len pieces value → ⊥
+    go (inl not) lawful interpolated = not lawful
+    go (inr none) lawful interpolated = none value interpolated
+
+-- a value is fetched by the layout that is known
+pub fetched_by : (places : List Place) (call : Machine) (layout : Layout) (value : List ℕ)
+    → layout_in (place_at places call.phase.position) ≡ Some layout → IsFetchedValue places call value
+    → IsDecoded (record { k = layout.k; pieces = first_pieces layout.k call.phase.replies; value = value })
+fetched_by places call layout value known is =
+    subst (λ (l : Layout). IsDecoded (record { k = l.k; pieces = first_pieces l.k call.phase.replies; value = value }))
+    (same_Some is.layout layout (sym is.known ∙ known)) is.decoded
+
+pub none_fetched : (places : List Place) (call : Machine) (value : List ℕ) → layout_in (place_at places call.phase.position) ≡ None
+    → IsFetchedValue places call value → ⊥
+none_fetched places call value none is = none-some is.layout (sym none ∙ is.known)
+
+pub empty_of : (pieces : List Piece) → None ≡ slice_get pieces 0 → pieces ≡ []
+empty_of [] none = refl
+empty_of (p ∷ ps) none = absurd (cc)
+
+pub decoded_as : {k l : ℕ} {ps qs : List Piece} {value : List ℕ} → k ≡ l → ps ≡ qs
+    → IsDecoded (record { k = k; pieces = ps; value = value }) → IsDecoded (record { k = l; pieces = qs; value = value })
+decoded_as {l = l} {ps = ps} {value = value} same pieces is =
+    subst (λ (qs : List Piece). IsDecoded (record { k = l; pieces = qs; value = value })) pieces
+    (subst (λ k. IsDecoded (record { k = k; pieces = ps; value = value })) same is)

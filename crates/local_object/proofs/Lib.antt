@@ -11,3 +11,9 @@ pub mod NextLemmas
 pub mod FetchedLemmas
 pub mod OpenLemmas
 pub mod TakeLemmas
+pub mod AdvanceLemmas
+pub mod UnchangedBankLemmas
+pub mod HeardLayoutLemmas
+pub mod ChangingLemmas
+pub mod AgreementLemmas
+pub mod CappedSumLemmas

@@ -1,7 +1,9 @@
 -- The calls of an object, as they are found, changed and removed by its events.
 use Rattle.std.proofs.Common.{◌≡◌, ◌≢◌, ℕ, zero, suc, ◌⊎◌, Bool, true, false, cond, IsSome, List, [], ◌∷◌}
 use Rattle.std.proofs.Common.{set, slice_get, Option, Some, None, inl, inr, refl, sym, subst, ap, ◌∙◌}
+use Rattle.std.proofs.Common.{MatchOption}
 use Rattle.std.specs.List.{AllByRecursion, remove}
+use Rattle.std.proofs.lemmas.Option.{none-some, same_Some}
 use Rattle.bank.specs.declared.kind.Kind.{Kind}
 use Rattle.encoder.specs.Fragment.{fragment}
 use Rattle.layout.specs.Layout.{Layout}
@@ -21,14 +23,16 @@ use Rattle.local_object.specs.Distinct.{AreOthers, AreDistinct, HaveDistinctIds,
 use Rattle.local_object.specs.Doing.{IsDone, give_up_events, gives_up, is_client}
 use Rattle.local_object.specs.Ended.{told_if, told_of}
 use Rattle.local_object.specs.Events.{LocalEvent, Outcome, advanced_at, advanced_here, done_here, on_call, silent}
-use Rattle.local_object.specs.Going.{HasDone, IsAdvanced, IsFetchedValue, MayAdvance, next_here, settled_here, taken_here}
+use Rattle.local_object.specs.Going.{Advances, IsAdvanced, IsFetchedValue, next_here, settled_here, taken_here}
+use Rattle.local_object.specs.Taking.{CanSettle, HasDoneBy, call_events, can_begin, lead_events, machine_of, step_events}
+use Rattle.call.specs.declared.next.Next.{Next as Step}
 use Rattle.local_object.specs.Local.{LocalObject, Place, layout_in, place_at}
 use Rattle.local_object.specs.May.{MayHappenHere}
 use Rattle.local_object.specs.Resent.{IsResent}
 use Rattle.local_object.specs.Sent.{IsCurrent}
 use Rattle.local_object.proofs.BeginLemmas.{open_found}
 use Rattle.local_object.proofs.CarriedCallLemmas.{open_none, other_at, same_call, with_set, without_at}
-use Rattle.local_object.proofs.DoneLemmas.{done_none, done_one}
+use Rattle.local_object.proofs.DoneLemmas.{by_none, by_one}
 use Rattle.local_object.proofs.FetchedLemmas.{may_settle_here}
 use Rattle.local_object.proofs.NextLemmas.{answer_of, begin_of, due_begun, lacking_of, ready_of, restart_of}
 use Rattle.local_object.proofs.NextLemmas.{settle_of}
@@ -84,10 +88,32 @@ module _ (node : ℕ) (delta : Option ℕ) (places : List Place) where
       unfolding is_at
       open_is = open_found node calls id index distinct is_at
 
-      pub may_settle : (value : List ℕ) → next_here call ≡ next.Settle → IsFetchedValue places call value
-          → MayHappenHere fragment (object calls) (LocalEvent.Settle id value)
-      may_settle value step fetched =
-          (at_node node call, open_is, may_settle_here node delta places (carried node calls) call value (settle_of call step) fetched)
+      named_is : call.id ≡ id
+      named_is = ap (λ (m : Machine). m.id) (sym read_is) ∙ at.named
+
+      -- the events by which the call goes on
+      pub lead_is : (step : Step) → next_here call ≡ step → lead_events (object calls) id ≡ step_events places call step
+      lead_is step e = ap (call_events places) open_is ∙ ap (step_events places call) e
+
+      pub lead_waits : (next_here call ≡ next.Wait) ⊎ (next_here call ≡ next.Settle) → lead_events (object calls) id ≡ []
+      lead_waits (inl e) = lead_is next.Wait e
+      lead_waits (inr e) = lead_is next.Settle e
+
+      pub can_settle : (value : List ℕ) → next_here call ≡ next.Settle → IsFetchedValue places call value
+          → CanSettle (object calls) id value
+      can_settle value step fetched = record { call = at_node node call; carried = open_is; next = step; fetched = fetched }
+
+      call_is : (value : List ℕ) → (can : CanSettle (object calls) id value) → can.call ≡ at_node node call
+      call_is value can = same_Some can.call (at_node node call) (sym can.carried ∙ open_is)
+
+      pub cannot_settle : (next_here call ≡ next.Settle → ⊥) → (value : List ℕ) → CanSettle (object calls) id value → ⊥
+      cannot_settle other value can =
+          other (subst (λ (c : NodeCall). next_here (machine_of c) ≡ next.Settle) (call_is value can) can.next)
+
+      pub unfetched : ((value : List ℕ) → IsFetchedValue places call value → ⊥) → (value : List ℕ)
+          → CanSettle (object calls) id value → ⊥
+      unfetched none value can =
+          none value (subst (λ (c : NodeCall). IsFetchedValue places (machine_of c) value) (call_is value can) can.fetched)
 
       pub resent : (layout : Layout) → layout_in (place_at places call.phase.position) ≡ Some layout → (letter : Letter)
           → IsCurrent places call layout letter → IsResent fragment (object calls) letter
@@ -101,36 +127,40 @@ module _ (node : ℕ) (delta : Option ℕ) (places : List Place) where
         at = current.at;
       }
 
-      pub answered_done : (new : List Machine) (letters : List Letter) (ended : List Ended) → next_here call ≡ next.Answer
+      pub answered_by : (new : List Machine) (letters : List Letter) (ended : List Ended) → next_here call ≡ next.Answer
           → new ≡ remove calls index → letters ≡ [] → ended ≡ told_of (at_node node call) ∷ []
-          → HasDone (object calls) (object new) letters ended
-      answered_done new letters ended step rest none tells =
+          → HasDoneBy (object calls) (lead_events (object calls) id) (object new) letters ended
+      answered_by new letters ended step rest none tells =
           let is = answer_of call step in
-          done_one (object calls) (LocalEvent.Answer id) (object new) letters ended
+          subst (λ events. HasDoneBy (object calls) events (object new) letters ended)
+          (ap (λ n. LocalEvent.Answer n ∷ []) (sym named_is) ∙ sym (lead_is next.Answer step))
+          (by_one (object calls) (LocalEvent.Answer id) (object new) letters ended
           (at_node node call, open_is, ready_of node call None is, due_begun (reached call) ∙ is.due)
           (ap (λ (cs : List NodeCall). record (object calls) { calls = cs })
           (ap (carried node) rest ∙ sym (without_at node calls index call distinct.distinct there)
-          ∙ ap (λ n. without_call n (carried node calls)) (ap (λ (m : Machine). m.id) (sym read_is) ∙ at.named)))
-          none (tells ∙ sym (ap told_if open_is))
+          ∙ ap (λ n. without_call n (carried node calls)) named_is))
+          none (tells ∙ sym (ap told_if open_is)))
 
       module _ (kind : Kind) (position : ℕ) (asked : due (reached call) ≡ Some (kind, position)) where
         next_is : due_phase (at_node node call) ≡ Some (kind, position)
         next_is = due_begun (reached call) ∙ asked
 
         begun : (new : List Machine) (letters : List Letter) → IsAdvanced places calls call index kind position new letters
-            → MayHappenHere fragment (object calls) (LocalEvent.Advance id) → HasDone (object calls) (object new) letters []
+            → MayHappenHere fragment (object calls) (LocalEvent.Advance id)
+            → HasDoneBy (object calls) (LocalEvent.Advance call.id ∷ []) (object new) letters []
         begun new letters adv may =
             let outcome : done_here fragment (object calls) (LocalEvent.Advance id)
             ≡ advanced_at fragment (object calls) (at_node node call) (kind, position) (Some adv.layout) =
             ap (λ o. on_call (object calls) o (λ call. advanced_here fragment (object calls) call (due_phase call))) open_is
             ∙ ap (λ n. advanced_here fragment (object calls) (at_node node call) n) next_is
             ∙ ap (λ o. advanced_at fragment (object calls) (at_node node call) (kind, position) o) adv.known in
-            done_one (object calls) (LocalEvent.Advance id) (object new) letters [] may
+            subst (λ n. HasDoneBy (object calls) (LocalEvent.Advance n ∷ []) (object new) letters []) (sym named_is)
+            (by_one (object calls) (LocalEvent.Advance id) (object new) letters [] may
             (ap object adv.calls
             ∙ ap (λ (cs : List NodeCall). record (object calls) { calls = cs })
             (sym (with_set node calls index call (entered call (phase_next call kind position adv.layout 0)) distinct.distinct there refl))
             ∙ sym (ap (λ (t : Outcome). t.local) outcome))
-            (adv.sent ∙ sym (ap (λ (t : Outcome). t.sent) outcome)) refl
+            (adv.sent ∙ sym (ap (λ (t : Outcome). t.sent) outcome)) refl)
 
         known_next : (layout : Layout) → layout_in (place_at places position) ≡ Some layout → (k : Kind) (p : ℕ)
             → due_phase (at_node node call) ≡ Some (k, p) → IsSome (layout_in (place_at places p))
@@ -138,23 +168,46 @@ module _ (node : ℕ) (delta : Option ℕ) (places : List Place) where
             let same : position ≡ p = ap (position_or position) (sym next_is ∙ e) in
             subst (λ n. IsSome (layout_in (place_at places n))) same (subst IsSome (sym known) refl)
 
-      pub advanced_done : (kind : Kind) (position : ℕ) (new : List Machine) (letters : List Letter)
-          → (next_here call ≡ next.Restart kind position) ⊎ (next_here call ≡ next.Begin kind position)
-          → MayAdvance places calls call index kind position new letters → HasDone (object calls) (object new) letters []
-      advanced_done kind position new letters step (inl same) =
-          done_none (object calls) (object new) letters [] (ap object same.0) same.1 refl
-      advanced_done kind position new letters (inl step) (inr adv) =
-          let both = restart_of call kind position step in
-          begun kind position both.0.due new letters adv
-          (at_node node call, open_is, inr (lacking_of node call both.1), known_next kind position both.0.due adv.layout adv.known)
-      advanced_done kind position new letters (inr step) (inr adv) =
-          let is = begin_of call kind position step in
-          begun kind position is.due new letters adv (
-            at_node node call,
-            open_is,
-            inl (ready_of node call (Some (kind, position)) is, subst IsSome (sym (next_is kind position is.due)) refl),
-            known_next kind position is.due adv.layout adv.known,
-          )
+      module _ (kind : Kind) (position : ℕ) (new : List Machine) (letters : List Letter) where
+        begun_if : (can : Bool) → Advances can places calls call index kind position new letters
+            → ((adv : IsAdvanced places calls call index kind position new letters)
+            → HasDoneBy (object calls) (LocalEvent.Advance call.id ∷ []) (object new) letters [])
+            → HasDoneBy (object calls) (cond can (LocalEvent.Advance call.id ∷ []) []) (object new) letters []
+        begun_if true adv advanced = advanced adv
+        begun_if false same advanced = by_none (object calls) (object new) letters [] (ap object same.0) same.1 refl
+
+        pub advanced_by : (next_here call ≡ next.Restart kind position) ⊎ (next_here call ≡ next.Begin kind position)
+            → Advances (can_begin places call kind position) places calls call index kind position new letters
+            → HasDoneBy (object calls) (lead_events (object calls) id) (object new) letters []
+        advanced_by (inl step) advances =
+            let both = restart_of call kind position step in
+            subst (λ events. HasDoneBy (object calls) events (object new) letters [])
+            (sym (lead_is (next.Restart kind position) step))
+            (begun_if (can_begin places call kind position) advances
+            (λ adv. begun kind position both.0.due new letters adv (
+              at_node node call,
+              open_is,
+              inr (lacking_of node call both.1),
+              known_next kind position both.0.due adv.layout adv.known,
+            )))
+        advanced_by (inr step) advances =
+            let is = begin_of call kind position step in
+            subst (λ events. HasDoneBy (object calls) events (object new) letters [])
+            (sym (lead_is (next.Begin kind position) step))
+            (begun_if (can_begin places call kind position) advances
+            (λ adv. begun kind position is.due new letters adv (
+              at_node node call,
+              open_is,
+              inl (ready_of node call (Some (kind, position)) is, subst IsSome (sym (next_is kind position is.due)) refl),
+              known_next kind position is.due adv.layout adv.known,
+            )))
+
+  pub lead_none : (calls : List Machine) (id : ℕ) → AreOthers id calls → lead_events (object calls) id ≡ []
+  lead_none calls id others = ap (call_events places) (open_none node calls id others)
+
+  pub none_to_settle : (calls : List Machine) (id : ℕ) → AreOthers id calls → (value : List ℕ) → CanSettle (object calls) id value → ⊥
+  none_to_settle calls id others value can =
+      let e : None ≡ Some can.call = sym (open_none node calls id others) ∙ can.carried in none-some can.call e
 
   pub taken_none : (calls : List Machine) (message : Message) → AreOthers message.call calls
       → object calls ≡ (taken_here (object calls) message).local
@@ -169,6 +222,21 @@ module _ (node : ℕ) (delta : Option ℕ) (places : List Place) where
       sym (ap (λ o. (on_call (object calls) o
       (λ call. silent (record (object calls) { calls = with_open (record call { settled = Some value }) (carried node calls) }))).local)
       (open_none node calls id others))
+
+-- what may be settled
+pub settle_may : (local : LocalObject) (id : ℕ) (value : List ℕ) → CanSettle local id value
+    → MayHappenHere fragment local (LocalEvent.Settle id value)
+settle_may local id value can = (
+  can.call,
+  can.carried,
+  may_settle_here local.node can.call.node local.delta local.places local.calls (machine_of can.call) value
+      (settle_of (machine_of can.call) can.next) can.fetched,
+)
+
+pub match_weaker : {X : Type 0} {P Q : Type 0} {R S : X → Type 0} (o : Option X) → (P → Q) → ((x : X) → R x → S x)
+    → MatchOption o P R → MatchOption o Q S
+match_weaker None f g h = f h
+match_weaker (Some x) f g h = g x h
 
 -- giving up a call changes no call but this one
 other_kept : (node id : ℕ) (calls : List Machine) → AreOthers id calls

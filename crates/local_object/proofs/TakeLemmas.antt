@@ -6,12 +6,15 @@ use Rattle.mail.specs.declared.message.Body.{Body}
 use Rattle.mail.specs.declared.message.Body.TheVariants as body
 use Rattle.network.specs.Events.{taking_open}
 use Rattle.network.specs.Worlds.{open_call, with_open}
+use Rattle.std.proofs.Common.{List, ◌∷◌, ◌++◌, subst}
 use Rattle.local_object.specs.declared.letter.Letter.{Letter}
+use Rattle.local_object.specs.declared.progress.Ended.{Ended}
 use Rattle.local_object.specs.Doing.{is_request, is_taken}
 use Rattle.local_object.specs.Events.{LocalEvent, learnt_from}
-use Rattle.local_object.specs.Going.{HasDone, taken_here}
+use Rattle.local_object.specs.Going.{taken_here}
+use Rattle.local_object.specs.Taking.{AreSettling, HasDoneBy, IsTaken, Settles, lead_events}
 use Rattle.local_object.specs.Local.{LocalObject}
-use Rattle.local_object.proofs.DoneLemmas.{done_one}
+use Rattle.local_object.proofs.DoneLemmas.{by_none, by_one, by_then}
 use Rattle.local_object.proofs.OpenLemmas.{silent_sent}
 
 not_request : (b c : Bool) → cond b false c ≡ true → b ≡ false
@@ -22,11 +25,11 @@ reply_of : (b : Body) → is_request b ≡ false → (kind : Kind) × (made : Re
 reply_of (body.Request asked) e = absurd (cc)
 reply_of (body.Reply kind made) e = (kind, made, refl)
 
-pub take_done : (old : LocalObject) (letter : Letter) (mid new : LocalObject) → is_taken old letter ≡ true
-    → mid ≡ learnt_from old letter → new ≡ (taken_here mid letter.message).local → HasDone old new [] []
-take_done old letter mid new taken learnt is =
+pub take_by : (old : LocalObject) (letter : Letter) (mid new : LocalObject) → is_taken old letter ≡ true
+    → mid ≡ learnt_from old letter → new ≡ (taken_here mid letter.message).local → HasDoneBy old (LocalEvent.Take letter ∷ []) new [] []
+take_by old letter mid new taken learnt is =
     let next = learnt_from old letter in
-    done_one old (LocalEvent.Take letter) new [] []
+    by_one old (LocalEvent.Take letter) new [] []
     (reply_of letter.message.body
     (not_request (is_request letter.message.body)
     (ltb (letter.message.position + 1) (2 ^ 32) && is_some (open_call old.calls letter.message.call)) taken))
@@ -41,3 +44,31 @@ taken_by local letter kind made r is next open_is =
     let open_here = is_some (open_call local.calls letter.message.call) in
     open_is ∙ sym (ap (λ b. b && open_here) next)
     ∙ sym (ap (λ b. cond (is_request b) false (ltb (letter.message.position + 1) (2 ^ 32) && open_here)) is)
+
+-- a letter that no call takes
+pub taken_none : (old : LocalObject) (letter : Letter) (new : LocalObject) (letters : List Letter) (ended : List Ended)
+    → false ≡ is_taken old letter → new ≡ old → letters ≡ [] → ended ≡ []
+    → IsTaken (is_taken old letter) old letter new letters ended
+taken_none old letter new letters ended taken same sent tells =
+    subst (λ b. IsTaken b old letter new letters ended) taken (by_none old new letters ended same sent tells)
+
+-- what was done after a reply was taken
+module _ {old mid settled new : LocalObject} {letter : Letter} {letters : List Letter} {ended : List Ended}
+    (first : HasDoneBy old (LocalEvent.Take letter ∷ []) mid [] []) (second : Settles mid letter.message.call settled)
+    (third : HasDoneBy settled (lead_events settled letter.message.call) new letters ended) where
+  both : HasDoneBy old (LocalEvent.Take letter ∷ second.events) settled [] []
+  both = by_then old mid settled (LocalEvent.Take letter ∷ []) second.events [] [] [] [] first second.done
+
+  pub all_by : HasDoneBy old (LocalEvent.Take letter ∷ second.events ++ lead_events settled letter.message.call) new letters ended
+  all_by = by_then old settled new (LocalEvent.Take letter ∷ second.events) (lead_events settled letter.message.call) [] letters [] ended
+      both third
+
+  pub goes_on : is_taken old letter ≡ true → IsTaken (is_taken old letter) old letter new letters ended
+  goes_on taken =
+      subst (λ b. IsTaken b old letter new letters ended) (sym taken) (record {
+        settling = second.events;
+        settles = subst (λ (l : LocalObject). AreSettling l letter.message.call second.events) first.done.local second.settles;
+        leads = subst (λ (l : LocalObject). HasDoneBy old
+            (LocalEvent.Take letter ∷ second.events ++ lead_events l letter.message.call) new letters ended)
+            both.done.local all_by;
+      })

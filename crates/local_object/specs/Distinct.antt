@@ -1,7 +1,10 @@
 -- The contracts that docs/trusted.md lists do not depend on this file; other contracts and proofs do.
 -- What is true of the parts of a node's object at any time.
-use Rattle.std.specs.Prelude.{◌≡◌, ◌≢◌, ℕ, List, [], ◌∷◌, Some, IsSome, slice_get, slice_set}
+use Rattle.std.specs.Prelude.{◌≡◌, ◌≢◌, ℕ, List, [], ◌∷◌, Option, None, Some, IsSome, slice_get, slice_set}
+use Rattle.tag.specs.Tag.{opening_tag}
 use Rattle.bank.specs.Bank.{Bank}
+use Rattle.bank.specs.Collect.{IsCollected}
+use Rattle.bank.specs.Knowledge.{finalized_at}
 use Rattle.call.specs.Call.{OpenCall as Machine}
 use Rattle.local_object.specs.Local.{Place, place_at, with_bank}
 
@@ -32,6 +35,16 @@ pub record IsPlaceAt (places : List Place) (number index : ℕ) : Type 0 where
   pub found : place_at places number ≡ Some place
   pub changed : (bank : Bank) →
       with_bank places number bank ≡ slice_set places index (record place { bank = Some bank })
+
+-- a bank has exactly the pieces that it is to keep, and has finalized the opening tag
+pub record IsInOrder (bank : Bank) : Type 0 where
+  pub collected : IsCollected bank
+  pub opening : IsSome (finalized_at bank opening_tag)
+
+-- the bank is in order, if there is one
+abbrev pub IsInOrderIfOpen : Option Bank → Type 0
+IsInOrderIfOpen None = Unit {0}
+IsInOrderIfOpen (Some bank) = IsInOrder bank
 
 -- the node has heard of position 0
 pub record KnowsFirst (places : List Place) : Type 0 where

@@ -1,11 +1,12 @@
 -- The contracts that docs/trusted.md lists do not depend on this file; other contracts and proofs do.
 -- How a call goes on once its phase is complete.
-use Rattle.std.specs.Prelude.{◌≡◌, ◌⊎◌, ℕ, suc, if◌then◌else◌, List, [], map}
+use Rattle.std.specs.Prelude.{◌≡◌, ℕ, suc, Bool, true, false, if◌then◌else◌, List, [], map}
 use Rattle.std.specs.Prelude.{Some, slice_set}
 use Rattle.bank.specs.declared.kind.Kind.{Kind}
 use Rattle.encoder.specs.Fragment.{fragment}
 use Rattle.layout.specs.Layout.{Layout}
 use Rattle.decoder.specs.Decoded.{IsDecoded}
+use Rattle.piece.specs.declared.piece.Piece.{Piece}
 use Rattle.record.specs.Sending.{fragment_piece, requests}
 use Rattle.call.specs.declared.next.Next.{Next}
 use Rattle.call.specs.declared.next.Next.TheVariants as next
@@ -55,18 +56,28 @@ pub record IsAdvanced (places : List Place) (old : List Machine) (call : Machine
   pub calls : new ≡ slice_set old index (entered call (phase_next call kind position layout 0))
   pub sent : letters ≡ next_letters places call kind position layout
 
--- either nothing changed and nothing was sent, or the call began its next phase
-abbrev pub MayAdvance : List Place → (old : List Machine) → Machine → (index : ℕ) → Kind → (position : ℕ) →
+-- the call at an index began its next phase, if it could; else nothing changed, and nothing was sent
+abbrev pub Advances : (can : Bool) → List Place → (old : List Machine) → Machine → (index : ℕ) → Kind → (position : ℕ) →
     (new : List Machine) → (letters : List Letter) → Type 0
-MayAdvance places old call index kind position new letters =
-    ((new ≡ old) × (letters ≡ [])) ⊎ IsAdvanced places old call index kind position new letters
+Advances true places old call index kind position new letters =
+    IsAdvanced places old call index kind position new letters
+Advances false places old call index kind position new letters = (new ≡ old) × (letters ≡ [])
 
--- the value that a call fetched: it is decoded from the first k pieces of its replies, by its phase's position's layout
+-- the value is decoded from these k pieces, and no other value is
+pub record IsOnlyValue (k : ℕ) (pieces : List Piece) (value : List ℕ) : Type 0 where
+  pub decoded : IsDecoded (record { k = k; pieces = pieces; value = value })
+  pub only : (other : List ℕ) → IsDecoded (record { k = k; pieces = pieces; value = other }) → other ≡ value
+
+-- the value that a call fetched: it alone is decoded from the first k pieces of its replies, by its phase's position's
+-- layout
 pub record IsFetchedValue (places : List Place) (call : Machine) (value : List ℕ) : Type 0 where
   pub layout : Layout
   pub known : layout_in (place_at places call.phase.position) ≡ Some layout
   pub decoded : IsDecoded
       (record { k = layout.k; pieces = first_pieces layout.k call.phase.replies; value = value })
+  pub only : (other : List ℕ) →
+      IsDecoded (record { k = layout.k; pieces = first_pieces layout.k call.phase.replies; value = other }) →
+      other ≡ value
 
 -- what the node keeps after the call that a message names takes it, if it carries out the call
 abbrev pub taken_here : LocalObject → Message → Outcome

@@ -9,5 +9,8 @@ pub mod Letters
 pub mod Doing
 pub mod Coding
 pub mod Going
+pub mod Taking
+pub mod Agreement
+pub mod Changing
 pub mod Resent
 pub mod Sent

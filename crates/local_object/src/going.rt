@@ -1,6 +1,6 @@
 //! How a call goes on once its phase is complete.
 
-ghost use Rattle.std.specs.Prelude.{◌≡◌, ◌<◌, true, Some, length, slice_get, IfOk, IfErr, IfSome};
+ghost use Rattle.std.specs.Prelude.{◌≡◌, ℕ, ◌<◌, true, List, Some, length, slice_get, IfOk, IfErr, MatchOption};
 ghost use Rattle.tag.specs.declared.refusal.Refusal.TheVariants.{NoMemory};
 ghost use Rattle.record.specs.Journals.{operation_of, entry_value};
 ghost use Rattle.record.specs.Sending.{fragment_piece, requests};
@@ -10,7 +10,8 @@ ghost use Rattle.call.specs.Call.{OpenCall as Machine};
 ghost use Rattle.call.specs.Limits.{IsWithinLimits};
 ghost use Rattle.call.specs.Next.{is_unsettled};
 ghost use Rattle.local_object.specs.Coding.{is_sendable, value_of};
-ghost use Rattle.local_object.specs.Going.{IsFetchedValue, MayAdvance, UnlessWaiting, next_here};
+ghost use Rattle.local_object.specs.Going.{Advances, IsFetchedValue, IsOnlyValue, UnlessWaiting, next_here};
+ghost use Rattle.local_object.specs.Taking.{can_begin};
 
 use crate::calls::Calls;
 use crate::coding::{coded_for, is_sendable};
@@ -75,7 +76,8 @@ pub(crate) fn advance(
     requires within { index < length calls.old }
     requires limits { (call : Machine) → slice_get calls.old index ≡ Some call → IsWithinLimits call }
     ensures advanced { IfOk result (λ letters. (call : Machine) → slice_get calls.old index ≡ Some call
-        → MayAdvance places.now calls.old call index kind position calls.new letters.items) }
+        → Advances (can_begin places.now call kind position) places.now calls.old call index kind position
+        calls.new letters.items) }
 
     ensures refused { IfErr result (λ e. e ≡ NoMemory) }
 {
@@ -125,7 +127,9 @@ fn coded_requests(
 ///
 /// `NoMemory` is the only refusal.
 pub(crate) fn fetched(alloc: Global, places: &Places, call: &Call) -> Result<Option<Bytes>, Refusal>
-    ensures value { IfOk result (λ value. IfSome value (IsFetchedValue places.now call.now)) }
+    ensures value { IfOk result (λ value. MatchOption value
+        ((v : List ℕ) → IsFetchedValue places.now call.now v → ⊥) (IsFetchedValue places.now call.now)) }
+
     ensures refused { IfErr result (λ e. e ≡ NoMemory) }
 {
     let phase = call.phase();
@@ -136,10 +140,11 @@ pub(crate) fn fetched(alloc: Global, places: &Places, call: &Call) -> Result<Opt
     decoded(alloc, layout.k(), pieces)
 }
 
-// The value that is decoded from these k pieces. None where they do not decode.
+// The only value that is decoded from these k pieces. None where they do not decode.
 fn decoded(alloc: Global, k: u8, pieces: Vec<Piece>) -> Result<Option<Bytes>, Refusal>
-    ensures value { IfOk result (λ value. IfSome value
-        (λ value. IsDecoded (record { k = k; pieces = pieces.items; value = value }))) }
+    ensures value { IfOk result (λ value. MatchOption value
+        ((v : List ℕ) → IsDecoded (record { k = k; pieces = pieces.items; value = v }) → ⊥)
+        (IsOnlyValue k pieces.items)) }
 
     ensures refused { IfErr result (λ e. e ≡ NoMemory) }
 {

@@ -4,9 +4,11 @@
 
 pub use letter::Letter;
 pub use local_object::LocalObject;
+pub use place::Place;
 pub use progress::{Ended, Progress};
 
 mod calls;
+mod changes;
 mod coding;
 mod going;
 mod letter;

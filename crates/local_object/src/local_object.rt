@@ -14,6 +14,7 @@ use std::alloc::Global;
 use std::marker::Model;
 use tag::Refusal;
 
+mod agreement;
 mod begin;
 mod go_on;
 mod resend;

@@ -1,6 +1,6 @@
 //! What a node keeps for one position.
 
-ghost use Rattle.std.specs.Prelude.{◌≡◌, IfOk, IfErr, OnOk, Some, option_copied};
+ghost use Rattle.std.specs.Prelude.{◌≡◌, ◌-◌, ◌^◌, min, IfOk, IfErr, OnOk, Some, option_copied};
 ghost use Rattle.tag.specs.declared.refusal.Refusal.TheVariants.{NoMemory};
 
 use bank::{Bank, Reply, Request};
@@ -23,16 +23,21 @@ impl Model for Place {
     ghost use Rattle.bank.specs.contracts.bank.Bank as table;
     ghost use Rattle.local_object.specs.Local.{Place as Heard};
     ghost use Rattle.local_object.specs.Codes.{place_code};
+    ghost use Rattle.local_object.specs.Distinct.{IsInOrderIfOpen};
 
     ghost Value = { Heard };
 
     ghost coded = { place_code arrangement.the_row.coded table.the_row.coded };
 
     ghost view = { λ p. record { position = p.position; layout = p.layout; bank = p.bank } };
+
+    ghost invariant = { λ p. IsInOrderIfOpen p.bank };
 }
 
 impl Place {
     ghost use Rattle.bank.specs.Serve.{served_bank, reply_to};
+    ghost use Rattle.local_object.specs.Changing.{place_bytes};
+    ghost use Rattle.local_object.specs.Distinct.{IsInOrderIfOpen};
     ghost use Rattle.local_object.specs.Local.{bank_or_opened};
 
     /// A position of this layout, without a bank.
@@ -47,28 +52,31 @@ impl Place {
     }
 
     /// The number of the position, from 0.
-    pub(crate) fn position(&self) -> u32
+    pub fn position(&self) -> u32
         ensures { result ≡ self.now.position }
     {
         self.position
     }
 
     /// The layout of the position.
-    pub(crate) fn layout(&self) -> &Layout
+    pub fn layout(&self) -> &Layout
         ensures { result.now ≡ self.now.layout }
     {
         &self.layout
     }
 
     /// The bank, once a request has reached it.
-    pub(crate) fn bank(&self) -> Option<&Bank>
-        ensures { option_copied result ≡ self.now.bank }
+    pub fn bank(&self) -> Option<&Bank>
+        ensures bank { option_copied result ≡ self.now.bank }
+        ensures order { IsInOrderIfOpen self.now.bank }
     {
         self.bank.as_ref()
     }
 
     /// The number of bytes of all pieces in the bank, or `u64::MAX` where it is greater.
-    pub(crate) fn bytes(&self) -> u64 {
+    pub(crate) fn bytes(&self) -> u64
+        ensures { result ≡ min (place_bytes self.now) (2 ^ 64 - 1) }
+    {
         match &self.bank {
             Some(bank) => bank.bytes_anew(),
             None => 0,

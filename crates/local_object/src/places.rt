@@ -1,12 +1,13 @@
 //! The positions that a node has heard of.
 
 ghost use Rattle.std.specs.Prelude.{◌≡◌, ◌==◌, [], ◌∷◌, None, IfOk, IfErr, OnOk, IsSome, MatchOption, option_copied};
-ghost use Rattle.std.specs.Prelude.{if◌then◌else◌, nat_lt, position};
+ghost use Rattle.std.specs.Prelude.{if◌then◌else◌, nat_lt, position, ◌-◌, ◌^◌, min, sum_by};
 ghost use Rattle.tag.specs.declared.refusal.Refusal.TheVariants.{NoMemory};
 ghost use Rattle.bank.specs.Serve.{served_bank, reply_to};
 ghost use Rattle.local_object.specs.Local.{added_place, bank_in, bank_or_opened, greatest_position, layout_in};
 ghost use Rattle.local_object.specs.Local.{place_at, with_bank};
-ghost use Rattle.local_object.specs.Distinct.{IsPlaceAt};
+ghost use Rattle.local_object.specs.Changing.{place_bytes};
+ghost use Rattle.local_object.specs.Distinct.{IsInOrderIfOpen, IsPlaceAt};
 
 use crate::place::Place;
 use bank::{Bank, Reply, Request};
@@ -49,6 +50,13 @@ impl Places {
         Ok(Places { places })
     }
 
+    /// All positions, in the order in which the node heard of them.
+    pub(crate) fn all(&self) -> &[Place]
+        ensures { result.now ≡ self.now }
+    {
+        &self.places
+    }
+
     /// The layout of a position, if the node has heard of it. The number of the position has 64 bits, so that each
     /// position has a next one.
     pub(crate) fn layout_of(&self, position: u64) -> Option<&Layout>
@@ -62,7 +70,8 @@ impl Places {
 
     /// The bank that the node keeps for a position, if a request has reached it.
     pub(crate) fn bank_of(&self, position: u32) -> Option<&Bank>
-        ensures { option_copied result ≡ bank_in (place_at self.now position) }
+        ensures bank { option_copied result ≡ bank_in (place_at self.now position) }
+        ensures order { IsInOrderIfOpen (bank_in (place_at self.now position)) }
     {
         match place_of(&self.places, u64::from(position)) {
             Some(index) => self.places[index].bank(),
@@ -71,12 +80,10 @@ impl Places {
     }
 
     /// The number of bytes of all pieces in the banks, or `u64::MAX` where it is greater.
-    pub(crate) fn bytes(&self) -> u64 {
-        let mut bytes: u64 = 0;
-        for place in &self.places {
-            bytes = bytes.saturating_add(place.bytes());
-        }
-        bytes
+    pub(crate) fn bytes(&self) -> u64
+        ensures { result ≡ min (sum_by place_bytes self.now) (2 ^ 64 - 1) }
+    {
+        bytes_of(&self.places)
     }
 
     /// The first position, which is 0, and of which the node has always heard.
@@ -139,6 +146,17 @@ impl Places {
         let alloc = *self.places.allocator();
         self.places[index].serve(alloc, member, delta, request)
     }
+}
+
+// The number of bytes of all pieces in the banks of these places, or `u64::MAX` where it is greater.
+fn bytes_of(places: &[Place]) -> u64
+    ensures { result ≡ min (sum_by place_bytes places.now) (2 ^ 64 - 1) }
+{
+    let mut total: u64 = 0;
+    for place in places {
+        total = total.saturating_add(place.bytes());
+    }
+    total
 }
 
 // The greatest of these positions, or 0 where there are none.

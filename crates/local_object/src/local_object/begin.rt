@@ -1,7 +1,7 @@
 //! Calls that begin.
 
 ghost use Rattle.std.specs.Prelude.{◌≡◌, ℕ, ◌+◌, ◌<◌, ◌^◌, ◌∷◌, [], false, None, IfOk, IfErr, OnOk, IsSome, length};
-ghost use Rattle.std.specs.Prelude.{nat_le};
+ghost use Rattle.std.specs.Prelude.{◌⊎◌, nat_le};
 ghost use Rattle.tag.specs.Refusal.{IsByCause, IsExactlyByCause};
 ghost use Rattle.tag.specs.declared.refusal.Refusal.TheVariants.{NoMemory};
 ghost use Rattle.record.specs.Fragments.{AreBytes};
@@ -30,6 +30,7 @@ impl LocalObject {
     pub fn begin_read(&mut self, id: CallId) -> Result<Vec<Letter>, Refusal>
         ensures done { IfOk result (λ letters. IsDone self.old (LocalEvent.BeginRead id ∷ []) self.new letters.items) }
         ensures cause { IsByCause (read_cause self.old id) result }
+        ensures unchanged { IfErr result (λ e. (e ≡ NoMemory) ⊎ (self.new ≡ self.old)) }
     {
         self.refuse_open(id)?;
         let first = self.places.first();
@@ -46,6 +47,7 @@ impl LocalObject {
             IsDone self.old (LocalEvent.BeginWrite id value ∷ []) self.new letters.items) }
 
         ensures cause { IsByCause (write_cause self.old id value) result }
+        ensures unchanged { IfErr result (λ e. (e ≡ NoMemory) ⊎ (self.new ≡ self.old)) }
     {
         self.refuse_open(id)?;
         if !is_short(value.as_slice()) {
@@ -71,6 +73,7 @@ impl LocalObject {
             IsDone self.old (LocalEvent.BeginMove id layout ∷ []) self.new letters.items) }
 
         ensures cause { IsByCause (move_cause self.old id) result }
+        ensures unchanged { IfErr result (λ e. (e ≡ NoMemory) ⊎ (self.new ≡ self.old)) }
     {
         self.refuse_open(id)?;
         if self.is_moving() {

@@ -1,11 +1,9 @@
 //! How a call goes on once its phase is complete.
 
-ghost use Rattle.std.specs.Prelude.{◌≡◌, [], IfOk, IfErr, IfSome, OnOk, option_to_list};
+ghost use Rattle.std.specs.Prelude.{◌≡◌, ℕ, List, IfOk, IfErr, MatchOption, OnOk, option_to_list};
 ghost use Rattle.tag.specs.declared.refusal.Refusal.TheVariants.{NoMemory};
-ghost use Rattle.encoder.specs.Fragment.{fragment};
-ghost use Rattle.local_object.specs.Events.{LocalEvent};
-ghost use Rattle.local_object.specs.Going.{HasDone, settled_here};
-ghost use Rattle.local_object.specs.May.{MayHappenHere};
+ghost use Rattle.local_object.specs.Going.{settled_here};
+ghost use Rattle.local_object.specs.Taking.{CanSettle, HasDoneBy, Settles, lead_events};
 
 use crate::going::{advance, ended, fetched, next_here};
 use crate::{LocalObject, Progress};
@@ -18,7 +16,7 @@ impl LocalObject {
     ///
     /// `NoMemory` is the only refusal.
     pub(crate) fn settle(&mut self, id: CallId) -> Result<(), Refusal>
-        ensures done { OnOk result (HasDone self.old self.new [] []) }
+        ensures done { OnOk result (Settles self.old id self.new) }
         ensures refused { IfErr result (λ e. e ≡ NoMemory) }
     {
         let Some(value) = self.fetched(id)? else {
@@ -30,8 +28,8 @@ impl LocalObject {
 
     // The value that the call with this id is to settle, if it is to settle one, and the pieces decode.
     fn fetched(&self, id: CallId) -> Result<Option<Bytes>, Refusal>
-        ensures may { IfOk result (λ value. IfSome value
-            (λ value. MayHappenHere fragment self.now (LocalEvent.Settle id value))) }
+        ensures value { IfOk result (λ value. MatchOption value
+            ((v : List ℕ) → CanSettle self.now id v → ⊥) (CanSettle self.now id)) }
 
         ensures refused { IfErr result (λ e. e ≡ NoMemory) }
     {
@@ -60,8 +58,8 @@ impl LocalObject {
     ///
     /// `NoMemory` is the only refusal.
     pub(crate) fn lead(&mut self, id: CallId) -> Result<Progress, Refusal>
-        ensures done { IfOk result (λ progress.
-            HasDone self.old self.new progress.letters.items (option_to_list progress.ended)) }
+        ensures done { IfOk result (λ progress. HasDoneBy self.old (lead_events self.old id) self.new
+            progress.letters.items (option_to_list progress.ended)) }
 
         ensures refused { IfErr result (λ e. e ≡ NoMemory) }
     {

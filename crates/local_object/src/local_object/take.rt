@@ -1,9 +1,11 @@
 //! Replies that calls take.
 
-ghost use Rattle.std.specs.Prelude.{◌≡◌, [], true, IfOk, IfErr, OnOk, option_to_list};
+ghost use Rattle.std.specs.Prelude.{◌≡◌, ◌∷◌, [], true, IfOk, IfErr, OnOk, option_to_list};
 ghost use Rattle.tag.specs.declared.refusal.Refusal.TheVariants.{NoMemory};
 ghost use Rattle.local_object.specs.Doing.{is_taken};
+ghost use Rattle.local_object.specs.Events.{LocalEvent};
 ghost use Rattle.local_object.specs.Going.{HasDone, taken_here};
+ghost use Rattle.local_object.specs.Taking.{HasDoneBy, IsTaken};
 
 use super::has_next;
 use crate::{Letter, LocalObject, Progress};
@@ -23,6 +25,9 @@ impl LocalObject {
     pub fn take(&mut self, letter: Letter) -> Result<Progress, Refusal>
         ensures done { IfOk result (λ progress.
             HasDone self.old self.new progress.letters.items (option_to_list progress.ended)) }
+
+        ensures taken { IfOk result (λ progress. IsTaken (is_taken self.old letter) self.old letter self.new
+            progress.letters.items (option_to_list progress.ended)) }
 
         ensures refused { IfErr result (λ e. e ≡ NoMemory) }
     {
@@ -54,7 +59,7 @@ impl LocalObject {
     // The call that the reply names takes it, and the node hears of its layouts.
     fn take_reply(&mut self, letter: Letter) -> Result<(), Refusal>
         requires { is_taken self.old letter ≡ true }
-        ensures done { OnOk result (HasDone self.old self.new [] []) }
+        ensures done { OnOk result (HasDoneBy self.old (LocalEvent.Take letter ∷ []) self.new [] []) }
         ensures refused { IfErr result (λ e. e ≡ NoMemory) }
     {
         self.learn(&letter)?;

@@ -1,13 +1,13 @@
 //! Read access to an object.
 
-ghost use Rattle.std.specs.Prelude.{◌≡◌, length};
+ghost use Rattle.std.specs.Prelude.{◌≡◌, ◌-◌, ◌^◌, false, length, min};
+ghost use Rattle.local_object.specs.Changing.{IsUnchangedBy, is_changed_by, stored_bytes};
 ghost use Rattle.local_object.specs.Doing.{is_moving, is_open_move};
 
 use crate::calls::is_move;
-use crate::{Letter, LocalObject};
-use bank::{Answer, Bank, Request, Status};
-use mail::Body;
-use tag::{CallId, Tag};
+use crate::changes::changes;
+use crate::{Letter, LocalObject, Place};
+use tag::CallId;
 
 impl LocalObject {
     /// How many calls are open here.
@@ -34,59 +34,38 @@ impl LocalObject {
         }
     }
 
+    /// The positions that the node has heard of, in the order in which it heard of them. Position 0 is among them.
+    pub fn places(&self) -> &[Place]
+        ensures { result.now ≡ self.now.places }
+    {
+        self.places.all()
+    }
+
     /// The number of bytes of all pieces in the node's banks, or `u64::MAX` where it is greater. It takes time linear
     /// in the number of tags.
-    pub fn bytes_stored(&self) -> u64 {
+    pub fn bytes_stored(&self) -> u64
+        ensures { result ≡ min (stored_bytes self.now) (2 ^ 64 - 1) }
+    {
         self.places.bytes()
     }
 
-    // Whether a letter tells the node of a position of which it has not heard.
-    fn teaches(&self, letter: &Letter) -> bool {
-        let position = u64::from(letter.message.position);
-        self.places.layout_of(position).is_none()
-            || (letter.next.is_some() && self.places.layout_of(position + 1).is_none())
-    }
-
-    /// Whether serving a letter may change the object. Where it is false, nothing but the opening of a bank happens if
-    /// the node serves the letter. It is true of some requests that change nothing: of a pre-write whose piece arrived
-    /// before, and of a request that finalizes a tag which is final and not the greatest one.
-    pub fn is_changed_by(&self, letter: &Letter) -> bool {
+    /// Whether serving a letter may change more than what the node has heard of: a letter that is served, and whose
+    /// request raises a pointer, brings a piece, or finalizes a tag that is not the greatest finalized one. Where it is
+    /// false and the node serves the letter, it hears of the layouts in the letter and maybe opens a bank, and nothing
+    /// else changes. It is true of some requests that change nothing: of a pre-write whose piece arrived before, and of
+    /// a request that finalizes a tag which is final and not the greatest one.
+    ///
+    /// So a log need not hold a letter for which it is false. A bank that is not there counts as a newly opened one. A
+    /// node that forgets layouts hears of them again from other letters. Only the node that moves objects must forget
+    /// none, and it hears of none by letters: it made them all, and drops each letter of which it does not know all.
+    pub fn is_changed_by(&self, letter: &Letter) -> bool
+        ensures changed { result ≡ is_changed_by self.now letter.now }
+        ensures unchanged { result ≡ false → IsUnchangedBy self.now letter.now }
+    {
         self.is_served(letter)
-            && (self.teaches(letter)
-                || changes(
-                    self.places.bank_of(letter.message.position),
-                    &letter.message.body,
-                ))
-    }
-}
-
-// Whether a request may change a bank. A bank that is not there counts as a newly opened one.
-fn changes(bank: Option<&Bank>, body: &Body) -> bool {
-    match body {
-        Body::Request(Request::Spread(status)) => status_of(bank) < *status,
-        Body::Request(Request::PreWrite(_, _)) => true,
-        Body::Request(Request::Finalize(tag)) | Body::Request(Request::Fetch(tag)) => {
-            !greatest_of(bank).is(*tag)
-        }
-        _ => false,
-    }
-}
-
-// The status of the bank's pointer.
-fn status_of(bank: Option<&Bank>) -> Status {
-    match bank {
-        Some(bank) => bank.pointer().status(),
-        None => Status::Unset,
-    }
-}
-
-// The greatest finalized tag of the bank.
-fn greatest_of(bank: Option<&Bank>) -> Tag {
-    match bank {
-        Some(bank) => match bank.query(0).answer {
-            Answer::Greatest(tag) => tag,
-            _ => Tag::OPENING,
-        },
-        None => Tag::OPENING,
+            && changes(
+                self.places.bank_of(letter.message.position),
+                &letter.message.body,
+            )
     }
 }

@@ -1,4 +1,4 @@
-use Rattle.std.proofs.Common.{◌≡◌, ◌⊎◌, List, ◌∷◌, [], ap, sym, subst, ◌∙◌}
+use Rattle.std.proofs.Common.{◌≡◌, ◌⊎◌, List, ◌∷◌, [], refl, ap, sym, subst, ◌∙◌}
 use Rattle.std.specs.Option.{option_to_list}
 use Rattle.call.specs.declared.next.Next.TheVariants as next
 use Rattle.call.specs.Call.{OpenCall as Machine}
@@ -6,10 +6,10 @@ use Rattle.local_object.specs.declared.letter.Letter.{Letter}
 use Rattle.local_object.specs.declared.progress.Ended.{Ended}
 use Rattle.local_object.specs.Codes.{at_node}
 use Rattle.local_object.specs.Ended.{told_of}
-use Rattle.local_object.specs.Going.{HasDone}
+use Rattle.local_object.specs.Taking.{HasDoneBy, lead_events}
 use Rattle.local_object.proofs.CarriedCallLemmas.{same_call}
-use Rattle.local_object.proofs.DoneLemmas.{done_from}
-use Rattle.local_object.proofs.OpenLemmas.{advanced_done, answered_done, object}
+use Rattle.local_object.proofs.DoneLemmas.{by_from, by_none}
+use Rattle.local_object.proofs.OpenLemmas.{advanced_by, answered_by, lead_none, lead_waits, object}
 use Rattle.local_object.proofs.local_object.LocalObject.lead.Goals as goal
 
 pub returns-in_ok-ended-in-Answer-clause-done : goal.returns-in_ok-ended-in-Answer-clause-done
@@ -17,8 +17,8 @@ returns-in_ok-ended-in-Answer-clause-done c =
     let o = c.self.inside in
     let call = c.at.result.now in
     let removed = same_call c.remove-call.result call (sym c.remove-call.ensures.call ∙ c.at.ensures) in
-    done_from c.self.view_is
-    (answered_done o.node o.delta o.places c.in-Some.ensures.distinct c.in-Some.ensures.index call c.at.ensures c.remove-call.new.self
+    by_from (λ l. lead_events l c.args.id) c.self.view_is
+    (answered_by o.node o.delta o.places c.in-Some.ensures.distinct c.in-Some.ensures.index call c.at.ensures c.remove-call.new.self
     c.answered.result.letters.items (option_to_list c.answered.result.ended) (sym c.next_here.ensures.next ∙ c.in-Answer.is)
     c.remove-call.ensures.rest c.answered.ensures.letters
     (ap option_to_list c.answered.ensures.ended
@@ -32,9 +32,33 @@ returns-in_ok-letters-in-Restart-clause-done c =
     let position = c.in-Restart.position in
     let new = object o.node o.delta o.places c.advance.new.calls in
     let step = subst (λ s. (s ≡ next.Restart kind position) ⊎ (s ≡ next.Begin kind position)) c.next_here.ensures.next c.in-Restart.is in
-    subst (λ (ended : List Ended). HasDone c.args.self.now new c.sent.result.letters.items ended)
+    subst (λ (ended : List Ended). HasDoneBy c.args.self.now (lead_events c.args.self.now c.args.id) new c.sent.result.letters.items ended)
     (sym (ap option_to_list c.sent.ensures.ended))
-    (subst (λ (letters : List Letter). HasDone c.args.self.now new letters []) (sym c.sent.ensures.letters)
-    (done_from c.self.view_is
-    (advanced_done o.node o.delta o.places c.in-Some.ensures.distinct c.in-Some.ensures.index call c.at.ensures kind position
+    (subst (λ (letters : List Letter). HasDoneBy c.args.self.now (lead_events c.args.self.now c.args.id) new letters [])
+    (sym c.sent.ensures.letters)
+    (by_from (λ l. lead_events l c.args.id) c.self.view_is
+    (advanced_by o.node o.delta o.places c.in-Some.ensures.distinct c.in-Some.ensures.index call c.at.ensures kind position
     c.advance.new.calls c.in_ok-letters-in-Restart.letters.items step (c.in_ok-letters-in-Restart.ensures.advanced call c.at.ensures))))
+
+pub returns-in_default-clause-done : goal.returns-in_default-clause-done
+returns-in_default-clause-done c =
+    let o = c.self.inside in
+    let old = c.args.self.now in
+    let letters = c.none.result.letters.items in
+    let told = option_to_list c.none.result.ended in
+    subst (λ events. HasDoneBy old events old letters told)
+    (sym (ap (λ l. lead_events l c.args.id) (sym c.self.view_is)
+    ∙ lead_none o.node o.delta o.places o.calls c.args.id c.in_default.ensures.index))
+    (by_none old old letters told refl c.none.ensures.letters (ap option_to_list c.none.ensures.ended))
+
+pub returns-in-Wait-clause-done : goal.returns-in-Wait-clause-done
+returns-in-Wait-clause-done c =
+    let o = c.self.inside in
+    let old = c.args.self.now in
+    let letters = c.none-in-Wait.result.letters.items in
+    let told = option_to_list c.none-in-Wait.result.ended in
+    let step = subst (λ s. (s ≡ next.Wait) ⊎ (s ≡ next.Settle)) c.next_here.ensures.next c.in-Wait.is in
+    subst (λ events. HasDoneBy old events old letters told)
+    (sym (ap (λ l. lead_events l c.args.id) (sym c.self.view_is)
+    ∙ lead_waits o.node o.delta o.places c.in-Some.ensures.distinct c.in-Some.ensures.index c.at.result.now c.at.ensures step))
+    (by_none old old letters told refl c.none-in-Wait.ensures.letters (ap option_to_list c.none-in-Wait.ensures.ended))

@@ -1,0 +1,131 @@
+-- Letters that change nothing but what a node has heard of.
+use Rattle.std.proofs.Common.{◌≡◌, ℕ, ◌&&◌, Bool, true, false, cond, eqb, eqb-true, eq-eqb, [], ◌∷◌, Option, Some, None, refl, sym}
+use Rattle.std.proofs.Common.{subst, ap, ◌∙◌}
+use Rattle.std.proofs.lemmas.Bool.{false≢true}
+use Rattle.encoder.specs.Fragment.{fragment}
+use Rattle.layout.specs.Layout.{Layout}
+use Rattle.bank.specs.Bank.{Bank}
+use Rattle.bank.specs.Serve.{served_bank}
+use Rattle.bank.specs.declared.request.Request.{Request}
+use Rattle.mail.specs.declared.message.Body.{Body}
+use Rattle.mail.specs.declared.message.Body.TheVariants as body
+use Rattle.local_object.specs.declared.letter.Letter.{Letter}
+use Rattle.local_object.specs.Changing.{HasOnlyHeard, IsUnchangedBy, changes_bank, changes_in_body, is_changed_by}
+use Rattle.local_object.specs.Distinct.{IsInOrderIfOpen}
+use Rattle.local_object.specs.Doing.{is_served}
+use Rattle.local_object.specs.Events.{LocalEvent, all_done, learnt_from, served_here}
+use Rattle.local_object.specs.Local.{LocalObject, Place, bank_here, bank_in, bank_or_opened, new_local, place_at}
+use Rattle.local_object.specs.Local.{with_bank}
+use Rattle.local_object.proofs.HeardLayoutLemmas.{bank_here_heard, bank_put_elsewhere, bank_put_there, calls_heard, delta_heard}
+use Rattle.local_object.proofs.HeardLayoutLemmas.{layout_kept, node_heard}
+use Rattle.local_object.proofs.LearntLemmas.{known_learnt}
+use Rattle.local_object.proofs.PlaceLemmas.{layout_bank}
+use Rattle.local_object.proofs.UnchangedBankLemmas.{either_in_order, unchanged_bank}
+
+module _ (local : LocalObject) (letter : Letter) where
+  abbrev position : ℕ
+  position = letter.message.position
+
+  abbrev heard : LocalObject
+  heard = learnt_from local letter
+
+  -- what was only heard of
+  only_heard : HasOnlyHeard local letter heard
+  only_heard = record {
+    node = node_heard local letter;
+    delta = delta_heard local letter;
+    calls = calls_heard local letter;
+    kept = layout_kept local letter;
+    heard = λ m layout e. e;
+    banks = λ m member named. bank_here_heard local letter m member;
+  }
+
+  -- nothing at all happened
+  nothing : HasOnlyHeard local letter local
+  nothing = record {
+    node = refl;
+    delta = refl;
+    calls = refl;
+    kept = λ m layout e. e;
+    heard = layout_kept local letter;
+    banks = λ m member named. refl;
+  }
+
+  abbrev old : Bank
+  old = bank_here local position letter.message.member
+
+  abbrev served : Request → Bank
+  served asked = served_bank (bank_here heard position letter.message.member) asked 0
+
+  -- the bank is put back as it was
+  module _ (order : IsInOrderIfOpen (bank_in (place_at local.places position))) where
+    same : (asked : Request) → changes_bank old asked ≡ false → served asked ≡ old
+    same asked e =
+        ap (λ b. served_bank b asked 0) (bank_here_heard local letter position letter.message.member)
+        ∙ unchanged_bank old asked
+        (either_in_order (bank_in (place_at local.places position)) letter.message.member local.delta order) e
+
+    banks : (asked : Request) → changes_bank old asked ≡ false → (m member : ℕ) → (m ≡ position → member ≡ letter.message.member)
+        → (b : Bool) → eqb m position ≡ b
+        → bank_or_opened (bank_in (place_at (with_bank heard.places position (served asked)) m)) member heard.delta
+        ≡ bank_here local m member
+    banks asked e m member named true t =
+        let here = eqb-true m position t in
+        ap (λ k. bank_or_opened (bank_in (place_at (with_bank heard.places position (served asked)) k)) member heard.delta) here
+        ∙ ap (λ o. bank_or_opened o member heard.delta)
+        (bank_put_there heard.places position (served asked) (known_learnt local letter))
+        ∙ same asked e ∙ ap (bank_here local position) (sym (named here)) ∙ ap (λ k. bank_here local k member) (sym here)
+    banks asked e m member named false t =
+        ap (λ o. bank_or_opened o member heard.delta)
+        (bank_put_elsewhere heard.places position (served asked) m (λ e. false≢true (sym t ∙ eq-eqb m position e)))
+        ∙ bank_here_heard local letter m member
+
+    put_back : (asked : Request) → changes_bank old asked ≡ false
+        → HasOnlyHeard local letter (served_here heard letter (body.Request asked)).local
+    put_back asked e = record {
+      node = node_heard local letter;
+      delta = delta_heard local letter;
+      calls = calls_heard local letter;
+      kept = λ m layout k. layout_bank heard.places position (served asked) m ∙ layout_kept local letter m layout k;
+      heard = λ m layout k. sym (layout_bank heard.places position (served asked) m) ∙ k;
+      banks = λ m member named. banks asked e m member named (eqb m position) refl;
+    }
+
+    in_body : (b : Body) → changes_in_body (bank_here local position letter.message.member) b ≡ false
+        → HasOnlyHeard local letter (served_here heard letter b).local
+    in_body (body.Request asked) e = put_back asked e
+    in_body (body.Reply kind made) e = only_heard
+
+    pub unchanged : is_changed_by local letter ≡ false → IsUnchangedBy local letter
+    unchanged e = go (is_served local letter) e
+      where
+        go : (b : Bool) → (b && changes_in_body (bank_here local position letter.message.member) letter.message.body) ≡ false
+            → HasOnlyHeard local letter (all_done fragment local (cond b (LocalEvent.Serve letter ∷ []) [])).local
+        go true e = in_body letter.message.body e
+        go false e = nothing
+
+-- of an object of which the node has not heard
+none_open : (first : Layout) (b : Bool)
+    → IsInOrderIfOpen (bank_in (cond b (Some (let p : Place = record { position = 0; layout = first; bank = None } in p)) None))
+none_open first true = tt
+none_open first false = tt
+
+pub new_unchanged : (node : ℕ) (delta : Option ℕ) (first : Layout) (letter : Letter)
+    → is_changed_by (new_local node delta first) letter ≡ false → IsUnchangedBy (new_local node delta first) letter
+new_unchanged node delta first letter =
+    unchanged (new_local node delta first) letter (none_open first (eqb 0 letter.message.position))
+
+-- a letter that is not served
+pub unserved : (local : LocalObject) (letter : Letter) → is_served local letter ≡ false → IsUnchangedBy local letter
+unserved local letter e =
+    subst (λ b. HasOnlyHeard local letter (all_done fragment local (cond b (LocalEvent.Serve letter ∷ []) [])).local) (sym e)
+    (nothing local letter)
+
+-- whether a letter that is served changes the object
+pub changed_is : (o local : LocalObject) → o ≡ local → (letter : Letter) (r : Bool) → is_served local letter ≡ true
+    → r ≡ changes_in_body (bank_here o letter.message.position letter.message.member) letter.message.body
+    → r ≡ is_changed_by local letter
+changed_is o local view letter r served is =
+    let message = letter.message in
+    let changes : LocalObject → Bool = λ l. changes_in_body (bank_here l message.position message.member) message.body in
+    is ∙ ap changes view ∙ sym (ap (λ b. b && changes local) served)

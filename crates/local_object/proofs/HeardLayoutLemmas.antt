@@ -1,0 +1,112 @@
+-- What stays where a node hears of layouts, and where a bank is put back.
+use Rattle.std.proofs.Common.{◌≡◌, ℕ, suc, Bool, true, false, cond, eqb, eqb-true, List, [], ◌∷◌, ◌++◌, Option, Some, None, IsSome}
+use Rattle.std.proofs.Common.{refl, sym, ap, ◌∙◌}
+use Rattle.std.proofs.lemmas.Bool.{false≢true}
+use Rattle.layout.specs.Layout.{Layout}
+use Rattle.bank.specs.Bank.{Bank}
+use Rattle.local_object.specs.declared.letter.Letter.{Letter}
+use Rattle.local_object.specs.Events.{learnt_from}
+use Rattle.local_object.specs.Local.{LocalObject, Place, added_place, bank_here, bank_in, bank_or_opened, layout_here, layout_in, learnt}
+use Rattle.local_object.specs.Local.{learnt_if, place_at, with_bank}
+use Rattle.local_object.proofs.LearntLemmas.{place_learnt_if}
+
+-- a position of which a node hears has no bank
+bank_push : (places : List Place) (p : Place) (n : ℕ) → p.bank ≡ None
+    → bank_in (place_at (places ++ p ∷ []) n) ≡ bank_in (place_at places n)
+bank_push [] p n none = go (eqb p.position n)
+  where
+    go : (b : Bool) → bank_in (cond b (Some p) None) ≡ None
+    go true = none
+    go false = refl
+bank_push (q ∷ qs) p n none = go (eqb q.position n) (bank_push qs p n none)
+  where
+    go : (b : Bool) → bank_in (place_at (qs ++ p ∷ []) n) ≡ bank_in (place_at qs n)
+        → bank_in (cond b (Some q) (place_at (qs ++ p ∷ []) n)) ≡ bank_in (cond b (Some q) (place_at qs n))
+    go true rest = refl
+    go false rest = rest
+
+bank_added : (places : List Place) (o : Option Place) (m : ℕ) (layout : Layout) (n : ℕ)
+    → bank_in (place_at (added_place places o m layout) n) ≡ bank_in (place_at places n)
+bank_added places None m layout n = bank_push places (record { position = m; layout = layout; bank = None }) n refl
+bank_added places (Some place) m layout n = refl
+
+bank_learnt_if : (local : LocalObject) (m : ℕ) (next : Option Layout) (n : ℕ)
+    → bank_in (place_at (learnt_if local m next).places n) ≡ bank_in (place_at local.places n)
+bank_learnt_if local m None n = refl
+bank_learnt_if local m (Some layout) n = bank_added local.places (place_at local.places m) m layout n
+
+delta_learnt_if : (local : LocalObject) (m : ℕ) (next : Option Layout) → (learnt_if local m next).delta ≡ local.delta
+delta_learnt_if local m None = refl
+delta_learnt_if local m (Some layout) = refl
+
+calls_learnt_if : (local : LocalObject) (m : ℕ) (next : Option Layout) → (learnt_if local m next).calls ≡ local.calls
+calls_learnt_if local m None = refl
+calls_learnt_if local m (Some layout) = refl
+
+node_learnt_if : (local : LocalObject) (m : ℕ) (next : Option Layout) → (learnt_if local m next).node ≡ local.node
+node_learnt_if local m None = refl
+node_learnt_if local m (Some layout) = refl
+
+layout_of_place : (o : Option Place) (layout : Layout) → layout_in o ≡ Some layout
+    → (p : Place) × (o ≡ Some p) × (layout_in (Some p) ≡ Some layout)
+layout_of_place None layout e = absurd (cc)
+layout_of_place (Some p) layout e = (p, refl, e)
+
+-- what a node keeps after it hears of the layouts in a letter
+module _ (local : LocalObject) (letter : Letter) where
+  abbrev n : ℕ
+  n = letter.message.position
+
+  pub node_heard : (learnt_from local letter).node ≡ local.node
+  node_heard = node_learnt_if (learnt local n letter.layout) (suc n) letter.next
+
+  pub delta_heard : (learnt_from local letter).delta ≡ local.delta
+  delta_heard = delta_learnt_if (learnt local n letter.layout) (suc n) letter.next
+
+  pub calls_heard : (learnt_from local letter).calls ≡ local.calls
+  calls_heard = calls_learnt_if (learnt local n letter.layout) (suc n) letter.next
+
+  pub bank_heard : (m : ℕ) → bank_in (place_at (learnt_from local letter).places m) ≡ bank_in (place_at local.places m)
+  bank_heard m =
+      bank_learnt_if (learnt local n letter.layout) (suc n) letter.next m
+      ∙ bank_added local.places (place_at local.places n) n letter.layout m
+
+  pub bank_here_heard : (m member : ℕ) → bank_here (learnt_from local letter) m member ≡ bank_here local m member
+  bank_here_heard m member =
+      ap (λ o. bank_or_opened o member (learnt_from local letter).delta) (bank_heard m)
+      ∙ ap (bank_or_opened (bank_in (place_at local.places m)) member) delta_heard
+
+  pub layout_kept : (m : ℕ) (layout : Layout) → layout_here local m ≡ Some layout → layout_here (learnt_from local letter) m ≡ Some layout
+  layout_kept m layout e =
+      let p = layout_of_place (place_at local.places m) layout e in
+      let first : place_at (learnt local n letter.layout).places m ≡ Some p.0 =
+      place_learnt_if local n (Some letter.layout) m p.0 p.1 in
+      ap layout_in (place_learnt_if (learnt local n letter.layout) (suc n) letter.next m p.0 first) ∙ p.2
+
+-- Banks that are put
+
+pub bank_put_there : (places : List Place) (n : ℕ) (bank : Bank) → IsSome (place_at places n)
+    → bank_in (place_at (with_bank places n bank) n) ≡ Some bank
+bank_put_there [] n bank known = absurd (false≢true known)
+bank_put_there (p ∷ ps) n bank known = go (eqb p.position n) refl known (λ k. bank_put_there ps n bank k)
+  where
+    go : (b : Bool) → eqb p.position n ≡ b → IsSome (cond b (Some p) (place_at ps n))
+        → (IsSome (place_at ps n) → bank_in (place_at (with_bank ps n bank) n) ≡ Some bank)
+        → bank_in (place_at (cond b (record p { bank = Some bank } ∷ ps) (p ∷ with_bank ps n bank)) n) ≡ Some bank
+    go true t known rest = ap (λ b. bank_in (cond b (Some (record p { bank = Some bank })) (place_at ps n))) t
+    go false t known rest = ap (λ b. bank_in (cond b (Some p) (place_at (with_bank ps n bank) n))) t ∙ rest known
+
+pub bank_put_elsewhere : (places : List Place) (n : ℕ) (bank : Bank) (m : ℕ) → (m ≡ n → ⊥)
+    → bank_in (place_at (with_bank places n bank) m) ≡ bank_in (place_at places m)
+bank_put_elsewhere [] n bank m other = refl
+bank_put_elsewhere (p ∷ ps) n bank m other =
+    go (eqb p.position n) (eqb p.position m) refl refl (bank_put_elsewhere ps n bank m other)
+  where
+    go : (a b : Bool) → eqb p.position n ≡ a → eqb p.position m ≡ b
+        → bank_in (place_at (with_bank ps n bank) m) ≡ bank_in (place_at ps m)
+        → bank_in (place_at (cond a (record p { bank = Some bank } ∷ ps) (p ∷ with_bank ps n bank)) m)
+        ≡ bank_in (cond b (Some p) (place_at ps m))
+    go true true s t rest = absurd (other (sym (eqb-true p.position m t) ∙ eqb-true p.position n s))
+    go true false s t rest = ap (λ b. bank_in (cond b (Some (record p { bank = Some bank })) (place_at ps m))) t
+    go false true s t rest = ap (λ b. bank_in (cond b (Some p) (place_at (with_bank ps n bank) m))) t
+    go false false s t rest = ap (λ b. bank_in (cond b (Some p) (place_at (with_bank ps n bank) m))) t ∙ rest

@@ -1,0 +1,98 @@
+-- The contracts that docs/trusted.md lists do not depend on this file; other contracts and proofs do.
+-- By exactly which events a call goes on after it took a reply.
+use Rattle.std.specs.Prelude.{◌≡◌, ◌⊎◌, ℕ, ◌+◌, ◌^◌, ◌&&◌, Bool, true, false, is_some, if◌then◌else◌, nat_lt}
+use Rattle.std.specs.Prelude.{List, [], ◌∷◌, ◌++◌, Option, None, Some}
+use Rattle.bank.specs.declared.kind.Kind.{Kind}
+use Rattle.encoder.specs.Fragment.{fragment}
+use Rattle.call.specs.declared.next.Next.{Next}
+use Rattle.call.specs.declared.next.Next.TheVariants as next
+use Rattle.call.specs.Call.{OpenCall as Machine}
+use Rattle.network.specs.Worlds.{NodeCall, open_call}
+use Rattle.local_object.specs.declared.letter.Letter.{Letter}
+use Rattle.local_object.specs.declared.progress.Ended.{Ended}
+use Rattle.local_object.specs.Coding.{is_sendable}
+use Rattle.local_object.specs.Doing.{IsDone}
+use Rattle.local_object.specs.Ended.{all_told}
+use Rattle.local_object.specs.Events.{LocalEvent, all_done}
+use Rattle.local_object.specs.Going.{IsFetchedValue, next_here}
+use Rattle.local_object.specs.Local.{LocalObject, Place, layout_in, place_at}
+use Rattle.local_object.specs.May.{IsCarriedOut}
+
+-- a call as the machine that carries it out
+abbrev pub machine_of : NodeCall → Machine
+machine_of call = record {
+  id = call.id;
+  kind = call.kind;
+  settled = call.settled;
+  stage = call.stage;
+  phase = call.phase;
+}
+
+-- whether a call can begin a phase of this kind at this position: the node has heard of the position, there is a number
+-- for the phase, and the value can be encoded if its pieces are sent
+abbrev pub can_begin : List Place → Machine → Kind → (position : ℕ) → Bool
+can_begin places call kind position =
+    is_some (layout_in (place_at places position))
+    && (nat_lt (call.phase.number + 1) (2 ^ 32) && is_sendable kind call)
+
+-- a call begins a phase, if it can
+abbrev pub begin_events : List Place → Machine → Kind → (position : ℕ) → List LocalEvent
+begin_events places call kind position =
+    if can_begin places call kind position then LocalEvent.Advance call.id ∷ [] else []
+
+-- by which events a call goes on that does this next
+abbrev pub step_events : List Place → Machine → Next → List LocalEvent
+step_events places call next.Wait = []
+step_events places call next.Settle = []
+step_events places call (next.Restart kind position) = begin_events places call kind position
+step_events places call (next.Begin kind position) = begin_events places call kind position
+step_events places call next.Answer = LocalEvent.Answer call.id ∷ []
+
+-- by which events a call goes on, if there is one
+abbrev pub call_events : List Place → Option NodeCall → List LocalEvent
+call_events places None = []
+call_events places (Some call) = step_events places (machine_of call) (next_here (machine_of call))
+
+-- by which events the call with this id goes on
+abbrev pub lead_events : LocalObject → (id : ℕ) → List LocalEvent
+lead_events local id = call_events local.places (open_call local.calls id)
+
+-- the call with this id is to settle what it fetched, and its pieces decode to this value
+pub record CanSettle (local : LocalObject) (id : ℕ) (value : List ℕ) : Type 0 where
+  pub call : NodeCall
+  pub carried : IsCarriedOut local id call
+  pub next : next_here (machine_of call) ≡ next.Settle
+  pub fetched : IsFetchedValue local.places (machine_of call) value
+
+-- by these events the call with this id settles what it fetched: by none exactly where it can settle nothing
+abbrev pub AreSettling : LocalObject → (id : ℕ) → List LocalEvent → Type 0
+AreSettling local id events =
+    ((events ≡ []) × ((value : List ℕ) → CanSettle local id value → ⊥))
+    ⊎ ((value : List ℕ) × CanSettle local id value × (events ≡ LocalEvent.Settle id value ∷ []))
+
+-- these events may happen, after which the node keeps this, has sent these letters, and has answered these calls
+pub record HasDoneBy (old : LocalObject) (events : List LocalEvent) (new : LocalObject) (letters : List Letter)
+    (ended : List Ended) : Type 0 where
+  pub done : IsDone old events new letters
+  pub told : ended ≡ all_told fragment old events
+
+-- the call with this id settled what it fetched, if it could
+pub record Settles (old : LocalObject) (id : ℕ) (new : LocalObject) : Type 0 where
+  pub events : List LocalEvent
+  pub settles : AreSettling old id events
+  pub done : HasDoneBy old events new [] []
+
+-- after a reply was taken, the call settles what it fetched, if it can, and then goes on
+pub record GoesOn (old : LocalObject) (letter : Letter) (new : LocalObject) (letters : List Letter)
+    (ended : List Ended) : Type 0 where
+  pub settling : List LocalEvent
+  pub settles : AreSettling (all_done fragment old (LocalEvent.Take letter ∷ [])).local letter.message.call settling
+  pub leads : HasDoneBy old
+      (LocalEvent.Take letter ∷ settling
+      ++ lead_events (all_done fragment old (LocalEvent.Take letter ∷ settling)).local letter.message.call)
+      new letters ended
+
+-- what becomes of a letter that may be a reply to a call that is open here: if it is one, the call takes it and goes on
+abbrev pub IsTaken : Bool → LocalObject → Letter → LocalObject → List Letter → List Ended → Type 0
+IsTaken false old letter new letters ended = HasDoneBy old [] new letters ended
+IsTaken true old letter new letters ended = GoesOn old letter new letters ended

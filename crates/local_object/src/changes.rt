@@ -1,0 +1,79 @@
+//! Which requests may change a bank.
+
+ghost use Rattle.std.specs.Prelude.{◌≡◌, ℕ, not, Option, option_copied};
+ghost use Rattle.bank.specs.Knowledge.{status_le};
+ghost use Rattle.bank.specs.Pointer.{status_of};
+ghost use Rattle.bank.specs.Serve.{greatest_final};
+ghost use Rattle.local_object.specs.Changing.{changes_bank, changes_in_body};
+ghost use Rattle.local_object.specs.Local.{bank_or_opened};
+
+use bank::{Answer, Bank, Request, Status};
+use mail::Body;
+use tag::Tag;
+
+/// Whether a message with this body is a request that may change a bank. A bank that is not there counts as a newly
+/// opened one.
+pub(crate) fn changes(bank: Option<&Bank>, body: &Body) -> bool
+    ensures { (member : ℕ) (delta : Option ℕ)
+        → result ≡ changes_in_body (bank_or_opened (option_copied bank.entry) member delta) body.now }
+{
+    match body {
+        Body::Request(request) => is_changed(bank, request),
+        Body::Reply { kind: _, reply: _ } => false,
+    }
+}
+
+// Whether a request may change a bank.
+fn is_changed(bank: Option<&Bank>, request: &Request) -> bool
+    ensures { (member : ℕ) (delta : Option ℕ)
+        → result ≡ changes_bank (bank_or_opened (option_copied bank.entry) member delta) request.now }
+{
+    match request {
+        Request::Next | Request::Query => false,
+        Request::Spread(status) => rises(status_of(bank), *status),
+        Request::PreWrite(_, _) => true,
+        Request::Finalize(tag) | Request::Fetch(tag) => !greatest_of(bank).is(*tag),
+    }
+}
+
+// Whether a pointer of the first status rises where it is raised to the second.
+fn rises(from: Status, to: Status) -> bool
+    ensures { result ≡ not (status_le to from) }
+{
+    match from {
+        Status::Unset => match to {
+            Status::Unset => false,
+            Status::Pending | Status::Final => true,
+        },
+        Status::Pending => match to {
+            Status::Unset | Status::Pending => false,
+            Status::Final => true,
+        },
+        Status::Final => false,
+    }
+}
+
+// The status of the bank's pointer.
+fn status_of(bank: Option<&Bank>) -> Status
+    ensures { (member : ℕ) (delta : Option ℕ)
+        → result ≡ status_of (bank_or_opened (option_copied bank.entry) member delta).pointer }
+{
+    match bank {
+        Some(bank) => bank.pointer().status(),
+        None => Status::Unset,
+    }
+}
+
+// The greatest finalized tag of the bank.
+fn greatest_of(bank: Option<&Bank>) -> Tag
+    ensures { (member : ℕ) (delta : Option ℕ)
+        → result ≡ greatest_final (bank_or_opened (option_copied bank.entry) member delta) }
+{
+    match bank {
+        Some(bank) => match bank.query(0).answer {
+            Answer::Greatest(tag) => tag,
+            _ => Tag::OPENING,
+        },
+        None => Tag::OPENING,
+    }
+}
