@@ -13,20 +13,20 @@ pub record CallIds : Type 0 where
   pub given : ℕ
 
 -- the next id, if the epoch has one more
-abbrev pub next_id : CallIds → Option ℕ
-next_id ids = if nat_lt ids.given (2 ^ 32) then Some (call_id ids.node ids.epoch ids.given) else None
+abbrev pub next_given_id : CallIds → Option ℕ
+next_given_id ids = if nat_lt ids.given (2 ^ 32) then Some (call_id ids.node ids.epoch ids.given) else None
 
 -- after an id is given, if the epoch has one more
-abbrev pub after_next : CallIds → CallIds
-after_next ids = if nat_lt ids.given (2 ^ 32) then record ids { given = suc ids.given } else ids
+abbrev pub after_given : CallIds → CallIds
+after_given ids = if nat_lt ids.given (2 ^ 32) then record ids { given = suc ids.given } else ids
 
 -- after the next epoch begins, if there is one more
-abbrev pub begun : CallIds → CallIds
-begun ids = if nat_lt (suc ids.epoch) (2 ^ 24) then record ids { epoch = suc ids.epoch; given = 0 } else ids
+abbrev pub with_next_epoch : CallIds → CallIds
+with_next_epoch ids = if nat_lt (suc ids.epoch) (2 ^ 24) then record ids { epoch = suc ids.epoch; given = 0 } else ids
 
 -- the numbers have their ranges
-abbrev pub IsWithin : CallIds → Type 0
-IsWithin ids = (ids.epoch < 2 ^ 24) × (ids.given ≤ 2 ^ 32)
+abbrev pub HasRanges : CallIds → Type 0
+HasRanges ids = (ids.epoch < 2 ^ 24) × (ids.given ≤ 2 ^ 32)
 
 -- ids are the same only where the node, the epoch and the number are
 abbrev pub IdsDiffer : Type 0

@@ -1,6 +1,6 @@
 //! What gives a node's calls their ids.
 ghost use Rattle.std.specs.Prelude.{◌≡◌, ◌+◌, ◌<◌, ◌^◌, IsTrue, nat_lt, suc, if◌then◌else◌};
-ghost use Rattle.call_ids.specs.CallId.{IdsDiffer, next_id, after_next, begun};
+ghost use Rattle.call_ids.specs.CallId.{IdsDiffer, next_given_id, after_given, with_next_epoch};
 
 use std::marker::Model;
 use tag::CallId;
@@ -23,13 +23,13 @@ pub struct CallIds {
 
 impl Model for CallIds {
     ghost use Rattle.std.specs.Prelude.{◌<◌, ◌≤◌, ◌^◌};
-    ghost use Rattle.call_ids.specs.CallId.{CallIds as Ids, IsWithin};
+    ghost use Rattle.call_ids.specs.CallId.{CallIds as Ids, HasRanges};
 
     ghost Value = { Ids };
 
     ghost view = { λ i. record { node = i.node; epoch = i.epoch; given = i.given } };
 
-    ghost invariant = { λ i. IsWithin (record { node = i.node; epoch = i.epoch; given = i.given }) };
+    ghost invariant = { λ i. HasRanges (record { node = i.node; epoch = i.epoch; given = i.given }) };
 }
 
 impl CallIds {
@@ -54,7 +54,7 @@ impl CallIds {
     /// Begins the next epoch, and returns whether there was one more. Where there was none, nothing changes.
     pub fn begin_epoch(&mut self) -> bool
         ensures more { result ≡ nat_lt (suc self.old.epoch) (2 ^ 24) }
-        ensures begun { self.new ≡ begun self.old }
+        ensures begun { self.new ≡ with_next_epoch self.old }
     {
         if self.epoch + 1 == EPOCHS {
             return false;
@@ -66,8 +66,8 @@ impl CallIds {
 
     /// The next id, which differs from all that were given before. None where the epoch has given all of its 2^32 ids.
     pub fn next_id(&mut self) -> Option<CallId>
-        ensures id { result ≡ next_id self.old }
-        ensures given { self.new ≡ after_next self.old }
+        ensures id { result ≡ next_given_id self.old }
+        ensures given { self.new ≡ after_given self.old }
     {
         if self.given == IDS {
             return None;

@@ -8,7 +8,7 @@ use Rattle.local_object.specs.declared.letter.Letter.{Letter}
 use Rattle.local_object.specs.Doing.{IsDone}
 use Rattle.local_object.specs.Local.{LocalObject}
 use Rattle.local_object.specs.Events.{LocalEvent}
-use Rattle.deeds.specs.Named.{NamedLetter, named, with_named}
+use Rattle.deeds.specs.Named.{NamedLetter, with_names, with_named}
 use Rattle.deeds.specs.Kept.{KeptNode}
 use Rattle.deeds.specs.Deeds.{Deed, Notice, after_deeds, all_noticed}
 use Rattle.deeds.specs.May.{AreFed, IsAllowed, IsEventAllowed, IsEventFed, MayAllBeDone}
@@ -101,7 +101,7 @@ resent_handled code node got name letters later resent = record {
   ids = (node.ids, refl, later);
   file = refl;
   objects = λ other. refl;
-  letters = sym (append-nil (named name letters));
+  letters = sym (append-nil (with_names name letters));
   seen = refl;
 }
 
@@ -129,7 +129,7 @@ pub done_handled : (node : KeptNode) (got : List NamedLetter) (name : List ℕ) 
     AllByRecursion (IsEventAllowed node.ids.node node.file.mover) events →
     HaveNextIds node.ids (at_name name events) new.ids → new.file ≡ node.file →
     ((other : List ℕ) → new.objects other ≡ with_named node.objects name local other) →
-    IsHandled fragment node got new (named name sent) (all_noticed fragment name (node.objects name) events)
+    IsHandled fragment node got new (with_names name sent) (all_noticed fragment name (node.objects name) events)
 done_handled node got name events local sent new done fed allowed given file objects = record {
   deeds = at_name name events;
   may = may_at fragment name node.objects events done.may;
@@ -139,6 +139,6 @@ done_handled node got name events local sent new done fed allowed given file obj
   file = file;
   objects = λ other. objects other ∙ ap (λ l. with_named node.objects name l other) done.local
       ∙ sym (objects_at fragment name node.objects events other);
-  letters = ap (named name) done.letters ∙ sym (sent_at fragment name node.objects events);
+  letters = ap (with_names name) done.letters ∙ sym (sent_at fragment name node.objects events);
   seen = sym (notices_at fragment name node.objects events);
 }

@@ -3,12 +3,12 @@ use Rattle.std.proofs.Common.{◌≡◌, ◌<◌, ◌≤◌, ◌^◌, ◌⊎◌,
 use Rattle.std.proofs.Common.{nat_lt, ltb-true, List, [], ◌∷◌, ◌++◌, map}
 use Rattle.std.proofs.Common.{Option, None, Some, refl, sym, subst, ap, ◌∙◌, arith}
 use Rattle.std.specs.List.{AllByRecursion}
-use Rattle.call_ids.specs.CallId.{CallIds, IsWithin, after_next, call_id, next_id}
+use Rattle.call_ids.specs.CallId.{CallIds, HasRanges, after_given, call_id, next_given_id}
 use Rattle.local_object.specs.Events.{LocalEvent}
 use Rattle.deeds.specs.Deeds.{Deed}
 use Rattle.deeds.specs.Ids.{HaveNextIds, IsGiven, IsLater, IsNextId, begun_id, deed_id}
 
-pub later_same : (ids : CallIds) → IsWithin ids → IsLater ids ids
+pub later_same : (ids : CallIds) → HasRanges ids → IsLater ids ids
 later_same ids within = record { node = refl; within = within; order = inr (refl, omega arith) }
 
 pub later_then : (a b c : CallIds) → IsLater a b → IsLater b c → IsLater a c
@@ -27,8 +27,8 @@ later_then a b c first second = record {
     go (inr x) (inr y) = let e = x.1 in let f = y.1 in inr (x.0 ∙ y.0, omega arith)
 
 -- what the next id is where there is one
-pub next_is : (ids : CallIds) (id : ℕ) → next_id ids ≡ Some id →
-    (ids.given < 2 ^ 32) × (id ≡ call_id ids.node ids.epoch ids.given) × (after_next ids ≡ record ids { given = suc ids.given })
+pub next_is : (ids : CallIds) (id : ℕ) → next_given_id ids ≡ Some id →
+    (ids.given < 2 ^ 32) × (id ≡ call_id ids.node ids.epoch ids.given) × (after_given ids ≡ record ids { given = suc ids.given })
 next_is ids id e = go (nat_lt ids.given (2 ^ 32)) refl e
   where
     go : (b : Bool) → nat_lt ids.given (2 ^ 32) ≡ b →
@@ -47,7 +47,7 @@ next_later before after id is =
     subst (λ ids. IsLater before ids) e (later_then before now (record now { given = suc now.given }) is.reached
     (record { node = refl; within = (is.reached.within.0, omega arith); order = inr (refl, omega arith) }))
 
-pub given_later : (before after : CallIds) (id : Option ℕ) → IsWithin before → IsGiven before id after → IsLater before after
+pub given_later : (before after : CallIds) (id : Option ℕ) → HasRanges before → IsGiven before id after → IsLater before after
 given_later before after None within is = subst (λ ids. IsLater before ids) is (later_same before within)
 given_later before after (Some id) within is = next_later before after id is
 

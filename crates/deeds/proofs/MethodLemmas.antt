@@ -9,7 +9,7 @@ use Rattle.local_object.specs.Doing.{IsDone}
 use Rattle.local_object.specs.Ended.{all_told, told}
 use Rattle.local_object.specs.Local.{LocalObject}
 use Rattle.local_object.specs.Events.{LocalEvent, done_here}
-use Rattle.deeds.specs.Named.{NamedLetter, named, with_named}
+use Rattle.deeds.specs.Named.{NamedLetter, with_names, with_named}
 use Rattle.deeds.specs.Kept.{KeptNode}
 use Rattle.deeds.specs.Deeds.{Notice, all_noticed, noticed}
 use Rattle.deeds.specs.Handled.{IsHandled}
@@ -56,9 +56,10 @@ pub quiet_handled : (node : KeptNode) (got : List NamedLetter) (name : List ℕ)
     (local : LocalObject) (sent : List Letter) (new : KeptNode) → IsDone (node.objects name) events local sent →
     AllByRecursion (IsEventFed got name) events → AllByRecursion BeginsNone events → IsLater node.ids new.ids →
     new.file ≡ node.file → ((other : List ℕ) → new.objects other ≡ with_named node.objects name local other) →
-    IsHandled fragment node got new (named name sent) (map (Notice.Tells name) (all_told fragment (node.objects name) events))
+    IsHandled fragment node got new (with_names name sent) (map (Notice.Tells name) (all_told fragment (node.objects name) events))
 quiet_handled node got name events local sent new done fed none later file objects =
-    handled_as fragment node got new new (named name sent) (named name sent) (all_noticed fragment name (node.objects name) events)
+    handled_as fragment node got new new (with_names name sent) (with_names name sent)
+    (all_noticed fragment name (node.objects name) events)
     (map (Notice.Tells name) (all_told fragment (node.objects name) events))
     (done_handled node got name events local sent new done fed
     (all_weaker BeginsNone (IsEventAllowed node.ids.node node.file.mover) (none_allowed node.ids.node node.file.mover) events none)
@@ -78,9 +79,9 @@ pub begun_handled : (node : KeptNode) (got : List NamedLetter) (name : List ℕ)
     (local : LocalObject) (sent : List Letter) (new : KeptNode) → IsDone (node.objects name) (event ∷ []) local sent →
     begun_id event ≡ Some id → IsEventAllowed node.ids.node node.file.mover event → IsNextId node.ids id new.ids →
     new.file ≡ node.file → ((other : List ℕ) → new.objects other ≡ with_named node.objects name local other) →
-    IsHandled fragment node got new (named name sent) (noticed name (node.objects name) event)
+    IsHandled fragment node got new (with_names name sent) (noticed name (node.objects name) event)
 begun_handled node got name event id local sent new done begins allowed next file objects =
-    handled_as fragment node got new new (named name sent) (named name sent)
+    handled_as fragment node got new new (with_names name sent) (with_names name sent)
     (all_noticed fragment name (node.objects name) (event ∷ [])) (noticed name (node.objects name) event)
     (done_handled node got name (event ∷ []) local sent new done (begun_fed got name event id begins, tt) (allowed, tt)
     (one_id name event id node.ids new.ids begins next) file objects) refl refl (λ other. refl) refl

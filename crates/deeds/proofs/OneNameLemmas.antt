@@ -7,7 +7,7 @@ use Rattle.local_object.specs.Local.{LocalObject}
 use Rattle.local_object.specs.Events.{LocalEvent, all_done, done_here}
 use Rattle.local_object.specs.May.{MayAllHappen}
 use Rattle.deeds.proofs.ListLemmas.{all_weaker}
-use Rattle.deeds.specs.Named.{NamedLetter, named, with_named}
+use Rattle.deeds.specs.Named.{NamedLetter, with_names, with_named}
 use Rattle.deeds.specs.Deeds.{Deed, after_deed, after_deeds, all_noticed, noticed}
 use Rattle.deeds.specs.May.{AreFed, IsAllowed, IsEventAllowed, IsEventFed, MayAllBeDone}
 use Rattle.deeds.proofs.NameLemmas.{one_of_first, own_named, same_named, twice_named}
@@ -37,12 +37,12 @@ module _ (fragment : Code) (name : List ℕ) where
       ∙ twice_named objects name done.local (all_done fragment done.local events).local other
 
   pub sent_at : (objects : List ℕ → LocalObject) (events : List LocalEvent) →
-      (after_deeds fragment objects (at_name name events)).sent ≡ named name (all_done fragment (objects name) events).sent
+      (after_deeds fragment objects (at_name name events)).sent ≡ with_names name (all_done fragment (objects name) events).sent
   sent_at objects [] = refl
   sent_at objects (event ∷ events) =
       let done = done_here fragment (objects name) event in
-      ap (λ xs. named name done.sent ++ xs) (sent_at (next_objects objects event) events
-      ∙ ap (λ local. named name (all_done fragment local events).sent) (own_next objects event))
+      ap (λ xs. with_names name done.sent ++ xs) (sent_at (next_objects objects event) events
+      ∙ ap (λ local. with_names name (all_done fragment local events).sent) (own_next objects event))
       ∙ sym (map-append (λ letter. let it : NamedLetter = record { name = name; letter = letter } in it) done.sent
       (all_done fragment done.local events).sent)
 

@@ -8,7 +8,7 @@ use Rattle.local_object.specs.declared.progress.Ended.{Ended}
 use Rattle.local_object.specs.Local.{LocalObject}
 use Rattle.local_object.specs.Events.{LocalEvent, done_here}
 use Rattle.local_object.specs.Ended.{told}
-use Rattle.deeds.specs.Named.{NamedLetter, named, with_named}
+use Rattle.deeds.specs.Named.{NamedLetter, with_names, with_named}
 
 -- a deed: a node does something with the object of a name, or sends letters of that object again
 pub data Deed : Type 0 where
@@ -44,10 +44,10 @@ abbrev pub after_deed : Code → (objects : List ℕ → LocalObject) → Deed �
 after_deed fragment objects (Deed.Does name event) =
     let done = done_here fragment (objects name) event in record {
       objects = with_named objects name done.local;
-      sent = named name done.sent;
+      sent = with_names name done.sent;
       notices = noticed name (objects name) event;
     }
-after_deed fragment objects (Deed.Resends name letters) = record (unchanged objects) { sent = named name letters }
+after_deed fragment objects (Deed.Resends name letters) = record (unchanged objects) { sent = with_names name letters }
 
 -- what comes of these deeds, one after another
 abbrev pub after_deeds : Code → (objects : List ℕ → LocalObject) → List Deed → Upshot

@@ -1,7 +1,7 @@
 -- The contracts that docs/trusted.md lists do not depend on this file; other contracts and proofs do.
 -- Which ids the calls have that a node begins.
 use Rattle.std.specs.Prelude.{◌≡◌, ◌⊎◌, ◌<◌, ◌≤◌, ℕ, List, [], ◌∷◌, Option, None, Some}
-use Rattle.call_ids.specs.CallId.{CallIds, IsWithin, after_next, next_id}
+use Rattle.call_ids.specs.CallId.{CallIds, HasRanges, after_given, next_given_id}
 use Rattle.local_object.specs.Events.{LocalEvent}
 use Rattle.deeds.specs.Deeds.{Deed}
 
@@ -9,7 +9,7 @@ use Rattle.deeds.specs.Deeds.{Deed}
 -- many ids or more
 pub record IsLater (before after : CallIds) : Type 0 where
   pub node : after.node ≡ before.node
-  pub within : IsWithin after
+  pub within : HasRanges after
   pub order : (before.epoch < after.epoch) ⊎ ((before.epoch ≡ after.epoch) × (before.given ≤ after.given))
 
 -- the id of the call that an event begins, if it begins one
@@ -28,8 +28,8 @@ deed_id (Deed.Resends name letters) = None
 pub record IsNextId (before : CallIds) (id : ℕ) (after : CallIds) : Type 0 where
   pub now : CallIds
   pub reached : IsLater before now
-  pub next : next_id now ≡ Some id
-  pub left : after_next now ≡ after
+  pub next : next_given_id now ≡ Some id
+  pub left : after_given now ≡ after
 
 -- from the first of these to the second the id is given, if there is one
 abbrev pub IsGiven : (before : CallIds) → Option ℕ → (after : CallIds) → Type 0

@@ -8,7 +8,7 @@ use Rattle.local_object.specs.declared.letter.Letter.{Letter}
 use Rattle.local_object.specs.Events.{LocalEvent, all_done}
 use Rattle.local_object.specs.May.{MayAllHappen}
 use Rattle.local_object.specs.Resent.{IsResent}
-use Rattle.deeds.specs.Named.{NamedLetter, IsOneOf, named, with_named}
+use Rattle.deeds.specs.Named.{NamedLetter, IsOneOf, with_names, with_named}
 use Rattle.deeds.specs.Kept.{KeptNode}
 use Rattle.deeds.specs.Deeds.{Deed, Notice, all_noticed}
 use Rattle.deeds.specs.May.{IsEventAllowed, IsEventFed}
@@ -46,11 +46,11 @@ EventsAreHandled = (fragment : Code) (node : KeptNode) (got : List NamedLetter) 
       objects = with_named node.objects name (all_done fragment (node.objects name) events).local;
       ids = ids;
     })
-    (named name (all_done fragment (node.objects name) events).sent)
+    (with_names name (all_done fragment (node.objects name) events).sent)
     (all_noticed fragment name (node.objects name) events)
 
 -- a node sends letters of the object of one name again
 abbrev pub ResentIsHandled : Type 0
 ResentIsHandled = (fragment : Code) (node : KeptNode) (got : List NamedLetter) (name : List ℕ) (letters : List Letter) →
     IsLater node.ids node.ids → AllByRecursion (IsResent fragment (node.objects name)) letters →
-    IsHandled fragment node got node (named name letters) []
+    IsHandled fragment node got node (with_names name letters) []

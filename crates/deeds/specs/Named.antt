@@ -11,8 +11,8 @@ pub record NamedLetter : Type 0 where
   pub letter : Letter
 
 -- letters of one object, each with its name
-abbrev pub named : (name : List ℕ) → List Letter → List NamedLetter
-named name letters = map (λ letter. let it : NamedLetter = record { name = name; letter = letter } in it) letters
+abbrev pub with_names : (name : List ℕ) → List Letter → List NamedLetter
+with_names name letters = map (λ letter. let it : NamedLetter = record { name = name; letter = letter } in it) letters
 
 -- the letter is one of these
 abbrev pub IsOneOf : List NamedLetter → NamedLetter → Type 0

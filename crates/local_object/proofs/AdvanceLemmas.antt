@@ -8,7 +8,7 @@ use Rattle.call.specs.Call.{OpenCall as Machine}
 use Rattle.local_object.specs.declared.letter.Letter.{Letter}
 use Rattle.local_object.specs.Coding.{is_sendable}
 use Rattle.local_object.specs.Going.{Advances, IsAdvanced}
-use Rattle.local_object.specs.Local.{Place, layout_in, place_at}
+use Rattle.local_object.specs.Local.{Place, layout_in, heard_place}
 use Rattle.local_object.specs.Taking.{can_begin}
 
 and_false : (a : Bool) → (a && false) ≡ false
@@ -17,12 +17,12 @@ and_false false = refl
 
 module _ (places : List Place) (call : Machine) (kind : Kind) (position : ℕ) where
   abbrev known : Bool
-  known = is_some (layout_in (place_at places position))
+  known = is_some (layout_in (heard_place places position))
 
   abbrev numbered : Bool
   numbered = ltb (call.phase.number + 1) (2 ^ 32)
 
-  pub begin_unknown : layout_in (place_at places position) ≡ None → can_begin places call kind position ≡ false
+  pub begin_unknown : layout_in (heard_place places position) ≡ None → can_begin places call kind position ≡ false
   begin_unknown none = ap (λ o. is_some o && (numbered && is_sendable kind call)) none
 
   pub begin_unnumbered : (n : ℕ) → n ≡ call.phase.number → 4294967295 ≤ n → can_begin places call kind position ≡ false
@@ -33,7 +33,7 @@ module _ (places : List Place) (call : Machine) (kind : Kind) (position : ℕ) w
   pub begin_long : is_sendable kind call ≡ false → can_begin places call kind position ≡ false
   begin_long long = ap (λ b. known && (numbered && b)) long ∙ ap (λ b. known && b) (and_false numbered) ∙ and_false known
 
-  pub begin_can : (layout : Layout) → layout_in (place_at places position) ≡ Some layout → ltb (call.phase.number + 1) (2 ^ 32) ≡ true
+  pub begin_can : (layout : Layout) → layout_in (heard_place places position) ≡ Some layout → ltb (call.phase.number + 1) (2 ^ 32) ≡ true
       → is_sendable kind call ≡ true → can_begin places call kind position ≡ true
   begin_can layout is number sendable =
       ap (λ o. is_some o && (numbered && is_sendable kind call)) is ∙ ap (λ b. b && is_sendable kind call) number ∙ sendable

@@ -7,7 +7,7 @@ use Rattle.layout.specs.Layout.{Layout}
 use Rattle.local_object.specs.declared.letter.Letter.{Letter}
 use Rattle.local_object.specs.Agreement.{agrees, if_there, is_heard, is_not_another, knows_all_of, same_layout}
 use Rattle.local_object.specs.Events.{learnt_from}
-use Rattle.local_object.specs.Local.{LocalObject, Place, added_place, layout_here, layout_in, learnt, learnt_if, place_at}
+use Rattle.local_object.specs.Local.{LocalObject, Place, added_place, layout_here, layout_in, with_heard, learnt_if, heard_place}
 use Rattle.local_object.proofs.LearntLemmas.{layout_learnt, layout_or, place_new}
 
 both_first : (a b : Bool) → (a && b) ≡ true → a ≡ true
@@ -38,18 +38,19 @@ heard_not_another None layout e = refl
 heard_not_another (Some heard) layout e = e
 
 -- a position of which a node hears has the layout that it had, or else the one that it hears
-layout_added : (places : List Place) (o : Option Place) (m : ℕ) (layout : Layout) → place_at places m ≡ o
-    → layout_in (place_at (added_place places o m layout) m) ≡ Some (layout_or (layout_in o) layout)
+layout_added : (places : List Place) (o : Option Place) (m : ℕ) (layout : Layout) → heard_place places m ≡ o
+    → layout_in (heard_place (added_place places o m layout) m) ≡ Some (layout_or (layout_in o) layout)
 layout_added places None m layout is =
     ap layout_in (place_new places m (record { position = m; layout = layout; bank = None }) refl is)
 layout_added places (Some p) m layout is = ap layout_in is
 
-other_pushed : (places : List Place) (p : Place) (m : ℕ) → eqb p.position m ≡ false → place_at (places ++ p ∷ []) m ≡ place_at places m
+other_pushed : (places : List Place) (p : Place) (m : ℕ) → eqb p.position m ≡ false →
+    heard_place (places ++ p ∷ []) m ≡ heard_place places m
 other_pushed [] p m other = ap (λ b. cond b (Some p) None) other
 other_pushed (q ∷ qs) p m other = ap (λ o. cond (eqb q.position m) (Some q) o) (other_pushed qs p m other)
 
 other_added : (places : List Place) (o : Option Place) (n : ℕ) (layout : Layout) (m : ℕ) → eqb n m ≡ false
-    → place_at (added_place places o n layout) m ≡ place_at places m
+    → heard_place (added_place places o n layout) m ≡ heard_place places m
 other_added places None n layout m other = other_pushed places (record { position = n; layout = layout; bank = None }) m other
 other_added places (Some p) n layout m other = refl
 
@@ -67,7 +68,7 @@ module _ (local : LocalObject) (letter : Letter) where
   n = letter.message.position
 
   abbrev first : LocalObject
-  first = learnt local n letter.layout
+  first = with_heard local n letter.layout
 
   abbrev not_others : Bool
   not_others = if_there (is_not_another (layout_here local (suc n))) letter.next
@@ -89,9 +90,9 @@ module _ (local : LocalObject) (letter : Letter) where
       sym (ap (if_there (is_not_another (layout_here local (suc n)))) is)
       ∙ both_second (is_not_another (layout_here local n) letter.layout) not_others e in
       ap (λ o. layout_here (learnt_if first (suc n) o) (suc n)) is
-      ∙ layout_added first.places (place_at first.places (suc n)) (suc n) next refl
+      ∙ layout_added first.places (heard_place first.places (suc n)) (suc n) next refl
       ∙ ap (λ o. Some (layout_or (layout_in o) next))
-      (other_added local.places (place_at local.places n) n letter.layout (suc n) (not_next n))
+      (other_added local.places (heard_place local.places n) n letter.layout (suc n) (not_next n))
       ∙ ap Some (not_another (layout_here local (suc n)) next agrees_too)
 
   pub known_agrees : knows_all_of local letter ≡ true → agrees local letter ≡ true
@@ -114,12 +115,12 @@ module _ (local : LocalObject) (letter : Letter) where
       known_here : first ≡ local
       known_here =
           ap (λ (ps : List Place). record local { places = ps })
-          (nothing_added local.places (place_at local.places n) n letter.layout letter.layout
+          (nothing_added local.places (heard_place local.places n) n letter.layout letter.layout
           (known_same (layout_here local n) letter.layout (both_first (is_heard (layout_here local n) letter.layout) are_heard e)))
 
       go : (o : Option Layout) → if_there (is_heard (layout_here local (suc n))) o ≡ true → learnt_if local (suc n) o ≡ local
       go None e = refl
       go (Some next) e =
           ap (λ (ps : List Place). record local { places = ps })
-          (nothing_added local.places (place_at local.places (suc n)) (suc n) next next
+          (nothing_added local.places (heard_place local.places (suc n)) (suc n) next next
           (known_same (layout_here local (suc n)) next e))

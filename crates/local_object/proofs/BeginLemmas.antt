@@ -20,10 +20,10 @@ use Rattle.encoder.specs.Fragment.{fragment}
 use Rattle.network.specs.Worlds.{NodeCall, open_call}
 use Rattle.local_object.specs.declared.letter.Letter.{Letter}
 use Rattle.local_object.specs.Codes.{at_node, carried}
-use Rattle.local_object.specs.Distinct.{AreOthers, HaveDistinctIds, IsCallAt}
-use Rattle.local_object.specs.Doing.{IsDone, is_moving, move_cause}
+use Rattle.local_object.specs.Distinct.{HaveOtherIds, HaveDistinctIds, IsCallAt}
+use Rattle.local_object.specs.Doing.{IsDone, is_moving, move_refusal}
 use Rattle.local_object.specs.Events.{LocalEvent, Outcome, begun_here, done_here, moving_here}
-use Rattle.local_object.specs.Local.{LocalObject, Place, added_place, last_position, layout_here, layout_in, learnt, place_at}
+use Rattle.local_object.specs.Local.{LocalObject, Place, added_place, last_position, layout_here, layout_in, with_heard, heard_place}
 use Rattle.local_object.specs.May.{MayHappenHere}
 use Rattle.std.proofs.lemmas.Bool.{leb-true}
 use Rattle.local_object.proofs.CarriedCallLemmas.{open_at}
@@ -31,12 +31,12 @@ use Rattle.local_object.proofs.PieceLemmas.{nil_right}
 use Rattle.local_object.proofs.PlaceLemmas.{known_push, layout_known}
 
 -- where no call is found by an id, none has it
-pub others_of : (node : ℕ) (calls : List Machine) (id : ℕ) → open_call (carried node calls) id ≡ None → AreOthers id calls
+pub others_of : (node : ℕ) (calls : List Machine) (id : ℕ) → open_call (carried node calls) id ≡ None → HaveOtherIds id calls
 others_of node [] id none = tt
 others_of node (c ∷ cs) id none = go (eqb c.id id) refl none (λ rest. others_of node cs id rest)
   where
     go : (b : Bool) → eqb c.id id ≡ b → cond b (Some (at_node node c)) (open_call (carried node cs) id) ≡ None
-        → (open_call (carried node cs) id ≡ None → AreOthers id cs) → (c.id ≢ id) × AreOthers id cs
+        → (open_call (carried node cs) id ≡ None → HaveOtherIds id cs) → (c.id ≢ id) × HaveOtherIds id cs
     go true t none rest = absurd (cc)
     go false t none rest = (λ e. absurd (let h : eqb c.id id ≡ true = eq-eqb c.id id e in cc), rest none)
 
@@ -92,20 +92,20 @@ carried_push node (c ∷ cs) call = ap (λ calls. at_node node c ∷ calls) (car
 -- why a move is refused
 module _ (old : LocalObject) (id : ℕ) (new : open_call old.calls id ≡ None) where
   move_by : (moving room : Bool) → is_moving old ≡ moving → ltb (last_position old + 2) (2 ^ 32) ≡ room
-      → move_cause old id ≡ cond moving (Some MovePending) (cond room None (Some Full))
+      → move_refusal old id ≡ cond moving (Some MovePending) (cond room None (Some Full))
   move_by moving room moving_is room_is =
       ap (λ (o : Option NodeCall). cond (is_some o) (Some NotNow)
       (cond (is_moving old) (Some MovePending) (cond (ltb (last_position old + 2) (2 ^ 32)) None (Some Full)))) new
       ∙ ap (λ m. cond m (Some MovePending) (cond (ltb (last_position old + 2) (2 ^ 32)) None (Some Full))) moving_is
       ∙ ap (λ r. cond moving (Some MovePending) (cond r None (Some Full))) room_is
 
-  pub move_pending : is_moving old ≡ true → move_cause old id ≡ Some MovePending
+  pub move_pending : is_moving old ≡ true → move_refusal old id ≡ Some MovePending
   move_pending moving = move_by true (ltb (last_position old + 2) (2 ^ 32)) moving refl
 
-  pub move_full : is_moving old ≡ false → ltb (last_position old + 2) (2 ^ 32) ≡ false → move_cause old id ≡ Some Full
+  pub move_full : is_moving old ≡ false → ltb (last_position old + 2) (2 ^ 32) ≡ false → move_refusal old id ≡ Some Full
   move_full still room = move_by false false still room
 
-  pub move_none : is_moving old ≡ false → ltb (last_position old + 2) (2 ^ 32) ≡ true → move_cause old id ≡ None
+  pub move_none : is_moving old ≡ false → ltb (last_position old + 2) (2 ^ 32) ≡ true → move_refusal old id ≡ None
   move_none still room = move_by false true still room
 
 some_place : (o : Option Place) → IsSome (layout_in o) → IsSome o
@@ -113,11 +113,11 @@ some_place None known = known
 some_place (Some place) known = refl
 
 -- a position that is known stays known
-pub known_added : (places : List Place) (o : Option Place) (m : ℕ) (layout : Layout) (n : ℕ) → IsSome (layout_in (place_at places n))
-    → IsSome (layout_in (place_at (added_place places o m layout) n))
+pub known_added : (places : List Place) (o : Option Place) (m : ℕ) (layout : Layout) (n : ℕ) → IsSome (layout_in (heard_place places n))
+    → IsSome (layout_in (heard_place (added_place places o m layout) n))
 known_added places None m layout n known =
-    layout_known (place_at (places ++ record { position = m; layout = layout; bank = None } ∷ []) n)
-    (known_push n places (record { position = m; layout = layout; bank = None }) (some_place (place_at places n) known))
+    layout_known (heard_place (places ++ record { position = m; layout = layout; bank = None } ∷ []) n)
+    (known_push n places (record { position = m; layout = layout; bank = None }) (some_place (heard_place places n) known))
 known_added places (Some p) m layout n known = known
 
 -- a move that begins
@@ -126,19 +126,19 @@ move_begun m id last = begun_here m id Move (MoveSpread last) (Spread Pending) l
 
 module _ {o old : LocalObject} (view : o ≡ old) (id : ℕ) {last : ℕ} (layout : Layout) {places : List Place}
     (last_is : last ≡ last_position old)
-    (learnt_is : places ≡ added_place o.places (place_at o.places (last + 1)) (last + 1) layout) where
+    (learnt_is : places ≡ added_place o.places (heard_place o.places (last + 1)) (last + 1) layout) where
   last_here : last ≡ last_position o
   last_here = last_is ∙ ap (λ (l : LocalObject). last_position l) (sym view)
 
-  mid_is : record o { places = places } ≡ learnt o (suc (last_position o)) layout
+  mid_is : record o { places = places } ≡ with_heard o (suc (last_position o)) layout
   mid_is =
       ap (λ (ps : List Place). record o { places = ps })
       (learnt_is
-      ∙ ap (λ n. added_place o.places (place_at o.places n) n layout)
+      ∙ ap (λ n. added_place o.places (heard_place o.places n) n layout)
       (let e : last + 1 ≡ suc (last_position o) = omega (arith, last_here) in e))
 
   begun_is : move_begun (record o { places = places }) id last ≡ moving_here o id layout
-  begun_is = ap (λ m. move_begun m id last) mid_is ∙ ap (move_begun (learnt o (suc (last_position o)) layout) id) last_here
+  begun_is = ap (λ m. move_begun m id last) mid_is ∙ ap (move_begun (with_heard o (suc (last_position o)) layout) id) last_here
 
   pub move_done : IsLawful layout → is_moving old ≡ false → (new : LocalObject) (sent : List Letter)
       → new ≡ (move_begun (record o { places = places }) id last).local

@@ -14,8 +14,8 @@ use Rattle.local_object.specs.Changing.{HasOnlyHeard, IsUnchangedBy, changes_ban
 use Rattle.local_object.specs.Distinct.{IsInOrderIfOpen}
 use Rattle.local_object.specs.Doing.{is_served}
 use Rattle.local_object.specs.Events.{LocalEvent, all_done, learnt_from, served_here}
-use Rattle.local_object.specs.Local.{LocalObject, Place, bank_here, bank_in, bank_or_opened, new_local, place_at}
-use Rattle.local_object.specs.Local.{with_bank}
+use Rattle.local_object.specs.Local.{LocalObject, Place, bank_here, bank_in, bank_or_opened, new_local, heard_place}
+use Rattle.local_object.specs.Local.{with_bank_here}
 use Rattle.local_object.proofs.HeardLayoutLemmas.{bank_here_heard, bank_put_elsewhere, bank_put_there, calls_heard, delta_heard}
 use Rattle.local_object.proofs.HeardLayoutLemmas.{layout_kept, node_heard}
 use Rattle.local_object.proofs.LearntLemmas.{known_learnt}
@@ -58,20 +58,20 @@ module _ (local : LocalObject) (letter : Letter) where
   served asked = served_bank (bank_here heard position letter.message.member) asked 0
 
   -- the bank is put back as it was
-  module _ (order : IsInOrderIfOpen (bank_in (place_at local.places position))) where
+  module _ (order : IsInOrderIfOpen (bank_in (heard_place local.places position))) where
     same : (asked : Request) → changes_bank old asked ≡ false → served asked ≡ old
     same asked e =
         ap (λ b. served_bank b asked 0) (bank_here_heard local letter position letter.message.member)
         ∙ unchanged_bank old asked
-        (either_in_order (bank_in (place_at local.places position)) letter.message.member local.delta order) e
+        (either_in_order (bank_in (heard_place local.places position)) letter.message.member local.delta order) e
 
     banks : (asked : Request) → changes_bank old asked ≡ false → (m member : ℕ) → (m ≡ position → member ≡ letter.message.member)
         → (b : Bool) → eqb m position ≡ b
-        → bank_or_opened (bank_in (place_at (with_bank heard.places position (served asked)) m)) member heard.delta
+        → bank_or_opened (bank_in (heard_place (with_bank_here heard.places position (served asked)) m)) member heard.delta
         ≡ bank_here local m member
     banks asked e m member named true t =
         let here = eqb-true m position t in
-        ap (λ k. bank_or_opened (bank_in (place_at (with_bank heard.places position (served asked)) k)) member heard.delta) here
+        ap (λ k. bank_or_opened (bank_in (heard_place (with_bank_here heard.places position (served asked)) k)) member heard.delta) here
         ∙ ap (λ o. bank_or_opened o member heard.delta)
         (bank_put_there heard.places position (served asked) (known_learnt local letter))
         ∙ same asked e ∙ ap (bank_here local position) (sym (named here)) ∙ ap (λ k. bank_here local k member) (sym here)

@@ -21,7 +21,7 @@ use Rattle.call.specs.Call.{OpenCall as Machine}
 use Rattle.network.specs.Worlds.{NodeCall}
 use Rattle.local_object.specs.Codes.{at_node}
 use Rattle.local_object.specs.Going.{IsFetchedValue}
-use Rattle.local_object.specs.Local.{Place, layout_in, place_at}
+use Rattle.local_object.specs.Local.{Place, layout_in, heard_place}
 use Rattle.local_object.specs.May.{IsFetchedHere}
 use Rattle.local_object.specs.Pieces.{at_point, first_pieces, own_pieces}
 use Rattle.local_object.proofs.NextLemmas.{IsSettling, fetching_of}
@@ -160,13 +160,13 @@ not_decoded k len pieces piece value at same bad is =
 
 -- a value is fetched by the layout that is known
 pub fetched_by : (places : List Place) (call : Machine) (layout : Layout) (value : List ℕ)
-    → layout_in (place_at places call.phase.position) ≡ Some layout → IsFetchedValue places call value
+    → layout_in (heard_place places call.phase.position) ≡ Some layout → IsFetchedValue places call value
     → IsDecoded (record { k = layout.k; pieces = first_pieces layout.k call.phase.replies; value = value })
 fetched_by places call layout value known is =
     subst (λ (l : Layout). IsDecoded (record { k = l.k; pieces = first_pieces l.k call.phase.replies; value = value }))
     (same_Some is.layout layout (sym is.known ∙ known)) is.decoded
 
-pub none_fetched : (places : List Place) (call : Machine) (value : List ℕ) → layout_in (place_at places call.phase.position) ≡ None
+pub none_fetched : (places : List Place) (call : Machine) (value : List ℕ) → layout_in (heard_place places call.phase.position) ≡ None
     → IsFetchedValue places call value → ⊥
 none_fetched places call value none is = none-some is.layout (sym none ∙ is.known)
 

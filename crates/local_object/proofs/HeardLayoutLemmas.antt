@@ -6,13 +6,13 @@ use Rattle.layout.specs.Layout.{Layout}
 use Rattle.bank.specs.Bank.{Bank}
 use Rattle.local_object.specs.declared.letter.Letter.{Letter}
 use Rattle.local_object.specs.Events.{learnt_from}
-use Rattle.local_object.specs.Local.{LocalObject, Place, added_place, bank_here, bank_in, bank_or_opened, layout_here, layout_in, learnt}
-use Rattle.local_object.specs.Local.{learnt_if, place_at, with_bank}
+use Rattle.local_object.specs.Local.{LocalObject, Place, added_place, bank_here, bank_in, bank_or_opened, layout_here, layout_in}
+use Rattle.local_object.specs.Local.{heard_place, learnt_if, with_bank_here, with_heard}
 use Rattle.local_object.proofs.LearntLemmas.{place_learnt_if}
 
 -- a position of which a node hears has no bank
 bank_push : (places : List Place) (p : Place) (n : ℕ) → p.bank ≡ None
-    → bank_in (place_at (places ++ p ∷ []) n) ≡ bank_in (place_at places n)
+    → bank_in (heard_place (places ++ p ∷ []) n) ≡ bank_in (heard_place places n)
 bank_push [] p n none = go (eqb p.position n)
   where
     go : (b : Bool) → bank_in (cond b (Some p) None) ≡ None
@@ -20,20 +20,20 @@ bank_push [] p n none = go (eqb p.position n)
     go false = refl
 bank_push (q ∷ qs) p n none = go (eqb q.position n) (bank_push qs p n none)
   where
-    go : (b : Bool) → bank_in (place_at (qs ++ p ∷ []) n) ≡ bank_in (place_at qs n)
-        → bank_in (cond b (Some q) (place_at (qs ++ p ∷ []) n)) ≡ bank_in (cond b (Some q) (place_at qs n))
+    go : (b : Bool) → bank_in (heard_place (qs ++ p ∷ []) n) ≡ bank_in (heard_place qs n)
+        → bank_in (cond b (Some q) (heard_place (qs ++ p ∷ []) n)) ≡ bank_in (cond b (Some q) (heard_place qs n))
     go true rest = refl
     go false rest = rest
 
 bank_added : (places : List Place) (o : Option Place) (m : ℕ) (layout : Layout) (n : ℕ)
-    → bank_in (place_at (added_place places o m layout) n) ≡ bank_in (place_at places n)
+    → bank_in (heard_place (added_place places o m layout) n) ≡ bank_in (heard_place places n)
 bank_added places None m layout n = bank_push places (record { position = m; layout = layout; bank = None }) n refl
 bank_added places (Some place) m layout n = refl
 
 bank_learnt_if : (local : LocalObject) (m : ℕ) (next : Option Layout) (n : ℕ)
-    → bank_in (place_at (learnt_if local m next).places n) ≡ bank_in (place_at local.places n)
+    → bank_in (heard_place (learnt_if local m next).places n) ≡ bank_in (heard_place local.places n)
 bank_learnt_if local m None n = refl
-bank_learnt_if local m (Some layout) n = bank_added local.places (place_at local.places m) m layout n
+bank_learnt_if local m (Some layout) n = bank_added local.places (heard_place local.places m) m layout n
 
 delta_learnt_if : (local : LocalObject) (m : ℕ) (next : Option Layout) → (learnt_if local m next).delta ≡ local.delta
 delta_learnt_if local m None = refl
@@ -58,55 +58,55 @@ module _ (local : LocalObject) (letter : Letter) where
   n = letter.message.position
 
   pub node_heard : (learnt_from local letter).node ≡ local.node
-  node_heard = node_learnt_if (learnt local n letter.layout) (suc n) letter.next
+  node_heard = node_learnt_if (with_heard local n letter.layout) (suc n) letter.next
 
   pub delta_heard : (learnt_from local letter).delta ≡ local.delta
-  delta_heard = delta_learnt_if (learnt local n letter.layout) (suc n) letter.next
+  delta_heard = delta_learnt_if (with_heard local n letter.layout) (suc n) letter.next
 
   pub calls_heard : (learnt_from local letter).calls ≡ local.calls
-  calls_heard = calls_learnt_if (learnt local n letter.layout) (suc n) letter.next
+  calls_heard = calls_learnt_if (with_heard local n letter.layout) (suc n) letter.next
 
-  pub bank_heard : (m : ℕ) → bank_in (place_at (learnt_from local letter).places m) ≡ bank_in (place_at local.places m)
+  pub bank_heard : (m : ℕ) → bank_in (heard_place (learnt_from local letter).places m) ≡ bank_in (heard_place local.places m)
   bank_heard m =
-      bank_learnt_if (learnt local n letter.layout) (suc n) letter.next m
-      ∙ bank_added local.places (place_at local.places n) n letter.layout m
+      bank_learnt_if (with_heard local n letter.layout) (suc n) letter.next m
+      ∙ bank_added local.places (heard_place local.places n) n letter.layout m
 
   pub bank_here_heard : (m member : ℕ) → bank_here (learnt_from local letter) m member ≡ bank_here local m member
   bank_here_heard m member =
       ap (λ o. bank_or_opened o member (learnt_from local letter).delta) (bank_heard m)
-      ∙ ap (bank_or_opened (bank_in (place_at local.places m)) member) delta_heard
+      ∙ ap (bank_or_opened (bank_in (heard_place local.places m)) member) delta_heard
 
   pub layout_kept : (m : ℕ) (layout : Layout) → layout_here local m ≡ Some layout → layout_here (learnt_from local letter) m ≡ Some layout
   layout_kept m layout e =
-      let p = layout_of_place (place_at local.places m) layout e in
-      let first : place_at (learnt local n letter.layout).places m ≡ Some p.0 =
+      let p = layout_of_place (heard_place local.places m) layout e in
+      let first : heard_place (with_heard local n letter.layout).places m ≡ Some p.0 =
       place_learnt_if local n (Some letter.layout) m p.0 p.1 in
-      ap layout_in (place_learnt_if (learnt local n letter.layout) (suc n) letter.next m p.0 first) ∙ p.2
+      ap layout_in (place_learnt_if (with_heard local n letter.layout) (suc n) letter.next m p.0 first) ∙ p.2
 
 -- Banks that are put
 
-pub bank_put_there : (places : List Place) (n : ℕ) (bank : Bank) → IsSome (place_at places n)
-    → bank_in (place_at (with_bank places n bank) n) ≡ Some bank
+pub bank_put_there : (places : List Place) (n : ℕ) (bank : Bank) → IsSome (heard_place places n)
+    → bank_in (heard_place (with_bank_here places n bank) n) ≡ Some bank
 bank_put_there [] n bank known = absurd (false≢true known)
 bank_put_there (p ∷ ps) n bank known = go (eqb p.position n) refl known (λ k. bank_put_there ps n bank k)
   where
-    go : (b : Bool) → eqb p.position n ≡ b → IsSome (cond b (Some p) (place_at ps n))
-        → (IsSome (place_at ps n) → bank_in (place_at (with_bank ps n bank) n) ≡ Some bank)
-        → bank_in (place_at (cond b (record p { bank = Some bank } ∷ ps) (p ∷ with_bank ps n bank)) n) ≡ Some bank
-    go true t known rest = ap (λ b. bank_in (cond b (Some (record p { bank = Some bank })) (place_at ps n))) t
-    go false t known rest = ap (λ b. bank_in (cond b (Some p) (place_at (with_bank ps n bank) n))) t ∙ rest known
+    go : (b : Bool) → eqb p.position n ≡ b → IsSome (cond b (Some p) (heard_place ps n))
+        → (IsSome (heard_place ps n) → bank_in (heard_place (with_bank_here ps n bank) n) ≡ Some bank)
+        → bank_in (heard_place (cond b (record p { bank = Some bank } ∷ ps) (p ∷ with_bank_here ps n bank)) n) ≡ Some bank
+    go true t known rest = ap (λ b. bank_in (cond b (Some (record p { bank = Some bank })) (heard_place ps n))) t
+    go false t known rest = ap (λ b. bank_in (cond b (Some p) (heard_place (with_bank_here ps n bank) n))) t ∙ rest known
 
 pub bank_put_elsewhere : (places : List Place) (n : ℕ) (bank : Bank) (m : ℕ) → (m ≡ n → ⊥)
-    → bank_in (place_at (with_bank places n bank) m) ≡ bank_in (place_at places m)
+    → bank_in (heard_place (with_bank_here places n bank) m) ≡ bank_in (heard_place places m)
 bank_put_elsewhere [] n bank m other = refl
 bank_put_elsewhere (p ∷ ps) n bank m other =
     go (eqb p.position n) (eqb p.position m) refl refl (bank_put_elsewhere ps n bank m other)
   where
     go : (a b : Bool) → eqb p.position n ≡ a → eqb p.position m ≡ b
-        → bank_in (place_at (with_bank ps n bank) m) ≡ bank_in (place_at ps m)
-        → bank_in (place_at (cond a (record p { bank = Some bank } ∷ ps) (p ∷ with_bank ps n bank)) m)
-        ≡ bank_in (cond b (Some p) (place_at ps m))
+        → bank_in (heard_place (with_bank_here ps n bank) m) ≡ bank_in (heard_place ps m)
+        → bank_in (heard_place (cond a (record p { bank = Some bank } ∷ ps) (p ∷ with_bank_here ps n bank)) m)
+        ≡ bank_in (cond b (Some p) (heard_place ps m))
     go true true s t rest = absurd (other (sym (eqb-true p.position m t) ∙ eqb-true p.position n s))
-    go true false s t rest = ap (λ b. bank_in (cond b (Some (record p { bank = Some bank })) (place_at ps m))) t
-    go false true s t rest = ap (λ b. bank_in (cond b (Some p) (place_at (with_bank ps n bank) m))) t
-    go false false s t rest = ap (λ b. bank_in (cond b (Some p) (place_at (with_bank ps n bank) m))) t ∙ rest
+    go true false s t rest = ap (λ b. bank_in (cond b (Some (record p { bank = Some bank })) (heard_place ps m))) t
+    go false true s t rest = ap (λ b. bank_in (cond b (Some p) (heard_place (with_bank_here ps n bank) m))) t
+    go false false s t rest = ap (λ b. bank_in (cond b (Some p) (heard_place (with_bank_here ps n bank) m))) t ∙ rest

@@ -19,14 +19,14 @@ use Rattle.network.specs.Worlds.{NodeCall, open_call, due_phase, with_open, with
 use Rattle.local_object.specs.declared.letter.Letter.{Letter}
 use Rattle.local_object.specs.declared.progress.Ended.{Ended}
 use Rattle.local_object.specs.Codes.{at_node, carried}
-use Rattle.local_object.specs.Distinct.{AreOthers, AreDistinct, HaveDistinctIds, IsCallAt}
-use Rattle.local_object.specs.Doing.{IsDone, give_up_events, gives_up, is_client}
+use Rattle.local_object.specs.Distinct.{HaveOtherIds, DifferInIds, HaveDistinctIds, IsCallAt}
+use Rattle.local_object.specs.Doing.{IsDone, give_up_events, gives_up, is_client_call}
 use Rattle.local_object.specs.Ended.{told_if, told_of}
-use Rattle.local_object.specs.Events.{LocalEvent, Outcome, advanced_at, advanced_here, done_here, on_call, silent}
+use Rattle.local_object.specs.Events.{LocalEvent, Outcome, advanced_at, advanced_here, done_here, on_open_call, silent}
 use Rattle.local_object.specs.Going.{Advances, IsAdvanced, IsFetchedValue, next_here, settled_here, taken_here}
 use Rattle.local_object.specs.Taking.{CanSettle, HasDoneBy, call_events, can_begin, lead_events, machine_of, step_events}
 use Rattle.call.specs.declared.next.Next.{Next as Step}
-use Rattle.local_object.specs.Local.{LocalObject, Place, layout_in, place_at}
+use Rattle.local_object.specs.Local.{LocalObject, Place, layout_in, heard_place}
 use Rattle.local_object.specs.May.{MayHappenHere}
 use Rattle.local_object.specs.Resent.{IsResent}
 use Rattle.local_object.specs.Sent.{IsCurrent}
@@ -38,7 +38,7 @@ use Rattle.local_object.proofs.NextLemmas.{answer_of, begin_of, due_begun, lacki
 use Rattle.local_object.proofs.NextLemmas.{settle_of}
 
 pub silent_sent : (local : LocalObject) (o : Option NodeCall) (f : NodeCall → LocalObject)
-    → (on_call local o (λ call. silent (f call))).sent ≡ []
+    → (on_open_call local o (λ call. silent (f call))).sent ≡ []
 silent_sent local None f = refl
 silent_sent local (Some call) f = refl
 
@@ -51,8 +51,8 @@ module _ (node : ℕ) (delta : Option ℕ) (places : List Place) where
   object calls = record { node = node; delta = delta; places = places; calls = carried node calls }
 
   module _ {calls : List Machine} {id index : ℕ} (distinct : HaveDistinctIds calls) (at : IsCallAt calls id index) where
-    pub found : (f : NodeCall → Outcome) → on_call (object calls) (open_call (carried node calls) id) f ≡ f (at_node node at.call)
-    found f = ap (λ o. on_call (object calls) o f) (open_found node calls id index distinct at)
+    pub found : (f : NodeCall → Outcome) → on_open_call (object calls) (open_call (carried node calls) id) f ≡ f (at_node node at.call)
+    found f = ap (λ o. on_open_call (object calls) o f) (open_found node calls id index distinct at)
 
     changed_is : (new : Machine) → new.id ≡ at.call.id
         → object (set calls index new) ≡ record (object calls) { calls = with_open (at_node node new) (carried node calls) }
@@ -66,7 +66,7 @@ module _ (node : ℕ) (delta : Option ℕ) (places : List Place) where
         changed_is (taken_call message 0 at.call) refl
         ∙ sym (ap (λ (t : Outcome). t.local)
         (found (λ call. silent (record (object calls) { calls = with_open (taking_open message call) (carried node calls) }))))
-        ∙ ap (λ n. (on_call (object calls) (open_call (carried node calls) n)
+        ∙ ap (λ n. (on_open_call (object calls) (open_call (carried node calls) n)
         (λ call. silent (record (object calls) { calls = with_open (taking_open message call) (carried node calls) }))).local) named
 
     pub settled_is : (value : List ℕ)
@@ -115,7 +115,7 @@ module _ (node : ℕ) (delta : Option ℕ) (places : List Place) where
       unfetched none value can =
           none value (subst (λ (c : NodeCall). IsFetchedValue places (machine_of c) value) (call_is value can) can.fetched)
 
-      pub resent : (layout : Layout) → layout_in (place_at places call.phase.position) ≡ Some layout → (letter : Letter)
+      pub resent : (layout : Layout) → layout_in (heard_place places call.phase.position) ≡ Some layout → (letter : Letter)
           → IsCurrent places call layout letter → IsResent fragment (object calls) letter
       resent layout known letter current = record {
         id = id;
@@ -151,7 +151,7 @@ module _ (node : ℕ) (delta : Option ℕ) (places : List Place) where
         begun new letters adv may =
             let outcome : done_here fragment (object calls) (LocalEvent.Advance id)
             ≡ advanced_at fragment (object calls) (at_node node call) (kind, position) (Some adv.layout) =
-            ap (λ o. on_call (object calls) o (λ call. advanced_here fragment (object calls) call (due_phase call))) open_is
+            ap (λ o. on_open_call (object calls) o (λ call. advanced_here fragment (object calls) call (due_phase call))) open_is
             ∙ ap (λ n. advanced_here fragment (object calls) (at_node node call) n) next_is
             ∙ ap (λ o. advanced_at fragment (object calls) (at_node node call) (kind, position) o) adv.known in
             subst (λ n. HasDoneBy (object calls) (LocalEvent.Advance n ∷ []) (object new) letters []) (sym named_is)
@@ -162,11 +162,11 @@ module _ (node : ℕ) (delta : Option ℕ) (places : List Place) where
             ∙ sym (ap (λ (t : Outcome). t.local) outcome))
             (adv.sent ∙ sym (ap (λ (t : Outcome). t.sent) outcome)) refl)
 
-        known_next : (layout : Layout) → layout_in (place_at places position) ≡ Some layout → (k : Kind) (p : ℕ)
-            → due_phase (at_node node call) ≡ Some (k, p) → IsSome (layout_in (place_at places p))
+        known_next : (layout : Layout) → layout_in (heard_place places position) ≡ Some layout → (k : Kind) (p : ℕ)
+            → due_phase (at_node node call) ≡ Some (k, p) → IsSome (layout_in (heard_place places p))
         known_next layout known k p e =
             let same : position ≡ p = ap (position_or position) (sym next_is ∙ e) in
-            subst (λ n. IsSome (layout_in (place_at places n))) same (subst IsSome (sym known) refl)
+            subst (λ n. IsSome (layout_in (heard_place places n))) same (subst IsSome (sym known) refl)
 
       module _ (kind : Kind) (position : ℕ) (new : List Machine) (letters : List Letter) where
         begun_if : (can : Bool) → Advances can places calls call index kind position new letters
@@ -202,24 +202,24 @@ module _ (node : ℕ) (delta : Option ℕ) (places : List Place) where
               known_next kind position is.due adv.layout adv.known,
             )))
 
-  pub lead_none : (calls : List Machine) (id : ℕ) → AreOthers id calls → lead_events (object calls) id ≡ []
+  pub lead_none : (calls : List Machine) (id : ℕ) → HaveOtherIds id calls → lead_events (object calls) id ≡ []
   lead_none calls id others = ap (call_events places) (open_none node calls id others)
 
-  pub none_to_settle : (calls : List Machine) (id : ℕ) → AreOthers id calls → (value : List ℕ) → CanSettle (object calls) id value → ⊥
+  pub none_to_settle : (calls : List Machine) (id : ℕ) → HaveOtherIds id calls → (value : List ℕ) → CanSettle (object calls) id value → ⊥
   none_to_settle calls id others value can =
       let e : None ≡ Some can.call = sym (open_none node calls id others) ∙ can.carried in none-some can.call e
 
-  pub taken_none : (calls : List Machine) (message : Message) → AreOthers message.call calls
+  pub taken_none : (calls : List Machine) (message : Message) → HaveOtherIds message.call calls
       → object calls ≡ (taken_here (object calls) message).local
   taken_none calls message others =
-      sym (ap (λ o. (on_call (object calls) o
+      sym (ap (λ o. (on_open_call (object calls) o
       (λ call. silent (record (object calls) { calls = with_open (taking_open message call) (carried node calls) }))).local)
       (open_none node calls message.call others))
 
-  pub settled_none : (calls : List Machine) (id : ℕ) (value : List ℕ) → AreOthers id calls
+  pub settled_none : (calls : List Machine) (id : ℕ) (value : List ℕ) → HaveOtherIds id calls
       → object calls ≡ (settled_here (object calls) id value).local
   settled_none calls id value others =
-      sym (ap (λ o. (on_call (object calls) o
+      sym (ap (λ o. (on_open_call (object calls) o
       (λ call. silent (record (object calls) { calls = with_open (record call { settled = Some value }) (carried node calls) }))).local)
       (open_none node calls id others))
 
@@ -239,33 +239,33 @@ match_weaker None f g h = f h
 match_weaker (Some x) f g h = g x h
 
 -- giving up a call changes no call but this one
-other_kept : (node id : ℕ) (calls : List Machine) → AreOthers id calls
+other_kept : (node id : ℕ) (calls : List Machine) → HaveOtherIds id calls
     → AllByRecursion (λ (call : NodeCall). call.id ≡ id → call.kind ≢ Move) (carried node calls)
 other_kept node id [] others = tt
 other_kept node id (c ∷ cs) others = ((λ e. absurd (others.0 e)), other_kept node id cs others.1)
 
-pub give_up_may : (node : ℕ) (calls : List Machine) (i : ℕ) (call : Machine) → AreDistinct calls → slice_get calls i ≡ Some call
+pub give_up_may : (node : ℕ) (calls : List Machine) (i : ℕ) (call : Machine) → DifferInIds calls → slice_get calls i ≡ Some call
     → is_move call.kind ≡ false → AllByRecursion (λ (other : NodeCall). other.id ≡ call.id → other.kind ≢ Move) (carried node calls)
 give_up_may node [] i call distinct at client = tt
 give_up_may node (c ∷ cs) zero call distinct at client =
     let same = same_call c call at in (
       (λ _ e. absurd (let t : is_move call.kind ≡ true = ap (λ (m : Machine). is_move m.kind) (sym same) ∙ ap is_move e in cc)),
-      other_kept node call.id cs (subst (λ (m : Machine). AreOthers m.id cs) same distinct.0),
+      other_kept node call.id cs (subst (λ (m : Machine). HaveOtherIds m.id cs) same distinct.0),
     )
 give_up_may node (c ∷ cs) (suc i) call distinct at client =
     ((λ e. absurd (other_at c.id cs i call distinct.0 at (sym e))), give_up_may node cs i call distinct.1 at client)
 
 module _ (o old : LocalObject) (view : o ≡ old) (id : ℕ) where
-  pub gives_is : (r : Bool) → r ≡ is_client (open_call o.calls id) → r ≡ gives_up old id
+  pub gives_is : (r : Bool) → r ≡ is_client_call (open_call o.calls id) → r ≡ gives_up old id
   gives_is r is = is ∙ ap (λ (l : LocalObject). gives_up l id) view
 
-  pub give_up_none : (new : LocalObject) → false ≡ is_client (open_call o.calls id) → new ≡ old
+  pub give_up_none : (new : LocalObject) → false ≡ is_client_call (open_call o.calls id) → new ≡ old
       → IsDone old (give_up_events old id) new []
   give_up_none new is same =
       subst (λ b. IsDone old (cond b (LocalEvent.GiveUp id ∷ []) []) new []) (gives_is false is)
       (record { may = tt; local = same; letters = refl })
 
-  pub give_up_done : (new : LocalObject) → true ≡ is_client (open_call o.calls id)
+  pub give_up_done : (new : LocalObject) → true ≡ is_client_call (open_call o.calls id)
       → AllByRecursion (λ (call : NodeCall). call.id ≡ id → call.kind ≢ Move) o.calls
       → new ≡ record o { calls = without_call id o.calls } → IsDone old (give_up_events old id) new []
   give_up_done new is may same =

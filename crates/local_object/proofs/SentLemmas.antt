@@ -16,14 +16,14 @@ use Rattle.record.specs.Sending.{fragment_piece, request_to, requests}
 use Rattle.call.specs.Call.{OpenCall as Machine}
 use Rattle.call.specs.Pieces.{piece_from, HavePieceOf}
 use Rattle.local_object.specs.declared.letter.Letter.{Letter}
-use Rattle.local_object.specs.Coding.{coding_for, value_of}
+use Rattle.local_object.specs.Coding.{phase_coding, call_value}
 use Rattle.local_object.specs.Letters.{letter_in}
 use Rattle.local_object.specs.Local.{Place}
 use Rattle.local_object.specs.Sent.{IsCurrent}
 
 pub request_same : (kind : Kind) (layout : Layout) (call : Machine) (member : ℕ)
-    → request_to kind (piece_from (coding_for kind layout call) member)
-    ≡ request_to kind (fragment_piece fragment layout (value_of call) member)
+    → request_to kind (piece_from (phase_coding kind layout call) member)
+    ≡ request_to kind (fragment_piece fragment layout (call_value call) member)
 request_same Next layout call member = refl
 request_same (Spread status) layout call member = refl
 request_same Query layout call member = refl
@@ -37,15 +37,15 @@ with_request id phase position member asked =
 
 module _ (id phase position : ℕ) (kind : Kind) (layout : Layout) (call : Machine) where
   pub requests_same : (servers : List ℕ) (member : ℕ)
-      → requests id phase kind position servers member (piece_from (coding_for kind layout call))
-      ≡ requests id phase kind position servers member (fragment_piece fragment layout (value_of call))
+      → requests id phase kind position servers member (piece_from (phase_coding kind layout call))
+      ≡ requests id phase kind position servers member (fragment_piece fragment layout (call_value call))
   requests_same [] member = refl
   requests_same (server ∷ servers) member =
       ap (λ asked. with_request id phase position member asked
-      ∷ requests id phase kind position servers (suc member) (piece_from (coding_for kind layout call)))
+      ∷ requests id phase kind position servers (suc member) (piece_from (phase_coding kind layout call)))
       (request_same kind layout call member)
       ∙ ap (λ (ms : List Message).
-      with_request id phase position member (request_to kind (fragment_piece fragment layout (value_of call) member)) ∷ ms)
+      with_request id phase position member (request_to kind (fragment_piece fragment layout (call_value call) member)) ∷ ms)
       (requests_same servers (suc member))
 
 -- the request to a member
@@ -66,7 +66,7 @@ found_map f (y ∷ ys) zero x e = ap Some (ap f (same_Some y x e))
 found_map f (y ∷ ys) (suc i) x e = found_map f ys i x e
 
 pub have_piece : (kind : Kind) (layout : Layout) (call : Machine) (member : ℕ) → member < length layout.members
-    → HavePieceOf kind member (coding_for kind layout call)
+    → HavePieceOf kind member (phase_coding kind layout call)
 have_piece Next layout call member within = tt
 have_piece (Spread status) layout call member within = tt
 have_piece Query layout call member within = tt
@@ -83,12 +83,12 @@ all_weaker P Q [] f all = tt
 all_weaker P Q (x ∷ xs) f all = (f x all.0, all_weaker P Q xs f all.1)
 
 pub add_current : (places : List Place) (call : Machine) (layout : Layout) (coded : Option Coding) (member : ℕ) (letters : List Letter)
-    (message : Message) (letter : Letter) → member < length layout.members → coded ≡ coding_for call.phase.kind layout call
+    (message : Message) (letter : Letter) → member < length layout.members → coded ≡ phase_coding call.phase.kind layout call
     → message ≡ with_request call.id call.phase.number call.phase.position member (request_to call.phase.kind (piece_from coded member))
     → letter ≡ letter_in places layout message → AllByRecursion (IsCurrent places call layout) letters
     → AllByRecursion (IsCurrent places call layout) (letters ++ letter ∷ [])
 add_current places call layout coded member letters message letter within coded_is message_is letter_is all =
-    let piece = fragment_piece fragment layout (value_of call) in
+    let piece = fragment_piece fragment layout (call_value call) in
     let made = with_request call.id call.phase.number call.phase.position member in
     all_push (IsCurrent places call layout) letters letter all (record {
       place = member;

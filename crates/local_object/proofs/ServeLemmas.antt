@@ -13,7 +13,7 @@ use Rattle.mail.specs.declared.message.Body.TheVariants as body
 use Rattle.local_object.specs.declared.letter.Letter.{Letter}
 use Rattle.local_object.specs.Doing.{IsDone, has_member, is_member, is_request, is_served, names_node, serve_events}
 use Rattle.local_object.specs.Events.{LocalEvent, learnt_from, next_in_body, served_here}
-use Rattle.local_object.specs.Local.{LocalObject, Place, bank_here, layout_here, layout_in, learnt, place_at, with_bank}
+use Rattle.local_object.specs.Local.{LocalObject, Place, bank_here, layout_here, layout_in, with_heard, heard_place, with_bank_here}
 use Rattle.local_object.specs.May.{IsAddressed}
 use Rattle.local_object.proofs.LearntLemmas.{layout_learnt, layout_or, node_learnt}
 use Rattle.local_object.proofs.PieceLemmas.{nil_right}
@@ -46,13 +46,14 @@ module _ (local : LocalObject) (letter : Letter) (asked : Request) (is : letter.
   }
 
   pub handled_sent : (places : List Place) (bank : Bank) (kind : Kind) (reply : Reply) (sent : Letter)
-      → places ≡ with_bank local.places position bank → kind ≡ kind_of asked
+      → places ≡ with_bank_here local.places position bank → kind ≡ kind_of asked
       → reply ≡ reply_to (bank_here local position letter.message.member) asked 0
-      → sent ≡ made (layout_in (place_at places (suc position))) kind reply
+      → sent ≡ made (layout_in (heard_place places (suc position))) kind reply
       → sent ∷ [] ≡ (served_here local letter letter.message.body).sent
   handled_sent places bank kind reply sent places_are kind_is reply_is sent_is =
-      let next : layout_in (place_at places (suc position)) ≡ layout_here local (suc position) =
-      ap (λ (ps : List Place). layout_in (place_at ps (suc position))) places_are ∙ layout_bank local.places position bank (suc position) in
+      let next : layout_in (heard_place places (suc position)) ≡ layout_here local (suc position) =
+      ap (λ (ps : List Place). layout_in (heard_place ps (suc position))) places_are
+      ∙ layout_bank local.places position bank (suc position) in
       ap (λ (l : Letter). l ∷ [])
       (sent_is ∙ ap (λ o. made o kind reply) next
       ∙ ap (λ k. made (layout_here local (suc position)) k reply) (kind_is ∙ sym (ap body_kind is))
@@ -96,7 +97,7 @@ module _ (old : LocalObject) (letter : Letter) where
   addressed served =
       subst (λ node. (layout : Layout) × (layout_here (learnt_from old letter) letter.message.position ≡ Some layout)
       × (slice_get layout.members letter.message.member ≡ Some node))
-      (sym (node_learnt (learnt old letter.message.position letter.layout) (suc letter.message.position) letter.next))
+      (sym (node_learnt (with_heard old letter.message.position letter.layout) (suc letter.message.position) letter.next))
       (member_of (layout_here (learnt_from old letter) letter.message.position) letter.message.member old.node
       (both_second (ltb (letter.message.position + 1) (2 ^ 32)) inner
       (both_second (is_request letter.message.body) rest served)))
@@ -104,14 +105,14 @@ module _ (old : LocalObject) (letter : Letter) where
   pub serve_done : (mid new : LocalObject) (sent : List Letter) → true ≡ is_served old letter
       → mid ≡ learnt_from old letter → new ≡ (served_here mid letter letter.message.body).local
       → sent ≡ (served_here mid letter letter.message.body).sent → IsDone old (serve_events old letter) new sent
-  serve_done mid new sent served learnt local letters =
+  serve_done mid new sent served with_heard local letters =
       subst (λ b. IsDone old (cond b (LocalEvent.Serve letter ∷ []) []) new sent) served (record {
         may = (
           (request_of letter.message.body (both_first (is_request letter.message.body) rest (sym served)), addressed (sym served)),
           tt,
         );
-        local = local ∙ ap (λ (l : LocalObject). (served_here l letter letter.message.body).local) learnt;
-        letters = letters ∙ ap (λ (l : LocalObject). (served_here l letter letter.message.body).sent) learnt
+        local = local ∙ ap (λ (l : LocalObject). (served_here l letter letter.message.body).local) with_heard;
+        letters = letters ∙ ap (λ (l : LocalObject). (served_here l letter letter.message.body).sent) with_heard
             ∙ sym (nil_right (served_here (learnt_from old letter) letter letter.message.body).sent);
       })
 

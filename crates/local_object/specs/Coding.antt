@@ -10,16 +10,16 @@ use Rattle.record.specs.Sending.{sent_value, value_or_empty}
 use Rattle.call.specs.Call.{OpenCall as Machine}
 
 -- the value that a call writes, or settled, or else the empty one
-abbrev pub value_of : Machine → List ℕ
-value_of call = value_or_empty (sent_value call.kind call.settled)
+abbrev pub call_value : Machine → List ℕ
+call_value call = value_or_empty (sent_value call.kind call.settled)
 
 -- whether a phase of this kind sends no pieces, or the value of the call is short enough to be encoded
 abbrev pub is_sendable : Kind → Machine → Bool
-is_sendable (PreWrite tag) call = nat_le (length (value_of call)) LONGEST_VALUE
+is_sendable (PreWrite tag) call = nat_le (length (call_value call)) LONGEST_VALUE
 is_sendable _ call = true
 
 -- for a phase that sends pieces the value of the call, encoded for a layout
-abbrev pub coding_for : Kind → Layout → Machine → Option Coding
-coding_for (PreWrite tag) layout call =
-    Some (record { k = layout.k; n = length layout.members; value = value_of call })
-coding_for _ layout call = None
+abbrev pub phase_coding : Kind → Layout → Machine → Option Coding
+phase_coding (PreWrite tag) layout call =
+    Some (record { k = layout.k; n = length layout.members; value = call_value call })
+phase_coding _ layout call = None

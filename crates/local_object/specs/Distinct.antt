@@ -6,21 +6,21 @@ use Rattle.bank.specs.Bank.{Bank}
 use Rattle.bank.specs.Collect.{IsCollected}
 use Rattle.bank.specs.Knowledge.{finalized_at}
 use Rattle.call.specs.Call.{OpenCall as Machine}
-use Rattle.local_object.specs.Local.{Place, place_at, with_bank}
+use Rattle.local_object.specs.Local.{Place, heard_place, with_bank_here}
 
 -- none of the calls has this id
-abbrev pub AreOthers : (id : ℕ) → List Machine → Type 0
-AreOthers id [] = Unit {0}
-AreOthers id (call ∷ calls) = (call.id ≢ id) × AreOthers id calls
+abbrev pub HaveOtherIds : (id : ℕ) → List Machine → Type 0
+HaveOtherIds id [] = Unit {0}
+HaveOtherIds id (call ∷ calls) = (call.id ≢ id) × HaveOtherIds id calls
 
 -- no two of the calls have the same id
-abbrev pub AreDistinct : List Machine → Type 0
-AreDistinct [] = Unit {0}
-AreDistinct (call ∷ calls) = AreOthers call.id calls × AreDistinct calls
+abbrev pub DifferInIds : List Machine → Type 0
+DifferInIds [] = Unit {0}
+DifferInIds (call ∷ calls) = HaveOtherIds call.id calls × DifferInIds calls
 
 -- no two of the calls have the same id
 pub record HaveDistinctIds (calls : List Machine) : Type 0 where
-  pub distinct : AreDistinct calls
+  pub distinct : DifferInIds calls
 
 -- the call with this id is at this index
 pub record IsCallAt (calls : List Machine) (id index : ℕ) : Type 0 where
@@ -32,9 +32,9 @@ pub record IsCallAt (calls : List Machine) (id index : ℕ) : Type 0 where
 pub record IsPlaceAt (places : List Place) (number index : ℕ) : Type 0 where
   pub place : Place
   pub there : slice_get places index ≡ Some place
-  pub found : place_at places number ≡ Some place
+  pub found : heard_place places number ≡ Some place
   pub changed : (bank : Bank) →
-      with_bank places number bank ≡ slice_set places index (record place { bank = Some bank })
+      with_bank_here places number bank ≡ slice_set places index (record place { bank = Some bank })
 
 -- a bank has exactly the pieces that it is to keep, and has finalized the opening tag
 pub record IsInOrder (bank : Bank) : Type 0 where
@@ -48,4 +48,4 @@ IsInOrderIfOpen (Some bank) = IsInOrder bank
 
 -- the node has heard of position 0
 pub record KnowsFirst (places : List Place) : Type 0 where
-  pub known : IsSome (place_at places 0)
+  pub known : IsSome (heard_place places 0)

@@ -30,12 +30,12 @@ abbrev pub unless_open : LocalObject → (id : ℕ) → Option Refusal → Optio
 unless_open local id later = if is_some (open_call local.calls id) then Some NotNow else later
 
 -- why a read is refused
-abbrev pub read_cause : LocalObject → (id : ℕ) → Option Refusal
-read_cause local id = unless_open local id None
+abbrev pub read_refusal : LocalObject → (id : ℕ) → Option Refusal
+read_refusal local id = unless_open local id None
 
 -- why a write is refused: its value is too long
-abbrev pub write_cause : LocalObject → (id : ℕ) → List ℕ → Option Refusal
-write_cause local id value = unless_open local id (if nat_lt LONGEST_VALUE (length value) then Some TooLong else None)
+abbrev pub write_refusal : LocalObject → (id : ℕ) → List ℕ → Option Refusal
+write_refusal local id value = unless_open local id (if nat_lt LONGEST_VALUE (length value) then Some TooLong else None)
 
 -- whether the node carries out a move
 abbrev pub is_moving : LocalObject → Bool
@@ -47,12 +47,12 @@ is_move_call None = false
 is_move_call (Some call) = is_move call.kind
 
 -- whether a move with this id is open here
-abbrev pub is_open_move : LocalObject → (id : ℕ) → Bool
-is_open_move local id = is_move_call (open_call local.calls id)
+abbrev pub has_move_open : LocalObject → (id : ℕ) → Bool
+has_move_open local id = is_move_call (open_call local.calls id)
 
 -- why a move is refused: a move is open here, or there are no numbers for the position after the last one and its next
-abbrev pub move_cause : LocalObject → (id : ℕ) → Option Refusal
-move_cause local id = unless_open local id
+abbrev pub move_refusal : LocalObject → (id : ℕ) → Option Refusal
+move_refusal local id = unless_open local id
     (if is_moving local then Some MovePending
     else (if nat_lt (last_position local + 2) (2 ^ 32) then None else Some Full))
 
@@ -96,13 +96,13 @@ is_taken local letter =
 -- Calls that are given up
 
 -- whether this is a call, and a read or a write
-abbrev pub is_client : Option NodeCall → Bool
-is_client None = false
-is_client (Some call) = not (is_move call.kind)
+abbrev pub is_client_call : Option NodeCall → Bool
+is_client_call None = false
+is_client_call (Some call) = not (is_move call.kind)
 
 -- whether a read or a write with this id is open here
 abbrev pub gives_up : LocalObject → (id : ℕ) → Bool
-gives_up local id = is_client (open_call local.calls id)
+gives_up local id = is_client_call (open_call local.calls id)
 
 -- what a node does to give up a call: nothing where no read or write with this id is open here
 abbrev pub give_up_events : LocalObject → (id : ℕ) → List LocalEvent

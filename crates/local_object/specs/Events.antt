@@ -28,7 +28,8 @@ use Rattle.record.specs.Steps.{new_phase}
 use Rattle.network.specs.Worlds.{NodeCall, open_call, with_open, without_call, stage_reached, due_phase}
 use Rattle.network.specs.Events.{taking_open}
 use Rattle.local_object.specs.declared.letter.Letter.{Letter}
-use Rattle.local_object.specs.Local.{LocalObject, layout_here, bank_here, with_bank, learnt, learnt_if, last_position}
+use Rattle.local_object.specs.Local.{LocalObject, layout_here, bank_here, with_bank_here, with_heard, learnt_if}
+use Rattle.local_object.specs.Local.{last_position}
 
 -- what a node does with one object; a call is named by its id
 pub data LocalEvent : Type 0 where
@@ -85,7 +86,7 @@ letter_of local layout message = record {
 -- what the node keeps after it hears of the layouts in a letter
 abbrev pub learnt_from : LocalObject → Letter → LocalObject
 learnt_from local letter =
-    learnt_if (learnt local letter.message.position letter.layout) (suc letter.message.position) letter.next
+    learnt_if (with_heard local letter.message.position letter.layout) (suc letter.message.position) letter.next
 
 -- Calls
 
@@ -120,7 +121,7 @@ called_here local id kind =
 abbrev pub moving_here : LocalObject → (id : ℕ) → Layout → Outcome
 moving_here local id layout =
     let last = last_position local in
-    let next = learnt local (suc last) layout in
+    let next = with_heard local (suc last) layout in
     begun_here next id Move (first_stage Move last) (Spread Pending) last (layout_here next last)
 
 -- the pieces that a call sends to the members of a position with this layout
@@ -148,9 +149,9 @@ advanced_here fragment local call None = silent local
 advanced_here fragment local call (Some next) = advanced_at fragment local call next (layout_here local next.1)
 
 -- after a change that needs the call, if the node carries it out
-abbrev pub on_call : LocalObject → Option NodeCall → (NodeCall → Outcome) → Outcome
-on_call local None change = silent local
-on_call local (Some call) change = change call
+abbrev pub on_open_call : LocalObject → Option NodeCall → (NodeCall → Outcome) → Outcome
+on_open_call local None change = silent local
+on_open_call local (Some call) change = change call
 
 -- Messages
 
@@ -159,7 +160,7 @@ abbrev pub handled_here : LocalObject → Letter → Request → Outcome
 handled_here local letter asked =
     let place = letter.message.position in
     let bank = bank_here local place letter.message.member in record {
-      local = record local { places = with_bank local.places place (served_bank bank asked 0) };
+      local = record local { places = with_bank_here local.places place (served_bank bank asked 0) };
       sent = letter_of local letter.layout (answered letter.message (reply_to bank asked 0)) ∷ [];
     }
 
@@ -176,15 +177,15 @@ done_here fragment local (LocalEvent.BeginRead id) = called_here local id Read
 done_here fragment local (LocalEvent.BeginWrite id value) = called_here local id (Write value)
 done_here fragment local (LocalEvent.BeginMove id layout) = moving_here local id layout
 done_here fragment local (LocalEvent.Advance id) =
-    on_call local (open_call local.calls id) (λ call. advanced_here fragment local call (due_phase call))
+    on_open_call local (open_call local.calls id) (λ call. advanced_here fragment local call (due_phase call))
 done_here fragment local (LocalEvent.Serve letter) =
     served_here (learnt_from local letter) letter letter.message.body
 done_here fragment local (LocalEvent.Take letter) =
     let next = learnt_from local letter in
-    on_call next (open_call next.calls letter.message.call)
+    on_open_call next (open_call next.calls letter.message.call)
     (λ call. silent (record next { calls = with_open (taking_open letter.message call) next.calls }))
 done_here fragment local (LocalEvent.Settle id value) =
-    on_call local (open_call local.calls id)
+    on_open_call local (open_call local.calls id)
     (λ call. silent (record local { calls = with_open (record call { settled = Some value }) local.calls }))
 done_here fragment local (LocalEvent.Answer id) = silent (record local { calls = without_call id local.calls })
 done_here fragment local (LocalEvent.GiveUp id) = silent (record local { calls = without_call id local.calls })

@@ -16,16 +16,16 @@ use Rattle.call.specs.Next.{is_unsettled, next_of}
 use Rattle.call.specs.Steps.{entered, phase_next}
 use Rattle.local_object.specs.declared.letter.Letter.{Letter}
 use Rattle.local_object.specs.declared.progress.Ended.{Ended}
-use Rattle.local_object.specs.Coding.{value_of}
+use Rattle.local_object.specs.Coding.{call_value}
 use Rattle.local_object.specs.Doing.{IsDone}
 use Rattle.local_object.specs.Ended.{all_told}
-use Rattle.local_object.specs.Events.{LocalEvent, Outcome, on_call, silent}
+use Rattle.local_object.specs.Events.{LocalEvent, Outcome, on_open_call, silent}
 use Rattle.mail.specs.declared.message.Message.{Message}
 use Rattle.network.specs.Events.{taking_open}
 use Rattle.network.specs.Worlds.{open_call, with_open}
 use Rattle.local_object.specs.Letters.{letter_in}
 use Rattle.local_object.specs.Pieces.{first_pieces}
-use Rattle.local_object.specs.Local.{LocalObject, Place, layout_in, place_at}
+use Rattle.local_object.specs.Local.{LocalObject, Place, layout_in, heard_place}
 
 -- a call that fetched and has settled nothing is not answered
 abbrev pub unless_unsettled : Machine → Next → Next
@@ -46,13 +46,13 @@ abbrev pub next_letters : List Place → Machine → Kind → (position : ℕ) �
 next_letters places call kind position layout =
     map (letter_in places layout)
     (requests call.id (suc call.phase.number) kind position layout.members 0
-    (fragment_piece fragment layout (value_of call)))
+    (fragment_piece fragment layout (call_value call)))
 
 -- the call at an index began its next phase at a position of which the node has heard, and these letters were sent
 pub record IsAdvanced (places : List Place) (old : List Machine) (call : Machine) (index : ℕ) (kind : Kind)
     (position : ℕ) (new : List Machine) (letters : List Letter) : Type 0 where
   pub layout : Layout
-  pub known : layout_in (place_at places position) ≡ Some layout
+  pub known : layout_in (heard_place places position) ≡ Some layout
   pub calls : new ≡ slice_set old index (entered call (phase_next call kind position layout 0))
   pub sent : letters ≡ next_letters places call kind position layout
 
@@ -72,7 +72,7 @@ pub record IsOnlyValue (k : ℕ) (pieces : List Piece) (value : List ℕ) : Type
 -- layout
 pub record IsFetchedValue (places : List Place) (call : Machine) (value : List ℕ) : Type 0 where
   pub layout : Layout
-  pub known : layout_in (place_at places call.phase.position) ≡ Some layout
+  pub known : layout_in (heard_place places call.phase.position) ≡ Some layout
   pub decoded : IsDecoded
       (record { k = layout.k; pieces = first_pieces layout.k call.phase.replies; value = value })
   pub only : (other : List ℕ) →
@@ -82,13 +82,13 @@ pub record IsFetchedValue (places : List Place) (call : Machine) (value : List �
 -- what the node keeps after the call that a message names takes it, if it carries out the call
 abbrev pub taken_here : LocalObject → Message → Outcome
 taken_here local message =
-    on_call local (open_call local.calls message.call)
+    on_open_call local (open_call local.calls message.call)
     (λ call. silent (record local { calls = with_open (taking_open message call) local.calls }))
 
 -- what the node keeps after a call with this id settles a value, if it carries out the call
 abbrev pub settled_here : LocalObject → (id : ℕ) → (value : List ℕ) → Outcome
 settled_here local id value =
-    on_call local (open_call local.calls id)
+    on_open_call local (open_call local.calls id)
     (λ call. silent (record local { calls = with_open (record call { settled = Some value }) local.calls }))
 
 -- some events may happen, after which the node keeps this, has sent these letters, and has answered these calls

@@ -12,14 +12,14 @@ use Rattle.mail.specs.declared.message.Body.{Body}
 use Rattle.mail.specs.declared.message.Body.TheVariants as body
 use Rattle.mail.specs.declared.message.Message.{Message}
 use Rattle.local_object.specs.declared.letter.Letter.{Letter}
-use Rattle.local_object.specs.Local.{Place, layout_in, place_at}
+use Rattle.local_object.specs.Local.{Place, layout_in, heard_place}
 use Rattle.local_object.specs.Events.{next_in_body}
 
 -- a message as a letter, by these places: as `letter_of` says
 abbrev pub letter_in : List Place → Layout → Message → Letter
 letter_in places layout message = record {
   layout = layout;
-  next = next_in_body message.body (layout_in (place_at places (suc message.position)));
+  next = next_in_body message.body (layout_in (heard_place places (suc message.position)));
   message = message;
 }
 

@@ -29,9 +29,9 @@ new_local node delta first = record {
 }
 
 -- what is kept for a position, if the node has heard of it
-abbrev pub place_at : List Place → (position : ℕ) → Option Place
-place_at [] position = None
-place_at (place ∷ places) position = if place.position == position then Some place else place_at places position
+abbrev pub heard_place : List Place → (position : ℕ) → Option Place
+heard_place [] position = None
+heard_place (place ∷ places) position = if place.position == position then Some place else heard_place places position
 
 -- the layout of a position, if there is a place for it
 abbrev pub layout_in : Option Place → Option Layout
@@ -40,7 +40,7 @@ layout_in (Some place) = Some place.layout
 
 -- the layout of a position, if the node has heard of it
 abbrev pub layout_here : LocalObject → (position : ℕ) → Option Layout
-layout_here local position = layout_in (place_at local.places position)
+layout_here local position = layout_in (heard_place local.places position)
 
 -- a bank, or a newly opened one where there is none
 abbrev pub bank_or_opened : Option Bank → (member : ℕ) → (delta : Option ℕ) → Bank
@@ -54,14 +54,14 @@ bank_in (Some place) = place.bank
 
 -- the bank that the node keeps for a position as this member; before the first request it is a newly opened one
 abbrev pub bank_here : LocalObject → (position member : ℕ) → Bank
-bank_here local position member = bank_or_opened (bank_in (place_at local.places position)) member local.delta
+bank_here local position member = bank_or_opened (bank_in (heard_place local.places position)) member local.delta
 
 -- the places with this bank at the position
-abbrev pub with_bank : List Place → (position : ℕ) → Bank → List Place
-with_bank [] position bank = []
-with_bank (place ∷ places) position bank =
+abbrev pub with_bank_here : List Place → (position : ℕ) → Bank → List Place
+with_bank_here [] position bank = []
+with_bank_here (place ∷ places) position bank =
     if place.position == position then record place { bank = Some bank } ∷ places
-    else place ∷ with_bank places position bank
+    else place ∷ with_bank_here places position bank
 
 -- the places after the node hears of a position and its layout: one more where it had not heard of that position
 abbrev pub added_place : List Place → Option Place → (position : ℕ) → Layout → List Place
@@ -69,14 +69,14 @@ added_place places None position layout = places ++ record { position = position
 added_place places (Some place) position layout = places
 
 -- what the node keeps after it hears of a position and its layout
-abbrev pub learnt : LocalObject → (position : ℕ) → Layout → LocalObject
-learnt local position layout =
-    record local { places = added_place local.places (place_at local.places position) position layout }
+abbrev pub with_heard : LocalObject → (position : ℕ) → Layout → LocalObject
+with_heard local position layout =
+    record local { places = added_place local.places (heard_place local.places position) position layout }
 
 -- what the node keeps after it hears of a position and maybe its layout
 abbrev pub learnt_if : LocalObject → (position : ℕ) → Option Layout → LocalObject
 learnt_if local position None = local
-learnt_if local position (Some layout) = learnt local position layout
+learnt_if local position (Some layout) = with_heard local position layout
 
 -- the greatest of these positions, or the one that is given
 abbrev pub greatest_position : List Place → ℕ → ℕ

@@ -15,7 +15,7 @@ use Rattle.local_object.specs.Doing.{IsDone}
 use Rattle.local_object.specs.Ended.{all_told}
 use Rattle.local_object.specs.Events.{LocalEvent, all_done}
 use Rattle.local_object.specs.Going.{IsFetchedValue, next_here}
-use Rattle.local_object.specs.Local.{LocalObject, Place, layout_in, place_at}
+use Rattle.local_object.specs.Local.{LocalObject, Place, layout_in, heard_place}
 use Rattle.local_object.specs.May.{IsCarriedOut}
 
 -- a call as the machine that carries it out
@@ -32,7 +32,7 @@ machine_of call = record {
 -- for the phase, and the value can be encoded if its pieces are sent
 abbrev pub can_begin : List Place → Machine → Kind → (position : ℕ) → Bool
 can_begin places call kind position =
-    is_some (layout_in (place_at places position))
+    is_some (layout_in (heard_place places position))
     && (nat_lt (call.phase.number + 1) (2 ^ 32) && is_sendable kind call)
 
 -- a call begins a phase, if it can

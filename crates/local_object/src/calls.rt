@@ -8,7 +8,7 @@ ghost use Rattle.record.specs.Legal.{is_move};
 ghost use Rattle.call.specs.Call.{OpenCall as Machine};
 ghost use Rattle.call.specs.Limits.{IsWithinLimits};
 ghost use Rattle.call.specs.Steps.{entered, phase_next, taken_call};
-ghost use Rattle.local_object.specs.Distinct.{AreOthers, HaveDistinctIds, IsCallAt};
+ghost use Rattle.local_object.specs.Distinct.{HaveOtherIds, HaveDistinctIds, IsCallAt};
 
 use bank::Kind;
 use bytes::Bytes;
@@ -65,7 +65,7 @@ impl Calls {
 
     /// The index of the call with this id, if there is one.
     pub(crate) fn index_of(&self, id: CallId) -> Option<usize>
-        ensures index { MatchOption result (AreOthers id self.now) (IsCallAt self.now id) }
+        ensures index { MatchOption result (HaveOtherIds id self.now) (IsCallAt self.now id) }
         ensures distinct { HaveDistinctIds self.now }
     {
         place_of(&self.calls, id)
@@ -80,7 +80,7 @@ impl Calls {
 
     /// One more call, whose id is new. `NoMemory` is the only refusal.
     pub(crate) fn add(&mut self, call: Call) -> Result<(), Refusal>
-        requires { AreOthers call.id self.old }
+        requires { HaveOtherIds call.id self.old }
         ensures added { OnOk result (self.new ≡ self.old ++ call ∷ []) }
         ensures refused { IfErr result (λ e. e ≡ NoMemory) }
     {

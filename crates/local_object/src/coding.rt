@@ -2,7 +2,7 @@
 
 ghost use Rattle.std.specs.Prelude.{◌≡◌, ◌≤◌, true, length, IfOk, IfErr};
 ghost use Rattle.tag.specs.declared.refusal.Refusal.TheVariants.{NoMemory};
-ghost use Rattle.local_object.specs.Coding.{coding_for, is_sendable, value_of};
+ghost use Rattle.local_object.specs.Coding.{phase_coding, is_sendable, call_value};
 
 use bank::Kind;
 use bytes::Bytes;
@@ -32,7 +32,7 @@ pub(crate) fn coded_for(
     layout: &Layout,
 ) -> Result<Option<Coded>, Refusal>
     requires { is_sendable kind call.now ≡ true }
-    ensures coded { IfOk result (λ coded. coded ≡ coding_for kind layout.now call.now) }
+    ensures coded { IfOk result (λ coded. coded ≡ phase_coding kind layout.now call.now) }
     ensures refused { IfErr result (λ e. e ≡ NoMemory) }
 {
     match kind {
@@ -54,7 +54,7 @@ fn coded(alloc: Global, value: Bytes, layout: &Layout) -> Result<Coded, Refusal>
 
 // The value that the call writes, or settled, or else the empty one.
 fn value_of(call: &Call) -> Result<Bytes, Refusal>
-    ensures value { IfOk result (λ value. value ≡ value_of call.now) }
+    ensures value { IfOk result (λ value. value ≡ call_value call.now) }
     ensures refused { IfErr result (λ e. e ≡ NoMemory) }
 {
     match call.value() {
@@ -65,7 +65,7 @@ fn value_of(call: &Call) -> Result<Bytes, Refusal>
 
 // The length of the value that the call writes, or settled, or else 0.
 fn value_len(call: &Call) -> usize
-    ensures { result ≡ length (value_of call.now) }
+    ensures { result ≡ length (call_value call.now) }
 {
     match call.value() {
         Some(value) => value.len(),

@@ -9,7 +9,7 @@ ghost use Rattle.decoder.specs.Decoded.{IsDecoded};
 ghost use Rattle.call.specs.Call.{OpenCall as Machine};
 ghost use Rattle.call.specs.Limits.{IsWithinLimits};
 ghost use Rattle.call.specs.Next.{is_unsettled};
-ghost use Rattle.local_object.specs.Coding.{is_sendable, value_of};
+ghost use Rattle.local_object.specs.Coding.{is_sendable, call_value};
 ghost use Rattle.local_object.specs.Going.{Advances, IsFetchedValue, IsOnlyValue, UnlessWaiting, next_here};
 ghost use Rattle.local_object.specs.Taking.{can_begin};
 
@@ -114,7 +114,7 @@ fn coded_requests(
     requires { is_sendable ask.kind call.now ≡ true }
     ensures requests { IfOk result (λ messages. messages.items
         ≡ requests ask.call ask.number ask.kind ask.position layout.now.members 0
-        (fragment_piece fragment layout.now (value_of call.now))) }
+        (fragment_piece fragment layout.now (call_value call.now))) }
 
     ensures refused { IfErr result (λ e. e ≡ NoMemory) }
 {

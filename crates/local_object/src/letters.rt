@@ -2,7 +2,7 @@
 
 ghost use Rattle.std.specs.Prelude.{◌≡◌, suc, map, IfOk, IfErr};
 ghost use Rattle.tag.specs.declared.refusal.Refusal.TheVariants.{NoMemory};
-ghost use Rattle.local_object.specs.Local.{layout_in, place_at};
+ghost use Rattle.local_object.specs.Local.{layout_in, heard_place};
 ghost use Rattle.local_object.specs.Letters.{is_set, letter_in, tells_next};
 
 use crate::Letter;
@@ -54,7 +54,7 @@ pub(crate) fn letter_of(
 
 // The layout of the position after this one, if the node has heard of it.
 fn next_layout(places: &Places, position: u32) -> Result<Option<Layout>, Refusal>
-    ensures layout { IfOk result (λ l. l ≡ layout_in (place_at places.now (suc position))) }
+    ensures layout { IfOk result (λ l. l ≡ layout_in (heard_place places.now (suc position))) }
     ensures refused { IfErr result (λ e. e ≡ NoMemory) }
 {
     match places.layout_of(u64::from(position) + 1) {

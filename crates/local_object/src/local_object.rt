@@ -1,6 +1,6 @@
 ghost use Rattle.std.specs.Prelude.{◌≡◌, ◌+◌, ◌<◌, ◌^◌, IfOk, IfErr, OnOk, IsSome, nat_lt, option_to_list};
 ghost use Rattle.tag.specs.declared.refusal.Refusal.TheVariants.{NoMemory};
-ghost use Rattle.local_object.specs.Local.{new_local, place_at};
+ghost use Rattle.local_object.specs.Local.{new_local, heard_place};
 ghost use Rattle.local_object.specs.Events.{learnt_from, served_here};
 ghost use Rattle.local_object.specs.Doing.{IsDone, has_member, is_served, serve_events};
 
@@ -124,7 +124,7 @@ impl LocalObject {
 
     // The node's bank serves the request in a letter. None where it is none.
     fn handle(&mut self, letter: Letter) -> Result<Option<Letter>, Refusal>
-        requires { IsSome (place_at self.old.places letter.message.position) }
+        requires { IsSome (heard_place self.old.places letter.message.position) }
         ensures local { OnOk result (self.new ≡ (served_here self.old letter letter.message.body).local) }
         ensures sent { IfOk result (λ reply.
             option_to_list reply ≡ (served_here self.old letter letter.message.body).sent) }

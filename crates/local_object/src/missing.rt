@@ -3,7 +3,7 @@
 ghost use Rattle.std.specs.Prelude.{◌≡◌, ◌<◌, true, length, option_copied, IfOk, IfErr, OnOk};
 ghost use Rattle.std.specs.List.{AllByRecursion};
 ghost use Rattle.tag.specs.declared.refusal.Refusal.TheVariants.{NoMemory};
-ghost use Rattle.local_object.specs.Coding.{coding_for, is_sendable};
+ghost use Rattle.local_object.specs.Coding.{phase_coding, is_sendable};
 ghost use Rattle.local_object.specs.Sent.{IsCurrent};
 
 use crate::Letter;
@@ -43,7 +43,7 @@ fn missing_with(
     layout: &Layout,
     coded: Option<&Coded>,
 ) -> Result<Vec<Letter>, Refusal>
-    requires { option_copied coded ≡ coding_for call.now.phase.kind layout.now call.now }
+    requires { option_copied coded ≡ phase_coding call.now.phase.kind layout.now call.now }
     ensures letters { IfOk result (λ letters.
         AllByRecursion (IsCurrent places.now call.now layout.now) letters.items) }
 
@@ -66,7 +66,7 @@ fn add_missing(
     member: u8,
 ) -> Result<(), Refusal>
     requires within { member < length layout.now.members }
-    requires coded { option_copied coded ≡ coding_for call.now.phase.kind layout.now call.now }
+    requires coded { option_copied coded ≡ phase_coding call.now.phase.kind layout.now call.now }
     ensures added { OnOk result (AllByRecursion (IsCurrent places.now call.now layout.now) letters.old.items
         → AllByRecursion (IsCurrent places.now call.now layout.now) letters.new.items) }
 

@@ -5,7 +5,7 @@ ghost use Rattle.std.specs.Prelude.{if◌then◌else◌, nat_lt, position, ◌-�
 ghost use Rattle.tag.specs.declared.refusal.Refusal.TheVariants.{NoMemory};
 ghost use Rattle.bank.specs.Serve.{served_bank, reply_to};
 ghost use Rattle.local_object.specs.Local.{added_place, bank_in, bank_or_opened, greatest_position, layout_in};
-ghost use Rattle.local_object.specs.Local.{place_at, with_bank};
+ghost use Rattle.local_object.specs.Local.{heard_place, with_bank_here};
 ghost use Rattle.local_object.specs.Changing.{place_bytes};
 ghost use Rattle.local_object.specs.Distinct.{IsInOrderIfOpen, IsPlaceAt};
 
@@ -60,7 +60,7 @@ impl Places {
     /// The layout of a position, if the node has heard of it. The number of the position has 64 bits, so that each
     /// position has a next one.
     pub(crate) fn layout_of(&self, position: u64) -> Option<&Layout>
-        ensures { option_copied result ≡ layout_in (place_at self.now position) }
+        ensures { option_copied result ≡ layout_in (heard_place self.now position) }
     {
         match place_of(&self.places, position) {
             Some(index) => Some(self.places[index].layout()),
@@ -70,8 +70,8 @@ impl Places {
 
     /// The bank that the node keeps for a position, if a request has reached it.
     pub(crate) fn bank_of(&self, position: u32) -> Option<&Bank>
-        ensures bank { option_copied result ≡ bank_in (place_at self.now position) }
-        ensures order { IsInOrderIfOpen (bank_in (place_at self.now position)) }
+        ensures bank { option_copied result ≡ bank_in (heard_place self.now position) }
+        ensures order { IsInOrderIfOpen (bank_in (heard_place self.now position)) }
     {
         match place_of(&self.places, u64::from(position)) {
             Some(index) => self.places[index].bank(),
@@ -89,7 +89,7 @@ impl Places {
     /// The first position, which is 0, and of which the node has always heard.
     pub(crate) fn first(&self) -> u32
         ensures first { result ≡ 0 }
-        ensures known { IsSome (layout_in (place_at self.now 0)) }
+        ensures known { IsSome (layout_in (heard_place self.now 0)) }
     {
         let _places = &self.places;
         0
@@ -98,7 +98,7 @@ impl Places {
     /// The last position that the node has heard of.
     pub(crate) fn last(&self) -> u32
         ensures last { result ≡ greatest_position self.now 0 }
-        ensures known { IsSome (layout_in (place_at self.now result)) }
+        ensures known { IsSome (layout_in (heard_place self.now result)) }
     {
         last_of(&self.places)
     }
@@ -108,7 +108,7 @@ impl Places {
     /// `NoMemory` is the only refusal.
     pub(crate) fn learn(&mut self, position: u32, layout: &Layout) -> Result<(), Refusal>
         ensures places { OnOk result
-            (self.new ≡ added_place self.old (place_at self.old position) position layout.now) }
+            (self.new ≡ added_place self.old (heard_place self.old position) position layout.now) }
 
         ensures refused { IfErr result (λ e. e ≡ NoMemory) }
     {
@@ -131,12 +131,12 @@ impl Places {
         delta: Option<u32>,
         request: &Request,
     ) -> Result<Reply, Refusal>
-        requires known { IsSome (place_at self.old position) }
-        ensures places { OnOk result (self.new ≡ with_bank self.old position
-            (served_bank (bank_or_opened (bank_in (place_at self.old position)) member delta) request.now 0)) }
+        requires known { IsSome (heard_place self.old position) }
+        ensures places { OnOk result (self.new ≡ with_bank_here self.old position
+            (served_bank (bank_or_opened (bank_in (heard_place self.old position)) member delta) request.now 0)) }
 
         ensures reply { IfOk result (λ r. r
-            ≡ reply_to (bank_or_opened (bank_in (place_at self.old position)) member delta) request.now 0) }
+            ≡ reply_to (bank_or_opened (bank_in (heard_place self.old position)) member delta) request.now 0) }
 
         ensures refused { IfErr result (λ e. e ≡ NoMemory) }
     {
@@ -179,7 +179,7 @@ fn later(a: u32, b: u32) -> u32
 
 // Where in the list a position is, if it is there.
 fn place_of(places: &[Place], number: u64) -> Option<usize>
-    ensures { MatchOption result (place_at places.now number ≡ None) (IsPlaceAt places.now number) }
+    ensures { MatchOption result (heard_place places.now number ≡ None) (IsPlaceAt places.now number) }
 {
     first_of(places, number)
 }

@@ -4,7 +4,7 @@ use Rattle.std.proofs.Common.{refl, sym, subst, ap, ◌∙◌, arith}
 use Rattle.std.specs.List.{AllByRecursion}
 use Rattle.record.specs.declared.call.Entry.{Entry}
 use Rattle.record.specs.Fragments.{Code}
-use Rattle.call_ids.specs.CallId.{CallIds, IsWithin}
+use Rattle.call_ids.specs.CallId.{CallIds, HasRanges}
 use Rattle.network.specs.Worlds.{ClusterFile}
 use Rattle.local_object.specs.Local.{LocalObject}
 use Rattle.refinement.specs.Refined.{IsKeptHere}
@@ -19,8 +19,8 @@ use Rattle.deeds.specs.Ids.{HaveNextIds, IsLater}
 use Rattle.deeds.specs.May.{IsAllowed}
 use Rattle.deeds.proofs.IdLemmas.{ids_node}
 use Rattle.deeds.proofs.ListLemmas.{all_weaker}
-use Rattle.node_runs.specs.Clusters.{Cluster, ClusterEvent, cluster_after, cluster_run, new_cluster, with_node}
-use Rattle.node_runs.specs.Premises.{AreNodeEvents, IsAsSent, IsKeptByLog, IsNodeEvent, IsReachedCluster, IsRestarted}
+use Rattle.node_runs.specs.Clusters.{NodeCluster, ClusterEvent, cluster_after, cluster_run, new_cluster, with_kept_node}
+use Rattle.node_runs.specs.Premises.{AreNodeEvents, LettersAreAsSent, IsKeptByItsLog, IsNodeEvent, IsReachedCluster, IsRestarted}
 use Rattle.node_runs.specs.Laws.{ClustersAreAtomic, ClustersHaveSystems, ClustersKeepValues, IsSystemOf}
 use Rattle.node_runs.proofs.HistoryLemmas.{history_is, history_later}
 use Rattle.node_runs.proofs.SystemRunLemmas.{reached_next}
@@ -38,16 +38,16 @@ abbrev ids_of : (nodes : ℕ → KeptNode) → (number : ℕ) → CallIds
 ids_of nodes number = (nodes number).ids
 
 -- all nodes, with these cluster files, and what they are for the object of the name
-record Stands (fragment : Code) (files : ℕ → FileOfNames) (name : List ℕ) (cluster : Cluster) : Type 0 where
+record Stands (fragment : Code) (files : ℕ → FileOfNames) (name : List ℕ) (cluster : NodeCluster) : Type 0 where
   pub system : System
   pub follows : Follows fragment name system (ids_of cluster.nodes) cluster.letters cluster.notices
   pub objects : (number : ℕ) → system.objects number ≡ (cluster.nodes number).objects name
   pub numbers : (number : ℕ) → (cluster.nodes number).ids.node ≡ number
-  pub within : (number : ℕ) → IsWithin (cluster.nodes number).ids
+  pub within : (number : ℕ) → HasRanges (cluster.nodes number).ids
   pub kept : (number : ℕ) → (cluster.nodes number).file ≡ files number
   pub movers : (number : ℕ) → (system.files number).mover ≡ (files number).mover
 
-ids_within : (before after : CallIds) (deeds : List Deed) → HaveNextIds before deeds after → IsWithin after
+ids_within : (before after : CallIds) (deeds : List Deed) → HaveNextIds before deeds after → HasRanges after
 ids_within before after [] ids = ids.within
 ids_within before after (deed ∷ deeds) ids = ids_within ids.0 after deeds ids.2
 
@@ -63,7 +63,7 @@ same_ids ids number = λ i m. at m i
     at m = go m (eqb m number) refl
 
 ids_after : (nodes : ℕ → KeptNode) (number : ℕ) (after : KeptNode) →
-    with_ids (ids_of nodes) number after.ids ≡ ids_of (with_node nodes number after)
+    with_ids (ids_of nodes) number after.ids ≡ ids_of (with_kept_node nodes number after)
 ids_after nodes number after = λ i m. go m (eqb m number) i
   where
     go : (m : ℕ) (b : Bool) → cond b after.ids (nodes m).ids ≡ (cond b after (nodes m)).ids
@@ -72,14 +72,14 @@ ids_after nodes number after = λ i m. go m (eqb m number) i
 
 -- a fact of each node, where one has changed
 each_node : (P : ℕ → KeptNode → Type 0) (nodes : ℕ → KeptNode) (number : ℕ) (after : KeptNode) → P number after →
-    ((m : ℕ) → (m ≡ number → ⊥) → P m (nodes m)) → (m : ℕ) → P m (with_node nodes number after m)
+    ((m : ℕ) → (m ≡ number → ⊥) → P m (nodes m)) → (m : ℕ) → P m (with_kept_node nodes number after m)
 each_node P nodes number after own others m = go (eqb m number) refl
   where
     go : (b : Bool) → eqb m number ≡ b → P m (cond b after (nodes m))
     go true e = subst (λ n. P n after) (sym (eqb-true m number e)) own
     go false e = others m (λ same. absurd (let wrong : false ≡ true = sym e ∙ eq-eqb m number same in cc))
 
-module _ (fragment : Code) (files : ℕ → FileOfNames) (name : List ℕ) (cluster : Cluster) (is : Stands fragment files name cluster)
+module _ (fragment : Code) (files : ℕ → FileOfNames) (name : List ℕ) (cluster : NodeCluster) (is : Stands fragment files name cluster)
     (number : ℕ) where
   abbrev old : KeptNode
   old = cluster.nodes number
@@ -108,7 +108,7 @@ module _ (fragment : Code) (files : ℕ → FileOfNames) (name : List ℕ) (clus
             (led.own ∙ sym (did.objects name)) (λ m apart. led.others m apart ∙ is.objects m);
         numbers = each_node (λ m node. node.ids.node ≡ m) cluster.nodes number after
             (ids_node old.ids after.ids did.deeds did.ids ∙ is.numbers number) (λ m apart. is.numbers m);
-        within = each_node (λ m node. IsWithin node.ids) cluster.nodes number after
+        within = each_node (λ m node. HasRanges node.ids) cluster.nodes number after
             (ids_within old.ids after.ids did.deeds did.ids) (λ m apart. is.within m);
         kept = each_node (λ m node. node.file ≡ files m) cluster.nodes number after (did.file ∙ is.kept number) (λ m apart. is.kept m);
         movers = λ m. ap (λ (f : ℕ → ClusterFile). (f m).mover) led.files ∙ is.movers m;
@@ -151,26 +151,26 @@ module _ (fragment : Code) (files : ℕ → FileOfNames) (name : List ℕ) (clus
             (λ m apart. other_object is.system.objects number (after.objects name) m apart ∙ is.objects m);
         numbers = each_node (λ m node. node.ids.node ≡ m) cluster.nodes number after (again.number ∙ is.numbers number)
             (λ m apart. is.numbers m);
-        within = each_node (λ m node. IsWithin node.ids) cluster.nodes number after again.within (λ m apart. is.within m);
+        within = each_node (λ m node. HasRanges node.ids) cluster.nodes number after again.within (λ m apart. is.within m);
         kept = each_node (λ m node. node.file ≡ files m) cluster.nodes number after (again.file ∙ is.kept number) (λ m apart. is.kept m);
         movers = is.movers;
       }
 
 module _ (fragment : Code) (files : ℕ → FileOfNames) (name : List ℕ) where
-  one_stands : (cluster : Cluster) (event : ClusterEvent) → Stands fragment files name cluster → IsNodeEvent fragment cluster event →
-      IsAsSent cluster event → IsKeptByLog cluster event → Stands fragment files name (cluster_after cluster event)
+  one_stands : (cluster : NodeCluster) (event : ClusterEvent) → Stands fragment files name cluster → IsNodeEvent fragment cluster event →
+      LettersAreAsSent cluster event → IsKeptByItsLog cluster event → Stands fragment files name (cluster_after cluster event)
   one_stands cluster (ClusterEvent.Handles number got after sent notices) is did came kept =
       handled fragment files name cluster is number got after sent notices did came
   one_stands cluster (ClusterEvent.Restarts number after) is did came kept =
       restarted fragment files name cluster is number after kept
 
-  all_stand : (events : List ClusterEvent) (cluster : Cluster) → Stands fragment files name cluster →
+  all_stand : (events : List ClusterEvent) (cluster : NodeCluster) → Stands fragment files name cluster →
       AreNodeEvents fragment events cluster → Stands fragment files name (cluster_run events cluster)
   all_stand [] cluster is may = is
   all_stand (event ∷ events) cluster is may =
       all_stand events (cluster_after cluster event) (one_stands cluster event is may.0 may.1 may.2) may.3
 
-stand_first : (fragment : Code) (cluster : Cluster) (reached : IsReachedCluster fragment cluster) (name : List ℕ) →
+stand_first : (fragment : Code) (cluster : NodeCluster) (reached : IsReachedCluster fragment cluster) (name : List ℕ) →
     Stands fragment reached.files name (new_cluster reached.files)
 stand_first fragment cluster reached name =
     let files = λ (m : ℕ). file_of (reached.files m) name in record {

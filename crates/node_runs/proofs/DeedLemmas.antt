@@ -5,7 +5,7 @@ use Rattle.std.proofs.lemmas.List.{append-nil}
 use Rattle.std.proofs.lemmas.Option.{same_Some}
 use Rattle.std.specs.List.{AllByRecursion}
 use Rattle.record.specs.Fragments.{Code}
-use Rattle.call_ids.specs.CallId.{CallIds, IsWithin}
+use Rattle.call_ids.specs.CallId.{CallIds, HasRanges}
 use Rattle.network.specs.Worlds.{ClusterFile}
 use Rattle.local_object.specs.declared.letter.Letter.{Letter}
 use Rattle.local_object.specs.declared.progress.Ended.{Ended}
@@ -15,7 +15,7 @@ use Rattle.local_object.specs.Ended.{told}
 use Rattle.local_object.specs.May.{MayHappenHere}
 use Rattle.local_object.specs.Resent.{IsResent}
 use Rattle.refinement.specs.Systems.{System, SystemEvent, system_after}
-use Rattle.deeds.specs.Named.{IsOneOf, NamedLetter, is_same_name, named}
+use Rattle.deeds.specs.Named.{IsOneOf, NamedLetter, is_same_name, with_names}
 use Rattle.deeds.specs.Deeds.{Deed, Notice, after_deed, after_deeds, noticed}
 use Rattle.deeds.specs.Ids.{HaveNextIds, IsGiven, IsLater, begun_id, deed_id}
 use Rattle.deeds.specs.May.{AreFed, IsAllowed, IsEventAllowed, IsEventFed, IsFed, MayAllBeDone, MayBeDone}
@@ -39,10 +39,10 @@ apart_false name other apart = go (is_same_name name other) refl
     go false e = refl
 
 not_named : (name other : List ℕ) (letters : List Letter) (letter : Letter) → (other ≡ name → ⊥) →
-    IsOneOf (named other letters) (record { name = name; letter = letter }) → ⊥
+    IsOneOf (with_names other letters) (record { name = name; letter = letter }) → ⊥
 not_named name other letters letter apart is = go letters is.0 is.1
   where
-    go : (letters : List Letter) (i : ℕ) → slice_get (named other letters) i ≡ Some (record { name = name; letter = letter }) → ⊥
+    go : (letters : List Letter) (i : ℕ) → slice_get (with_names other letters) i ≡ Some (record { name = name; letter = letter }) → ⊥
     go [] i e = absurd (cc)
     go (first ∷ letters) zero e =
         let a : NamedLetter = record { name = other; letter = first } in
@@ -73,7 +73,7 @@ noticed_beside name other local (LocalEvent.GiveUp id) apart = tt
 abbrev DeedLeads : (fragment : Code) (name : List ℕ) (number mover : ℕ) (ids : ℕ → CallIds) → Deed → Type 0
 DeedLeads fragment name number mover ids deed = (system : System) (objects : List ℕ → LocalObject) (mine now : CallIds)
     (letters : List NamedLetter) (notices : List Notice) → Follows fragment name system (with_ids ids number mine) letters notices →
-    mine.node ≡ number → IsWithin mine → system.objects number ≡ objects name → mover ≡ (system.files number).mover →
+    mine.node ≡ number → HasRanges mine → system.objects number ≡ objects name → mover ≡ (system.files number).mover →
     MayBeDone fragment objects deed → IsFed letters deed → IsAllowed number mover deed → IsGiven mine (deed_id deed) now →
     Leads fragment name system number ((after_deed fragment objects deed).objects name) (with_ids ids number now)
     (letters ++ (after_deed fragment objects deed).sent) (notices ++ (after_deed fragment objects deed).notices)
@@ -82,14 +82,14 @@ module _ (fragment : Code) (name : List ℕ) (number mover : ℕ) (ids : ℕ →
   -- by what the node keeps of the object
   event_at : (event : LocalEvent) (system : System) (local : LocalObject) (mine now : CallIds) (letters : List NamedLetter)
       (notices : List Notice) → Follows fragment name system (with_ids ids number mine) letters notices →
-      mine.node ≡ number → IsWithin mine → system.objects number ≡ local → mover ≡ (system.files number).mover →
+      mine.node ≡ number → HasRanges mine → system.objects number ≡ local → mover ≡ (system.files number).mover →
       MayHappenHere fragment local event → IsEventFed letters name event → IsEventAllowed number mover event →
       IsGiven mine (begun_id event) now →
       Leads fragment name system number (done_here fragment local event).local (with_ids ids number now)
-      (letters ++ named name (done_here fragment local event).sent) (notices ++ noticed name local event)
+      (letters ++ with_names name (done_here fragment local event).sent) (notices ++ noticed name local event)
   event_at event system local mine now letters notices follows own within same moves may fed allowed given =
       subst (λ (l : LocalObject). Leads fragment name system number (done_here fragment l event).local (with_ids ids number now)
-      (letters ++ named name (done_here fragment l event).sent) (notices ++ noticed name l event)) same
+      (letters ++ with_names name (done_here fragment l event).sent) (notices ++ noticed name l event)) same
       (acted fragment name system ids number mine now letters notices follows own within event
       (subst (λ (l : LocalObject). MayHappenHere fragment l event) (sym same) may) fed
       (subst (λ m. IsEventAllowed number m event) moves allowed) given)
@@ -97,7 +97,7 @@ module _ (fragment : Code) (name : List ℕ) (number mover : ℕ) (ids : ℕ →
   does_own : (event : LocalEvent) → DeedLeads fragment name number mover ids (Deed.Does name event)
   does_own event system objects mine now letters notices follows own within same moves may fed allowed given =
       subst (λ (l : LocalObject). Leads fragment name system number l (with_ids ids number now)
-      (letters ++ named name (done_here fragment (objects name) event).sent) (notices ++ noticed name (objects name) event))
+      (letters ++ with_names name (done_here fragment (objects name) event).sent) (notices ++ noticed name (objects name) event))
       (sym (own_named objects name (done_here fragment (objects name) event).local))
       (event_at event system (objects name) mine now letters notices follows own within same moves may fed allowed given)
 
@@ -121,9 +121,9 @@ module _ (fragment : Code) (name : List ℕ) (number mover : ℕ) (ids : ℕ →
   beside : (other : List ℕ) (system : System) (local : LocalObject) (mine now : CallIds) (letters : List NamedLetter)
       (notices : List Notice) (sent : List Letter) (seen : List Notice) →
       Follows fragment name system (with_ids ids number mine) letters notices →
-      mine.node ≡ number → IsWithin mine → system.objects number ≡ local → (other ≡ name → ⊥) → IsLater mine now →
+      mine.node ≡ number → HasRanges mine → system.objects number ≡ local → (other ≡ name → ⊥) → IsLater mine now →
       AllByRecursion (λ notice. is_about name notice ≡ false) seen →
-      Leads fragment name system number local (with_ids ids number now) (letters ++ named other sent) (notices ++ seen)
+      Leads fragment name system number local (with_ids ids number now) (letters ++ with_names other sent) (notices ++ seen)
   beside other system local mine now letters notices sent seen follows own within same apart later none = record {
     next = system;
     own = same;
@@ -131,14 +131,14 @@ module _ (fragment : Code) (name : List ℕ) (number mover : ℕ) (ids : ℕ →
     files = refl;
     follows = record {
       reached = follows.reached;
-      posted = λ letter is. posted letter (one_of_both letters (named other sent) (record { name = name; letter = letter }) is);
+      posted = λ letter is. posted letter (one_of_both letters (with_names other sent) (record { name = name; letter = letter }) is);
       used = still_used fragment name system ids number mine now letters notices follows own within later;
       history = history_beside name notices seen system.history system.now none (λ ended. (names_decided name name).1 refl) follows.history;
     };
   }
     where
       posted : (letter : Letter) → IsOneOf letters (record { name = name; letter = letter })
-          ⊎ IsOneOf (named other sent) (record { name = name; letter = letter }) →
+          ⊎ IsOneOf (with_names other sent) (record { name = name; letter = letter }) →
           (place : ℕ) × (slice_get system.letters place ≡ Some letter)
       posted letter (inl a) = follows.posted letter a
       posted letter (inr b) = absurd (not_named name other sent letter apart b)
@@ -148,7 +148,7 @@ module _ (fragment : Code) (name : List ℕ) (number mover : ℕ) (ids : ℕ →
   does_other other apart event system objects mine now letters notices follows own within same moves may fed allowed given =
       let done = done_here fragment (objects other) event in
       subst (λ (l : LocalObject). Leads fragment name system number l (with_ids ids number now)
-      (letters ++ named other done.sent) (notices ++ noticed other (objects other) event))
+      (letters ++ with_names other done.sent) (notices ++ noticed other (objects other) event))
       (sym (other_named objects other done.local name (apart_false other name (λ e. apart (sym e)))))
       (beside other system (objects name) mine now letters notices done.sent (noticed other (objects other) event) follows own within
       same apart (given_later mine now (begun_id event) within given)
@@ -181,7 +181,7 @@ module _ (fragment : Code) (name : List ℕ) (number mover : ℕ) (ids : ℕ →
 
   pub deeds_lead : (deeds : List Deed) (system : System) (objects : List ℕ → LocalObject) (mine last : CallIds)
       (letters : List NamedLetter) (notices : List Notice) (got : List NamedLetter) →
-      Follows fragment name system (with_ids ids number mine) letters notices → mine.node ≡ number → IsWithin mine →
+      Follows fragment name system (with_ids ids number mine) letters notices → mine.node ≡ number → HasRanges mine →
       system.objects number ≡ objects name → mover ≡ (system.files number).mover → MayAllBeDone fragment objects deeds →
       AreFed fragment objects got deeds → AreAmong got letters → AllByRecursion (IsAllowed number mover) deeds →
       HaveNextIds mine deeds last →

@@ -6,7 +6,7 @@ use Rattle.std.specs.List.{AllByRecursion}
 use Rattle.record.specs.declared.call.CallKind.TheVariants.{Read, Write, Move}
 use Rattle.record.specs.declared.call.Entry.{Entry}
 use Rattle.record.specs.Fragments.{Code}
-use Rattle.call_ids.specs.CallId.{CallIds, IsWithin}
+use Rattle.call_ids.specs.CallId.{CallIds, HasRanges}
 use Rattle.network.specs.Worlds.{NodeCall, open_call}
 use Rattle.network.specs.Events.{answered_entry}
 use Rattle.local_object.specs.declared.progress.Ended.{Ended}
@@ -17,7 +17,7 @@ use Rattle.local_object.specs.May.{MayHappenHere}
 use Rattle.refinement.specs.Refined.{begun_entry, with_answer}
 use Rattle.refinement.specs.WellFormed.{HasEntry}
 use Rattle.refinement.specs.Systems.{IsPremisedIn, System, SystemEvent, system_after}
-use Rattle.deeds.specs.Named.{NamedLetter, named}
+use Rattle.deeds.specs.Named.{NamedLetter, with_names}
 use Rattle.deeds.specs.Deeds.{Notice, noticed}
 use Rattle.deeds.specs.Ids.{IsGiven, IsLater, IsNextId, begun_id}
 use Rattle.deeds.specs.May.{IsEventAllowed, IsEventFed}
@@ -33,7 +33,7 @@ use Rattle.node_runs.proofs.LeadLemmas.{Follows, Leads, all_map, ended_in, other
 module _ (fragment : Code) (name : List ℕ) (system : System) (ids : ℕ → CallIds) (number : ℕ) (mine now : CallIds)
     (letters : List NamedLetter) (notices : List Notice)
     (follows : Follows fragment name system (with_ids ids number mine) letters notices) (own : mine.node ≡ number)
-    (within : IsWithin mine) where
+    (within : HasRanges mine) where
   abbrev local : LocalObject
   local = system.objects number
 
@@ -50,7 +50,7 @@ module _ (fragment : Code) (name : List ℕ) (system : System) (ids : ℕ → Ca
       AllByRecursion (λ entry. IsUsed (with_ids ids number now) entry.call) (after event).history →
       IsHistoryAt name (notices ++ seen) (after event).history (after event).now →
       Leads fragment name system number (done_here fragment local event).local (with_ids ids number now)
-      (letters ++ named name (done_here fragment local event).sent) (notices ++ seen)
+      (letters ++ with_names name (done_here fragment local event).sent) (notices ++ seen)
   leads event seen may premised used history = record {
     next = after event;
     own = own_object system.objects number (done_here fragment local event).local;
@@ -126,7 +126,7 @@ module _ (fragment : Code) (name : List ℕ) (system : System) (ids : ℕ → Ca
   pub acted : (event : LocalEvent) → MayHappenHere fragment local event → IsEventFed letters name event →
       IsEventAllowed number (system.files number).mover event → IsGiven mine (begun_id event) now →
       Leads fragment name system number (done_here fragment local event).local (with_ids ids number now)
-      (letters ++ named name (done_here fragment local event).sent) (notices ++ noticed name local event)
+      (letters ++ with_names name (done_here fragment local event).sent) (notices ++ noticed name local event)
   acted (LocalEvent.BeginRead id) may fed allowed given =
       let time = suc system.now in
       let entry = begun_entry id Read time in

@@ -13,8 +13,8 @@ use Rattle.network.specs.Events.{answered_entry}
 use Rattle.local_object.specs.declared.letter.Letter.{Letter}
 use Rattle.local_object.specs.declared.progress.Ended.{Ended}
 use Rattle.local_object.specs.Local.{LocalObject}
-use Rattle.refinement.specs.Systems.{IsReachedSystem, System, WasPosted, with_object}
-use Rattle.deeds.specs.Named.{IsOneOf, NamedLetter, named}
+use Rattle.refinement.specs.Systems.{IsReachedSystem, System, WasPosted, with_object_at}
+use Rattle.deeds.specs.Named.{IsOneOf, NamedLetter, with_names}
 use Rattle.deeds.specs.Deeds.{Notice}
 use Rattle.deeds.proofs.NameLemmas.{one_of_both}
 use Rattle.node_runs.proofs.HistoryLemmas.{IsHistoryAt}
@@ -39,17 +39,17 @@ pub record Leads (fragment : Code) (name : List ℕ) (system : System) (number :
   pub files : next.files ≡ system.files
   pub follows : Follows fragment name next ids letters notices
 
-pub own_object : (objects : ℕ → LocalObject) (node : ℕ) (local : LocalObject) → with_object objects node local node ≡ local
+pub own_object : (objects : ℕ → LocalObject) (node : ℕ) (local : LocalObject) → with_object_at objects node local node ≡ local
 own_object objects node local = ap (λ b. cond b local (objects node)) (eq-eqb node node refl)
 
 pub other_object : (objects : ℕ → LocalObject) (node : ℕ) (local : LocalObject) (other : ℕ) → (other ≡ node → ⊥) →
-    with_object objects node local other ≡ objects other
+    with_object_at objects node local other ≡ objects other
 other_object objects node local other apart = ap (λ b. cond b local (objects other)) (ne_eqb other node apart)
 
 -- Letters
 
 get_named : (name : List ℕ) (letters : List Letter) (i : ℕ) (letter : Letter) →
-    slice_get (named name letters) i ≡ Some (record { name = name; letter = letter }) → slice_get letters i ≡ Some letter
+    slice_get (with_names name letters) i ≡ Some (record { name = name; letter = letter }) → slice_get letters i ≡ Some letter
 get_named name [] i letter e = absurd (cc)
 get_named name (first ∷ letters) zero letter e =
     let a : NamedLetter = record { name = name; letter = first } in
@@ -64,12 +64,13 @@ get_second (y ∷ xs) ys i x e = let rest = get_second xs ys i x e in (suc rest.
 pub posted_more : (name : List ℕ) (posted sent : List Letter) (letters : List NamedLetter) →
     ((letter : Letter) → IsOneOf letters (record { name = name; letter = letter }) →
     (place : ℕ) × (slice_get posted place ≡ Some letter)) → (letter : Letter) →
-    IsOneOf (letters ++ named name sent) (record { name = name; letter = letter }) →
+    IsOneOf (letters ++ with_names name sent) (record { name = name; letter = letter }) →
     (place : ℕ) × (slice_get (posted ++ sent) place ≡ Some letter)
 posted_more name posted sent letters first letter is =
-    go (one_of_both letters (named name sent) (record { name = name; letter = letter }) is)
+    go (one_of_both letters (with_names name sent) (record { name = name; letter = letter }) is)
   where
-    go : IsOneOf letters (record { name = name; letter = letter }) ⊎ IsOneOf (named name sent) (record { name = name; letter = letter }) →
+    go : IsOneOf letters (record { name = name; letter = letter })
+        ⊎ IsOneOf (with_names name sent) (record { name = name; letter = letter }) →
         (place : ℕ) × (slice_get (posted ++ sent) place ≡ Some letter)
     go (inl a) = let there = first letter a in (there.0, get_first posted sent there.0 letter there.1)
     go (inr b) = get_second posted sent b.0 letter (get_named name sent b.0 letter b.1)

@@ -1,14 +1,14 @@
 -- Notices with rising times.
 use Rattle.std.proofs.Common.{◌≡◌, ◌<◌, ◌≤◌, ℕ, List, [], ◌∷◌, ◌++◌, refl, arith}
 use Rattle.record.specs.declared.call.Entry.{Entry}
-use Rattle.node_runs.specs.Histories.{IsRising, TimedNotice, after_notice, after_notices}
+use Rattle.node_runs.specs.Histories.{HaveRisingTimes, TimedNotice, after_notice, after_notices}
 
 -- the times rise from the first of these on, and are at most the second
 abbrev pub IsRisingTo : (low : ℕ) → List TimedNotice → (high : ℕ) → Type 0
 IsRisingTo low [] high = low ≤ high
 IsRisingTo low (timed ∷ notices) high = (low < timed.time) × IsRisingTo timed.time notices high
 
-pub rising_is : (low high : ℕ) (notices : List TimedNotice) → IsRisingTo low notices high → IsRising low notices
+pub rising_is : (low high : ℕ) (notices : List TimedNotice) → IsRisingTo low notices high → HaveRisingTimes low notices
 rising_is low high [] rising = tt
 rising_is low high (timed ∷ notices) rising = (rising.0, rising_is timed.time high notices rising.1)
 

@@ -3,7 +3,7 @@ use Rattle.std.proofs.Common.{◌≡◌, ◌<◌, ◌≤◌, ◌⊎◌, inl, inr
 use Rattle.std.proofs.Common.{List, Some, sym, subst, ap, ◌∙◌, arith}
 use Rattle.std.specs.List.{AllByRecursion}
 use Rattle.record.specs.declared.call.Entry.{Entry}
-use Rattle.call_ids.specs.CallId.{CallIds, IdsDiffer, IsWithin, after_next, next_id}
+use Rattle.call_ids.specs.CallId.{CallIds, IdsDiffer, HasRanges, after_given, next_given_id}
 use Rattle.deeds.specs.Ids.{IsLater, IsNextId}
 use Rattle.deeds.proofs.IdLemmas.{later_same, later_then, next_is, next_later}
 use Rattle.deeds.proofs.ListLemmas.{all_weaker}
@@ -22,9 +22,9 @@ own_ids ids number mine other same = ap (λ b. cond b mine (ids other)) (eq-eqb 
 -- the id was given by one of these, at an earlier time
 pub record IsUsed (ids : ℕ → CallIds) (id : ℕ) : Type 0 where
   pub now : CallIds
-  pub within : IsWithin now
-  pub next : next_id now ≡ Some id
-  pub later : IsLater (after_next now) (ids now.node)
+  pub within : HasRanges now
+  pub next : next_given_id now ≡ Some id
+  pub later : IsLater (after_given now) (ids now.node)
 
 pub used_later : (ids : ℕ → CallIds) (number : ℕ) (mine now : CallIds) → IsLater mine now → (id : ℕ) →
     IsUsed (with_ids ids number mine) id → IsUsed (with_ids ids number now) id
@@ -35,9 +35,9 @@ used_later ids number mine now later id is = record {
   later = go (eqb is.now.node number) is.later;
 }
   where
-    go : (b : Bool) → IsLater (after_next is.now) (cond b mine (ids is.now.node)) →
-        IsLater (after_next is.now) (cond b now (ids is.now.node))
-    go true l = later_then (after_next is.now) mine now l later
+    go : (b : Bool) → IsLater (after_given is.now) (cond b mine (ids is.now.node)) →
+        IsLater (after_given is.now) (cond b now (ids is.now.node))
+    go true l = later_then (after_given is.now) mine now l later
     go false l = l
 
 pub used_now : (ids : ℕ → CallIds) (number : ℕ) (mine now : CallIds) (id : ℕ) → mine.node ≡ number → IsNextId mine id now →
@@ -62,7 +62,7 @@ next_unused ids number mine now id other own is used same =
     let there : with_ids ids number mine used.now.node ≡ mine =
     own_ids ids number mine used.now.node (equal.0 ∙ is.reached.node ∙ own) in
     let later : IsLater (record used.now { given = suc used.now.given }) mine =
-    subst (λ i. IsLater i mine) first.2 (subst (λ i. IsLater (after_next used.now) i) there used.later) in
+    subst (λ i. IsLater i mine) first.2 (subst (λ i. IsLater (after_given used.now) i) there used.later) in
     go used.now.epoch used.now.given mine.epoch mine.given is.now.epoch is.now.given later.order is.reached.order equal.1 equal.2
   where
     go : (e g m k n l : ℕ) → (e < m) ⊎ ((e ≡ m) × (suc g ≤ k)) → (m < n) ⊎ ((m ≡ n) × (k ≤ l)) → e ≡ n → g ≡ l → ⊥

@@ -6,13 +6,13 @@ use Rattle.deeds.specs.Kept.{FileOfNames, KeptNode, new_node}
 use Rattle.deeds.specs.Deeds.{Notice}
 
 -- all nodes: what the node of each number keeps, all letters ever sent, and what clients saw, in the order of events
-pub record Cluster : Type 0 where
+pub record NodeCluster : Type 0 where
   pub nodes : (number : ℕ) → KeptNode
   pub letters : List NamedLetter
   pub notices : List Notice
 
 -- all nodes before the first event, with these cluster files
-abbrev pub new_cluster : (files : ℕ → FileOfNames) → Cluster
+abbrev pub new_cluster : (files : ℕ → FileOfNames) → NodeCluster
 new_cluster files = record {
   nodes = λ number. new_node (files number) number;
   letters = [];
@@ -27,20 +27,20 @@ pub data ClusterEvent : Type 0 where
   Restarts : (number : ℕ) → (after : KeptNode) → ClusterEvent
 
 -- what the nodes keep, with this at one of them
-abbrev pub with_node : (nodes : ℕ → KeptNode) → (number : ℕ) → KeptNode → (other : ℕ) → KeptNode
-with_node nodes number node other = if other == number then node else nodes other
+abbrev pub with_kept_node : (nodes : ℕ → KeptNode) → (number : ℕ) → KeptNode → (other : ℕ) → KeptNode
+with_kept_node nodes number node other = if other == number then node else nodes other
 
 -- all nodes after an event
-abbrev pub cluster_after : Cluster → ClusterEvent → Cluster
+abbrev pub cluster_after : NodeCluster → ClusterEvent → NodeCluster
 cluster_after cluster (ClusterEvent.Handles number got after sent notices) = record {
-  nodes = with_node cluster.nodes number after;
+  nodes = with_kept_node cluster.nodes number after;
   letters = cluster.letters ++ sent;
   notices = cluster.notices ++ notices;
 }
 cluster_after cluster (ClusterEvent.Restarts number after) =
-    record cluster { nodes = with_node cluster.nodes number after }
+    record cluster { nodes = with_kept_node cluster.nodes number after }
 
 -- all nodes after these events
-abbrev pub cluster_run : List ClusterEvent → Cluster → Cluster
+abbrev pub cluster_run : List ClusterEvent → NodeCluster → NodeCluster
 cluster_run [] cluster = cluster
 cluster_run (event ∷ events) cluster = cluster_run events (cluster_after cluster event)

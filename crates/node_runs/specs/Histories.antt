@@ -27,13 +27,13 @@ pub record TimedNotice : Type 0 where
   pub notice : Notice
 
 -- each notice has a greater time than those before it, and than the one that is given
-abbrev pub IsRising : (time : ℕ) → List TimedNotice → Type 0
-IsRising time [] = Unit {0}
-IsRising time (notice ∷ notices) = (time < notice.time) × IsRising notice.time notices
+abbrev pub HaveRisingTimes : (time : ℕ) → List TimedNotice → Type 0
+HaveRisingTimes time [] = Unit {0}
+HaveRisingTimes time (notice ∷ notices) = (time < notice.time) × HaveRisingTimes notice.time notices
 
 -- the entry of a call that began at this time
-abbrev pub begun_call : (id : ℕ) → Operation → Option (List ℕ) → (time : ℕ) → Entry
-begun_call id kind value time = record { call = id; kind = kind; called = time; answered = None; value = value }
+abbrev pub entry_of_begun : (id : ℕ) → Operation → Option (List ℕ) → (time : ℕ) → Entry
+entry_of_begun id kind value time = record { call = id; kind = kind; called = time; answered = None; value = value }
 
 -- the entry, with the answer if it is that of its call
 abbrev pub told_entry : Ended → (time : ℕ) → Entry → Entry
@@ -42,10 +42,10 @@ told_entry ended time entry =
 
 -- the history after a notice: one entry more for a call that begins, or the answer of a call
 abbrev pub after_notice : (time : ℕ) → Notice → List Entry → List Entry
-after_notice time (Notice.Reads name id) history = history ++ begun_call id operation.Read None time ∷ []
+after_notice time (Notice.Reads name id) history = history ++ entry_of_begun id operation.Read None time ∷ []
 after_notice time (Notice.Writes name id value) history =
-    history ++ begun_call id operation.Write (Some value) time ∷ []
-after_notice time (Notice.Moves name id layout) history = history ++ begun_call id operation.Move None time ∷ []
+    history ++ entry_of_begun id operation.Write (Some value) time ∷ []
+after_notice time (Notice.Moves name id layout) history = history ++ entry_of_begun id operation.Move None time ∷ []
 after_notice time (Notice.Tells name ended) history = map (told_entry ended time) history
 
 -- the history after these notices
@@ -67,7 +67,7 @@ pub record IsAnswered (history : List Entry) (ended : Ended) : Type 0 where
 pub record IsHistoryOf (name : List ℕ) (notices : List Notice) (history : List Entry) : Type 0 where
   pub timed : List TimedNotice
   pub those : map (λ timed. timed.notice) timed ≡ notices_about name notices
-  pub rising : IsRising 0 timed
+  pub rising : HaveRisingTimes 0 timed
   pub result : history ≡ after_notices timed []
   pub told : (place : ℕ) (ended : Ended) → slice_get notices place ≡ Some (Notice.Tells name ended) →
       IsAnswered history ended

@@ -8,13 +8,13 @@ use Rattle.local_object.specs.declared.letter.Letter.{Letter}
 use Rattle.refinement.specs.Systems.{IsReachedSystem, System, WasPosted}
 use Rattle.refinement.specs.SystemValues.{KeepsValuesIn}
 use Rattle.deeds.specs.Named.{IsOneOf}
-use Rattle.node_runs.specs.Clusters.{Cluster}
+use Rattle.node_runs.specs.Clusters.{NodeCluster}
 use Rattle.node_runs.specs.Premises.{IsReachedCluster}
 use Rattle.node_runs.specs.Histories.{IsHistoryOf}
 
 -- the nodes are those of the cluster for the object of this name: each keeps the same of it, each letter about it is
 -- one that they sent, and the history is the one of what clients saw
-pub record IsSystemOf (cluster : Cluster) (name : List ℕ) (system : System) : Type 0 where
+pub record IsSystemOf (cluster : NodeCluster) (name : List ℕ) (system : System) : Type 0 where
   pub objects : (number : ℕ) → system.objects number ≡ (cluster.nodes number).objects name
   pub letters : (letter : Letter) → IsOneOf cluster.letters (record { name = name; letter = letter }) →
       WasPosted system letter
@@ -22,15 +22,15 @@ pub record IsSystemOf (cluster : Cluster) (name : List ℕ) (system : System) : 
 
 -- for each name, the nodes of a cluster are nodes of one object, and reached
 abbrev pub ClustersHaveSystems : Type 0
-ClustersHaveSystems = (fragment : Code) (cluster : Cluster) → IsReachedCluster fragment cluster → (name : List ℕ) →
+ClustersHaveSystems = (fragment : Code) (cluster : NodeCluster) → IsReachedCluster fragment cluster → (name : List ℕ) →
     (system : System) × IsReachedSystem fragment system × IsSystemOf cluster name system
 
 -- the history of each object, by what clients saw, is atomic
 abbrev pub ClustersAreAtomic : Type 0
-ClustersAreAtomic = (fragment : Code) (cluster : Cluster) → IsCode fragment → IsReachedCluster fragment cluster →
+ClustersAreAtomic = (fragment : Code) (cluster : NodeCluster) → IsCode fragment → IsReachedCluster fragment cluster →
     (name : List ℕ) → (history : List Entry) × IsHistoryOf name cluster.notices history × IsAtomic history
 
 -- the nodes keep the values of tags, for each object
 abbrev pub ClustersKeepValues : Type 0
-ClustersKeepValues = (fragment : Code) (cluster : Cluster) → IsCode fragment → IsReachedCluster fragment cluster →
+ClustersKeepValues = (fragment : Code) (cluster : NodeCluster) → IsCode fragment → IsReachedCluster fragment cluster →
     (name : List ℕ) → (system : System) × IsSystemOf cluster name system × KeepsValuesIn fragment system

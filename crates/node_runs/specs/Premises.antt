@@ -5,17 +5,18 @@ use Rattle.std.specs.Prelude.{◌≡◌, ◌<◌, ℕ, List, [], ◌∷◌}
 use Rattle.std.specs.List.{AllByRecursion}
 use Rattle.layout.specs.Layout.{IsLawful}
 use Rattle.record.specs.Fragments.{Code}
-use Rattle.call_ids.specs.CallId.{IsWithin}
+use Rattle.call_ids.specs.CallId.{HasRanges}
 use Rattle.refinement.specs.Refined.{IsKeptHere}
 use Rattle.deeds.specs.Named.{IsOneOf}
 use Rattle.deeds.specs.Kept.{FileOfNames, KeptNode}
 use Rattle.deeds.specs.Handled.{IsHandled}
-use Rattle.node_runs.specs.Clusters.{Cluster, ClusterEvent, cluster_after, cluster_run, new_cluster}
+use Rattle.node_runs.specs.Clusters.{NodeCluster, ClusterEvent, cluster_after, cluster_run, new_cluster}
 
 -- the network invents and changes no letters: what comes was sent
-abbrev pub IsAsSent : Cluster → ClusterEvent → Type 0
-IsAsSent cluster (ClusterEvent.Handles number got after sent notices) = AllByRecursion (IsOneOf cluster.letters) got
-IsAsSent cluster (ClusterEvent.Restarts number after) = Unit {0}
+abbrev pub LettersAreAsSent : NodeCluster → ClusterEvent → Type 0
+LettersAreAsSent cluster (ClusterEvent.Handles number got after sent notices) =
+    AllByRecursion (IsOneOf cluster.letters) got
+LettersAreAsSent cluster (ClusterEvent.Restarts number after) = Unit {0}
 
 -- what a node keeps after it stopped and started again: its cluster file and its number are as before, each object is
 -- what a log keeps of it, and its calls' ids begin a later epoch
@@ -23,36 +24,36 @@ pub record IsRestarted (before after : KeptNode) : Type 0 where
   pub file : after.file ≡ before.file
   pub number : after.ids.node ≡ before.ids.node
   pub epoch : before.ids.epoch < after.ids.epoch
-  pub within : IsWithin after.ids
+  pub within : HasRanges after.ids
   pub objects : (name : List ℕ) →
       IsKeptHere (before.ids.node ≡ before.file.mover) (before.objects name) (after.objects name)
 
 -- the log gives back what it was told to keep
-abbrev pub IsKeptByLog : Cluster → ClusterEvent → Type 0
-IsKeptByLog cluster (ClusterEvent.Handles number got after sent notices) = Unit {0}
-IsKeptByLog cluster (ClusterEvent.Restarts number after) = IsRestarted (cluster.nodes number) after
+abbrev pub IsKeptByItsLog : NodeCluster → ClusterEvent → Type 0
+IsKeptByItsLog cluster (ClusterEvent.Handles number got after sent notices) = Unit {0}
+IsKeptByItsLog cluster (ClusterEvent.Restarts number after) = IsRestarted (cluster.nodes number) after
 
 -- all nodes run with the same cluster file
-abbrev pub IsOneFile : (files : ℕ → FileOfNames) → Type 0
-IsOneFile files = (number : ℕ) → files number ≡ files 0
+abbrev pub HaveOneFile : (files : ℕ → FileOfNames) → Type 0
+HaveOneFile files = (number : ℕ) → files number ≡ files 0
 
 -- the node does what a node does with letters that have come
-abbrev pub IsNodeEvent : Code → Cluster → ClusterEvent → Type 0
+abbrev pub IsNodeEvent : Code → NodeCluster → ClusterEvent → Type 0
 IsNodeEvent fragment cluster (ClusterEvent.Handles number got after sent notices) =
     IsHandled fragment (cluster.nodes number) got after sent notices
 IsNodeEvent fragment cluster (ClusterEvent.Restarts number after) = Unit {0}
 
 -- these events happen one after another, each by what nodes do, and as assumed of the network and of disks
-abbrev pub AreNodeEvents : Code → List ClusterEvent → Cluster → Type 0
+abbrev pub AreNodeEvents : Code → List ClusterEvent → NodeCluster → Type 0
 AreNodeEvents fragment [] cluster = Unit {0}
 AreNodeEvents fragment (event ∷ events) cluster =
-    IsNodeEvent fragment cluster event × IsAsSent cluster event × IsKeptByLog cluster event
+    IsNodeEvent fragment cluster event × LettersAreAsSent cluster event × IsKeptByItsLog cluster event
     × AreNodeEvents fragment events (cluster_after cluster event)
 
 -- the nodes come to this from new ones, which have one cluster file with lawful layouts
-pub record IsReachedCluster (fragment : Code) (cluster : Cluster) : Type 0 where
+pub record IsReachedCluster (fragment : Code) (cluster : NodeCluster) : Type 0 where
   pub files : (number : ℕ) → FileOfNames
-  pub one : IsOneFile files
+  pub one : HaveOneFile files
   pub lawful : (name : List ℕ) → IsLawful ((files 0).first name)
   pub events : List ClusterEvent
   pub may : AreNodeEvents fragment events (new_cluster files)

@@ -13,7 +13,7 @@ use Rattle.record.specs.Steps.{new_phase}
 use Rattle.network.specs.Worlds.{World, NodeCall, known_layout, known_layouts, due_phase, open_call, stage_reached}
 use Rattle.network.specs.Events.{Event, advanced_world, on_open}
 use Rattle.local_object.specs.Local.{LocalObject, layout_here}
-use Rattle.local_object.specs.Events.{LocalEvent, advanced_at, advanced_here, on_call, pieces_here, silent}
+use Rattle.local_object.specs.Events.{LocalEvent, advanced_at, advanced_here, on_open_call, pieces_here, silent}
 use Rattle.refinement.specs.Laws.{IsEventOfWorld}
 use Rattle.refinement.specs.Parts.{IsPartOf}
 use Rattle.refinement.specs.WellFormed.{IsWellFormed}
@@ -88,9 +88,9 @@ advance_refined id fragment world local formed part may premised =
     let is = carried fragment world local id call formed part may.1 in
     refined fragment world (Event.Advance id ∷ []) (advanced_world fragment (ticked world) call (due_phase call))
     (advanced_here fragment local call (due_phase call))
-    (on_call local (open_call local.calls id) (λ c. advanced_here fragment local c (due_phase c))) world.history
+    (on_open_call local (open_call local.calls id) (λ c. advanced_here fragment local c (due_phase c))) world.history
     (ap (λ o. on_open (ticked world) o (λ c. advanced_world fragment (ticked world) c (due_phase c))) (sym is.open_there))
-    (ap (λ o. on_call local o (λ c. advanced_here fragment local c (due_phase c))) (sym may.1))
+    (ap (λ o. on_open_call local o (λ c. advanced_here fragment local c (due_phase c))) (sym may.1))
     ((call, is.open_there, may.2), record { network = tt; log = tt; ids = tt }, tt)
     (go call is (due_phase call) (λ kind position e. may.3 kind position e))
   where

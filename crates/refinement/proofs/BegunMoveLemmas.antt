@@ -13,7 +13,7 @@ use Rattle.record.specs.Fragments.{Code}
 use Rattle.network.specs.Worlds.{ClusterFile, World, NodeCall, known_layouts}
 use Rattle.network.specs.Events.{Event, moving_world}
 use Rattle.network.specs.Premises.{IsUnused}
-use Rattle.local_object.specs.Local.{LocalObject, layout_here, learnt}
+use Rattle.local_object.specs.Local.{LocalObject, layout_here, with_heard}
 use Rattle.local_object.specs.Events.{LocalEvent, Outcome, begun_here, moving_here}
 use Rattle.refinement.specs.Laws.{IsEventOfWorld}
 use Rattle.refinement.specs.Parts.{IsPartOf}
@@ -54,12 +54,12 @@ moved_kept : (fragment : Code) (world : World) (local : LocalObject) (id : ℕ) 
     IsWellFormed fragment world → IsPartOf world local →
     IsLawful layout → IsUnused world id → local.node ≡ (world.files local.node).mover →
     IsKept fragment world (moving_world (ticked world) local.node id layout)
-    (begun_here (learnt local (suc (length world.later)) layout) id Move (first_stage Move (length world.later)) (Spread Pending)
-    (length world.later) (layout_here (learnt local (suc (length world.later)) layout) (length world.later))) 1
+    (begun_here (with_heard local (suc (length world.later)) layout) id Move (first_stage Move (length world.later)) (Spread Pending)
+    (length world.later) (layout_here (with_heard local (suc (length world.later)) layout) (length world.later))) 1
     (world.history ++ begun_entry id Move (suc world.now) ∷ [])
 moved_kept fragment world local id layout formed part lawful unused moves =
     let last = length world.later in
-    let next = learnt local (suc last) layout in
+    let next = with_heard local (suc last) layout in
     let stage = first_stage Move last in
     let layouts = known_layouts world local.node in
     let known = get_or layouts last no_layout in
@@ -92,8 +92,8 @@ pub move_refined : (id : ℕ) (layout : Layout) → IsEventOfWorld (LocalEvent.B
 move_refined id layout fragment world local formed part may premised =
     let moves = premised.1 in
     let last = last_is fragment world layout formed local part moves in
-    let at : ℕ → Outcome = λ n. begun_here (learnt local (suc n) layout) id Move (first_stage Move n) (Spread Pending) n
-    (layout_here (learnt local (suc n) layout) n) in
+    let at : ℕ → Outcome = λ n. begun_here (with_heard local (suc n) layout) id Move (first_stage Move n) (Spread Pending) n
+    (layout_here (with_heard local (suc n) layout) n) in
     refined fragment world (Event.BeginMove local.node id layout ∷ []) (moving_world (ticked world) local.node id layout)
     (at (length world.later)) (moving_here local id layout) (world.history ++ begun_entry id Move (suc world.now) ∷ []) refl
     (ap at (sym last)) (

@@ -6,7 +6,7 @@ use Rattle.std.specs.List.{AllByRecursion, filter}
 use Rattle.soundness.proofs.ListLemmas.{all_weaker}
 use Rattle.network.specs.Worlds.{NodeCall, open_call, with_open, without_call}
 use Rattle.network.proofs.OpenCallLemmas.{found}
-use Rattle.refinement.specs.WellFormed.{HaveDistinctIds}
+use Rattle.refinement.specs.WellFormed.{NodeCallsDiffer}
 
 -- the calls that this node carries out
 abbrev pub calls_of : (node : ℕ) → List NodeCall → List NodeCall
@@ -20,7 +20,7 @@ pub differs : (a b : ℕ) → (a ≡ b → ⊥) → eqb a b ≡ false
 differs a b other = is_false (eqb a b) (λ same. other (eqb-true a b same))
 
 -- the call that is found is the only one with its id
-pub only_one : (calls : List NodeCall) (id : ℕ) (call : NodeCall) → HaveDistinctIds calls → open_call calls id ≡ Some call →
+pub only_one : (calls : List NodeCall) (id : ℕ) (call : NodeCall) → NodeCallsDiffer calls → open_call calls id ≡ Some call →
     AllByRecursion (λ other. other.id ≡ id → other ≡ call) calls
 only_one [] id call distinct e = tt
 only_one (first ∷ calls) id call distinct e =
@@ -39,7 +39,7 @@ only_one (first ∷ calls) id call distinct e =
         (λ same. absurd (let wrong : false ≡ true = sym t ∙ eq-eqb first.id id same in cc), rest is)
 
 -- what is found among the calls that pass a test is found among all, and passes the test
-pub found_there : (test : NodeCall → Bool) (calls : List NodeCall) (id : ℕ) (call : NodeCall) → HaveDistinctIds calls →
+pub found_there : (test : NodeCall → Bool) (calls : List NodeCall) (id : ℕ) (call : NodeCall) → NodeCallsDiffer calls →
     open_call (filter test calls) id ≡ Some call → (open_call calls id ≡ Some call) × (test call ≡ true)
 found_there test [] id call distinct e = absurd (cc)
 found_there test (first ∷ calls) id call distinct e =

@@ -5,7 +5,7 @@ use Rattle.local_object.specs.Local.{LocalObject}
 use Rattle.local_object.specs.Events.{all_done, done_here}
 use Rattle.local_object.specs.May.{MayAllHappen}
 use Rattle.refinement.specs.Laws.{EventsInARowAreEvents}
-use Rattle.refinement.specs.Systems.{SystemEvent, system_after, with_object}
+use Rattle.refinement.specs.Systems.{SystemEvent, system_after, with_object_at}
 use Rattle.refinement.proofs.CallsOfNodeLemmas.{differs}
 
 append_none : {A : Type 0} (xs : List A) → xs ≡ xs ++ []
@@ -13,11 +13,11 @@ append_none [] = refl
 append_none (x ∷ xs) = ap (λ l. x ∷ l) (append_none xs)
 
 -- what the node keeps after it changed, and what others keep
-own_object : (objects : ℕ → LocalObject) (node : ℕ) (local : LocalObject) → with_object objects node local node ≡ local
+own_object : (objects : ℕ → LocalObject) (node : ℕ) (local : LocalObject) → with_object_at objects node local node ≡ local
 own_object objects node local = ap (λ b. cond b local (objects node)) (eq-eqb node node refl)
 
 other_object : (objects : ℕ → LocalObject) (node : ℕ) (local : LocalObject) (other : ℕ) → (other ≡ node → ⊥) →
-    with_object objects node local other ≡ objects other
+    with_object_at objects node local other ≡ objects other
 other_object objects node local other apart = ap (λ b. cond b local (objects other)) (differs other node apart)
 
 pub rows_done : EventsInARowAreEvents

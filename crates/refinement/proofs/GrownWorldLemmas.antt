@@ -10,7 +10,7 @@ use Rattle.record.specs.Records.{no_bank, no_layout}
 use Rattle.soundness.proofs.ListLemmas.{all_push, all_weaker}
 use Rattle.record.specs.Fragments.{Code}
 use Rattle.network.specs.Worlds.{ClusterFile, World, member_bank, known_layouts, new_banks}
-use Rattle.local_object.specs.Local.{LocalObject, bank_here, bank_or_opened, last_position, layout_here, learnt}
+use Rattle.local_object.specs.Local.{LocalObject, bank_here, bank_or_opened, last_position, layout_here, with_heard}
 use Rattle.refinement.specs.Parts.{IsPartOf}
 use Rattle.refinement.specs.WellFormed.{HasAsked, IsWellFormed, member_count}
 use Rattle.refinement.proofs.PlaceLemmas.{bank_learnt, layout_learnt, layout_new, layout_stays, no_bank_here}
@@ -149,7 +149,7 @@ module _ (fragment : Code) (world : World) (layout : Layout) (formed : IsWellFor
   }
 
   -- the part of the node that moves objects, which hears of the new position
-  pub own_grown : (local : LocalObject) → IsPartOf world local → IsPartOf grown (learnt local new_position layout)
+  pub own_grown : (local : LocalObject) → IsPartOf world local → IsPartOf grown (with_heard local new_position layout)
   own_grown local part = record {
     delta = part.delta;
     layouts = λ q other e. known q other (layout_learnt local new_position layout q other e);
@@ -165,16 +165,16 @@ module _ (fragment : Code) (world : World) (layout : Layout) (formed : IsWellFor
       known q other (inr new) = ap (slice_get (known_layouts grown local.node)) (sym new.0) ∙ known_new local.node ∙ ap Some new.1
 
       first_still : (o : Option Layout) → layout_here local 0 ≡ o → is_some o ≡ true →
-          is_some (layout_here (learnt local new_position layout) 0) ≡ true
+          is_some (layout_here (with_heard local new_position layout) 0) ≡ true
       first_still None e some = absurd (cc)
       first_still (Some other) e some = ap is_some (layout_stays local new_position layout 0 other e)
 
       heard : local.node ≡ (world.files local.node).mover → (q : ℕ) (other : Layout) →
           (slice_get (known_layouts world local.node) q ≡ Some other) ⊎ ((q ≡ new_position) × (layout ≡ other)) →
-          layout_here (learnt local new_position layout) q ≡ Some other
+          layout_here (with_heard local new_position layout) q ≡ Some other
       heard moves q other (inl old) = layout_stays local new_position layout q other (part.mover moves q other old)
       heard moves q other (inr new) =
-          ap (layout_here (learnt local new_position layout)) new.0 ∙ layout_new local new_position layout (unheard local part)
+          ap (layout_here (with_heard local new_position layout)) new.0 ∙ layout_new local new_position layout (unheard local part)
           ∙ ap Some new.1
 
   -- the last position that the node has heard of is the last of the world

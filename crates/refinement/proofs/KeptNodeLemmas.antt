@@ -15,8 +15,8 @@ use Rattle.record.specs.PhaseOrder.{begun_at}
 use Rattle.network.specs.Worlds.{NodeCall, due_phase, open_call, with_open}
 use Rattle.network.specs.Events.{taking_open}
 use Rattle.local_object.specs.declared.letter.Letter.{Letter}
-use Rattle.local_object.specs.Local.{LocalObject, last_position, layout_here, learnt}
-use Rattle.local_object.specs.Events.{LocalEvent, Outcome, advanced_at, advanced_here, begun_here, done_here, learnt_from, on_call}
+use Rattle.local_object.specs.Local.{LocalObject, last_position, layout_here, with_heard}
+use Rattle.local_object.specs.Events.{LocalEvent, Outcome, advanced_at, advanced_here, begun_here, done_here, learnt_from, on_open_call}
 use Rattle.local_object.specs.Events.{served_here, silent}
 use Rattle.refinement.proofs.LearntPartLemmas.{node_learnt}
 
@@ -35,7 +35,7 @@ advanced_node fragment local call (Some next) = go (layout_here local next.1)
     go (Some layout) = refl
 
 call_node : (local : LocalObject) (o : Option NodeCall) (change : NodeCall → Outcome) →
-    ((call : NodeCall) → (change call).local.node ≡ local.node) → (on_call local o change).local.node ≡ local.node
+    ((call : NodeCall) → (change call).local.node ≡ local.node) → (on_open_call local o change).local.node ≡ local.node
 call_node local None change each = refl
 call_node local (Some call) change each = each call
 
@@ -49,7 +49,7 @@ node_kept fragment local (LocalEvent.BeginWrite id value) =
     begun_node local id (Write value) (begun_at (first_stage (Write value) 0) 0) Next 0 (layout_here local 0)
 node_kept fragment local (LocalEvent.BeginMove id layout) =
     let last = last_position local in
-    let next = learnt local (suc last) layout in
+    let next = with_heard local (suc last) layout in
     begun_node next id Move (first_stage Move last) (Spread Pending) last (layout_here next last)
 node_kept fragment local (LocalEvent.Advance id) =
     call_node local (open_call local.calls id) (λ call. advanced_here fragment local call (due_phase call))

@@ -6,7 +6,7 @@ use Rattle.network.specs.Worlds.{World, known_layouts}
 use Rattle.network.specs.Premises.{IsOneFile}
 use Rattle.network.proofs.OneFileLemmas.{layouts_known}
 use Rattle.local_object.specs.declared.letter.Letter.{Letter}
-use Rattle.local_object.specs.Local.{LocalObject, layout_here, learnt, learnt_if}
+use Rattle.local_object.specs.Local.{LocalObject, layout_here, with_heard, learnt_if}
 use Rattle.local_object.specs.Events.{learnt_from}
 use Rattle.refinement.specs.Parts.{IsPartOf, WasSentAs}
 use Rattle.refinement.proofs.PlaceLemmas.{bank_learnt, layout_learnt, layout_stays}
@@ -21,7 +21,7 @@ pub known_by_all : (world : World) → IsOneFile world.files → (node position 
 known_by_all world one node position layout e = ap (λ l. slice_get l position) (layouts_known world one node) ∙ e
 
 pub part_learnt : (world : World) (local : LocalObject) (position : ℕ) (layout : Layout) → IsPartOf world local →
-    slice_get (known_layouts world local.node) position ≡ Some layout → IsPartOf world (learnt local position layout)
+    slice_get (known_layouts world local.node) position ≡ Some layout → IsPartOf world (with_heard local position layout)
 part_learnt world local position layout part at = record {
   delta = part.delta;
   layouts = λ q other e. go q other (layout_learnt local position layout q other e);
@@ -37,7 +37,7 @@ part_learnt world local position layout part at = record {
     go q other (inr new) = ap (slice_get (known_layouts world local.node)) (sym new.0) ∙ at ∙ ap Some new.1
 
     first_still : (o : Option Layout) → layout_here local 0 ≡ o → is_some o ≡ true →
-        is_some (layout_here (learnt local position layout) 0) ≡ true
+        is_some (layout_here (with_heard local position layout) 0) ≡ true
     first_still None e some = absurd (cc)
     first_still (Some other) e some = ap is_some (layout_stays local position layout 0 other e)
 
@@ -56,16 +56,16 @@ calls_if local position None = refl
 calls_if local position (Some layout) = refl
 
 pub node_learnt : (local : LocalObject) (letter : Letter) → (learnt_from local letter).node ≡ local.node
-node_learnt local letter = node_if (learnt local letter.message.position letter.layout) (suc letter.message.position) letter.next
+node_learnt local letter = node_if (with_heard local letter.message.position letter.layout) (suc letter.message.position) letter.next
 
 pub calls_learnt : (local : LocalObject) (letter : Letter) → (learnt_from local letter).calls ≡ local.calls
-calls_learnt local letter = calls_if (learnt local letter.message.position letter.layout) (suc letter.message.position) letter.next
+calls_learnt local letter = calls_if (with_heard local letter.message.position letter.layout) (suc letter.message.position) letter.next
 
 -- what the node keeps after it hears of the layouts of a letter that was sent is its part
 pub part_learnt_from : (world : World) (local : LocalObject) (letter : Letter) → IsOneFile world.files → IsPartOf world local →
     WasSentAs world letter → IsPartOf world (learnt_from local letter)
 part_learnt_from world local letter one part was =
-    part_learnt_if world (learnt local letter.message.position letter.layout) (suc letter.message.position) letter.next
+    part_learnt_if world (with_heard local letter.message.position letter.layout) (suc letter.message.position) letter.next
     (part_learnt world local letter.message.position letter.layout part
     (known_to_all world one local.node letter.message.position letter.layout was.layout))
     (λ layout e. known_to_all world one local.node (suc letter.message.position) layout (was.next layout e))

@@ -10,25 +10,25 @@ use Rattle.network.specs.Worlds.{NodeCall, with_open}
 use Rattle.network.specs.Events.{answered_entry}
 use Rattle.network.proofs.OpenCallLemmas.{all_filter}
 use Rattle.refinement.specs.Refined.{begun_entry}
-use Rattle.refinement.specs.WellFormed.{HasEntry, HaveDistinctIds}
+use Rattle.refinement.specs.WellFormed.{HasEntry, NodeCallsDiffer}
 use Rattle.refinement.proofs.CallsOfNodeLemmas.{differs}
 
 -- Ids
 
-pub distinct_push : (calls : List NodeCall) (new : NodeCall) → HaveDistinctIds calls →
-    AllByRecursion (λ call. call.id ≡ new.id → ⊥) calls → HaveDistinctIds (calls ++ new ∷ [])
+pub distinct_push : (calls : List NodeCall) (new : NodeCall) → NodeCallsDiffer calls →
+    AllByRecursion (λ call. call.id ≡ new.id → ⊥) calls → NodeCallsDiffer (calls ++ new ∷ [])
 distinct_push [] new distinct apart = (tt, tt)
 distinct_push (first ∷ calls) new distinct apart = (
   all_push (λ (other : NodeCall). other.id ≡ first.id → ⊥) calls new distinct.0 (λ same. apart.0 (sym same)),
   distinct_push calls new distinct.1 apart.1,
 )
 
-pub distinct_filter : (test : NodeCall → Bool) (calls : List NodeCall) → HaveDistinctIds calls →
-    HaveDistinctIds (filter test calls)
+pub distinct_filter : (test : NodeCall → Bool) (calls : List NodeCall) → NodeCallsDiffer calls →
+    NodeCallsDiffer (filter test calls)
 distinct_filter test [] distinct = tt
 distinct_filter test (first ∷ calls) distinct = go (test first) (distinct_filter test calls distinct.1)
   where
-    go : (b : Bool) → HaveDistinctIds (filter test calls) → HaveDistinctIds (cond b (first ∷ filter test calls) (filter test calls))
+    go : (b : Bool) → NodeCallsDiffer (filter test calls) → NodeCallsDiffer (cond b (first ∷ filter test calls) (filter test calls))
     go true rest = (all_filter (λ (other : NodeCall). other.id ≡ first.id → ⊥) test calls distinct.0, rest)
     go false rest = rest
 
@@ -46,7 +46,7 @@ apart_with new id [] apart = tt
 apart_with new id (first ∷ calls) apart =
     (λ same. apart.0 (sym (id_with new first) ∙ same), apart_with new id calls apart.1)
 
-pub distinct_with : (new : NodeCall) (calls : List NodeCall) → HaveDistinctIds calls → HaveDistinctIds (with_open new calls)
+pub distinct_with : (new : NodeCall) (calls : List NodeCall) → NodeCallsDiffer calls → NodeCallsDiffer (with_open new calls)
 distinct_with new [] distinct = tt
 distinct_with new (first ∷ calls) distinct = (
   subst (λ id. AllByRecursion (λ (other : NodeCall). other.id ≡ id → ⊥) (with_open new calls)) (sym (id_with new first))

@@ -14,7 +14,7 @@ use Rattle.local_object.specs.Local.{LocalObject}
 use Rattle.local_object.specs.Events.{Outcome, silent}
 use Rattle.refinement.specs.Parts.{IsPartOf, WasSentAs}
 use Rattle.refinement.specs.Refined.{IsRefined}
-use Rattle.refinement.specs.WellFormed.{HasAsked, HasEntry, HaveDistinctIds, IsWellFormed}
+use Rattle.refinement.specs.WellFormed.{HasAsked, HasEntry, NodeCallsDiffer, IsWellFormed}
 use Rattle.refinement.proofs.CallsOfNodeLemmas.{calls_of}
 
 -- What an event leads to
@@ -65,7 +65,7 @@ module _ (world : World) (calls : List NodeCall) (sent : List Message) (history 
     asked = λ place message at. grows message (has.asked place message at);
   }
 
-  pub formed_still : (fragment : Code) → IsWellFormed fragment world → HaveDistinctIds calls → AllByRecursion (HasEntry history) calls →
+  pub formed_still : (fragment : Code) → IsWellFormed fragment world → NodeCallsDiffer calls → AllByRecursion (HasEntry history) calls →
       AllByRecursion (HasAsked fragment changed_world) calls → IsWellFormed fragment changed_world
   formed_still fragment formed ids entries asked = record {
     one = formed.one;

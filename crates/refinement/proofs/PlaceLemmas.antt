@@ -5,7 +5,7 @@ use Rattle.std.proofs.lemmas.Option.{same_Some}
 use Rattle.layout.specs.Layout.{Layout}
 use Rattle.bank.specs.Bank.{Bank}
 use Rattle.local_object.specs.Local.{LocalObject, Place, added_place, bank_here, bank_in, bank_or_opened}
-use Rattle.local_object.specs.Local.{layout_here, layout_in, learnt, place_at, with_bank}
+use Rattle.local_object.specs.Local.{layout_here, layout_in, with_heard, heard_place, with_bank_here}
 use Rattle.refinement.proofs.CallsOfNodeLemmas.{differs}
 
 -- The node hears of a position
@@ -19,39 +19,39 @@ or_new None new = new
 or_new (Some place) new = Some place
 
 at_push : (places : List Place) (new : Place) (q : ℕ) →
-    place_at (places ++ new ∷ []) q ≡ or_new (place_at places q) (cond (eqb new.position q) (Some new) None)
+    heard_place (places ++ new ∷ []) q ≡ or_new (heard_place places q) (cond (eqb new.position q) (Some new) None)
 at_push [] new q = refl
 at_push (place ∷ places) new q = go (eqb place.position q) (at_push places new q)
   where
-    go : (b : Bool) → place_at (places ++ new ∷ []) q ≡ or_new (place_at places q) (cond (eqb new.position q) (Some new) None) →
-        cond b (Some place) (place_at (places ++ new ∷ []) q)
-        ≡ or_new (cond b (Some place) (place_at places q)) (cond (eqb new.position q) (Some new) None)
+    go : (b : Bool) → heard_place (places ++ new ∷ []) q ≡ or_new (heard_place places q) (cond (eqb new.position q) (Some new) None) →
+        cond b (Some place) (heard_place (places ++ new ∷ []) q)
+        ≡ or_new (cond b (Some place) (heard_place places q)) (cond (eqb new.position q) (Some new) None)
     go true rest = refl
     go false rest = rest
 
 -- what is found after the node hears of a position
 pub place_learnt : (local : LocalObject) (p : ℕ) (layout : Layout) (q : ℕ) →
-    place_at (learnt local p layout).places q
-    ≡ or_new (place_at local.places q) (cond (eqb p q) (Some (new_place p layout)) None)
-place_learnt local p layout q = go (place_at local.places p) refl
+    heard_place (with_heard local p layout).places q
+    ≡ or_new (heard_place local.places q) (cond (eqb p q) (Some (new_place p layout)) None)
+place_learnt local p layout q = go (heard_place local.places p) refl
   where
-    known : (o : Option Place) (b : Bool) → eqb p q ≡ b → (place : Place) → place_at local.places p ≡ Some place →
-        place_at local.places q ≡ o → o ≡ or_new o (cond b (Some (new_place p layout)) None)
+    known : (o : Option Place) (b : Bool) → eqb p q ≡ b → (place : Place) → heard_place local.places p ≡ Some place →
+        heard_place local.places q ≡ o → o ≡ or_new o (cond b (Some (new_place p layout)) None)
     known None true t place e here =
-        absurd (let wrong : Some place ≡ None = sym e ∙ ap (place_at local.places) (eqb-true p q t) ∙ here in cc)
+        absurd (let wrong : Some place ≡ None = sym e ∙ ap (heard_place local.places) (eqb-true p q t) ∙ here in cc)
     known None false t place e here = refl
     known (Some other) b t place e here = refl
 
-    go : (o : Option Place) → place_at local.places p ≡ o → place_at (added_place local.places o p layout) q
-        ≡ or_new (place_at local.places q) (cond (eqb p q) (Some (new_place p layout)) None)
+    go : (o : Option Place) → heard_place local.places p ≡ o → heard_place (added_place local.places o p layout) q
+        ≡ or_new (heard_place local.places q) (cond (eqb p q) (Some (new_place p layout)) None)
     go None e = at_push local.places (new_place p layout) q
-    go (Some place) e = known (place_at local.places q) (eqb p q) refl place e refl
+    go (Some place) e = known (heard_place local.places q) (eqb p q) refl place e refl
 
 -- what was known stays known
 pub layout_stays : (local : LocalObject) (p : ℕ) (layout : Layout) (q : ℕ) (other : Layout) →
-    layout_here local q ≡ Some other → layout_here (learnt local p layout) q ≡ Some other
+    layout_here local q ≡ Some other → layout_here (with_heard local p layout) q ≡ Some other
 layout_stays local p layout q other e =
-    ap layout_in (place_learnt local p layout q) ∙ go (place_at local.places q) e
+    ap layout_in (place_learnt local p layout q) ∙ go (heard_place local.places q) e
   where
     go : (o : Option Place) → layout_in o ≡ Some other →
         layout_in (or_new o (cond (eqb p q) (Some (new_place p layout)) None)) ≡ Some other
@@ -60,9 +60,9 @@ layout_stays local p layout q other e =
 
 -- what is known was known, or is what was heard
 pub layout_learnt : (local : LocalObject) (p : ℕ) (layout : Layout) (q : ℕ) (other : Layout) →
-    layout_here (learnt local p layout) q ≡ Some other → (layout_here local q ≡ Some other) ⊎ ((p ≡ q) × (layout ≡ other))
+    layout_here (with_heard local p layout) q ≡ Some other → (layout_here local q ≡ Some other) ⊎ ((p ≡ q) × (layout ≡ other))
 layout_learnt local p layout q other e =
-    go (place_at local.places q) (eqb p q) refl (sym (ap layout_in (place_learnt local p layout q)) ∙ e)
+    go (heard_place local.places q) (eqb p q) refl (sym (ap layout_in (place_learnt local p layout q)) ∙ e)
   where
     go : (o : Option Place) (b : Bool) → eqb p q ≡ b → layout_in (or_new o (cond b (Some (new_place p layout)) None)) ≡ Some other →
         (layout_in o ≡ Some other) ⊎ ((p ≡ q) × (layout ≡ other))
@@ -72,8 +72,8 @@ layout_learnt local p layout q other e =
 
 -- a position that was not known is known by what was heard
 pub layout_new : (local : LocalObject) (p : ℕ) (layout : Layout) → layout_here local p ≡ None →
-    layout_here (learnt local p layout) p ≡ Some layout
-layout_new local p layout e = ap layout_in (place_learnt local p layout p) ∙ go (place_at local.places p) e
+    layout_here (with_heard local p layout) p ≡ Some layout
+layout_new local p layout e = ap layout_in (place_learnt local p layout p) ∙ go (heard_place local.places p) e
   where
     go : (o : Option Place) → layout_in o ≡ None →
         layout_in (or_new o (cond (eqb p p) (Some (new_place p layout)) None)) ≡ Some layout
@@ -82,10 +82,10 @@ layout_new local p layout e = ap layout_in (place_learnt local p layout p) ∙ g
 
 -- no bank changes
 pub bank_learnt : (local : LocalObject) (p : ℕ) (layout : Layout) (q member : ℕ) →
-    bank_here (learnt local p layout) q member ≡ bank_here local q member
+    bank_here (with_heard local p layout) q member ≡ bank_here local q member
 bank_learnt local p layout q member =
     ap (λ o. bank_or_opened (bank_in o) member local.delta) (place_learnt local p layout q)
-    ∙ go (place_at local.places q) (eqb p q)
+    ∙ go (heard_place local.places q) (eqb p q)
   where
     go : (o : Option Place) (b : Bool) →
         bank_or_opened (bank_in (or_new o (cond b (Some (new_place p layout)) None))) member local.delta
@@ -95,8 +95,8 @@ bank_learnt local p layout q member =
     go (Some place) b = refl
 
 -- a position that is not known has no bank
-pub no_bank_here : (local : LocalObject) (p : ℕ) → layout_here local p ≡ None → bank_in (place_at local.places p) ≡ None
-no_bank_here local p e = go (place_at local.places p) e
+pub no_bank_here : (local : LocalObject) (p : ℕ) → layout_here local p ≡ None → bank_in (heard_place local.places p) ≡ None
+no_bank_here local p e = go (heard_place local.places p) e
   where
     go : (o : Option Place) → layout_in o ≡ None → bank_in o ≡ None
     go None is = refl
@@ -108,7 +108,7 @@ abbrev with_new : Bank → Bool → Place → Place
 with_new bank b place = cond b (record place { bank = Some bank }) place
 
 place_with : (places : List Place) (p : ℕ) (bank : Bank) (q : ℕ) →
-    place_at (with_bank places p bank) q ≡ option_map (with_new bank (eqb p q)) (place_at places q)
+    heard_place (with_bank_here places p bank) q ≡ option_map (with_new bank (eqb p q)) (heard_place places q)
 place_with [] p bank q = refl
 place_with (place ∷ places) p bank q =
     go (eqb place.position p) refl (eqb place.position q) refl (place_with places p bank q)
@@ -118,35 +118,35 @@ place_with (place ∷ places) p bank q =
     same (Some other) = refl
 
     go : (b : Bool) → eqb place.position p ≡ b → (c : Bool) → eqb place.position q ≡ c →
-        place_at (with_bank places p bank) q ≡ option_map (with_new bank (eqb p q)) (place_at places q) →
-        place_at (cond b (record place { bank = Some bank } ∷ places) (place ∷ with_bank places p bank)) q
-        ≡ option_map (with_new bank (eqb p q)) (cond c (Some place) (place_at places q))
+        heard_place (with_bank_here places p bank) q ≡ option_map (with_new bank (eqb p q)) (heard_place places q) →
+        heard_place (cond b (record place { bank = Some bank } ∷ places) (place ∷ with_bank_here places p bank)) q
+        ≡ option_map (with_new bank (eqb p q)) (cond c (Some place) (heard_place places q))
     go true s true t rest =
-        ap (λ u. cond u (Some (record place { bank = Some bank })) (place_at places q)) t
+        ap (λ u. cond u (Some (record place { bank = Some bank })) (heard_place places q)) t
         ∙ ap (λ u. Some (with_new bank u place))
         (sym (eq-eqb p q (sym (eqb-true place.position p s) ∙ eqb-true place.position q t)))
     go true s false t rest =
-        ap (λ u. cond u (Some (record place { bank = Some bank })) (place_at places q)) t
-        ∙ same (place_at places q)
-        ∙ ap (λ u. option_map (with_new bank u) (place_at places q))
+        ap (λ u. cond u (Some (record place { bank = Some bank })) (heard_place places q)) t
+        ∙ same (heard_place places q)
+        ∙ ap (λ u. option_map (with_new bank u) (heard_place places q))
         (sym (differs p q (λ e. apart (eqb-true place.position p s ∙ e))))
       where
         apart : place.position ≡ q → ⊥
         apart e = absurd (let wrong : false ≡ true = sym t ∙ eq-eqb place.position q e in cc)
     go false s true t rest =
-        ap (λ u. cond u (Some place) (place_at (with_bank places p bank) q)) t
+        ap (λ u. cond u (Some place) (heard_place (with_bank_here places p bank) q)) t
         ∙ ap (λ u. Some (with_new bank u place))
         (sym (differs p q (λ e. apart (eqb-true place.position q t ∙ sym e))))
       where
         apart : place.position ≡ p → ⊥
         apart e = absurd (let wrong : false ≡ true = sym s ∙ eq-eqb place.position p e in cc)
     go false s false t rest =
-        ap (λ u. cond u (Some place) (place_at (with_bank places p bank) q)) t ∙ rest
+        ap (λ u. cond u (Some place) (heard_place (with_bank_here places p bank) q)) t ∙ rest
 
 -- the layouts stay
 pub layout_with : (local : LocalObject) (p : ℕ) (bank : Bank) (q : ℕ) →
-    layout_here (record local { places = with_bank local.places p bank }) q ≡ layout_here local q
-layout_with local p bank q = ap layout_in (place_with local.places p bank q) ∙ go (eqb p q) (place_at local.places q)
+    layout_here (record local { places = with_bank_here local.places p bank }) q ≡ layout_here local q
+layout_with local p bank q = ap layout_in (place_with local.places p bank q) ∙ go (eqb p q) (heard_place local.places q)
   where
     go : (b : Bool) (o : Option Place) → layout_in (option_map (with_new bank b) o) ≡ layout_in o
     go b None = refl
@@ -155,11 +155,11 @@ layout_with local p bank q = ap layout_in (place_with local.places p bank q) ∙
 
 -- the bank of the position is the new one
 pub bank_with_here : (local : LocalObject) (p : ℕ) (bank : Bank) (member : ℕ) → IsSome (layout_here local p) →
-    bank_here (record local { places = with_bank local.places p bank }) p member ≡ bank
+    bank_here (record local { places = with_bank_here local.places p bank }) p member ≡ bank
 bank_with_here local p bank member known =
     ap (λ o. bank_or_opened (bank_in o) member local.delta) (place_with local.places p bank p)
-    ∙ ap (λ b. bank_or_opened (bank_in (option_map (with_new bank b) (place_at local.places p))) member local.delta) (eq-eqb p p refl)
-    ∙ go (place_at local.places p) known
+    ∙ ap (λ b. bank_or_opened (bank_in (option_map (with_new bank b) (heard_place local.places p))) member local.delta) (eq-eqb p p refl)
+    ∙ go (heard_place local.places p) known
   where
     go : (o : Option Place) → IsSome (layout_in o) →
         bank_or_opened (bank_in (option_map (with_new bank true) o)) member local.delta ≡ bank
@@ -168,11 +168,11 @@ bank_with_here local p bank member known =
 
 -- the banks of other positions stay
 pub bank_with_there : (local : LocalObject) (p : ℕ) (bank : Bank) (q member : ℕ) → (p ≡ q → ⊥) →
-    bank_here (record local { places = with_bank local.places p bank }) q member ≡ bank_here local q member
+    bank_here (record local { places = with_bank_here local.places p bank }) q member ≡ bank_here local q member
 bank_with_there local p bank q member other =
     ap (λ o. bank_or_opened (bank_in o) member local.delta) (place_with local.places p bank q)
-    ∙ ap (λ b. bank_or_opened (bank_in (option_map (with_new bank b) (place_at local.places q))) member local.delta) (differs p q other)
-    ∙ go (place_at local.places q)
+    ∙ ap (λ b. bank_or_opened (bank_in (option_map (with_new bank b) (heard_place local.places q))) member local.delta) (differs p q other)
+    ∙ go (heard_place local.places q)
   where
     go : (o : Option Place) → bank_or_opened (bank_in (option_map (with_new bank false) o)) member local.delta
         ≡ bank_or_opened (bank_in o) member local.delta

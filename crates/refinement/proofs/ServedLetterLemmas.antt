@@ -13,7 +13,7 @@ use Rattle.record.specs.Fragments.{Code}
 use Rattle.network.specs.Worlds.{World, member_bank, known_layouts}
 use Rattle.network.specs.Events.{Event, handled_world, served_world}
 use Rattle.local_object.specs.declared.letter.Letter.{Letter}
-use Rattle.local_object.specs.Local.{LocalObject, bank_here, with_bank}
+use Rattle.local_object.specs.Local.{LocalObject, bank_here, with_bank_here}
 use Rattle.local_object.specs.Events.{LocalEvent, handled_here, learnt_from, letter_of, served_here}
 use Rattle.local_object.specs.May.{IsAddressed}
 use Rattle.refinement.specs.Laws.{IsEventOfWorld}
@@ -63,7 +63,7 @@ module _ (fragment : Code) (world : World) (local : LocalObject) (letter : Lette
 
   abbrev served_local : Bank → LocalObject
   served_local bank =
-      record local { places = with_bank local.places letter.message.position (served_bank bank asked 0) }
+      record local { places = with_bank_here local.places letter.message.position (served_bank bank asked 0) }
 
   -- the node's own bank is the one that changed
   own_bank : (bank : Bank) (q other : ℕ) (layout : Layout) → slice_get (known_layouts world local.node) q ≡ Some layout →

@@ -9,7 +9,7 @@ use Rattle.record.specs.Records.{no_layout}
 use Rattle.network.specs.Worlds.{World, NodeCall, known_layouts, open_call, parts_of, with_open}
 use Rattle.network.specs.Events.{Event, IsFetched, on_open}
 use Rattle.local_object.specs.Local.{LocalObject}
-use Rattle.local_object.specs.Events.{LocalEvent, Outcome, on_call, pieces_here, silent}
+use Rattle.local_object.specs.Events.{LocalEvent, Outcome, on_open_call, pieces_here, silent}
 use Rattle.local_object.specs.May.{IsFetchedHere}
 use Rattle.refinement.specs.Laws.{IsEventOfWorld}
 use Rattle.refinement.specs.Parts.{IsPartOf}
@@ -63,11 +63,11 @@ settle_refined id value fragment world local formed part may premised =
     let after : Outcome = silent (record local { calls = with_open new local.calls }) in
     refined fragment world (Event.Settle id value ∷ [])
     (changed_to fragment world local id call new formed part is refl refl refl world.sent) after
-    (on_call local (open_call local.calls id)
+    (on_open_call local (open_call local.calls id)
     (λ c. silent (record local { calls = with_open (record c { settled = Some value }) local.calls }))) world.history
     (ap (λ o. on_open (ticked world) o
     (λ c. record world { calls = with_open (record c { settled = Some value }) world.calls; now = suc world.now })) (sym is.open_there))
-    (ap (λ o. on_call local o (λ c. silent (record local { calls = with_open (record c { settled = Some value }) local.calls })))
+    (ap (λ o. on_open_call local o (λ c. silent (record local { calls = with_open (record c { settled = Some value }) local.calls })))
     (sym may.1))
     ((call, is.open_there, fetched fragment world local id call value part is may.2), record { network = tt; log = tt; ids = tt }, tt)
     (changed_kept fragment world local id call new formed part is refl refl refl world.sent [] (λ message was. was) tt

@@ -14,7 +14,7 @@ use Rattle.local_object.specs.Resent.{IsResent}
 use Rattle.refinement.specs.Parts.{IsPartOf, WasSentAs}
 use Rattle.refinement.specs.Refined.{IsKeptHere, IsPremisedHere, history_after, restart_event, world_events}
 use Rattle.refinement.specs.Systems.{IsPremisedIn, IsWorldOf, MayHappenIn, System, SystemEvent, system_after}
-use Rattle.refinement.specs.Systems.{with_object}
+use Rattle.refinement.specs.Systems.{with_object_at}
 use Rattle.refinement.specs.WellFormed.{IsWellFormed}
 use Rattle.refinement.proofs.KeptNodeLemmas.{node_kept}
 use Rattle.refinement.proofs.LocalEventLemmas.{each_refined}
@@ -56,7 +56,7 @@ module _ (fragment : Code) (world : World) (system : System) (formed : IsWellFor
 
   -- what each node keeps after one of them changed
   nodes_after : (node : ℕ) (local : LocalObject) → local.node ≡ node → (other : ℕ) →
-      (with_object system.objects node local other).node ≡ other
+      (with_object_at system.objects node local other).node ≡ other
   nodes_after node local own other = go (eqb other node) refl
     where
       go : (b : Bool) → eqb other node ≡ b → (cond b local (system.objects other)).node ≡ other
@@ -65,7 +65,7 @@ module _ (fragment : Code) (world : World) (system : System) (formed : IsWellFor
 
   parts_after : (later : World) (node : ℕ) (local : LocalObject) → local.node ≡ node → IsPartOf later local →
       ((other : LocalObject) → (other.node ≡ local.node → ⊥) → IsPartOf world other → IsPartOf later other) → (other : ℕ) →
-      IsPartOf later (with_object system.objects node local other)
+      IsPartOf later (with_object_at system.objects node local other)
   parts_after later node local own part others other = go (eqb other node) refl
     where
       go : (b : Bool) → eqb other node ≡ b → IsPartOf later (cond b local (system.objects other))

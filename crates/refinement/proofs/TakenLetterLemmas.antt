@@ -11,7 +11,7 @@ use Rattle.network.specs.Worlds.{World, NodeCall, known_layouts, open_call, with
 use Rattle.network.specs.Events.{Event, on_open, world_after, taking_open}
 use Rattle.local_object.specs.declared.letter.Letter.{Letter}
 use Rattle.local_object.specs.Local.{LocalObject}
-use Rattle.local_object.specs.Events.{LocalEvent, Outcome, learnt_from, on_call, silent}
+use Rattle.local_object.specs.Events.{LocalEvent, Outcome, learnt_from, on_open_call, silent}
 use Rattle.refinement.specs.Laws.{IsEventOfWorld}
 use Rattle.refinement.specs.Parts.{IsPartOf}
 use Rattle.refinement.specs.Refined.{IsRefined, if_carried}
@@ -68,22 +68,22 @@ take_refined letter fragment world local formed part may premised =
   where
     go : (next : LocalObject) → IsPartOf world next → (o : Option NodeCall) → open_call next.calls letter.message.call ≡ o →
         IsRefined fragment world (if_carried o (Event.Take letter.message))
-        (on_call next (open_call next.calls letter.message.call) (taking_here letter next))
+        (on_open_call next (open_call next.calls letter.message.call) (taking_here letter next))
         × ((world_after fragment (if_carried o (Event.Take letter.message)) world).history ≡ world.history)
     go next known None e =
         refined fragment world [] world (silent next)
-        (on_call next (open_call next.calls letter.message.call) (taking_here letter next)) world.history refl
-        (ap (λ o. on_call next o (taking_here letter next)) (sym e)) tt (still_kept fragment world next formed known)
+        (on_open_call next (open_call next.calls letter.message.call) (taking_here letter next)) world.history refl
+        (ap (λ o. on_open_call next o (taking_here letter next)) (sym e)) tt (still_kept fragment world next formed known)
     go next known (Some call) e =
         let is = carried fragment world next letter.message.call call formed known e in
         let new = taking_open letter.message call in
         refined fragment world (Event.Take letter.message ∷ [])
         (changed_to fragment world next letter.message.call call new formed known is refl refl refl world.sent)
         (taking_here letter next call)
-        (on_call next (open_call next.calls letter.message.call) (taking_here letter next)) world.history
+        (on_open_call next (open_call next.calls letter.message.call) (taking_here letter next)) world.history
         (ap (λ o. on_open (ticked world) o
         (λ c. record world { calls = with_open (taking_open letter.message c) world.calls; now = suc world.now })) (sym is.open_there))
-        (ap (λ o. on_call next o (taking_here letter next)) (sym e))
+        (ap (λ o. on_open_call next o (taking_here letter next)) (sym e))
         (may, record { network = premised.sent; log = tt; ids = tt }, tt)
         (changed_kept fragment world next letter.message.call call new formed known is refl refl refl world.sent [] (λ message was. was) tt
         (asked_taken fragment world

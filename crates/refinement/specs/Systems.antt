@@ -42,8 +42,8 @@ pub data SystemEvent : Type 0 where
   Restarts : (node : ℕ) → LocalObject → SystemEvent
 
 -- what the nodes keep, with this at one of them
-abbrev pub with_object : (objects : ℕ → LocalObject) → (node : ℕ) → LocalObject → (other : ℕ) → LocalObject
-with_object objects node local other = if other == node then local else objects other
+abbrev pub with_object_at : (objects : ℕ → LocalObject) → (node : ℕ) → LocalObject → (other : ℕ) → LocalObject
+with_object_at objects node local other = if other == node then local else objects other
 
 -- all nodes after an event
 abbrev pub system_after : Code → System → SystemEvent → System
@@ -51,7 +51,7 @@ system_after fragment system (SystemEvent.Acts node event) =
     let local = system.objects node in
     let done = done_here fragment local event in record {
       files = system.files;
-      objects = with_object system.objects node done.local;
+      objects = with_object_at system.objects node done.local;
       letters = system.letters ++ done.sent;
       history = history_after local event (suc system.now) system.history;
       now = system.now + length (world_events local event);
@@ -59,7 +59,7 @@ system_after fragment system (SystemEvent.Acts node event) =
 system_after fragment system (SystemEvent.Resends node letters) =
     record system { letters = system.letters ++ letters }
 system_after fragment system (SystemEvent.Restarts node after) =
-    record system { objects = with_object system.objects node after; now = suc system.now }
+    record system { objects = with_object_at system.objects node after; now = suc system.now }
 
 -- the letter was sent
 abbrev pub WasPosted : System → Letter → Type 0

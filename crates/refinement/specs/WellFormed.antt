@@ -13,9 +13,9 @@ use Rattle.network.specs.Premises.{IsOneFile, WasSent}
 use Rattle.local_object.specs.Events.{pieces_here}
 
 -- no two of the calls have the same id
-abbrev pub HaveDistinctIds : List NodeCall → Type 0
-HaveDistinctIds [] = Unit {0}
-HaveDistinctIds (call ∷ calls) = AllByRecursion (λ other. other.id ≢ call.id) calls × HaveDistinctIds calls
+abbrev pub NodeCallsDiffer : List NodeCall → Type 0
+NodeCallsDiffer [] = Unit {0}
+NodeCallsDiffer (call ∷ calls) = AllByRecursion (λ other. other.id ≢ call.id) calls × NodeCallsDiffer calls
 
 -- the history has an entry of the call, which has no answer yet
 pub record HasEntry (history : List Entry) (call : NodeCall) : Type 0 where
@@ -49,6 +49,6 @@ pub record IsWellFormed (fragment : Code) (world : World) : Type 0 where
   pub one : IsOneFile world.files
   pub lawful : AllByRecursion IsLawful (known_layouts world 0)
   pub banks : map length world.banks ≡ map member_count (known_layouts world 0)
-  pub ids : HaveDistinctIds world.calls
+  pub ids : NodeCallsDiffer world.calls
   pub entries : AllByRecursion (HasEntry world.history) world.calls
   pub asked : AllByRecursion (HasAsked fragment world) world.calls

@@ -10,7 +10,7 @@ ghost use Rattle.call.specs.Pieces.{HavePieces};
 ghost use Rattle.network.specs.Worlds.{open_call};
 ghost use Rattle.local_object.specs.Local.{last_position, layout_here};
 ghost use Rattle.local_object.specs.Events.{LocalEvent, begun_here};
-ghost use Rattle.local_object.specs.Doing.{IsDone, is_moving, move_cause, read_cause, unless_open, write_cause};
+ghost use Rattle.local_object.specs.Doing.{IsDone, is_moving, move_refusal, read_refusal, unless_open, write_refusal};
 
 use crate::letters::letters_of;
 use crate::{Letter, LocalObject};
@@ -29,7 +29,7 @@ impl LocalObject {
     /// `NotNow` where a call with this id is open here, and `NoMemory`.
     pub fn begin_read(&mut self, id: CallId) -> Result<Vec<Letter>, Refusal>
         ensures done { IfOk result (λ letters. IsDone self.old (LocalEvent.BeginRead id ∷ []) self.new letters.items) }
-        ensures cause { IsByCause (read_cause self.old id) result }
+        ensures cause { IsByCause (read_refusal self.old id) result }
         ensures unchanged { IfErr result (λ e. (e ≡ NoMemory) ⊎ (self.new ≡ self.old)) }
     {
         self.refuse_open(id)?;
@@ -46,7 +46,7 @@ impl LocalObject {
         ensures done { IfOk result (λ letters.
             IsDone self.old (LocalEvent.BeginWrite id value ∷ []) self.new letters.items) }
 
-        ensures cause { IsByCause (write_cause self.old id value) result }
+        ensures cause { IsByCause (write_refusal self.old id value) result }
         ensures unchanged { IfErr result (λ e. (e ≡ NoMemory) ⊎ (self.new ≡ self.old)) }
     {
         self.refuse_open(id)?;
@@ -72,7 +72,7 @@ impl LocalObject {
         ensures done { IfOk result (λ letters.
             IsDone self.old (LocalEvent.BeginMove id layout ∷ []) self.new letters.items) }
 
-        ensures cause { IsByCause (move_cause self.old id) result }
+        ensures cause { IsByCause (move_refusal self.old id) result }
         ensures unchanged { IfErr result (λ e. (e ≡ NoMemory) ⊎ (self.new ≡ self.old)) }
     {
         self.refuse_open(id)?;

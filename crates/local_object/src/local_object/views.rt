@@ -2,7 +2,7 @@
 
 ghost use Rattle.std.specs.Prelude.{◌≡◌, ◌-◌, ◌^◌, false, length, min};
 ghost use Rattle.local_object.specs.Changing.{IsUnchangedBy, is_changed_by, stored_bytes};
-ghost use Rattle.local_object.specs.Doing.{is_moving, is_open_move};
+ghost use Rattle.local_object.specs.Doing.{is_moving, has_move_open};
 
 use crate::calls::is_move;
 use crate::changes::changes;
@@ -26,7 +26,7 @@ impl LocalObject {
 
     /// Whether a move with this id is open here.
     pub fn is_open_move(&self, id: CallId) -> bool
-        ensures { result ≡ is_open_move self.now id }
+        ensures { result ≡ has_move_open self.now id }
     {
         match self.calls.index_of(id) {
             Some(index) => is_move(self.calls.at(index)),

@@ -4,10 +4,10 @@ use Rattle.encoder.specs.Fragment.{fragment}
 use Rattle.phase.specs.Phase.{Phase}
 use Rattle.record.specs.Sending.{fragment_piece, requests}
 use Rattle.call.specs.Call.{OpenCall as Machine}
-use Rattle.local_object.specs.Coding.{value_of}
+use Rattle.local_object.specs.Coding.{call_value}
 use Rattle.local_object.specs.Going.{Advances}
 use Rattle.local_object.specs.Letters.{letter_in}
-use Rattle.local_object.specs.Local.{layout_in, place_at}
+use Rattle.local_object.specs.Local.{layout_in, heard_place}
 use Rattle.local_object.specs.Taking.{can_begin}
 use Rattle.local_object.proofs.AdvanceLemmas.{begin_can, begin_long, begin_unknown, begin_unnumbered, is_advanced, not_advanced}
 use Rattle.local_object.proofs.CarriedCallLemmas.{same_call}
@@ -18,7 +18,7 @@ returns-in_default-clause-advanced c = λ call at.
     let places = c.args.places.now in
     not_advanced places call c.args.kind c.args.position c.args.calls.now c.args.calls.now c.args.index c.new.result.items
     (begin_unknown places call c.args.kind c.args.position
-    (sym (c.in_default.ensures ∙ ap (λ n. layout_in (place_at places n)) c.from.ensures))) refl c.new.ensures.items
+    (sym (c.in_default.ensures ∙ ap (λ n. layout_in (heard_place places n)) c.from.ensures))) refl c.new.ensures.items
 
 pub returns-then-number-ge4294967295-clause-advanced : goal.returns-then-number-ge4294967295-clause-advanced
 returns-then-number-ge4294967295-clause-advanced c = λ call at.
@@ -57,7 +57,7 @@ returns-clause-advanced c = λ call at.
     let new = c.begin_next.new.self in
     let number = c.number-number.ensures ∙ ap (λ (p : Phase). p.number) c.phase.ensures.value in
     let next : c.number-number.result + 1 ≡ suc read.phase.number = omega (arith, number) in
-    let known = sym (c.in-Some.ensures ∙ ap (λ n. layout_in (place_at places n)) c.from.ensures) in
+    let known = sym (c.in-Some.ensures ∙ ap (λ n. layout_in (heard_place places n)) c.from.ensures) in
     subst (λ (m : Machine). Advances (can_begin places m kind position) places calls m c.args.index kind position new items)
     (same_call read call (sym c.at-call.ensures ∙ at))
     (is_advanced places read kind position calls new c.args.index items
@@ -72,6 +72,6 @@ returns-clause-advanced c = λ call at.
           ∙ ap (map (letter_in places layout))
           (c.in_ok-messages.ensures.requests
           ∙ ap (λ id. requests id (c.number-number.result + 1) kind position layout.members 0
-          (fragment_piece fragment layout (value_of read))) c.id.ensures
-          ∙ ap (λ n. requests read.id n kind position layout.members 0 (fragment_piece fragment layout (value_of read))) next);
+          (fragment_piece fragment layout (call_value read))) c.id.ensures
+          ∙ ap (λ n. requests read.id n kind position layout.members 0 (fragment_piece fragment layout (call_value read))) next);
     }))

@@ -1,7 +1,7 @@
 use Rattle.std.proofs.Common.{sym, ap, ◌∙◌}
 use Rattle.std.proofs.lemmas.Result.{IfOk-weaker}
 use Rattle.phase.specs.Phase.{Phase}
-use Rattle.local_object.specs.Local.{layout_in, place_at}
+use Rattle.local_object.specs.Local.{layout_in, heard_place}
 use Rattle.local_object.specs.Pieces.{first_pieces}
 use Rattle.local_object.proofs.FetchedLemmas.{decoded_as, fetched_by, none_fetched}
 use Rattle.local_object.proofs.OpenLemmas.{match_weaker}
@@ -12,7 +12,7 @@ returns-in_default-clause-value c = λ v.
     let places = c.args.places.now in
     none_fetched places c.args.call.now v
     (sym (c.in_default.ensures
-    ∙ ap (λ n. layout_in (place_at places n))
+    ∙ ap (λ n. layout_in (heard_place places n))
     (c.from.ensures ∙ c.position.ensures ∙ ap (λ (p : Phase). p.position) c.phase-phase.ensures.value)))
 
 pub returns-clause-value : goal.returns-clause-value
@@ -21,7 +21,7 @@ returns-clause-value c =
     let call = c.args.call.now in
     let layout = c.in-Some.layout.now in
     let known = sym (c.in-Some.ensures
-    ∙ ap (λ n. layout_in (place_at places n))
+    ∙ ap (λ n. layout_in (heard_place places n))
     (c.from.ensures ∙ c.position.ensures ∙ ap (λ (p : Phase). p.position) c.phase-phase.ensures.value)) in
     let k = c.k-2.ensures.value in
     let pieces = c.in_ok-pieces.ensures.pieces ∙ ap (λ k. first_pieces k c.replies.result.now) c.k.ensures.value

@@ -1,13 +1,13 @@
 use Rattle.std.proofs.Common.{List, length, sym, subst, ap, ◌∙◌, slice_get}
 use Rattle.std.proofs.lemmas.Option.{slice_get_read}
 use Rattle.call.specs.Call.{OpenCall as Machine}
-use Rattle.local_object.specs.Distinct.{AreDistinct}
+use Rattle.local_object.specs.Distinct.{DifferInIds}
 use Rattle.local_object.proofs.CarriedCallLemmas.{distinct_remove}
 use Rattle.local_object.proofs.calls.Calls.remove.Goals as goal
 
 pub invariant_of-self : goal.invariant_of-self
 invariant_of-self c = record {
-  distinct = subst AreDistinct (sym c.remove.ensures.items)
+  distinct = subst DifferInIds (sym c.remove.ensures.items)
       (distinct_remove c.self.inside.calls.items c.args.index c.self.invariant.distinct);
 }
 

@@ -1,14 +1,14 @@
 use Rattle.std.proofs.Common.{◌+◌, IsSome, sym, subst}
 use Rattle.local_object.specs.Codes.{carried}
-use Rattle.local_object.specs.Local.{LocalObject, layout_here, layout_in, place_at}
+use Rattle.local_object.specs.Local.{LocalObject, layout_here, layout_in, heard_place}
 use Rattle.local_object.proofs.BeginLemmas.{known_added, move_done, ok_both}
 use Rattle.local_object.proofs.local_object.LocalObject.begin_from.Goals as goal
 
 pub begin-requires-clause-known : goal.begin-requires-clause-known
 begin-requires-clause-known c =
     let places = c.self.inside.places in
-    subst (λ ps. IsSome (layout_in (place_at ps c.args.last))) (sym c.in_ok-learn.ensures.places)
-    (known_added places (place_at places (c.args.last + 1)) (c.args.last + 1) c.args.layout.now c.args.last
+    subst (λ ps. IsSome (layout_in (heard_place ps c.args.last))) (sym c.in_ok-learn.ensures.places)
+    (known_added places (heard_place places (c.args.last + 1)) (c.args.last + 1) c.args.layout.now c.args.last
     (subst (λ (l : LocalObject). IsSome (layout_here l c.args.last)) (sym c.self.view_is) c.requires.known))
 
 pub returns-clause-done : goal.returns-clause-done

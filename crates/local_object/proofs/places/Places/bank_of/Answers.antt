@@ -1,6 +1,6 @@
 use Rattle.std.proofs.Common.{ap, sym, subst, ◌∙◌}
 use Rattle.local_object.specs.Distinct.{IsInOrderIfOpen}
-use Rattle.local_object.specs.Local.{bank_in, place_at}
+use Rattle.local_object.specs.Local.{bank_in, heard_place}
 use Rattle.local_object.proofs.PlaceLemmas.{read_at, unread}
 use Rattle.local_object.proofs.places.Places.bank_of.Goals as goal
 
@@ -10,7 +10,7 @@ returns-in-Some-clause-bank c =
     ∙ sym (ap bank_in
     (read_at c.deref.result.now c.self.inside.places.items c.args.self.now c.from.result c.in-Some.index c.index.result.now
     c.deref.ensures.value c.self.view_is c.in-Some.ensures c.index.ensures))
-    ∙ ap (λ number. bank_in (place_at c.args.self.now number)) c.from.ensures
+    ∙ ap (λ number. bank_in (heard_place c.args.self.now number)) c.from.ensures
 
 pub returns-in-Some-clause-order : goal.returns-in-Some-clause-order
 returns-in-Some-clause-order c =
@@ -21,7 +21,7 @@ returns-in-None-clause-bank c =
     sym (ap bank_in
     (unread c.deref.result.now c.self.inside.places.items c.args.self.now c.from.result c.deref.ensures.value c.self.view_is
     c.in-None.ensures))
-    ∙ ap (λ number. bank_in (place_at c.args.self.now number)) c.from.ensures
+    ∙ ap (λ number. bank_in (heard_place c.args.self.now number)) c.from.ensures
 
 pub returns-in-None-clause-order : goal.returns-in-None-clause-order
 returns-in-None-clause-order c = subst IsInOrderIfOpen (returns-in-None-clause-bank c) tt

@@ -2,7 +2,7 @@ use Rattle.std.proofs.Common.{◌≡◌, Option, IfOk, ap, subst, ◌∙◌}
 use Rattle.std.proofs.lemmas.Result.{on_ok_weaker}
 use Rattle.bank.specs.Bank.{Bank}
 use Rattle.bank.specs.Serve.{served_bank, reply_to}
-use Rattle.local_object.specs.Local.{bank_in, bank_or_opened, place_at, with_bank}
+use Rattle.local_object.specs.Local.{bank_in, bank_or_opened, heard_place, with_bank_here}
 use Rattle.local_object.proofs.PlaceLemmas.{bank_is, bank_put, known_set, there_at}
 use Rattle.local_object.proofs.places.Places.serve.Goals as goal
 
@@ -18,12 +18,12 @@ returns-clause-places c =
     let served : Option Bank → Bank = λ o. served_bank (bank_or_opened o c.args.member c.args.delta) c.args.request.now 0 in
     on_ok_weaker c.serve.result
     (λ made. bank_put c.deref.ensures.value c.self.view_is c.in-Some.ensures c.index_mut.ensures.value served c.serve.new.self made
-    ∙ ap (λ n. with_bank c.args.self.now n (served (bank_in (place_at c.args.self.now n)))) c.from.ensures)
+    ∙ ap (λ n. with_bank_here c.args.self.now n (served (bank_in (heard_place c.args.self.now n)))) c.from.ensures)
     c.serve.ensures.bank
 
 pub returns-clause-reply : goal.returns-clause-reply
 returns-clause-reply c =
     subst (λ o. IfOk c.serve.result (λ r. r ≡ reply_to (bank_or_opened o c.args.member c.args.delta) c.args.request.now 0))
     (bank_is c.deref.ensures.value c.self.view_is c.in-Some.ensures c.index_mut.ensures.value
-    ∙ ap (λ n. bank_in (place_at c.args.self.now n)) c.from.ensures)
+    ∙ ap (λ n. bank_in (heard_place c.args.self.now n)) c.from.ensures)
     c.serve.ensures.reply
