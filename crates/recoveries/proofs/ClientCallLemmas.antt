@@ -1,0 +1,138 @@
+-- What a node does alone, and its copy does not: a read or a write takes a reply and goes on.
+use Rattle.std.proofs.Common.{◌≡◌, ℕ, ◌+◌, ◌^◌, inl, inr, Bool, true, false, ◌&&◌, cond, is_some, nat_lt, List, [], ◌∷◌}
+use Rattle.std.proofs.Common.{Option, Some, None, refl, sym, subst, ap, ◌∙◌}
+use Rattle.bank.specs.declared.kind.Kind.{Kind}
+use Rattle.encoder.specs.Fragment.{fragment}
+use Rattle.layout.specs.Layout.{Layout}
+use Rattle.call.specs.declared.next.Next.{Next}
+use Rattle.call.specs.declared.next.Next.TheVariants as next
+use Rattle.std.specs.List.{list_any}
+use Rattle.network.specs.Worlds.{NodeCall, due_phase, open_call}
+use Rattle.network.specs.Events.{taking_open}
+use Rattle.local_object.specs.declared.letter.Letter.{Letter}
+use Rattle.local_object.specs.declared.progress.Ended.{Ended}
+use Rattle.local_object.specs.Agreement.{knows_all_of}
+use Rattle.local_object.specs.Doing.{is_move_call, has_move_open, is_request, is_taken}
+use Rattle.local_object.specs.Events.{LocalEvent, advanced_at, advanced_here, all_done, done_here, learnt_from}
+use Rattle.local_object.specs.Going.{next_here}
+use Rattle.local_object.specs.Local.{LocalObject, layout_here}
+use Rattle.local_object.specs.Taking.{AreSettling, GoesOn, IsTaken, begin_events, call_events, can_begin, lead_events, machine_of}
+use Rattle.local_object.specs.Taking.{step_events}
+use Rattle.refinement.specs.WellFormed.{NodeCallsDiffer}
+use Rattle.refinement.proofs.LearntPartLemmas.{calls_learnt}
+use Rattle.recoveries.proofs.KeptPlaceLemmas.{letter_alone}
+use Rattle.recoveries.proofs.KeptCallLemmas.{IsObjectCopy, found_id, moves_call, with_client, without_client}
+use Rattle.recoveries.proofs.TwinLemmas.{advanced_is, found_new, settled_is, taken_is}
+use Rattle.recoveries.proofs.TakenReplyLemmas.{gone_on, taken_to}
+
+module _ (moves : Type 0) (local copy : LocalObject) (is : IsObjectCopy moves local copy) (id : ℕ) (call : NodeCall)
+    (found : open_call local.calls id ≡ Some call) (client : moves_call call ≡ false) where
+  client_settles : (value : List ℕ) → IsObjectCopy moves (done_here fragment local (LocalEvent.Settle id value)).local copy
+  client_settles value =
+      subst (λ l. IsObjectCopy moves l copy) (sym (settled_is fragment local id value call found))
+      (with_client moves local copy is id call (record call { settled = Some value }) found client refl client)
+
+  advanced_alone : (o : Option (Kind × ℕ)) → IsObjectCopy moves (advanced_here fragment local call o).local copy
+  advanced_alone None = is
+  advanced_alone (Some next) = at (layout_here local next.1)
+    where
+      at : (o : Option Layout) → IsObjectCopy moves (advanced_at fragment local call next o).local copy
+      at None = is
+      at (Some layout) = with_client moves local copy is id call _ found client refl client
+
+  client_advances : IsObjectCopy moves (done_here fragment local (LocalEvent.Advance id)).local copy
+  client_advances =
+      subst (λ l. IsObjectCopy moves l copy) (sym (advanced_is fragment local id call found)) (advanced_alone (due_phase call))
+
+  client_ends : IsObjectCopy moves (done_here fragment local (LocalEvent.Answer id)).local copy
+  client_ends = without_client moves local copy is id call found client
+
+module _ (moves : Type 0) (local copy : LocalObject) (is : IsObjectCopy moves local copy) (id : ℕ) (call : NodeCall)
+    (found : open_call local.calls id ≡ Some call) (client : moves_call call ≡ false) where
+  own : open_call local.calls call.id ≡ Some call
+  own = ap (open_call local.calls) (found_id local.calls id call found) ∙ found
+
+  client_begins : (kind : Kind) (position : ℕ) →
+      IsObjectCopy moves (all_done fragment local (begin_events local.places (machine_of call) kind position)).local copy
+  client_begins kind position = go (can_begin local.places (machine_of call) kind position)
+    where
+      go : (b : Bool) → IsObjectCopy moves (all_done fragment local (cond b (LocalEvent.Advance call.id ∷ []) [])).local copy
+      go true = client_advances moves local copy is call.id call own client
+      go false = is
+
+  client_steps : (n : Next) → IsObjectCopy moves (all_done fragment local (step_events local.places (machine_of call) n)).local copy
+  client_steps next.Wait = is
+  client_steps next.Settle = is
+  client_steps (next.Restart kind position) = client_begins kind position
+  client_steps (next.Begin kind position) = client_begins kind position
+  client_steps next.Answer = client_ends moves local copy is call.id call own client
+
+  client_leads : IsObjectCopy moves (all_done fragment local (lead_events local id)).local copy
+  client_leads =
+      subst (λ o. IsObjectCopy moves (all_done fragment local (call_events local.places o)).local copy) (sym found)
+      (client_steps (next_here (machine_of call)))
+
+client_goes_on : (moves : Type 0) (local copy : LocalObject) → IsObjectCopy moves local copy → (id : ℕ) (call : NodeCall) →
+    open_call local.calls id ≡ Some call → moves_call call ≡ false → (es : List LocalEvent) → AreSettling local id es →
+    IsObjectCopy moves (gone_on local id es) copy
+client_goes_on moves local copy is id call found client es (inl none) =
+    subst (λ es. IsObjectCopy moves (gone_on local id es) copy) (sym none.0) (client_leads moves local copy is id call found client)
+client_goes_on moves local copy is id call found client es (inr some) =
+    let new : NodeCall = record call { settled = Some some.0 } in
+    subst (λ es. IsObjectCopy moves (gone_on local id es) copy) (sym some.2)
+    (client_leads moves (done_here fragment local (LocalEvent.Settle id some.0)).local copy
+    (client_settles moves local copy is id call found client some.0) id new
+    (ap (λ (l : LocalObject). open_call l.calls id) (settled_is fragment local id some.0 call found)
+    ∙ found_new local.calls id call new found refl)
+    client)
+
+module _ (moves : Type 0) (local copy : LocalObject) (is : IsObjectCopy moves local copy) (letter : Letter)
+    (knows : moves → knows_all_of local letter ≡ true) where
+  -- the node alone hears of the layouts in a letter
+  pub learnt_alone : IsObjectCopy moves (learnt_from local letter) copy
+  learnt_alone = record {
+    kept = letter_alone moves local copy is.kept letter knows;
+    distinct = subst NodeCallsDiffer (sym (calls_learnt local letter)) is.distinct;
+    mover = λ moving. is.mover (ap (list_any moves_call) (sym (calls_learnt local letter)) ∙ moving);
+  }
+
+  module _ (call : NodeCall) (found : open_call local.calls letter.message.call ≡ Some call)
+      (client : moves_call call ≡ false) where
+    learnt_found : open_call (learnt_from local letter).calls letter.message.call ≡ Some call
+    learnt_found = ap (λ calls. open_call calls letter.message.call) (calls_learnt local letter) ∙ found
+
+    client_took : IsObjectCopy moves (done_here fragment local (LocalEvent.Take letter)).local copy
+    client_took =
+        subst (λ l. IsObjectCopy moves l copy) (sym (taken_is fragment local letter call found))
+        (with_client moves (learnt_from local letter) copy learnt_alone letter.message.call call
+        (taking_open letter.message call) learnt_found client refl client)
+
+    client_taken : (new : LocalObject) (sent : List Letter) (ended : List Ended) → GoesOn local letter new sent ended →
+        IsObjectCopy moves new copy
+    client_taken new sent ended taken =
+        subst (λ l. IsObjectCopy moves l copy) (sym (taken_to local letter new sent ended taken))
+        (client_goes_on moves (done_here fragment local (LocalEvent.Take letter)).local copy client_took letter.message.call
+        (taking_open letter.message call)
+        (ap (λ (l : LocalObject). open_call l.calls letter.message.call) (taken_is fragment local letter call found)
+        ∙ found_new (learnt_from local letter).calls letter.message.call call (taking_open letter.message call) learnt_found refl)
+        client taken.settling taken.settles)
+
+  -- a reply that is to no open move changes nothing that the copy has
+  pub client_takes : has_move_open local letter.message.call ≡ false → (new : LocalObject) (sent : List Letter)
+      (ended : List Ended) → IsTaken (is_taken local letter) local letter new sent ended → IsObjectCopy moves new copy
+  client_takes no_move new sent ended taken =
+      go (is_taken local letter) refl taken (open_call local.calls letter.message.call) refl no_move
+    where
+      untaken : (o : Option NodeCall) → o ≡ None → (r n : Bool) → cond r false (n && is_some o) ≡ true → ⊥
+      untaken None e true n is = absurd (cc)
+      untaken None e false true is = absurd (cc)
+      untaken None e false false is = absurd (cc)
+      untaken (Some call) e r n is = absurd (cc)
+
+      go : (b : Bool) → is_taken local letter ≡ b → IsTaken b local letter new sent ended →
+          (o : Option NodeCall) → open_call local.calls letter.message.call ≡ o → is_move_call o ≡ false → IsObjectCopy moves new copy
+      go false e taken o f client = subst (λ l. IsObjectCopy moves l copy) (sym taken.done.local) is
+      go true e taken None f client =
+          absurd (untaken (open_call local.calls letter.message.call) f (is_request letter.message.body)
+          (nat_lt (letter.message.position + 1) (2 ^ 32)) e)
+      go true e taken (Some call) f client = client_taken call f client new sent ended taken

@@ -1,0 +1,129 @@
+-- Which layouts a node has heard of, by the tests on the letters that it heeds.
+use Rattle.std.proofs.Common.{◌≡◌, ℕ, suc, ◌⊎◌, inl, inr, nat_eq, Bool, true, false, ◌&&◌, eqb, eqb-true, eq-eqb, cond, List, Option, Some}
+use Rattle.std.proofs.Common.{None}
+use Rattle.std.proofs.Common.{refl, sym, ap, ap₂, ◌∙◌, arith}
+use Rattle.std.proofs.lemmas.Option.{same_Some}
+use Rattle.std.specs.Bool.{Decides}
+use Rattle.std.specs.Cmp.Lexicographic.{pointwise}
+use Rattle.std.proofs.lemmas.Bool.Decides.{Decides-eqb}
+use Rattle.std.proofs.lemmas.Slice.Eq.{slice_eq-Decides}
+use Rattle.layout.specs.Layout.{Layout}
+use Rattle.local_object.specs.declared.letter.Letter.{Letter}
+use Rattle.local_object.specs.Local.{LocalObject, layout_here, with_heard}
+use Rattle.local_object.specs.Agreement.{agrees, if_there, is_heard, is_not_another, knows_all_of, same_layout}
+use Rattle.refinement.proofs.PlaceLemmas.{layout_learnt, layout_new, layout_stays}
+
+-- the node has heard of no layout for the position, or of this one
+abbrev pub Fits : LocalObject → (position : ℕ) → Layout → Type 0
+Fits local position layout =
+    (layout_here local position ≡ None) ⊎ (layout_here local position ≡ Some layout)
+
+pub both : (a b : Bool) → (a && b) ≡ true → (a ≡ true) × (b ≡ true)
+both true b e = (refl, e)
+both false b e = absurd (cc)
+
+members_decided : (xs ys : List ℕ) → Decides (pointwise nat_eq xs ys) (xs ≡ ys)
+members_decided xs ys = slice_eq-Decides Decides-eqb xs ys (pointwise nat_eq xs ys) refl
+
+pub layouts_same : (heard layout : Layout) → same_layout heard layout ≡ true → heard ≡ layout
+layouts_same heard layout e =
+    let is = both (eqb heard.k layout.k) (pointwise nat_eq heard.members layout.members) e in
+    ap₂ (λ (k : ℕ) (members : List ℕ). let l : Layout = record { k = k; members = members } in l)
+    (eqb-true heard.k layout.k is.0) ((members_decided heard.members layout.members).0 is.1)
+
+fits_by : (o : Option Layout) (layout : Layout) → is_not_another o layout ≡ true → (o ≡ None) ⊎ (o ≡ Some layout)
+fits_by None layout e = inl refl
+fits_by (Some heard) layout e = inr (ap Some (layouts_same heard layout e))
+
+heard_by : (o : Option Layout) (layout : Layout) → is_heard o layout ≡ true → o ≡ Some layout
+heard_by None layout e = absurd (cc)
+heard_by (Some heard) layout e = ap Some (layouts_same heard layout e)
+
+there_by : (test : Layout → Bool) (o : Option Layout) (layout : Layout) → if_there test o ≡ true → o ≡ Some layout →
+    test layout ≡ true
+there_by test None layout e is = absurd (cc)
+there_by test (Some other) layout e is = ap test (sym (same_Some other layout is)) ∙ e
+
+-- a letter with which the node agrees fits what it has heard of
+pub letter_fits : (local : LocalObject) (letter : Letter) → agrees local letter ≡ true →
+    Fits local letter.message.position letter.layout
+letter_fits local letter e =
+    let o = layout_here local letter.message.position in
+    let next = if_there (is_not_another (layout_here local (suc letter.message.position))) letter.next in
+    fits_by o letter.layout (both (is_not_another o letter.layout) next e).0
+
+pub next_fits : (local : LocalObject) (letter : Letter) → agrees local letter ≡ true → (next : Layout) → letter.next ≡ Some next →
+    Fits local (suc letter.message.position) next
+next_fits local letter e next is =
+    let o = layout_here local (suc letter.message.position) in
+    let rest =
+    both (is_not_another (layout_here local letter.message.position) letter.layout) (if_there (is_not_another o) letter.next) e in
+    fits_by o next (there_by (is_not_another o) letter.next next rest.1 is)
+
+-- the layouts of a letter are heard of, if the node knows all of them
+pub letter_heard : (local : LocalObject) (letter : Letter) → knows_all_of local letter ≡ true →
+    layout_here local letter.message.position ≡ Some letter.layout
+letter_heard local letter e =
+    let o = layout_here local letter.message.position in
+    let next = if_there (is_heard (layout_here local (suc letter.message.position))) letter.next in
+    heard_by o letter.layout (both (is_heard o letter.layout) next e).0
+
+pub next_heard : (local : LocalObject) (letter : Letter) → knows_all_of local letter ≡ true → (next : Layout) → letter.next ≡ Some next →
+    layout_here local (suc letter.message.position) ≡ Some next
+next_heard local letter e next is =
+    let o = layout_here local (suc letter.message.position) in
+    let rest = both (is_heard (layout_here local letter.message.position) letter.layout) (if_there (is_heard o) letter.next) e in
+    heard_by o next (there_by (is_heard o) letter.next next rest.1 is)
+
+-- the layout of a position after the node hears of one
+abbrev pub or_heard : Option Layout → Bool → Layout → Option Layout
+or_heard None b layout = cond b (Some layout) None
+or_heard (Some known) b layout = Some known
+
+pub layout_after : (local : LocalObject) (p : ℕ) (layout : Layout) (q : ℕ) →
+    layout_here (with_heard local p layout) q ≡ or_heard (layout_here local q) (eqb p q) layout
+layout_after local p layout q = go (layout_here local q) refl (layout_here (with_heard local p layout) q) refl
+  where
+    -- where nothing was known, the position is the one that was heard of, or it is still not known
+    new : layout_here local q ≡ None → (o : Option Layout) → layout_here (with_heard local p layout) q ≡ o → (b : Bool) → eqb p q ≡ b →
+        o ≡ cond b (Some layout) None
+    new none o e true t =
+        sym e ∙ ap (layout_here (with_heard local p layout)) (sym (eqb-true p q t))
+        ∙ layout_new local p layout (ap (layout_here local) (eqb-true p q t) ∙ none)
+    new none None e false t = refl
+    new none (Some other) e false t = absurd (off (layout_learnt local p layout q other e))
+      where
+        off : (layout_here local q ≡ Some other) ⊎ ((p ≡ q) × (layout ≡ other)) → ⊥
+        off (inl known) = absurd (let wrong : None ≡ Some other = sym none ∙ known in cc)
+        off (inr is) = absurd (let wrong : false ≡ true = sym t ∙ eq-eqb p q is.0 in cc)
+
+    go : (known : Option Layout) → layout_here local q ≡ known → (o : Option Layout) → layout_here (with_heard local p layout) q ≡ o →
+        o ≡ or_heard known (eqb p q) layout
+    go None none o e = new none o e (eqb p q) refl
+    go (Some known) is o e = sym e ∙ layout_stays local p layout q known is
+
+-- what fits is known after the node heard of it
+pub fits_known : (local : LocalObject) (p : ℕ) (layout : Layout) → Fits local p layout →
+    layout_here (with_heard local p layout) p ≡ Some layout
+fits_known local p layout (inl none) = layout_new local p layout none
+fits_known local p layout (inr known) = layout_stays local p layout p layout known
+
+-- what fits one position fits after the node heard of another one
+pub fits_later : (local : LocalObject) (p : ℕ) (layout : Layout) (next : Layout) → Fits local (suc p) next →
+    Fits (with_heard local p layout) (suc p) next
+fits_later local p layout next fits = go fits
+  where
+    apart : (o : Option Layout) → or_heard o (eqb p (suc p)) layout ≡ o
+    apart (Some known) = refl
+    apart None = off (eqb p (suc p)) refl
+      where
+        off : (b : Bool) → eqb p (suc p) ≡ b → cond b (Some layout) None ≡ None
+        off true t = absurd (let same = eqb-true p (suc p) t in omega (arith, same))
+        off false t = refl
+
+    same : layout_here (with_heard local p layout) (suc p) ≡ layout_here local (suc p)
+    same = layout_after local p layout (suc p) ∙ apart (layout_here local (suc p))
+
+    go : Fits local (suc p) next → Fits (with_heard local p layout) (suc p) next
+    go (inl none) = inl (same ∙ none)
+    go (inr known) = inr (same ∙ known)

@@ -1,0 +1,13 @@
+pub mod HeardLayoutLemmas
+pub mod KeptPlaceLemmas
+pub mod KeptCallLemmas
+pub mod TwinLemmas
+pub mod ClientCallLemmas
+pub mod TakenReplyLemmas
+pub mod ServedLetterLemmas
+pub mod BegunCallLemmas
+pub mod NodeCopyLemmas
+pub mod LoggedLemmas
+pub mod RecoveredLemmas
+pub mod RunLemmas
+pub mod StopLemmas

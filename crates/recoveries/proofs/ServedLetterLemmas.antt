@@ -1,0 +1,164 @@
+-- A node serves a letter: its copy serves it too, or need not.
+use Rattle.std.proofs.Common.{◌≡◌, ℕ, suc, ◌+◌, ◌^◌, Bool, true, false, ◌&&◌, cond, eqb-true, nat_lt, [], ◌∷◌, Option, Some, None}
+use Rattle.std.proofs.Common.{is_some, slice_get, refl, sym, subst, ap, ◌∙◌}
+use Rattle.std.proofs.lemmas.Option.{same_Some}
+use Rattle.std.specs.List.{filter, list_any}
+use Rattle.bank.specs.Serve.{served_bank}
+use Rattle.mail.specs.declared.message.Body.{Body}
+use Rattle.mail.specs.declared.message.Body.TheVariants as body
+use Rattle.encoder.specs.Fragment.{fragment}
+use Rattle.layout.specs.Layout.{Layout, IsLawful}
+use Rattle.local_object.specs.declared.letter.Letter.{Letter}
+use Rattle.local_object.specs.Agreement.{agrees, knows_all_of}
+use Rattle.local_object.specs.Changing.{IsUnchangedBy, after_serving}
+use Rattle.local_object.specs.Doing.{is_member, is_request, is_served, names_node, serve_events}
+use Rattle.local_object.specs.Events.{LocalEvent, all_done, learnt_from, served_here}
+use Rattle.local_object.specs.Local.{LocalObject, bank_here, layout_here, with_heard, learnt_if, with_bank_here}
+use Rattle.refinement.specs.Refined.{IsKeptHere}
+use Rattle.refinement.specs.WellFormed.{NodeCallsDiffer}
+use Rattle.refinement.proofs.BankRowLemmas.{one_member}
+use Rattle.refinement.proofs.LearntPartLemmas.{calls_learnt, node_learnt}
+use Rattle.refinement.proofs.PlaceLemmas.{layout_stays}
+use Rattle.recoveries.proofs.HeardLayoutLemmas.{Fits, both, fits_known, letter_fits}
+use Rattle.recoveries.proofs.KeptPlaceLemmas.{bank_kept, both_banks, fits_copy, letter_alone, letter_fitting}
+use Rattle.recoveries.proofs.KeptCallLemmas.{IsObjectCopy, moves_call}
+
+stays_if : (local : LocalObject) (p : ℕ) (o : Option Layout) (q : ℕ) (layout : Layout) → layout_here local q ≡ Some layout →
+    layout_here (learnt_if local p o) q ≡ Some layout
+stays_if local p None q layout e = e
+stays_if local p (Some other) q layout e = layout_stays local p other q layout e
+
+-- after the node hears of the layouts in a letter, it knows that of the letter's position
+from_letter : (local : LocalObject) (letter : Letter) → Fits local letter.message.position letter.layout →
+    layout_here (learnt_from local letter) letter.message.position ≡ Some letter.layout
+from_letter local letter fits =
+    let position = letter.message.position in
+    stays_if (with_heard local position letter.layout) (suc position) letter.next position letter.layout
+    (fits_known local position letter.layout fits)
+
+named_by : (o : Option ℕ) (node : ℕ) → names_node o node ≡ true → o ≡ Some node
+named_by None node e = absurd (cc)
+named_by (Some server) node e = ap Some (eqb-true server node e)
+
+module _ (moves : Type 0) (local copy : LocalObject) (is : IsObjectCopy moves local copy) (letter : Letter)
+    (agreed : agrees local letter ≡ true) where
+  abbrev first : LocalObject
+  first = learnt_from local letter
+
+  abbrev second : LocalObject
+  second = learnt_from copy letter
+
+  known_first : layout_here first letter.message.position ≡ Some letter.layout
+  known_first = from_letter local letter (letter_fits local letter agreed)
+
+  known_second : layout_here second letter.message.position ≡ Some letter.layout
+  known_second =
+      from_letter copy letter
+      (fits_copy moves local copy is.kept letter.message.position letter.layout (letter_fits local letter agreed))
+
+  same_served : is_served copy letter ≡ is_served local letter
+  same_served =
+      ap (λ o. is_request letter.message.body && (nat_lt (letter.message.position + 1) (2 ^ 32)
+      && is_member o letter.message.member copy.node)) (known_second ∙ sym known_first)
+      ∙ ap (λ n. is_request letter.message.body && (nat_lt (letter.message.position + 1) (2 ^ 32)
+      && is_member (layout_here first letter.message.position) letter.message.member n)) is.kept.node
+
+  -- a letter that is served names the node
+  addressed : is_served local letter ≡ true → slice_get letter.layout.members letter.message.member ≡ Some local.node
+  addressed e =
+      let asks = is_request letter.message.body in
+      let room = nat_lt (letter.message.position + 1) (2 ^ 32) in
+      let member = is_member (layout_here first letter.message.position) letter.message.member local.node in
+      named_by (slice_get letter.layout.members letter.message.member) local.node
+      (ap (λ o. is_member o letter.message.member local.node) (sym known_first)
+      ∙ (both room member (both asks (room && member) e).1).1)
+
+  learnt_both : IsObjectCopy moves first second
+  learnt_both = record {
+    kept = letter_fitting moves local copy is.kept letter agreed;
+    distinct = subst NodeCallsDiffer (sym (calls_learnt local letter)) is.distinct;
+    mover = λ moving. is.mover (ap (list_any moves_call) (sym (calls_learnt local letter)) ∙ moving);
+  }
+
+  -- the copy's bank is the node's
+  one_bank : is_served local letter ≡ true → bank_here second letter.message.position letter.message.member
+      ≡ bank_here first letter.message.position letter.message.member
+  one_bank e =
+      learnt_both.kept.banks letter.message.position letter.message.member letter.layout known_first
+      (addressed e ∙ ap Some (sym (node_learnt local letter)))
+
+  served_both : is_served local letter ≡ true → (b : Body) →
+      IsObjectCopy moves (served_here first letter b).local (served_here second letter b).local
+  served_both e (body.Reply kind made) = learnt_both
+  served_both e (body.Request asked) =
+      let position = letter.message.position in
+      let bank = bank_here first position letter.message.member in
+      subst (λ b. IsObjectCopy moves (record first { places = with_bank_here first.places position (served_bank bank asked 0) })
+      (record second { places = with_bank_here second.places position (served_bank b asked 0) })) (sym (one_bank e))
+      (record {
+        kept = both_banks moves first second learnt_both.kept position (served_bank bank asked 0) (ap is_some known_second);
+        distinct = learnt_both.distinct;
+        mover = learnt_both.mover;
+      })
+
+  -- both serve the letter, or neither does
+  pub both_serve : IsObjectCopy moves
+      (all_done fragment local (serve_events local letter)).local (all_done fragment copy (serve_events copy letter)).local
+  both_serve =
+      subst (λ b. IsObjectCopy moves (all_done fragment local (serve_events local letter)).local
+      (all_done fragment copy (cond b (LocalEvent.Serve letter ∷ []) [])).local) (sym same_served) (go (is_served local letter) refl)
+    where
+      go : (b : Bool) → is_served local letter ≡ b → IsObjectCopy moves
+          (all_done fragment local (cond b (LocalEvent.Serve letter ∷ []) [])).local
+          (all_done fragment copy (cond b (LocalEvent.Serve letter ∷ []) [])).local
+      go true e = served_both e letter.message.body
+      go false e = is
+
+  -- Nothing but the layouts that were heard of
+
+  module _ (lawful : IsLawful letter.layout) (knows : moves → knows_all_of local letter ≡ true)
+      (only : IsUnchangedBy local letter) where
+    abbrev after : LocalObject
+    after = after_serving local letter
+
+    -- the node is no other member of the letter's position
+    own_member : is_served local letter ≡ true → (q member : ℕ) (layout : Layout) → layout_here after q ≡ Some layout →
+        slice_get layout.members member ≡ Some local.node → q ≡ letter.message.position → member ≡ letter.message.member
+    own_member e q member layout at holds same =
+        one_member letter.layout member letter.message.member local.node lawful
+        (ap (λ (l : Layout). slice_get l.members member)
+        (same_Some letter.layout layout
+        (sym known_first ∙ ap (layout_here first) (sym same) ∙ only.heard q layout at)) ∙ holds)
+        (addressed e)
+
+    still_kept : is_served local letter ≡ true → IsKeptHere moves after copy
+    still_kept e = record {
+      node = is.kept.node ∙ sym only.node;
+      delta = is.kept.delta ∙ sym only.delta;
+      layouts = λ q layout at. only.kept q layout (is.kept.layouts q layout at);
+      first = is.kept.first;
+      banks = λ q member layout at holds.
+          bank_kept moves local copy is.kept q member
+          (λ known there. ap (λ (l : Layout). slice_get l.members member)
+          (same_Some known layout (sym (only.kept q known there) ∙ at)) ∙ holds ∙ ap Some only.node)
+          ∙ sym (only.banks q member (own_member e q member layout at (holds ∙ ap Some only.node)));
+      calls = is.kept.calls ∙ ap (filter moves_call) (sym only.calls);
+      mover = λ here q layout at.
+          (letter_alone moves local copy is.kept letter knows).mover here q layout (only.heard q layout at);
+    }
+
+    pub serves_alone : IsObjectCopy moves after copy
+    serves_alone = go (is_served local letter) refl
+      where
+        served : is_served local letter ≡ true → IsObjectCopy moves after copy
+        served e = record {
+          kept = still_kept e;
+          distinct = subst NodeCallsDiffer (sym only.calls) is.distinct;
+          mover = λ moving. is.mover (ap (list_any moves_call) (sym only.calls) ∙ moving);
+        }
+
+        go : (b : Bool) → is_served local letter ≡ b → IsObjectCopy moves after copy
+        go true e = served e
+        go false e =
+            subst (λ b. IsObjectCopy moves (all_done fragment local (cond b (LocalEvent.Serve letter ∷ []) [])).local copy)
+            (sym e) is

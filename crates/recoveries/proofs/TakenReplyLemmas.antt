@@ -1,0 +1,246 @@
+-- An open move takes a reply and goes on: a node and its copy do it alike.
+use Rattle.std.proofs.Common.{◌≡◌, ℕ, ◌+◌, ◌^◌, inl, inr, Bool, true, false, ◌&&◌, cond, is_some, nat_lt, List, [], ◌∷◌, ◌++◌}
+use Rattle.std.proofs.Common.{Option, Some, None, refl, sym, subst, ap, ◌∙◌}
+use Rattle.std.proofs.lemmas.Option.{same_Some}
+use Rattle.bank.specs.declared.kind.Kind.{Kind}
+use Rattle.encoder.specs.Fragment.{fragment}
+use Rattle.decoder.specs.Decoded.{IsDecoded}
+use Rattle.layout.specs.Layout.{Layout}
+use Rattle.call.specs.declared.next.Next.{Next}
+use Rattle.call.specs.declared.next.Next.TheVariants as next
+use Rattle.call.specs.Call.{OpenCall as Machine}
+use Rattle.network.specs.Worlds.{NodeCall, open_call}
+use Rattle.network.specs.Events.{taking_open}
+use Rattle.local_object.specs.declared.letter.Letter.{Letter}
+use Rattle.local_object.specs.declared.progress.Ended.{Ended}
+use Rattle.local_object.specs.Coding.{is_sendable}
+use Rattle.local_object.specs.Doing.{is_move_call, has_move_open, is_request, is_taken}
+use Rattle.local_object.specs.Events.{LocalEvent, all_done, done_here, learnt_from}
+use Rattle.local_object.specs.Going.{IsFetchedValue, next_here}
+use Rattle.local_object.specs.Local.{LocalObject, Place, layout_here, layout_in, heard_place}
+use Rattle.local_object.specs.Pieces.{first_pieces}
+use Rattle.local_object.specs.Taking.{AreSettling, CanSettle, GoesOn, IsTaken, begin_events, call_events, can_begin, lead_events}
+use Rattle.local_object.specs.Taking.{machine_of, step_events}
+use Rattle.refinement.proofs.LearntPartLemmas.{calls_learnt}
+use Rattle.recoveries.proofs.KeptPlaceLemmas.{layouts_kept}
+use Rattle.recoveries.proofs.KeptCallLemmas.{IsObjectCopy, found_copy, found_id, found_moves, moves_call}
+use Rattle.recoveries.proofs.TwinLemmas.{both_advance, both_answer, both_settle, both_take, found_new, settled_is, taken_is}
+
+pub all_done_both : (local : LocalObject) (first second : List LocalEvent) →
+    (all_done fragment local (first ++ second)).local
+    ≡ (all_done fragment (all_done fragment local first).local second).local
+all_done_both local [] second = refl
+all_done_both local (event ∷ first) second = all_done_both (done_here fragment local event).local first second
+
+-- The value that a call settles
+
+-- the value that is fetched is one
+one_fetched : (places : List Place) (a b : Machine) (v w : List ℕ) → a ≡ b → IsFetchedValue places a v → IsFetchedValue places b w →
+    v ≡ w
+one_fetched places a b v w same first second =
+    second.only v
+    (subst (λ (l : Layout). IsDecoded (record { k = l.k; pieces = first_pieces l.k b.phase.replies; value = v }))
+    (same_Some first.layout second.layout
+    (sym first.known ∙ ap (λ (m : Machine). layout_in (heard_place places m.phase.position)) same ∙ second.known))
+    (subst (λ (m : Machine). IsDecoded (record {
+      k = first.layout.k;
+      pieces = first_pieces first.layout.k m.phase.replies;
+      value = v;
+    })) same first.decoded))
+
+one_settled : (local : LocalObject) (id : ℕ) (v w : List ℕ) → CanSettle local id v → CanSettle local id w → v ≡ w
+one_settled local id v w first second =
+    one_fetched local.places (machine_of first.call) (machine_of second.call) v w
+    (ap machine_of (same_Some first.call second.call (sym first.carried ∙ second.carried))) first.fetched second.fetched
+
+-- who has the same open call, and has heard of the same layouts, can settle the same
+settled_as : (a b : LocalObject) (id : ℕ) → open_call b.calls id ≡ open_call a.calls id →
+    ((q : ℕ) → layout_here b q ≡ layout_here a q) → (v : List ℕ) → CanSettle a id v → CanSettle b id v
+settled_as a b id same heard v can = record {
+  call = can.call;
+  carried = same ∙ can.carried;
+  next = can.next;
+  fetched = record {
+    layout = can.fetched.layout;
+    known = heard can.call.phase.position ∙ can.fetched.known;
+    decoded = can.fetched.decoded;
+    only = can.fetched.only;
+  };
+}
+
+pub same_settling : (a b : LocalObject) (id : ℕ) → open_call b.calls id ≡ open_call a.calls id →
+    ((q : ℕ) → layout_here b q ≡ layout_here a q) → (es fs : List LocalEvent) → AreSettling a id es → AreSettling b id fs → es ≡ fs
+same_settling a b id same heard es fs (inl first) (inl second) = first.0 ∙ sym second.0
+same_settling a b id same heard es fs (inl first) (inr second) =
+    absurd (first.1 second.0 (settled_as b a id (sym same) (λ q. sym (heard q)) second.0 second.1))
+same_settling a b id same heard es fs (inr first) (inl second) =
+    absurd (second.1 first.0 (settled_as a b id same heard first.0 first.1))
+same_settling a b id same heard es fs (inr first) (inr second) =
+    first.2
+    ∙ ap (λ v. LocalEvent.Settle id v ∷ [])
+    (one_settled b id first.0 second.0 (settled_as a b id same heard first.0 first.1) second.1)
+    ∙ sym second.2
+
+-- How a call goes on
+
+same_begin : (a b : List Place) (call : Machine) (kind : Kind) (q : ℕ) →
+    layout_in (heard_place b q) ≡ layout_in (heard_place a q) → begin_events b call kind q ≡ begin_events a call kind q
+same_begin a b call kind q heard =
+    ap (λ o. cond (is_some o && (nat_lt (call.phase.number + 1) (2 ^ 32) && is_sendable kind call))
+    (LocalEvent.Advance call.id ∷ []) []) heard
+
+same_step : (a b : LocalObject) → ((q : ℕ) → layout_here b q ≡ layout_here a q) → (call : Machine) (n : Next) →
+    step_events b.places call n ≡ step_events a.places call n
+same_step a b heard call next.Wait = refl
+same_step a b heard call next.Settle = refl
+same_step a b heard call (next.Restart kind position) = same_begin a.places b.places call kind position (heard position)
+same_step a b heard call (next.Begin kind position) = same_begin a.places b.places call kind position (heard position)
+same_step a b heard call next.Answer = refl
+
+same_lead : (a b : LocalObject) (id : ℕ) (call : NodeCall) → open_call a.calls id ≡ Some call → open_call b.calls id ≡ Some call →
+    ((q : ℕ) → layout_here b q ≡ layout_here a q) → lead_events b id ≡ lead_events a id
+same_lead a b id call found again heard =
+    ap (call_events b.places) again ∙ same_step a b heard (machine_of call) (next_here (machine_of call))
+    ∙ ap (call_events a.places) (sym found)
+
+module _ (moves : Type 0) (here : moves) (local copy : LocalObject) (is : IsObjectCopy moves local copy) (id : ℕ) (call : NodeCall)
+    (found : open_call local.calls id ≡ Some call) (move : moves_call call ≡ true) where
+  again : open_call copy.calls id ≡ Some call
+  again = found_copy moves local copy is id call found move
+
+  own_id : (calls : List NodeCall) → open_call calls id ≡ Some call → open_call calls call.id ≡ Some call
+  own_id calls at = ap (open_call calls) (found_id calls id call at) ∙ at
+
+  begin_both : (kind : Kind) (position : ℕ) → IsObjectCopy moves
+      (all_done fragment local (begin_events local.places (machine_of call) kind position)).local
+      (all_done fragment copy (begin_events local.places (machine_of call) kind position)).local
+  begin_both kind position = go (can_begin local.places (machine_of call) kind position)
+    where
+      go : (b : Bool) → IsObjectCopy moves
+          (all_done fragment local (cond b (LocalEvent.Advance call.id ∷ []) [])).local
+          (all_done fragment copy (cond b (LocalEvent.Advance call.id ∷ []) [])).local
+      go true =
+          both_advance fragment moves here local copy is call.id call (own_id local.calls found) move (own_id copy.calls again)
+      go false = is
+
+  step_both : (n : Next) → IsObjectCopy moves
+      (all_done fragment local (step_events local.places (machine_of call) n)).local
+      (all_done fragment copy (step_events local.places (machine_of call) n)).local
+  step_both next.Wait = is
+  step_both next.Settle = is
+  step_both (next.Restart kind position) = begin_both kind position
+  step_both (next.Begin kind position) = begin_both kind position
+  step_both next.Answer = both_answer fragment moves here local copy is call.id
+
+  lead_both : IsObjectCopy moves
+      (all_done fragment local (lead_events local id)).local (all_done fragment copy (lead_events copy id)).local
+  lead_both =
+      subst (λ es. IsObjectCopy moves (all_done fragment local (lead_events local id)).local (all_done fragment copy es).local)
+      (sym (same_lead local copy id call found again (layouts_kept moves local copy is.kept here)))
+      (subst (λ o. IsObjectCopy moves (all_done fragment local (call_events local.places o)).local
+      (all_done fragment copy (call_events local.places o)).local) (sym found) (step_both (next_here (machine_of call))))
+
+-- the call settles what it fetched, if it can, and goes on
+
+-- what the node keeps after the call goes on by these events and by those that are then due
+abbrev pub gone_on : LocalObject → (id : ℕ) → List LocalEvent → LocalObject
+gone_on local id es =
+    let settled = (all_done fragment local es).local in (all_done fragment settled (lead_events settled id)).local
+
+settle_both : (moves : Type 0) → moves → (local copy : LocalObject) → IsObjectCopy moves local copy → (id : ℕ) (call : NodeCall) →
+    open_call local.calls id ≡ Some call → moves_call call ≡ true → (es : List LocalEvent) → AreSettling local id es →
+    IsObjectCopy moves (gone_on local id es) (gone_on copy id es)
+settle_both moves here local copy is id call found move es (inl none) =
+    subst (λ es. IsObjectCopy moves (gone_on local id es) (gone_on copy id es)) (sym none.0)
+    (lead_both moves here local copy is id call found move)
+settle_both moves here local copy is id call found move es (inr some) =
+    let new : NodeCall = record call { settled = Some some.0 } in
+    subst (λ es. IsObjectCopy moves (gone_on local id es) (gone_on copy id es)) (sym some.2)
+    (lead_both moves here
+    (done_here fragment local (LocalEvent.Settle id some.0)).local (done_here fragment copy (LocalEvent.Settle id some.0)).local
+    (both_settle fragment moves here local copy is id call found move (found_copy moves local copy is id call found move) some.0)
+    id new
+    (ap (λ (l : LocalObject). open_call l.calls id) (settled_is fragment local id some.0 call found)
+    ∙ found_new local.calls id call new found refl)
+    move)
+
+-- what it keeps after a reply was taken, and the call went on
+pub taken_to : (old : LocalObject) (letter : Letter) (new : LocalObject) (sent : List Letter) (ended : List Ended) →
+    (taken : GoesOn old letter new sent ended) →
+    new ≡ gone_on (done_here fragment old (LocalEvent.Take letter)).local letter.message.call taken.settling
+taken_to old letter new sent ended taken =
+    let first = (done_here fragment old (LocalEvent.Take letter)).local in
+    taken.leads.done.local
+    ∙ all_done_both first taken.settling
+    (lead_events (all_done fragment first taken.settling).local letter.message.call)
+
+module _ (moves : Type 0) (here : moves) (local copy : LocalObject) (is : IsObjectCopy moves local copy)
+    (letter : Letter) (call : NodeCall) (found : open_call local.calls letter.message.call ≡ Some call)
+    (move : moves_call call ≡ true) where
+  there : open_call copy.calls letter.message.call ≡ Some call
+  there = found_copy moves local copy is letter.message.call call found move
+
+  abbrev first : LocalObject
+  first = (done_here fragment local (LocalEvent.Take letter)).local
+
+  abbrev second : LocalObject
+  second = (done_here fragment copy (LocalEvent.Take letter)).local
+
+  took : IsObjectCopy moves first second
+  took = both_take fragment moves here local copy is letter call found move there
+
+  found_first : open_call first.calls letter.message.call ≡ Some (taking_open letter.message call)
+  found_first =
+      ap (λ (l : LocalObject). open_call l.calls letter.message.call) (taken_is fragment local letter call found)
+      ∙ found_new (learnt_from local letter).calls letter.message.call call (taking_open letter.message call)
+      (ap (λ calls. open_call calls letter.message.call) (calls_learnt local letter) ∙ found) refl
+
+  found_second : open_call second.calls letter.message.call ≡ Some (taking_open letter.message call)
+  found_second =
+      found_copy moves first second took letter.message.call (taking_open letter.message call) found_first move
+
+  goes_on_both : (new copied : LocalObject) (sent more : List Letter) (ended told : List Ended) →
+      GoesOn local letter new sent ended → GoesOn copy letter copied more told → IsObjectCopy moves new copied
+  goes_on_both new copied sent more ended told taken retaken =
+      let id = letter.message.call in
+      let one = same_settling first second id (found_second ∙ sym found_first) (layouts_kept moves first second took.kept here)
+      taken.settling retaken.settling taken.settles retaken.settles in
+      subst (λ l. IsObjectCopy moves l copied) (sym (taken_to local letter new sent ended taken))
+      (subst (IsObjectCopy moves (gone_on first id taken.settling))
+      (ap (gone_on second id) one ∙ sym (taken_to copy letter copied more told retaken))
+      (settle_both moves here first second took id (taking_open letter.message call) found_first move
+      taken.settling taken.settles))
+
+  taken_by : (b : Bool) (new copied : LocalObject) (sent more : List Letter) (ended told : List Ended) →
+      IsTaken b local letter new sent ended → IsTaken b copy letter copied more told → IsObjectCopy moves new copied
+  taken_by false new copied sent more ended told taken retaken =
+      subst (λ l. IsObjectCopy moves l copied) (sym taken.done.local)
+      (subst (IsObjectCopy moves local) (sym retaken.done.local) is)
+  taken_by true new copied sent more ended told taken retaken =
+      goes_on_both new copied sent more ended told taken retaken
+
+  same_taken : is_taken copy letter ≡ is_taken local letter
+  same_taken =
+      ap (λ o. cond (is_request letter.message.body) false (nat_lt (letter.message.position + 1) (2 ^ 32) && is_some o))
+      (there ∙ sym found)
+
+  taken_both : (new copied : LocalObject) (sent more : List Letter) (ended told : List Ended) →
+      IsTaken (is_taken local letter) local letter new sent ended →
+      IsTaken (is_taken copy letter) copy letter copied more told → IsObjectCopy moves new copied
+  taken_both new copied sent more ended told taken retaken =
+      taken_by (is_taken local letter) new copied sent more ended told taken
+      (subst (λ b. IsTaken b copy letter copied more told) same_taken retaken)
+
+-- a reply to an open move is taken by a node and by its copy
+pub move_takes : (moves : Type 0) (local copy : LocalObject) → IsObjectCopy moves local copy → (letter : Letter) →
+    has_move_open local letter.message.call ≡ true → (new copied : LocalObject) (sent more : List Letter) (ended told : List Ended) →
+    IsTaken (is_taken local letter) local letter new sent ended →
+    IsTaken (is_taken copy letter) copy letter copied more told → IsObjectCopy moves new copied
+move_takes moves local copy is letter open_move new copied sent more ended told taken retaken =
+    go (open_call local.calls letter.message.call) refl open_move
+  where
+    go : (o : Option NodeCall) → open_call local.calls letter.message.call ≡ o → is_move_call o ≡ true → IsObjectCopy moves new copied
+    go None e move = absurd (cc)
+    go (Some call) e move =
+        taken_both moves (is.mover (found_moves local.calls letter.message.call call e move)) local copy is letter call e move
+        new copied sent more ended told taken retaken

@@ -1,0 +1,4 @@
+pub mod Records
+pub mod Copies
+pub mod Laws
+pub mod Stops

@@ -1,0 +1,69 @@
+-- The contracts that docs/trusted.md lists do not depend on this file; other contracts and proofs do.
+-- What the log of a node records, and what the node keeps after it carried the records out again.
+use Rattle.std.specs.Prelude.{◌≡◌, ◌<◌, ◌^◌, ℕ, suc, List, [], ◌∷◌}
+use Rattle.layout.specs.Layout.{Layout}
+use Rattle.call_ids.specs.CallId.{with_next_epoch}
+use Rattle.local_object.specs.declared.letter.Letter.{Letter}
+use Rattle.local_object.specs.declared.progress.Ended.{Ended}
+use Rattle.local_object.specs.Doing.{IsDone, is_taken, serve_events}
+use Rattle.local_object.specs.Events.{LocalEvent}
+use Rattle.local_object.specs.Local.{LocalObject}
+use Rattle.local_object.specs.Taking.{IsTaken}
+use Rattle.deeds.specs.Kept.{KeptNode}
+use Rattle.deeds.specs.Named.{with_named}
+
+-- what a log records: an epoch of ids began, or the object of a name served a letter, took one, or began a move
+pub data LogRecord : Type 0 where
+  Starts : LogRecord
+  Serves : (name : List ℕ) → Letter → LogRecord
+  Takes : (name : List ℕ) → Letter → LogRecord
+  Moves : (name : List ℕ) → (id : ℕ) → Layout → LogRecord
+
+-- a node keeps the same of all objects as another, has the same cluster file and number, and is in the same epoch
+pub record IsSame (old new : KeptNode) : Type 0 where
+  pub file : new.file ≡ old.file
+  pub node : new.ids.node ≡ old.ids.node
+  pub epoch : new.ids.epoch ≡ old.ids.epoch
+  pub objects : (name : List ℕ) → new.objects name ≡ old.objects name
+
+-- the node keeps this under a name, and else the same as before, in the same epoch
+pub record IsKeptUnder (old : KeptNode) (name : List ℕ) (local : LocalObject) (new : KeptNode) : Type 0 where
+  pub file : new.file ≡ old.file
+  pub node : new.ids.node ≡ old.ids.node
+  pub epoch : new.ids.epoch ≡ old.ids.epoch
+  pub objects : (other : List ℕ) → new.objects other ≡ with_named old.objects name local other
+
+-- these events may happen at the object of a name, and after them the node keeps this
+pub record IsDoneTo (old : KeptNode) (name : List ℕ) (events : List LocalEvent) (new : KeptNode) : Type 0 where
+  pub local : LocalObject
+  pub sent : List Letter
+  pub done : IsDone (old.objects name) events local sent
+  pub put : IsKeptUnder old name local new
+
+-- the object of a name took a letter, if that is a reply to a call that is open there, and then the node keeps this
+pub record IsTakenBy (old : KeptNode) (name : List ℕ) (letter : Letter) (new : KeptNode) : Type 0 where
+  pub local : LocalObject
+  pub sent : List Letter
+  pub ended : List Ended
+  pub taken : IsTaken (is_taken (old.objects name) letter) (old.objects name) letter local sent ended
+  pub put : IsKeptUnder old name local new
+
+-- the node began an epoch, as there was one more
+pub record IsStarted (old new : KeptNode) : Type 0 where
+  pub file : new.file ≡ old.file
+  pub more : suc old.ids.epoch < 2 ^ 24
+  pub ids : new.ids ≡ with_next_epoch old.ids
+  pub objects : (name : List ℕ) → new.objects name ≡ old.objects name
+
+-- the node carried out a record again
+abbrev pub RecoversOne : LogRecord → (old new : KeptNode) → Type 0
+RecoversOne LogRecord.Starts old new = IsStarted old new
+RecoversOne (LogRecord.Serves name letter) old new = IsDoneTo old name (serve_events (old.objects name) letter) new
+RecoversOne (LogRecord.Takes name letter) old new = IsTakenBy old name letter new
+RecoversOne (LogRecord.Moves name id layout) old new = IsDoneTo old name (LocalEvent.BeginMove id layout ∷ []) new
+
+-- the node carried out these records again, one after another
+abbrev pub Recovers : List LogRecord → (old new : KeptNode) → Type 0
+Recovers [] old new = IsSame old new
+Recovers (first ∷ records) old new =
+    (middle : KeptNode) × RecoversOne first old middle × Recovers records middle new

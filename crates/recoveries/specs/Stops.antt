@@ -1,0 +1,65 @@
+-- The contracts that docs/trusted.md lists do not depend on this file; other contracts and proofs do.
+-- A node that stops in the middle of what it does, when its log has only the first of the records.
+use Rattle.std.specs.Prelude.{◌≡◌, List, [], ◌∷◌, ◌++◌}
+use Rattle.record.specs.Fragments.{Code}
+use Rattle.deeds.specs.Deeds.{Notice}
+use Rattle.deeds.specs.Handled.{IsHandled}
+use Rattle.deeds.specs.Ids.{IsLater}
+use Rattle.deeds.specs.Kept.{KeptNode}
+use Rattle.deeds.specs.Named.{NamedLetter, IsOneOf}
+use Rattle.node_runs.specs.Premises.{IsRestarted}
+use Rattle.recoveries.specs.Copies.{IsLogged, IsRecorded}
+use Rattle.recoveries.specs.Records.{IsStarted, LogRecord, Recovers}
+
+-- on its way the node came to something of which these are the records
+pub record IsOnTheWay (fragment : Code) (old : KeptNode) (got : List NamedLetter)
+    (records : List LogRecord) : Type 0 where
+  pub middle : KeptNode
+  pub sent : List NamedLetter
+  pub notices : List Notice
+  pub handled : IsHandled fragment old got middle sent notices
+  pub logged : IsLogged old records middle
+
+-- the node handled letters, these are the records of it, and so it is for each first part of the records
+pub record IsHandledSafely (fragment : Code) (old : KeptNode) (got : List NamedLetter) (records : List LogRecord)
+    (new : KeptNode) (sent : List NamedLetter) (notices : List Notice) : Type 0 where
+  pub handled : IsHandled fragment old got new sent notices
+  pub logged : IsLogged old records new
+  pub stops : (first rest : List LogRecord) → records ≡ first ++ rest → IsOnTheWay fragment old got first
+
+-- what needs no record is handled safely
+abbrev pub UnloggedIsSafe : Type 0
+UnloggedIsSafe = (fragment : Code) (old new : KeptNode) (got sent : List NamedLetter) (notices : List Notice) →
+    IsHandled fragment old got new sent notices → IsLogged old [] new →
+    IsHandledSafely fragment old got [] new sent notices
+
+-- what needs one record is handled safely
+abbrev pub OneRecordIsSafe : Type 0
+OneRecordIsSafe = (fragment : Code) (old new : KeptNode) (got sent : List NamedLetter) (notices : List Notice)
+    (one : LogRecord) → IsLater old.ids old.ids → IsHandled fragment old got new sent notices →
+    IsLogged old (one ∷ []) new → IsHandledSafely fragment old got (one ∷ []) new sent notices
+
+-- what a node handles safely twice in a row it handles safely at once
+abbrev pub TwoAreSafe : Type 0
+TwoAreSafe = (fragment : Code) (old middle new : KeptNode) (got first second : List NamedLetter)
+    (records more : List LogRecord) (seen later : List Notice) →
+    IsHandledSafely fragment old got records middle first seen →
+    IsHandledSafely fragment middle (got ++ first) more new second later →
+    IsHandledSafely fragment old got (records ++ more) new (first ++ second) (seen ++ later)
+
+-- letters that have come and are not needed do no harm
+abbrev pub MoreIsSafe : Type 0
+MoreIsSafe = (fragment : Code) (old new : KeptNode) (got more sent : List NamedLetter) (records : List LogRecord)
+    (notices : List Notice) → ((letter : NamedLetter) → IsOneOf got letter → IsOneOf more letter) →
+    IsHandledSafely fragment old got records new sent notices →
+    IsHandledSafely fragment old more records new sent notices
+
+-- a node that stopped on the way, and starts again from the records that its log has, had handled letters up to
+-- something from which it has started again as it has to
+abbrev pub StoppedNodesRestart : Type 0
+StoppedNodesRestart = (fragment : Code) (begin old copy after : KeptNode) (got : List NamedLetter)
+    (records first : List LogRecord) → IsRecorded begin records old → IsOnTheWay fragment old got first →
+    Recovers (records ++ first) begin copy → IsStarted copy after →
+    (middle : KeptNode) × (sent : List NamedLetter) × (notices : List Notice)
+    × IsHandled fragment old got middle sent notices × IsRestarted middle after
+    × IsRecorded begin ((records ++ first) ++ LogRecord.Starts ∷ []) after

@@ -1,0 +1,23 @@
+//! What the log of a node gives back, and which records it needs for that.
+//!
+//! The definitions, which a reader has to believe, are in `specs/`. Each law is the contract of a function with an
+//! empty body.
+#![tactic(auto)]
+
+pub use logged::{moves_are_logged, served_is_logged, starts_are_logged, taken_is_logged};
+pub use runs::{
+    copies_restart, more_is_recorded, new_is_recorded, recovered_nodes_restart, two_are_logged,
+    two_are_recovered,
+};
+pub use stops::{
+    more_is_safe, one_record_is_safe, stopped_nodes_restart, two_are_safe, unlogged_is_safe,
+};
+pub use unlogged::{
+    given_up_needs_no_record, reads_need_no_record, same_needs_no_record, taken_needs_no_record,
+    unchanged_needs_no_record, writes_need_no_record,
+};
+
+mod logged;
+mod runs;
+mod stops;
+mod unlogged;
