@@ -1,0 +1,48 @@
+-- The contracts that docs/trusted.md lists do not depend on this file; other contracts and proofs do.
+-- What a node keeps of all objects, by name.
+use Rattle.std.specs.Prelude.{◌≡◌, ℕ, nat_eq, List, Option, None, Some, sum_by}
+use Rattle.std.specs.Cmp.Lexicographic.{pointwise}
+use Rattle.indexmap.specs.IndexMap.{get, values}
+use Rattle.layout.specs.Layout.{Layout}
+use Rattle.placement.specs.Placement.{placed}
+use Rattle.local_object.specs.Changing.{stored_bytes}
+use Rattle.local_object.specs.Local.{LocalObject, new_local}
+use Rattle.deeds.specs.Named.{with_named}
+use Rattle.node_objects.specs.declared.objects.Objects.{Objects}
+
+-- the layout of position 0 of the object of a name
+abbrev pub first_layout_of : Objects → (name : List ℕ) → Layout
+first_layout_of objects name = placed objects.placement name
+
+-- what the node keeps of the object of a name of which it has not heard
+abbrev pub new_of : Objects → (name : List ℕ) → LocalObject
+new_of objects name = new_local objects.number objects.delta (first_layout_of objects name)
+
+-- the object that was found, or else this new one
+abbrev pub found_or_new : Option LocalObject → (new : LocalObject) → LocalObject
+found_or_new None new = new
+found_or_new (Some local) new = local
+
+-- what the node keeps of the object of a name
+abbrev pub objects_of : Objects → (name : List ℕ) → LocalObject
+objects_of objects name = found_or_new (get (pointwise nat_eq) objects.by_name name) (new_of objects name)
+
+-- the number of bytes of all pieces in the banks that the node keeps
+abbrev pub bytes_in_banks : Objects → ℕ
+bytes_in_banks objects = sum_by stored_bytes (values objects.by_name)
+
+-- the node has the same number, its banks keep as many versions, and names have the same first layouts
+pub record HaveSameSettings (old new : Objects) : Type 0 where
+  pub number : new.number ≡ old.number
+  pub delta : new.delta ≡ old.delta
+  pub placement : new.placement ≡ old.placement
+
+-- the node keeps the same of each object
+pub record AreSame (old new : Objects) : Type 0 where
+  pub settings : HaveSameSettings old new
+  pub objects : (name : List ℕ) → objects_of new name ≡ objects_of old name
+
+-- the node keeps this of the object of this name, and of each other object what it kept before
+pub record IsChangedAt (old : Objects) (name : List ℕ) (local : LocalObject) (new : Objects) : Type 0 where
+  pub settings : HaveSameSettings old new
+  pub objects : (other : List ℕ) → objects_of new other ≡ with_named (objects_of old) name local other

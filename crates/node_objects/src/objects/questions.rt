@@ -1,0 +1,105 @@
+//! What is asked of the object of a name, and of all objects. A question changes nothing.
+ghost use Rattle.std.specs.Prelude.{◌≡◌, ◌-◌, ◌^◌, IfErr, IfOk, false, min};
+ghost use Rattle.tag.specs.declared.refusal.Refusal.TheVariants.{NoMemory};
+ghost use Rattle.indexmap.specs.IndexMap.{index_map_len};
+ghost use Rattle.local_object.specs.Agreement.{agrees, knows_all_of};
+ghost use Rattle.local_object.specs.Changing.{IsUnchangedBy, is_changed_by};
+ghost use Rattle.local_object.specs.Doing.{has_move_open};
+ghost use Rattle.node_objects.specs.Objects.{bytes_in_banks, first_layout_of, objects_of};
+
+use super::Objects;
+use bytes::Bytes;
+use layout::Layout;
+use local_object::Letter;
+use tag::{CallId, Refusal};
+
+impl Objects {
+    /// The number of the node.
+    pub fn number(&self) -> u8
+        ensures { result ≡ self.now.number }
+    {
+        self.number
+    }
+
+    /// The layout of position 0 of the object of a name. It allocates no memory.
+    pub fn first_layout(&self, name: &Bytes) -> Layout
+        ensures { result ≡ first_layout_of self.now name.now }
+    {
+        self.placement.place(name.as_slice())
+    }
+
+    /// How many objects the node has heard of.
+    pub fn count(&self) -> usize
+        ensures { result ≡ index_map_len self.now.by_name }
+    {
+        self.by_name.len()
+    }
+
+    /// The number of bytes of all pieces in the node's banks, or `u64::MAX` where it is greater. It takes time linear
+    /// in the number of tags.
+    pub fn bytes_stored(&self) -> u64
+        ensures { result ≡ min (bytes_in_banks self.now) (2 ^ 64 - 1) }
+    {
+        let mut bytes = 0u64;
+        for object in self.by_name.values() {
+            bytes = bytes.saturating_add(object.bytes_stored());
+        }
+        bytes
+    }
+
+    /// Whether a move with this id is open at the object of a name. It allocates no memory.
+    pub fn is_open_move(&self, name: &Bytes, id: CallId) -> bool
+        ensures { result ≡ has_move_open (objects_of self.now name.now) id }
+    {
+        match self.by_name.get(name) {
+            Some(object) => object.is_open_move(id),
+            None => false,
+        }
+    }
+
+    /// Whether serving a letter may change more of the object of a name than what the node has heard of. Where it is
+    /// false and the node serves the letter, it hears of the layouts in the letter and maybe opens a bank, and nothing
+    /// else changes.
+    ///
+    /// `NoMemory` is the only refusal.
+    pub fn is_changed_by(&self, name: &Bytes, letter: &Letter) -> Result<bool, Refusal>
+        ensures changed { IfOk result (λ is. is ≡ is_changed_by (objects_of self.now name.now) letter.now) }
+        ensures unchanged { IfOk result (λ is. is ≡ false
+            → IsUnchangedBy (objects_of self.now name.now) letter.now) }
+
+        ensures refused { IfErr result (λ e. e ≡ NoMemory) }
+    {
+        match self.by_name.get(name) {
+            Some(object) => Ok(object.is_changed_by(letter)),
+            None => Ok(self.new_object(name)?.is_changed_by(letter)),
+        }
+    }
+
+    /// Whether no layout in a letter about the object of a name is another one than the node has heard of for its
+    /// position.
+    ///
+    /// `NoMemory` is the only refusal.
+    pub fn agrees_with(&self, name: &Bytes, letter: &Letter) -> Result<bool, Refusal>
+        ensures agrees { IfOk result (λ is. is ≡ agrees (objects_of self.now name.now) letter.now) }
+        ensures refused { IfErr result (λ e. e ≡ NoMemory) }
+    {
+        match self.by_name.get(name) {
+            Some(object) => Ok(object.agrees_with(letter)),
+            None => Ok(self.new_object(name)?.agrees_with(letter)),
+        }
+    }
+
+    /// Whether the node has heard of each position of which a letter about the object of a name has the layout, and
+    /// with that layout.
+    ///
+    /// `NoMemory` is the only refusal.
+    pub fn knows_all_of(&self, name: &Bytes, letter: &Letter) -> Result<bool, Refusal>
+        ensures knows { IfOk result (λ is. is ≡ knows_all_of (objects_of self.now name.now) letter.now) }
+        ensures refused { IfErr result (λ e. e ≡ NoMemory) }
+    {
+        match self.by_name.get(name) {
+            Some(object) => Ok(object.knows_all_of(letter)),
+            None => Ok(self.new_object(name)?.knows_all_of(letter)),
+        }
+    }
+}

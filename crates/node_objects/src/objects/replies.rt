@@ -1,0 +1,44 @@
+//! Replies that calls take, and calls that end without an answer.
+ghost use Rattle.std.specs.Prelude.{◌≡◌, [], IfErr, IfOk, option_to_list};
+ghost use Rattle.tag.specs.declared.refusal.Refusal.TheVariants.{NoMemory};
+ghost use Rattle.local_object.specs.Doing.{give_up_events, gives_up};
+ghost use Rattle.node_objects.specs.Doing.{IsDoneAt, IsTakenAt};
+ghost use Rattle.node_objects.specs.Objects.{objects_of};
+
+use super::Objects;
+use bytes::Bytes;
+use local_object::{Letter, Progress};
+use tag::{CallId, Refusal};
+
+impl Objects {
+    /// A call that the node carries out at the object of a name takes a reply, and goes on as far as it comes: it
+    /// settles the value that it fetched, and begins its next phase or is answered. No object changes where the letter
+    /// is no reply to a call that is open there, or its position has no next one in 32 bits.
+    ///
+    /// `NoMemory` is the only refusal.
+    pub fn take(&mut self, name: &Bytes, letter: Letter) -> Result<Progress, Refusal>
+        ensures done { IfOk result (λ progress. IsTakenAt self.old name.now letter self.new
+            progress.letters.items (option_to_list progress.ended)) }
+
+        ensures refused { IfErr result (λ e. e ≡ NoMemory) }
+    {
+        self.hear_of(name)?;
+        match self.by_name.get_mut(name) {
+            Some(object) => object.take(letter),
+            None => unreachable!(),
+        }
+    }
+
+    /// The read or the write with this id at the object of a name, if one is open there, ends without an answer. A
+    /// write may still take effect. Returns whether a call was given up. A move goes on until it is answered. It
+    /// allocates no memory.
+    pub fn give_up(&mut self, name: &Bytes, id: CallId) -> bool
+        ensures done { IsDoneAt self.old name.now (give_up_events (objects_of self.old name.now) id) self.new [] }
+        ensures given_up { result ≡ gives_up (objects_of self.old name.now) id }
+    {
+        match self.by_name.get_mut(name) {
+            Some(object) => object.give_up(id),
+            None => false,
+        }
+    }
+}

@@ -1,0 +1,50 @@
+//! Requests that are served, and requests that are sent again.
+ghost use Rattle.std.specs.Prelude.{◌≡◌, IfErr, IfOk, option_to_list};
+ghost use Rattle.std.specs.List.{AllByRecursion};
+ghost use Rattle.tag.specs.declared.refusal.Refusal.TheVariants.{NoMemory};
+ghost use Rattle.encoder.specs.Fragment.{fragment};
+ghost use Rattle.local_object.specs.Doing.{serve_events};
+ghost use Rattle.local_object.specs.Resent.{IsResent};
+ghost use Rattle.node_objects.specs.Doing.{IsDoneAt};
+ghost use Rattle.node_objects.specs.Objects.{objects_of};
+
+use super::Objects;
+use bytes::Bytes;
+use local_object::Letter;
+use tag::{CallId, Refusal};
+
+impl Objects {
+    /// The node serves a request about the object of a name, and its reply is to be sent to the node from which the
+    /// request came. None, and no object changes, where the letter is no request, where its position has no next one in
+    /// 32 bits, or where the node is not the member that it names.
+    ///
+    /// `NoMemory` is the only refusal.
+    pub fn serve(&mut self, name: &Bytes, letter: Letter) -> Result<Option<Letter>, Refusal>
+        ensures done { IfOk result (λ reply. IsDoneAt self.old name.now
+            (serve_events (objects_of self.old name.now) letter) self.new (option_to_list reply)) }
+
+        ensures refused { IfErr result (λ e. e ≡ NoMemory) }
+    {
+        self.hear_of(name)?;
+        match self.by_name.get_mut(name) {
+            Some(object) => object.serve(letter),
+            None => unreachable!(),
+        }
+    }
+
+    /// The requests of the current phase of the call with this id at the object of a name, as they were sent, to the
+    /// members whose replies are not recorded. No letters where no call with this id is open there.
+    ///
+    /// `NoMemory` is the only refusal.
+    pub fn resend(&self, name: &Bytes, id: CallId) -> Result<Vec<Letter>, Refusal>
+        ensures resent { IfOk result (λ letters.
+            AllByRecursion (IsResent fragment (objects_of self.now name.now)) letters.items) }
+
+        ensures refused { IfErr result (λ e. e ≡ NoMemory) }
+    {
+        match self.by_name.get(name) {
+            Some(object) => object.resend(id),
+            None => Ok(Vec::new(self.alloc)),
+        }
+    }
+}
