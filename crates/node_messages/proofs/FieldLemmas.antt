@@ -9,19 +9,20 @@ use Rattle.tag.specs.declared.tag.Tag.{Tag}
 use Rattle.piece.specs.declared.piece.Piece.{Piece}
 use Rattle.layout.specs.Layout.{Layout, IsLawful}
 use Rattle.bank.specs.declared.status.Status.{Status}
-use Rattle.node_messages.specs.declared.error.Fault.TheVariants.{BadDigest, NameTooLong, BadLayout, NoMember}
+use Rattle.node_messages.specs.declared.error.Fault.TheVariants.{BadDigest, BadNumber, OutOfRange, NameTooLong, BadLayout, NoMember}
 use Rattle.cluster_file.specs.declared.file.TheConstants.{DIGEST_LENGTH}
 use Rattle.node_messages.specs.Message.{IsTag, IsPiece}
 use Rattle.words.specs.Parts.{and_then}
-use Rattle.node_messages.specs.Numbers.{message_number}
-use Rattle.node_messages.specs.Strings.{Strings, layout_string, tag_strings, piece_strings, next_strings}
+use Rattle.string_parts.specs.Numbers.{number_up_to}
+use Rattle.string_parts.specs.Strings.{Strings}
+use Rattle.string_parts.specs.Layouts.{layout_string, layout_of_string}
+use Rattle.node_messages.specs.Strings.{tag_strings, piece_strings, next_strings}
 use Rattle.node_messages.specs.Reading.{first_string, first_number, first_tag, first_piece, first_status}
-use Rattle.node_messages.specs.Reading.{layout_of_bytes, first_layout}
-use Rattle.node_messages.specs.Reading.{digest_from, first_digest, first_name, first_member, first_next}
+use Rattle.node_messages.specs.Reading.{first_layout, checked_digest, first_digest, first_name, first_member, first_next}
 use Rattle.node_messages.specs.Words.{status_word, status_from}
 use Rattle.words.proofs.PartLemmas.{bind_ok, guarded, guarded_above, ok_is}
-use Rattle.node_messages.proofs.NumberLemmas.{number_ok, number_again}
-use Rattle.string_parts.proofs.LayoutLemmas.{checked_ok, checked_again}
+use Rattle.string_parts.proofs.NumberLemmas.{number_ok, number_again}
+use Rattle.string_parts.proofs.LayoutLemmas.{layout_ok as layout_string_ok, layout_again as layout_string_again}
 use Rattle.node_messages.proofs.WordLemmas.{status_ok, status_again}
 
 -- ---- a string, a number
@@ -39,15 +40,16 @@ pub number_at_ok : (most : ℕ) (strings : Strings) (x : ℕ × Strings) → 9 �
     → (strings ≡ decimal x.0 ∷ x.1) × (x.0 ≤ most)
 unfolding first_number
 number_at_ok most strings x nine lt e =
-    let a = bind_ok (first_string strings) (λ string. and_then (message_number most string.0) (λ n. Ok (n, string.1))) x e in
-    let b = bind_ok (message_number most a.0.0) (λ n. Ok (n, a.0.1)) x a.2 in
-    let number = number_ok most a.0.0 b.0 nine lt b.1 in
+    let a = bind_ok (first_string strings)
+    (λ string. and_then (number_up_to BadNumber most OutOfRange string.0) (λ n. Ok (n, string.1))) x e in
+    let b = bind_ok (number_up_to BadNumber most OutOfRange a.0.0) (λ n. Ok (n, a.0.1)) x a.2 in
+    let number = number_ok BadNumber OutOfRange most a.0.0 b.0 nine lt b.1 in
     subst (λ (y : ℕ × Strings). (strings ≡ decimal y.0 ∷ y.1) × (y.0 ≤ most)) (ok_is (b.0, a.0.1) x b.2)
     (string_ok strings a.0 a.1 ∙ ap (λ (s : List ℕ). s ∷ a.0.1) number.0, number.1)
 
 pub number_at_again : (most n : ℕ) (rest : Strings) → n ≤ most → most < 2 ^ 64 → first_number most (decimal n ∷ rest) ≡ Ok (n, rest)
 unfolding first_number first_string
-number_at_again most n rest le lt = rw (number_again most n le lt) refl
+number_at_again most n rest le lt = rw (number_again BadNumber OutOfRange most n le lt) refl
 
 -- ---- a tag, a piece, a status
 
@@ -111,32 +113,20 @@ status_at_again s rest = rw (status_again s) refl
 
 -- ---- a layout
 
-layout_from_ok : (string : List ℕ) (layout : Layout) → layout_of_bytes string ≡ Ok layout
-    → (string ≡ layout_string layout) × IsLawful layout
-unfolding layout_of_bytes
-layout_from_ok [] layout e = absurd cc
-layout_from_ok (k ∷ members) layout e =
-    let made : Layout = record { k = k; members = members } in
-    let g = checked_ok BadLayout made layout e in
-    subst (λ (l : Layout). (k ∷ members ≡ layout_string l) × IsLawful l) g.0 (refl, g.1)
-
-layout_from_again : (layout : Layout) → IsLawful layout → layout_of_bytes (layout_string layout) ≡ Ok layout
-unfolding layout_of_bytes
-layout_from_again layout lawful = checked_again BadLayout layout lawful
-
 pub layout_ok : (strings : Strings) (x : Layout × Strings) → first_layout strings ≡ Ok x
     → (strings ≡ layout_string x.0 ∷ x.1) × IsLawful x.0
 unfolding first_layout
 layout_ok strings x e =
-    let a = bind_ok (first_string strings) (λ string. and_then (layout_of_bytes string.0) (λ layout. Ok (layout, string.1))) x e in
-    let b = bind_ok (layout_of_bytes a.0.0) (λ layout. Ok (layout, a.0.1)) x a.2 in
-    let l = layout_from_ok a.0.0 b.0 b.1 in
+    let a = bind_ok (first_string strings)
+    (λ string. and_then (layout_of_string BadLayout string.0) (λ layout. Ok (layout, string.1))) x e in
+    let b = bind_ok (layout_of_string BadLayout a.0.0) (λ layout. Ok (layout, a.0.1)) x a.2 in
+    let l = layout_string_ok BadLayout a.0.0 b.0 b.1 in
     subst (λ (y : Layout × Strings). (strings ≡ layout_string y.0 ∷ y.1) × IsLawful y.0) (ok_is (b.0, a.0.1) x b.2)
-    (string_ok strings a.0 a.1 ∙ ap (λ (s : List ℕ). s ∷ a.0.1) l.0, l.1)
+    (string_ok strings a.0 a.1 ∙ ap (λ (s : List ℕ). s ∷ a.0.1) l.1, l.0)
 
 pub layout_again : (layout : Layout) (rest : Strings) → IsLawful layout → first_layout (layout_string layout ∷ rest) ≡ Ok (layout, rest)
 unfolding first_layout
-layout_again layout rest lawful = rw (string_again (layout_string layout) rest, layout_from_again layout lawful) refl
+layout_again layout rest lawful = rw (string_again (layout_string layout) rest, layout_string_again BadLayout layout lawful) refl
 
 pub next_ok : (is_named : Bool) (strings : Strings) (x : Option Layout × Strings) → first_next is_named strings ≡ Ok x
     → (strings ≡ next_strings x.0 ++ x.1) × (is_some x.0 ≡ is_named) × IfSome x.0 IsLawful
@@ -162,8 +152,8 @@ pub digest_ok : (strings : Strings) (x : List ℕ × Strings) → first_digest s
     → (strings ≡ x.0 ∷ x.1) × (length x.0 ≡ DIGEST_LENGTH)
 unfolding first_digest
 digest_ok strings x e =
-    let a = bind_ok (first_string strings) (λ string. and_then (digest_from string.0) (λ digest. Ok (digest, string.1))) x e in
-    let b = bind_ok (digest_from a.0.0) (λ digest. Ok (digest, a.0.1)) x a.2 in
+    let a = bind_ok (first_string strings) (λ string. and_then (checked_digest string.0) (λ digest. Ok (digest, string.1))) x e in
+    let b = bind_ok (checked_digest a.0.0) (λ digest. Ok (digest, a.0.1)) x a.2 in
     let g = guarded (eqb (length a.0.0) DIGEST_LENGTH) (Ok a.0.0) BadDigest b.0 b.1 in
     let is : a.0.0 ≡ b.0 = ok_is a.0.0 b.0 g.1 in
     subst (λ (y : List ℕ × Strings). (strings ≡ y.0 ∷ y.1) × (length y.0 ≡ DIGEST_LENGTH)) (ok_is (b.0, a.0.1) x b.2) (

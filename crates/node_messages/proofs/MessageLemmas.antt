@@ -14,7 +14,9 @@ use Rattle.cluster_file.specs.declared.file.TheConstants.{DIGEST_LENGTH}
 use Rattle.node_messages.specs.Laws.{WrittenMessageIsRead, ReadMessageWasWritten, StringsNameOneMessage}
 use Rattle.node_messages.specs.Message.{names_next, IsMessage}
 use Rattle.words.specs.Parts.{and_then}
-use Rattle.node_messages.specs.Strings.{Strings, layout_string, body_strings, next_strings, strings_of}
+use Rattle.string_parts.specs.Strings.{Strings}
+use Rattle.string_parts.specs.Layouts.{layout_string}
+use Rattle.node_messages.specs.Strings.{body_strings, next_strings, strings_of}
 use Rattle.node_messages.specs.Gives.{Agrees}
 use Rattle.node_messages.specs.Reading.{first_number, first_layout, first_digest, first_name, first_subject, first_member}
 use Rattle.node_messages.specs.Reading.{first_numbers, first_body, first_next}

@@ -2,11 +2,11 @@
 -- What functions that read give.
 use Rattle.std.specs.Prelude.{◌≡◌, Result, Ok, Err}
 use denote.Ref.{Bor}
+use Rattle.string_parts.specs.Strings.{Strings}
 use Rattle.node_messages.specs.declared.error.Fault.{Fault}
 use Rattle.node_messages.specs.declared.error.MessageError.{MessageError}
 use Rattle.node_messages.specs.declared.error.MessageError.TheVariants as errors
 use Rattle.node_messages.specs.Reading.{FirstAndRest}
-use Rattle.node_messages.specs.Strings.{Strings}
 
 -- what a function returned, seen by `view`, is what reading gives; where memory was refused, nothing is said
 abbrev pub AgreesAs : {X Y : Type 0} → (X → Y) → Result X MessageError → Result Y Fault → Type 0

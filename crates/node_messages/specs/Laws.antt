@@ -3,10 +3,11 @@
 use Rattle.std.specs.Prelude.{◌≡◌, ◌≤◌, Ok}
 use Rattle.frames.specs.declared.limits.TheConstants.{LONGEST_STRING}
 use Rattle.mail.specs.Message.{message_bytes}
+use Rattle.string_parts.specs.Strings.{Strings}
 use Rattle.node_messages.specs.declared.message.NodeMessage.{NodeMessage}
 use Rattle.node_messages.specs.Message.{IsMessage}
 use Rattle.node_messages.specs.Reading.{message_from}
-use Rattle.node_messages.specs.Strings.{Strings, strings_of}
+use Rattle.node_messages.specs.Strings.{strings_of}
 use Rattle.node_messages.specs.Writing.{strings_or_fault}
 
 -- the strings of a message are read as that message

@@ -19,19 +19,19 @@ use Rattle.node_messages.specs.declared.message.NodeMessage.{NodeMessage}
 use Rattle.cluster_file.specs.declared.file.TheConstants.{DIGEST_LENGTH}
 
 -- whether a pointer with this status names a next position
-abbrev pub is_set : Status → Bool
-is_set status.Unset = false
-is_set status.Pending = true
-is_set status.Final = true
+abbrev pub status_names_next : Status → Bool
+status_names_next status.Unset = false
+status_names_next status.Pending = true
+status_names_next status.Final = true
 
 -- whether a request says that the pointer is pending or final
 abbrev pub request_names_next : Request → Bool
-request_names_next (request.Spread found) = is_set found
+request_names_next (request.Spread found) = status_names_next found
 request_names_next q = false
 
 -- whether an answer says that the pointer is pending or final
 abbrev pub answer_names_next : Answer → Bool
-answer_names_next (answer.Pointer found) = is_set found
+answer_names_next (answer.Pointer found) = status_names_next found
 answer_names_next a = false
 
 -- whether the body of a message says that the pointer is pending or final

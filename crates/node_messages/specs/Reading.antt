@@ -17,18 +17,18 @@ use Rattle.bank.specs.declared.request.Request.TheVariants as request
 use Rattle.bank.specs.declared.status.Status.{Status}
 use Rattle.mail.specs.declared.message.Body.{Body}
 use Rattle.mail.specs.declared.message.Body.TheVariants as body
-use Rattle.string_parts.specs.Layouts.{checked_layout}
+use Rattle.string_parts.specs.Strings.{Strings}
+use Rattle.string_parts.specs.Numbers.{number_up_to}
+use Rattle.string_parts.specs.Layouts.{layout_of_string}
 use Rattle.words.specs.Parts.{and_then}
 use Rattle.node_messages.specs.declared.error.Fault.{Fault}
 use Rattle.node_messages.specs.declared.error.Fault.TheVariants.{WrongCount, BadDigest, NameTooLong, BadLayout}
-use Rattle.node_messages.specs.declared.error.Fault.TheVariants.{NoMember, UnknownWord}
+use Rattle.node_messages.specs.declared.error.Fault.TheVariants.{BadNumber, OutOfRange, NoMember, UnknownWord}
 use Rattle.node_messages.specs.declared.fields.Subject.{Subject}
 use Rattle.node_messages.specs.declared.fields.Numbers.{Numbers}
 use Rattle.node_messages.specs.declared.message.NodeMessage.{NodeMessage}
 use Rattle.cluster_file.specs.declared.file.TheConstants.{DIGEST_LENGTH}
 use Rattle.node_messages.specs.Message.{names_next}
-use Rattle.node_messages.specs.Numbers.{message_number}
-use Rattle.node_messages.specs.Strings.{Strings}
 use Rattle.node_messages.specs.Words.{status_from, is_request_from, is_piece_from}
 
 -- what the first strings write, or the first fault there; and the strings behind it
@@ -44,7 +44,7 @@ first_string (string ∷ rest) = Ok (string, rest)
 unfoldable pub first_number : ℕ → Strings → FirstAndRest ℕ
 first_number most strings =
     and_then (first_string strings) (λ string.
-    and_then (message_number most string.0) (λ n.
+    and_then (number_up_to BadNumber most OutOfRange string.0) (λ n.
     Ok (n, string.1)))
 
 -- the tag that the first two strings write
@@ -69,27 +69,22 @@ first_status strings =
     and_then (status_from word.0) (λ status.
     Ok (status, word.1)))
 
--- the layout that the bytes of a string are: k, and then each member
-unfoldable pub layout_of_bytes : List ℕ → Result Layout Fault
-layout_of_bytes [] = Err BadLayout
-layout_of_bytes (k ∷ members) = checked_layout BadLayout (record { k = k; members = members })
-
 -- a layout
 unfoldable pub first_layout : Strings → FirstAndRest Layout
 first_layout strings =
     and_then (first_string strings) (λ string.
-    and_then (layout_of_bytes string.0) (λ layout.
+    and_then (layout_of_string BadLayout string.0) (λ layout.
     Ok (layout, string.1)))
 
--- a string as a digest, if it has the length of one
-abbrev pub digest_from : List ℕ → Result (List ℕ) Fault
-digest_from string = if length string == DIGEST_LENGTH then Ok string else Err BadDigest
+-- this digest, unless it has another length
+abbrev pub checked_digest : List ℕ → Result (List ℕ) Fault
+checked_digest string = if length string == DIGEST_LENGTH then Ok string else Err BadDigest
 
 -- a digest
 unfoldable pub first_digest : Strings → FirstAndRest (List ℕ)
 first_digest strings =
     and_then (first_string strings) (λ string.
-    and_then (digest_from string.0) (λ digest.
+    and_then (checked_digest string.0) (λ digest.
     Ok (digest, string.1)))
 
 -- a name

@@ -1,6 +1,6 @@
 -- The contracts that docs/trusted.md lists do not depend on this file; other contracts and proofs do.
 -- The strings of a message's frame.
-use Rattle.std.specs.Prelude.{ℕ, List, [], ◌∷◌, ◌++◌, Option, Some, None, codes}
+use Rattle.std.specs.Prelude.{[], ◌∷◌, ◌++◌, Option, Some, None, codes}
 use Rattle.std.specs.Fmt.{decimal}
 use Rattle.tag.specs.declared.tag.Tag.{Tag}
 use Rattle.piece.specs.declared.piece.Piece.{Piece}
@@ -15,16 +15,10 @@ use Rattle.bank.specs.Serve.{kind_of}
 use Rattle.mail.specs.declared.message.Body.{Body}
 use Rattle.mail.specs.declared.message.Body.TheVariants as body
 use Rattle.mail.specs.declared.message.Message.{Message}
+use Rattle.string_parts.specs.Layouts.{layout_string}
+use Rattle.string_parts.specs.Strings.{Strings}
 use Rattle.node_messages.specs.declared.message.NodeMessage.{NodeMessage}
 use Rattle.node_messages.specs.Words.{status_word, kind_word}
-
--- strings
-abbrev pub Strings : Type 0
-Strings = List (List ℕ)
-
--- a layout is one string: a byte for k, and then one for each member
-abbrev pub layout_string : Layout → List ℕ
-layout_string layout = layout.k ∷ layout.members
 
 -- a tag is two strings: its number and its call
 abbrev pub tag_strings : Tag → Strings

@@ -10,7 +10,8 @@ use Rattle.node_messages.specs.declared.error.Fault.TheVariants.{PieceTooLong}
 use Rattle.node_messages.specs.declared.message.NodeMessage.{NodeMessage}
 use Rattle.node_messages.specs.Message.{names_next, is_fitting}
 use Rattle.words.specs.Parts.{and_then}
-use Rattle.node_messages.specs.Strings.{Strings, strings_of}
+use Rattle.string_parts.specs.Strings.{Strings}
+use Rattle.node_messages.specs.Strings.{strings_of}
 
 -- whether two answers to a question are the same
 abbrev pub same : Bool → Bool → Bool

@@ -5,11 +5,12 @@ ghost use Rattle.node_messages.specs.Reading.{kind_tagged, kind_from, first_kind
 use crate::answers::reply_of;
 use crate::error::{Fault, MessageError};
 use crate::fields::{piece_of, status_of, string_of, tag_of};
-use crate::vocabulary::{is_text, read_is_request};
+use crate::vocabulary::read_is_request;
 use bank::{Kind, Request};
 use bytes::Bytes;
 use mail::Body;
 use std::alloc::Global;
+use string_parts::is_text;
 
 // A kind that has a tag.
 #[tactic(auto, unfolding(crate::specs::Reading::kind_tagged))]

@@ -1,13 +1,13 @@
 //! What the parts of a message must have in common.
 ghost use Rattle.std.specs.Prelude.{◌≡◌};
-ghost use Rattle.node_messages.specs.Message.{is_set, is_answer_to, names_next, is_fitting};
+ghost use Rattle.node_messages.specs.Message.{status_names_next, is_answer_to, names_next, is_fitting};
 
 use bank::{Answer, Kind, Request, Status};
 use mail::Body;
 
 // Whether a pointer with this status names a next position.
-fn is_set(status: Status) -> bool
-    ensures { result ≡ is_set status }
+fn status_names_next(status: Status) -> bool
+    ensures { result ≡ status_names_next status }
 {
     match status {
         Status::Unset => false,
@@ -20,10 +20,10 @@ pub(crate) fn names_next(body: &Body) -> bool
     ensures { result ≡ names_next body.now }
 {
     match body {
-        Body::Request(Request::Spread(status)) => is_set(*status),
+        Body::Request(Request::Spread(status)) => status_names_next(*status),
         Body::Request(_) => false,
         Body::Reply { kind: _, reply } => match reply.answer {
-            Answer::Pointer(status) => is_set(status),
+            Answer::Pointer(status) => status_names_next(status),
             _ => false,
         },
     }

@@ -7,9 +7,8 @@ ghost use Rattle.node_messages.specs.Reading.{
   first_tag,
   first_piece,
   first_status,
-  layout_of_bytes,
   first_layout,
-  digest_from,
+  checked_digest,
   first_digest,
   first_name,
   first_subject,
@@ -18,14 +17,13 @@ ghost use Rattle.node_messages.specs.Reading.{
 };
 
 use crate::error::{Fault, MessageError};
-use crate::number::read_number;
 use crate::vocabulary::read_status;
 use bank::Status;
 use bytes::Bytes;
 use cluster_file::DIGEST_LENGTH;
 use layout::Layout;
 use piece::Piece;
-use string_parts::checked_layout;
+use string_parts::{read_layout, read_number};
 use tag::{CallId, LONGEST_NAME, Tag};
 
 /// What a message is about.
@@ -64,7 +62,7 @@ pub(crate) fn number_of(strings: &[Bytes], most: u64) -> Result<(u64, &[Bytes]),
     ensures exact { AgreesAt result (first_number most strings.now) }
 {
     let (string, rest) = string_of(strings)?;
-    let number = read_number(string, most)?;
+    let number = read_number(string, most, Fault::BadNumber, Fault::OutOfRange)?;
     Ok((number, rest))
 }
 
@@ -123,28 +121,18 @@ pub(crate) fn status_of(strings: &[Bytes]) -> Result<(Status, &[Bytes]), Message
     Ok((status, rest))
 }
 
-#[tactic(auto, unfolding(crate::specs::Reading::layout_of_bytes))]
-fn read_layout(string: &[u8]) -> Result<Layout, Fault>
-    ensures { result ≡ layout_of_bytes string.now }
-{
-    match string {
-        [k, members @ ..] => checked_layout(*k, members, Fault::BadLayout),
-        [] => Err(Fault::BadLayout),
-    }
-}
-
 /// A layout.
 #[tactic(auto, unfolding(crate::specs::Reading::first_layout))]
 pub(crate) fn layout_of(strings: &[Bytes]) -> Result<(Layout, &[Bytes]), MessageError>
     ensures { AgreesAt result (first_layout strings.now) }
 {
     let (string, rest) = string_of(strings)?;
-    let layout = read_layout(string)?;
+    let layout = read_layout(string, Fault::BadLayout)?;
     Ok((layout, rest))
 }
 
 fn read_digest(string: &[u8]) -> Result<[u8; DIGEST_LENGTH], Fault>
-    ensures { result ≡ digest_from string.now }
+    ensures { result ≡ checked_digest string.now }
 {
     match <[u8; DIGEST_LENGTH]>::try_from(string) {
         Ok(digest) => Ok(digest),

@@ -14,7 +14,6 @@ mod error;
 mod fields;
 mod laws;
 mod message;
-mod number;
 mod reading;
 mod strings;
 mod vocabulary;

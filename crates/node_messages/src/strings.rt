@@ -1,11 +1,8 @@
 //! The strings of the parts of a message.
 ghost use Rattle.std.specs.Prelude.{◌≡◌, ◌++◌, ◌∷◌, [], OnOk, IfSome};
-ghost use Rattle.std.specs.Fmt.{decimal};
 ghost use Rattle.bank.specs.Serve.{kind_of};
-ghost use Rattle.layout.specs.Layout.{IsLawful};
 ghost use Rattle.node_messages.specs.Message.{IsTag, IsPiece, IsKind, IsAnswer, HasFittingPiece, IsWithinBits};
 ghost use Rattle.node_messages.specs.Strings.{
-  layout_string,
   tag_strings,
   piece_strings,
   kind_strings,
@@ -19,70 +16,11 @@ ghost use Rattle.node_messages.specs.Words.{status_word};
 use crate::vocabulary::{kind_word, status_word};
 use bank::{Answer, HeldPiece, Kind, Request, Status};
 use bytes::Bytes;
-use itoa::Buffer;
-use layout::Layout;
 use mail::Body;
 use piece::Piece;
 use std::alloc::{AllocError, Global};
+use string_parts::{push_number, push_shared, push_word};
 use tag::Tag;
-
-/// A copy of these bytes.
-pub(crate) fn push_bytes(
-    alloc: Global,
-    strings: &mut Vec<Bytes>,
-    bytes: &[u8],
-) -> Result<(), AllocError>
-    ensures { OnOk result (strings.new.items ≡ strings.old.items ++ bytes.now ∷ []) }
-{
-    strings.push(Bytes::copy_from_slice(alloc, bytes)?)?;
-    Ok(())
-}
-
-/// The bytes themselves, with one owner more.
-pub(crate) fn push_shared(strings: &mut Vec<Bytes>, bytes: &Bytes) -> Result<(), AllocError>
-    ensures { OnOk result (strings.new.items ≡ strings.old.items ++ bytes.now ∷ []) }
-{
-    strings.push(bytes.clone()?)?;
-    Ok(())
-}
-
-/// A word.
-pub(crate) fn push_word(strings: &mut Vec<Bytes>, word: &'static [u8]) -> Result<(), AllocError>
-    ensures { OnOk result (strings.new.items ≡ strings.old.items ++ word.now ∷ []) }
-{
-    strings.push(Bytes::from_static(word))?;
-    Ok(())
-}
-
-/// A number.
-pub(crate) fn push_number(
-    alloc: Global,
-    strings: &mut Vec<Bytes>,
-    number: u64,
-) -> Result<(), AllocError>
-    ensures { OnOk result (strings.new.items ≡ strings.old.items ++ decimal number ∷ []) }
-{
-    let mut buffer = Buffer::new();
-    push_bytes(alloc, strings, buffer.format(number).as_bytes())
-}
-
-/// A layout.
-pub(crate) fn push_layout(
-    alloc: Global,
-    strings: &mut Vec<Bytes>,
-    layout: &Layout,
-) -> Result<(), AllocError>
-    ensures pushed { OnOk result (strings.new.items ≡ strings.old.items ++ layout_string layout.now ∷ []) }
-    ensures lawful { OnOk result (IsLawful layout.now) }
-{
-    let mut bytes = Vec::new(alloc);
-    bytes.push(layout.k())?;
-    for i in 0..layout.n() {
-        bytes.push(layout.member(i))?;
-    }
-    strings.push(Bytes::from_vec(bytes)?)?;
-    Ok(())
-}
 
 // A status.
 fn push_status(strings: &mut Vec<Bytes>, status: Status) -> Result<(), AllocError>

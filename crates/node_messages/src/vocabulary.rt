@@ -1,17 +1,10 @@
 //! Words.
 ghost use Rattle.std.specs.Prelude.{◌≡◌};
-ghost use Rattle.std.specs.Str.{bytes_eq};
 ghost use Rattle.node_messages.specs.Words.{status_from, status_word, is_request_from, is_piece_from, kind_word};
 
 use crate::error::Fault;
 use bank::{Kind, Status};
-
-/// Whether the word is this text.
-pub(crate) fn is_text(word: &[u8], text: &[u8]) -> bool
-    ensures { result ≡ bytes_eq word.now text.now }
-{
-    word == text
-}
+use string_parts::is_text;
 
 /// The status for which a word stands.
 #[tactic(auto, unfolding(crate::specs::Words::status_from))]

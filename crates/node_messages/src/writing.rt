@@ -10,12 +10,13 @@ ghost use Rattle.node_messages.specs.Writing.{strings_or_fault, checked, framed}
 use crate::checks::{is_fitting, names_next};
 use crate::error::{Fault, MessageError};
 use crate::message::NodeMessage;
-use crate::strings::{push_body, push_bytes, push_layout, push_number, push_shared};
+use crate::strings::push_body;
 use bytes::Bytes;
 use frames::Frame;
 use layout::Layout;
 use mail::Message;
 use std::alloc::{AllocError, Global};
+use string_parts::{push_bytes, push_layout, push_number, push_shared};
 use tag::LONGEST_NAME;
 
 // The most strings that a message has: a reply to a Fetch with a piece has 3 of its subject, 4 numbers, 2 words, a tag

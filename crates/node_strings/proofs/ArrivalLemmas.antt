@@ -6,10 +6,11 @@ use Rattle.std.specs.Fmt.{decimal}
 use Rattle.std.specs.Str.{bytes_eq}
 use Rattle.std.proofs.lemmas.Bool.{and_parts}
 use Rattle.std.proofs.lemmas.Slice.Eq.{bytes_eq-Decides}
-use Rattle.node_strings.specs.Parts.{Strings, and_then, behind, number_from}
+use Rattle.string_parts.specs.Strings.{Strings}
+use Rattle.node_strings.specs.Parts.{then_read, rest_behind, number_or_none}
 use Rattle.node_strings.specs.declared.arrival.Arrival.{Arrival}
 use Rattle.node_strings.specs.declared.arrival.Arrival.TheVariants as came
-use Rattle.node_strings.specs.Arrival.{IsArrival, arrival_strings, is_empty, client_from, tick_from, if_behind, node_from}
+use Rattle.node_strings.specs.Arrival.{IsArrival, arrival_strings, is_empty, client_arrival, tick_arrival, if_behind, node_arrival}
 use Rattle.node_strings.specs.Arrival.{arrival_from, arrival_at}
 use Rattle.node_strings.proofs.PartLemmas.{some_is, bind_some, chosen, number_ok, number_again, behind_ok}
 
@@ -23,9 +24,9 @@ some_behind [] some = absurd (some refl)
 some_behind (string ∷ rest) some = refl
 
 client_ok : (address number : List ℕ) (rest : Strings) (it : Arrival) → address ≡ codes "client " ++ number
-    → client_from number rest ≡ Some it → address ∷ rest ≡ arrival_strings it
+    → client_arrival number rest ≡ Some it → address ∷ rest ≡ arrival_strings it
 client_ok address number rest it a e =
-    let b = bind_some (number_from (2 ^ 64 - 1) number)
+    let b = bind_some (number_or_none (2 ^ 64 - 1) number)
     (λ client. cond (is_empty rest) (Some (came.Left client)) (Some (came.Command client rest))) it e in
     let n = number_ok (2 ^ 64 - 1) number b.0 (omega arith) (omega arith) b.1 in
     let same = a ∙ ap (λ s. codes "client " ++ s) n.0 in
@@ -36,7 +37,7 @@ client_ok address number rest it a e =
           (ap (λ (s : List ℕ). s ∷ rest) same)
     ]
 
-tick_ok : (address : List ℕ) (rest : Strings) (it : Arrival) → tick_from address rest ≡ Some it → address ∷ rest ≡ arrival_strings it
+tick_ok : (address : List ℕ) (rest : Strings) (it : Arrival) → tick_arrival address rest ≡ Some it → address ∷ rest ≡ arrival_strings it
 tick_ok address rest it e =
     elim (chosen (bytes_eq address (codes "tick") && is_empty rest) (Some came.Tick) None it e) [
       | inl h ↦
@@ -47,26 +48,26 @@ tick_ok address rest it e =
       | inr h ↦ absurd cc
     ]
 
-node_ok : (address : List ℕ) (rest : Strings) (it : Arrival) (number : Option (List ℕ)) → behind (codes "node ") address ≡ number
-    → if_behind number (λ n. and_then (number_from 255 n) (λ node. Some (came.Message node rest))) (tick_from address rest) ≡ Some it
+node_ok : (address : List ℕ) (rest : Strings) (it : Arrival) (number : Option (List ℕ)) → rest_behind (codes "node ") address ≡ number
+    → if_behind number (λ n. then_read (number_or_none 255 n) (λ node. Some (came.Message node rest))) (tick_arrival address rest) ≡ Some it
     → address ∷ rest ≡ arrival_strings it
 node_ok address rest it (Some number) b e =
-    let a = bind_some (number_from 255 number) (λ node. Some (came.Message node rest)) it e in
+    let a = bind_some (number_or_none 255 number) (λ node. Some (came.Message node rest)) it e in
     let n = number_ok 255 number a.0 (omega arith) (omega arith) a.1 in
     subst (λ (i : Arrival). address ∷ rest ≡ arrival_strings i) (some_is (came.Message a.0 rest) it a.2)
     (ap (λ (s : List ℕ). s ∷ rest) (behind_ok (codes "node ") address number b ∙ ap (λ s. codes "node " ++ s) n.0))
 node_ok address rest it None b e = tick_ok address rest it e
 
-from_ok : (address : List ℕ) (rest : Strings) (it : Arrival) (number : Option (List ℕ)) → behind (codes "client ") address ≡ number
-    → if_behind number (λ n. client_from n rest) (node_from address rest) ≡ Some it
+from_ok : (address : List ℕ) (rest : Strings) (it : Arrival) (number : Option (List ℕ)) → rest_behind (codes "client ") address ≡ number
+    → if_behind number (λ n. client_arrival n rest) (node_arrival address rest) ≡ Some it
     → address ∷ rest ≡ arrival_strings it
 from_ok address rest it (Some number) b e = client_ok address number rest it (behind_ok (codes "client ") address number b) e
-from_ok address rest it None b e = node_ok address rest it (behind (codes "node ") address) refl e
+from_ok address rest it None b e = node_ok address rest it (rest_behind (codes "node ") address) refl e
 
 pub arrival_ok : (strings : Strings) (it : Arrival) → arrival_at strings ≡ Some it → strings ≡ arrival_strings it
 unfolding arrival_at arrival_from
 arrival_ok [] it e = absurd cc
-arrival_ok (address ∷ rest) it e = from_ok address rest it (behind (codes "client ") address) refl e
+arrival_ok (address ∷ rest) it e = from_ok address rest it (rest_behind (codes "client ") address) refl e
 
 pub arrival_again : (it : Arrival) → IsArrival it → arrival_at (arrival_strings it) ≡ Some it
 unfolding arrival_at arrival_from

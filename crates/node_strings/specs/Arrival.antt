@@ -6,7 +6,8 @@ use Rattle.std.specs.Fmt.{decimal}
 use Rattle.std.specs.Str.{bytes_eq}
 use Rattle.node_strings.specs.declared.arrival.Arrival.{Arrival}
 use Rattle.node_strings.specs.declared.arrival.Arrival.TheVariants as came
-use Rattle.node_strings.specs.Parts.{Strings, and_then, behind, number_from}
+use Rattle.string_parts.specs.Strings.{Strings}
+use Rattle.node_strings.specs.Parts.{then_read, rest_behind, number_or_none}
 
 -- the address of a client
 abbrev pub client_address : ℕ → List ℕ
@@ -36,13 +37,13 @@ is_empty [] = true
 is_empty (string ∷ rest) = false
 
 -- what a client of this number sent, or that its connection has ended
-abbrev pub client_from : List ℕ → Strings → Option Arrival
-client_from number rest = and_then (number_from (2 ^ 64 - 1) number)
+abbrev pub client_arrival : List ℕ → Strings → Option Arrival
+client_arrival number rest = then_read (number_or_none (2 ^ 64 - 1) number)
     (λ client. if is_empty rest then Some (came.Left client) else Some (came.Command client rest))
 
 -- that time has passed
-abbrev pub tick_from : List ℕ → Strings → Option Arrival
-tick_from address rest = if bytes_eq address (codes "tick") && is_empty rest then Some came.Tick else None
+abbrev pub tick_arrival : List ℕ → Strings → Option Arrival
+tick_arrival address rest = if bytes_eq address (codes "tick") && is_empty rest then Some came.Tick else None
 
 -- what comes from a client, if this is what stands behind `client `, and else what `other` says
 abbrev pub if_behind : Option (List ℕ) → (List ℕ → Option Arrival) → Option Arrival → Option Arrival
@@ -50,15 +51,15 @@ if_behind (Some number) from other = from number
 if_behind None from other = other
 
 -- what comes from a node, or that time has passed
-abbrev pub node_from : List ℕ → Strings → Option Arrival
-node_from address rest = if_behind (behind (codes "node ") address)
-    (λ number. and_then (number_from 255 number) (λ node. Some (came.Message node rest)))
-    (tick_from address rest)
+abbrev pub node_arrival : List ℕ → Strings → Option Arrival
+node_arrival address rest = if_behind (rest_behind (codes "node ") address)
+    (λ number. then_read (number_or_none 255 number) (λ node. Some (came.Message node rest)))
+    (tick_arrival address rest)
 
 -- what has come, by the address and the strings behind it
 unfoldable pub arrival_from : List ℕ → Strings → Option Arrival
-arrival_from address rest = if_behind (behind (codes "client ") address)
-    (λ number. client_from number rest) (node_from address rest)
+arrival_from address rest = if_behind (rest_behind (codes "client ") address)
+    (λ number. client_arrival number rest) (node_arrival address rest)
 
 -- what has come
 unfoldable pub arrival_at : Strings → Option Arrival

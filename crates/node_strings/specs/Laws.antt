@@ -3,16 +3,16 @@
 use Rattle.std.specs.Prelude.{◌≡◌, ◌<◌, ◌^◌, ℕ, Some}
 use Rattle.node_strings.specs.declared.record.Record.{Record}
 use Rattle.node_strings.specs.Arrival.{client_address, node_address}
-use Rattle.node_strings.specs.Record.{IsRecord, record_strings, record_at}
+use Rattle.node_strings.specs.Record.{HasPartsInRange, record_strings, record_at}
 
 -- the strings of a record are read as that record
-abbrev pub WrittenIsRead : Type 0
-WrittenIsRead = (it : Record) → IsRecord it → record_at (record_strings it) ≡ Some it
+abbrev pub WrittenRecordIsRead : Type 0
+WrittenRecordIsRead = (it : Record) → HasPartsInRange it → record_at (record_strings it) ≡ Some it
 
 -- two records with the same strings are the same
 abbrev pub RecordsDiffer : Type 0
-RecordsDiffer = (it other : Record) → IsRecord it → IsRecord other → record_strings it ≡ record_strings other →
-    it ≡ other
+RecordsDiffer = (it other : Record) → HasPartsInRange it → HasPartsInRange other
+    → record_strings it ≡ record_strings other → it ≡ other
 
 -- two clients, or two nodes, with the same address are the same, and no node has the address of a client
 abbrev pub AddressesDiffer : Type 0

@@ -3,54 +3,45 @@
 use Rattle.std.specs.Prelude.{◌≡◌, ◌==◌, ℕ, List, [], ◌∷◌, length, Option, Some, None, Result, Ok, Err}
 use Rattle.std.specs.Prelude.{if◌then◌else◌, take, drop}
 use Rattle.std.specs.Str.{bytes_eq}
-use Rattle.tag.specs.declared.refusal.Refusal.TheVariants.{BadLayout}
 use Rattle.layout.specs.Layout.{Layout}
 use Rattle.cluster_file.specs.declared.file.TheConstants.{DIGEST_LENGTH}
+use Rattle.string_parts.specs.Strings.{Strings}
 use Rattle.string_parts.specs.Numbers.{number_up_to}
-use Rattle.string_parts.specs.Layouts.{checked_layout}
-
--- strings
-abbrev pub Strings : Type 0
-Strings = List (List ℕ)
+use Rattle.string_parts.specs.Layouts.{layout_of_string}
 
 -- what a function returned, seen by `view`, is what reading gives
-abbrev pub GivesAs : {X Y : Type 0} → (X → Y) → Option X → Option Y → Type 0
-GivesAs view (Some x) read = read ≡ Some (view x)
-GivesAs view None read = read ≡ None
+abbrev pub IsReadAs : {X Y : Type 0} → (X → Y) → Option X → Option Y → Type 0
+IsReadAs view (Some x) read = read ≡ Some (view x)
+IsReadAs view None read = read ≡ None
 
--- what was read, unless it was a fault
+-- what was read, or none where there was a fault
 abbrev pub if_read : {X E : Type 0} → Result X E → Option X
 if_read (Ok x) = Some x
 if_read (Err fault) = None
 
--- one part after another, while each is read
-abbrev pub and_then : {A B : Type 0} → Option A → (A → Option B) → Option B
-and_then (Some x) next = next x
-and_then None next = None
+-- one part after another, as long as each is read
+abbrev pub then_read : {A B : Type 0} → Option A → (A → Option B) → Option B
+then_read (Some x) next = next x
+then_read None next = None
 
 -- the first string, and those behind it
-abbrev pub string_at : Strings → Option (List ℕ × Strings)
-string_at [] = None
-string_at (string ∷ rest) = Some (string, rest)
+abbrev pub first_and_rest : Strings → Option (List ℕ × Strings)
+first_and_rest [] = None
+first_and_rest (string ∷ rest) = Some (string, rest)
 
--- the number up to `most` that a string writes
-abbrev pub number_from : (most : ℕ) → List ℕ → Option ℕ
-number_from most string = if_read (number_up_to most string)
+-- the number up to `most` that a string writes, if it writes one
+abbrev pub number_or_none : (most : ℕ) → List ℕ → Option ℕ
+number_or_none most string = if_read (number_up_to {E = Unit {0}} tt most tt string)
 
 -- what stands behind these bytes, if the string begins with them
-abbrev pub behind : (front string : List ℕ) → Option (List ℕ)
-behind front string =
+abbrev pub rest_behind : (front string : List ℕ) → Option (List ℕ)
+rest_behind front string =
     if bytes_eq (take (length front) string) front then Some (drop (length front) string) else None
 
--- a layout is one string: a byte for k, and then one for each member
-abbrev pub layout_string : Layout → List ℕ
-layout_string layout = layout.k ∷ layout.members
-
--- the layout that a string writes
-unfoldable pub layout_from : List ℕ → Option Layout
-layout_from [] = None
-layout_from (k ∷ members) = if_read (checked_layout BadLayout (record { k = k; members = members }))
+-- the lawful layout whose string this is, if there is one
+abbrev pub layout_or_none : List ℕ → Option Layout
+layout_or_none string = if_read (layout_of_string {E = Unit {0}} tt string)
 
 -- a string as a digest, if it has the length of one
-abbrev pub digest_from : List ℕ → Option (List ℕ)
-digest_from string = if length string == DIGEST_LENGTH then Some string else None
+abbrev pub digest_or_none : List ℕ → Option (List ℕ)
+digest_or_none string = if length string == DIGEST_LENGTH then Some string else None

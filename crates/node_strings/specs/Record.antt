@@ -8,7 +8,9 @@ use Rattle.layout.specs.Layout.{IsLawful}
 use Rattle.cluster_file.specs.declared.file.TheConstants.{DIGEST_LENGTH}
 use Rattle.node_strings.specs.declared.record.Record.{Record}
 use Rattle.node_strings.specs.declared.record.Record.TheVariants as kept
-use Rattle.node_strings.specs.Parts.{Strings, and_then, number_from, layout_from, digest_from, layout_string}
+use Rattle.string_parts.specs.Layouts.{layout_string}
+use Rattle.string_parts.specs.Strings.{Strings}
+use Rattle.node_strings.specs.Parts.{then_read, number_or_none, layout_or_none, digest_or_none}
 
 -- the strings of the entry of a record: a word that says what it is, and then its parts
 abbrev pub record_strings : Record → Strings
@@ -19,38 +21,38 @@ record_strings (kept.Take frame) = codes "take" ∷ frame
 record_strings (kept.Move id name layout) = codes "move" ∷ decimal id ∷ name ∷ layout_string layout ∷ []
 
 -- the parts of a record have their ranges
-abbrev pub IsRecord : Record → Type 0
-IsRecord (kept.Cluster digest node) = (length digest ≡ DIGEST_LENGTH) × (node < 2 ^ 8)
-IsRecord (kept.Move id name layout) = (id < 2 ^ 64) × IsLawful layout
-IsRecord it = Unit {0}
+abbrev pub HasPartsInRange : Record → Type 0
+HasPartsInRange (kept.Cluster digest node) = (length digest ≡ DIGEST_LENGTH) × (node < 2 ^ 8)
+HasPartsInRange (kept.Move id name layout) = (id < 2 ^ 64) × IsLawful layout
+HasPartsInRange it = Unit {0}
 
 -- the record of a start, if no string is left
-abbrev pub start_from : Strings → Option Record
-start_from [] = Some kept.Start
-start_from (string ∷ rest) = None
+abbrev pub start_record : Strings → Option Record
+start_record [] = Some kept.Start
+start_record (string ∷ rest) = None
 
 -- the record that names the cluster and the node
-unfoldable pub cluster_from : Strings → Option Record
-cluster_from (digest ∷ number ∷ []) =
-    and_then (digest_from digest) (λ it. and_then (number_from 255 number)
+unfoldable pub cluster_record : Strings → Option Record
+cluster_record (digest ∷ number ∷ []) =
+    then_read (digest_or_none digest) (λ it. then_read (number_or_none 255 number)
     (λ node. Some (kept.Cluster it node)))
-cluster_from strings = None
+cluster_record strings = None
 
 -- the record of a move
-unfoldable pub move_from : Strings → Option Record
-move_from (id ∷ name ∷ layout ∷ []) =
-    and_then (number_from (2 ^ 64 - 1) id) (λ number. and_then (layout_from layout)
+unfoldable pub move_record : Strings → Option Record
+move_record (id ∷ name ∷ layout ∷ []) =
+    then_read (number_or_none (2 ^ 64 - 1) id) (λ number. then_read (layout_or_none layout)
     (λ to. Some (kept.Move number name to)))
-move_from strings = None
+move_record strings = None
 
 -- the record with this word and these strings behind it
 unfoldable pub record_from : List ℕ → Strings → Option Record
 record_from word rest =
     if bytes_eq word (codes "serve") then Some (kept.Serve rest)
     else (if bytes_eq word (codes "take") then Some (kept.Take rest)
-    else (if bytes_eq word (codes "start") then start_from rest
-    else (if bytes_eq word (codes "cluster") then cluster_from rest
-    else (if bytes_eq word (codes "move") then move_from rest
+    else (if bytes_eq word (codes "start") then start_record rest
+    else (if bytes_eq word (codes "cluster") then cluster_record rest
+    else (if bytes_eq word (codes "move") then move_record rest
     else None))))
 
 -- the record whose strings these are

@@ -1,12 +1,13 @@
 //! What has come to a node.
 ghost use Rattle.std.specs.Prelude.{◌≡◌, IfSome, Some};
 ghost use Rattle.node_strings.specs.declared.arrival.Arrival.{Arrival as Came};
-ghost use Rattle.node_strings.specs.Arrival.{IsArrival, arrival_strings, arrival_at, arrival_from, client_from};
-ghost use Rattle.node_strings.specs.Arrival.{node_from, tick_from};
+ghost use Rattle.node_strings.specs.Arrival.{IsArrival, arrival_strings, arrival_at, arrival_from, client_arrival};
+ghost use Rattle.node_strings.specs.Arrival.{node_arrival, tick_arrival};
 
 use crate::address::ConnectionId;
-use crate::parts::{behind, is_text, number_of, split};
+use crate::parts::{behind, number_of, split};
 use frames::Frame;
+use string_parts::is_text;
 
 /// What has come to a node.
 #[derive(Debug, Drop)]
@@ -21,11 +22,12 @@ pub enum Arrival {
     Tick,
 }
 
-/// What a frame with an address in front says has come, or none where its address is none. It asks for no memory.
+/// What has come, as the frame and the address in front of it say, or none where the first string is no address. The
+/// function asks for no memory.
 pub fn read_arrival(frame: Frame) -> Option<Arrival>
-    // The frame says what is read.
+    // The frame is the one that says what is read.
     ensures found { IfSome result (λ arrival. frame ≡ arrival_strings arrival) }
-    // What a frame says is read.
+    // Whatever a frame says has come is read.
     ensures only { (arrival : Came) → IsArrival arrival → frame ≡ arrival_strings arrival → result ≡ Some arrival }
     ensures exact { result ≡ arrival_at frame }
 {
@@ -56,7 +58,7 @@ fn read_behind(address: &[u8], rest: Frame) -> Option<Arrival>
 
 // The same, where the address is that of no client.
 fn read_other(address: &[u8], rest: Frame) -> Option<Arrival>
-    ensures { result ≡ node_from address.now rest }
+    ensures { result ≡ node_arrival address.now rest }
 {
     match behind(address, b"node ") {
         Some(number) => {
@@ -69,7 +71,7 @@ fn read_other(address: &[u8], rest: Frame) -> Option<Arrival>
 
 // Time has passed, where the address says that and nothing stands behind it.
 fn tick_of(address: &[u8], rest: Frame) -> Option<Arrival>
-    ensures { result ≡ tick_from address.now rest }
+    ensures { result ≡ tick_arrival address.now rest }
 {
     if is_text(address, b"tick") && rest.strings().is_empty() {
         Some(Arrival::Tick)
@@ -80,7 +82,7 @@ fn tick_of(address: &[u8], rest: Frame) -> Option<Arrival>
 
 // A command of the client of this number, or the end of its connection where nothing stands behind the address.
 fn client_of(number: &[u8], rest: Frame) -> Option<Arrival>
-    ensures { result ≡ client_from number.now rest }
+    ensures { result ≡ client_arrival number.now rest }
 {
     let number = number_of(number, u64::MAX)?;
     if rest.strings().is_empty() {

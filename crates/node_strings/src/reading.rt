@@ -1,20 +1,22 @@
 //! Records from the strings of entries.
 ghost use Rattle.std.specs.Prelude.{◌≡◌, IfSome, Some};
 ghost use Rattle.node_strings.specs.declared.record.Record.{Record as Kept};
-ghost use Rattle.node_strings.specs.Record.{IsRecord, record_strings, record_at, record_from, start_from};
-ghost use Rattle.node_strings.specs.Record.{cluster_from, move_from};
+ghost use Rattle.node_strings.specs.Record.{HasPartsInRange, record_strings, record_at, record_from, start_record};
+ghost use Rattle.node_strings.specs.Record.{cluster_record, move_record};
 
-use crate::parts::{digest_of, is_text, layout_of, number_of, split, string_of};
+use crate::parts::{digest_of, layout_of, number_of, split, string_of};
 use crate::record::Record;
 use bytes::Bytes;
 use frames::Frame;
+use string_parts::is_text;
 
-/// What an entry of these strings records, or none where no node makes such an entry. It asks for no memory.
+/// The record that an entry of these strings keeps, or none where no node writes such an entry. The function asks for
+/// no memory.
 pub fn read_record(frame: Frame) -> Option<Record>
     // The strings are those of what is read.
-    ensures found { IfSome result (λ it. IsRecord it × (frame ≡ record_strings it)) }
+    ensures found { IfSome result (λ it. HasPartsInRange it × (frame ≡ record_strings it)) }
     // The strings of a record are read as that record.
-    ensures only { (it : Kept) → IsRecord it → frame ≡ record_strings it → result ≡ Some it }
+    ensures only { (it : Kept) → HasPartsInRange it → frame ≡ record_strings it → result ≡ Some it }
     ensures exact { result ≡ record_at frame }
 {
     read_split(frame)
@@ -52,7 +54,7 @@ fn read_behind(word: &[u8], rest: Frame) -> Option<Record>
 }
 
 fn start_of(strings: &[Bytes]) -> Option<Record>
-    ensures { result ≡ start_from strings.now }
+    ensures { result ≡ start_record strings.now }
 {
     match strings {
         [] => Some(Record::Start),
@@ -60,9 +62,9 @@ fn start_of(strings: &[Bytes]) -> Option<Record>
     }
 }
 
-#[tactic(auto, unfolding(crate::specs::Record::cluster_from))]
+#[tactic(auto, unfolding(crate::specs::Record::cluster_record))]
 fn cluster_of(strings: &[Bytes]) -> Option<Record>
-    ensures { result ≡ cluster_from strings.now }
+    ensures { result ≡ cluster_record strings.now }
 {
     let (digest, rest) = string_of(strings)?;
     let (number, rest) = string_of(rest)?;
@@ -77,9 +79,9 @@ fn cluster_of(strings: &[Bytes]) -> Option<Record>
     })
 }
 
-#[tactic(auto, unfolding(crate::specs::Record::move_from))]
+#[tactic(auto, unfolding(crate::specs::Record::move_record))]
 fn move_of(mut strings: Vec<Bytes>) -> Option<Record>
-    ensures { result ≡ move_from strings.items }
+    ensures { result ≡ move_record strings.items }
 {
     if strings.len() != 3 {
         return None;

@@ -7,12 +7,13 @@ use tag::CallId;
 /// What an entry of a node's log records.
 #[derive(Debug, Drop)]
 pub enum Record {
-    /// The log is that of this node of the cluster whose file has this digest. It is the first entry, and no other.
+    /// The log is that of this node of the cluster whose file has this digest. A log begins with this entry, and has no
+    /// other of this kind.
     Cluster {
         digest: [u8; DIGEST_LENGTH],
         node: u8,
     },
-    /// The node began an epoch of its calls' ids.
+    /// The node began an epoch, in which the ids of its calls count from 0 again.
     Start,
     /// The node served this request.
     Serve(Frame),

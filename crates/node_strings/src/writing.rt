@@ -2,14 +2,14 @@
 ghost use Rattle.std.specs.Prelude.{◌≡◌, ◌++◌, IfOk, OnOk};
 ghost use Rattle.node_strings.specs.Record.{record_strings};
 
-use crate::parts::{push_bytes, push_layout, push_number, push_shared, push_word};
 use crate::record::Record;
 use bytes::Bytes;
 use frames::Frame;
 use std::alloc::{AllocError, Global};
+use string_parts::{push_bytes, push_layout, push_number, push_shared, push_word};
 
-/// The strings of the entry that records this. It fails only where memory is refused. It copies no byte of a name or of
-/// a message.
+/// The strings of the entry that keeps this record. The function fails only where memory is refused, and copies no byte
+/// of a name or of a message.
 pub fn record_strings(alloc: Global, it: &Record) -> Result<Vec<Bytes>, AllocError>
     ensures { IfOk result (λ strings. strings.items ≡ record_strings it.now) }
 {

@@ -1,12 +1,14 @@
 -- The test of a layout says whether it is lawful.
-use Rattle.std.proofs.Common.{◌≡◌, ℕ, Bool, true, false, cond, not, leb, nat_eq, ◌&&◌, List, [], ◌∷◌, length, Ok, Err, arith, refl, ap}
+use Rattle.std.proofs.Common.{◌≡◌, ℕ, Bool, true, false, cond, not, leb, nat_eq, ◌&&◌, List, [], ◌∷◌, length, Result, Ok, Err}
+use Rattle.std.proofs.Common.{arith, refl, ap, sym, subst, ◌∙◌}
+use Rattle.std.specs.Prelude.{IfOk}
 use Rattle.std.specs.List.{list_any, IsDistinct, AllByRecursion}
 use Rattle.std.proofs.lemmas.Bool.{leb-true, le-leb, and_parts, and_from}
 use Rattle.std.proofs.lemmas.Bool.Decides.{nat_tests}
 use Rattle.tag.specs.declared.limits.TheConstants.{MOST_MEMBERS}
 use Rattle.layout.specs.Layout.{Layout, IsLawful}
 use Rattle.words.proofs.PartLemmas.{guarded, ok_is}
-use Rattle.string_parts.specs.Layouts.{are_named_once, is_lawful, checked_layout}
+use Rattle.string_parts.specs.Layouts.{are_named_once, is_lawful, checked_layout, layout_string, layout_of_string}
 
 apart_ok : (x : ℕ) (xs : List ℕ) → list_any (nat_eq x) xs ≡ false → AllByRecursion (λ y. nat_eq x y ≡ false) xs
 apart_ok x [] none = tt
@@ -75,3 +77,28 @@ checked_ok fault layout checked e =
 
 pub checked_again : {E : Type 0} (fault : E) (layout : Layout) → IsLawful layout → checked_layout fault layout ≡ Ok layout
 checked_again fault layout lawful = rw (lawful_again layout lawful) refl
+
+-- ---- the string of a layout
+
+pub layout_ok : {E : Type 0} (fault : E) (string : List ℕ) (layout : Layout) → layout_of_string fault string ≡ Ok layout
+    → IsLawful layout × (string ≡ layout_string layout)
+unfolding layout_of_string
+layout_ok fault [] layout e = absurd cc
+layout_ok fault (k ∷ members) layout e =
+    let it : Layout = record { k = k; members = members } in
+    let g = checked_ok fault it layout e in
+    subst (λ (l : Layout). IsLawful l × (k ∷ members ≡ layout_string l)) g.0 (g.1, refl)
+
+pub layout_again : {E : Type 0} (fault : E) (layout : Layout) → IsLawful layout
+    → layout_of_string fault (layout_string layout) ≡ Ok layout
+unfolding layout_of_string
+layout_again fault layout lawful = checked_again fault layout lawful
+
+pub layout_found : {E : Type 0} (fault : E) (string : List ℕ) (result : Result Layout E) → result ≡ layout_of_string fault string
+    → IfOk result (λ layout. IsLawful layout × (string ≡ layout_string layout))
+layout_found fault string (Ok layout) e = layout_ok fault string layout (sym e)
+layout_found fault string (Err other) e = tt
+
+pub layout_only : {E : Type 0} (fault : E) (string : List ℕ) (result : Result Layout E) → result ≡ layout_of_string fault string
+    → (layout : Layout) → IsLawful layout → string ≡ layout_string layout → result ≡ Ok layout
+layout_only fault string result e layout lawful is = e ∙ ap (layout_of_string fault) is ∙ layout_again fault layout lawful

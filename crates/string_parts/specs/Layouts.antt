@@ -1,5 +1,5 @@
 -- The contracts that docs/trusted.md lists do not depend on this file; other contracts and proofs do.
--- Layouts that are lawful.
+-- Layouts that are lawful, and the string of a layout.
 use Rattle.std.specs.Prelude.{ℕ, List, [], ◌∷◌, length, Bool, true, Result, Ok, Err}
 use Rattle.std.specs.Prelude.{nat_le, nat_eq, ◌&&◌, not, if◌then◌else◌}
 use Rattle.std.specs.List.{list_any}
@@ -19,3 +19,12 @@ is_lawful layout = nat_le 1 layout.k && (nat_le layout.k (length layout.members)
 -- this layout, or this fault where it is not lawful
 abbrev pub checked_layout : {E : Type 0} → E → Layout → Result Layout E
 checked_layout fault layout = if is_lawful layout then Ok layout else Err fault
+
+-- the string of a layout: a byte for k, and then one for each member
+abbrev pub layout_string : Layout → List ℕ
+layout_string layout = layout.k ∷ layout.members
+
+-- the lawful layout whose string this is, or this fault where there is none
+unfoldable pub layout_of_string : {E : Type 0} → E → List ℕ → Result Layout E
+layout_of_string fault [] = Err fault
+layout_of_string fault (k ∷ members) = checked_layout fault (record { k = k; members = members })

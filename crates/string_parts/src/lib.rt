@@ -1,8 +1,12 @@
-//! What a string of a frame writes: a number in decimal digits, or a lawful layout.
+//! The parts of which the strings of frames and of log entries are made: words, numbers in decimal digits and layouts.
 #![tactic(auto)]
 
-pub use layouts::checked_layout;
-pub use number::{NumberFault, read_number};
+pub use layouts::{checked_layout, read_layout};
+pub use number::read_number;
+pub use text::is_text;
+pub use writing::{push_bytes, push_layout, push_number, push_shared, push_word};
 
 mod layouts;
 mod number;
+mod text;
+mod writing;

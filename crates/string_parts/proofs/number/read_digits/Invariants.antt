@@ -4,5 +4,6 @@ use Rattle.string_parts.specs.Numbers.{digits_from}
 use Rattle.string_parts.proofs.number.read_digits.Given as goal
 
 abbrev pub invariant-loop-byte : goal.invariant-loop-byte
-invariant-loop-byte l =
-    (digits_from l.most l.number (drop l.byte-index l.bytes) ≡ digits_from l.most l.first l.bytes) × (l.number ≤ l.most)
+invariant-loop-byte g l =
+    (digits_from l.bad l.most l.above l.number (drop l.byte-index l.bytes) ≡ digits_from l.bad l.most l.above l.first l.bytes)
+    × (l.number ≤ l.most)

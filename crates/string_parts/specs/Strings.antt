@@ -1,0 +1,7 @@
+-- The contracts that docs/trusted.md lists do not depend on this file; other contracts and proofs do.
+-- The strings of a frame, or of an entry of a log.
+use Rattle.std.specs.Prelude.{ℕ, List}
+
+-- strings of bytes, in order
+abbrev pub Strings : Type 0
+Strings = List (List ℕ)
