@@ -6,6 +6,7 @@ use Rattle.std.specs.Str.{bytes_eq, str_to_ascii_lowercase}
 use Rattle.std.proofs.lemmas.Bool.{eqb-true}
 use Rattle.layout.specs.Layout.{Layout}
 use Rattle.words.specs.Parts.{and_then}
+use Rattle.string_parts.specs.Strings.{Strings}
 use Rattle.client_commands.specs.Arguments.{checked_name, checked_value, only_argument, name_and_value}
 use Rattle.client_commands.specs.Command.{AreWordAndRest, Begins, SaysOfClient, IsShortName, IsShortValue, AskFor, layout_strings}
 use Rattle.client_commands.specs.Layouts.{layout_from}
@@ -22,9 +23,6 @@ use Rattle.words.proofs.PartLemmas.{bind_ok, guarded, chosen, ok_is}
 use Rattle.client_commands.proofs.WordLemmas.{named_ok, named_again, small_is}
 use Rattle.client_commands.proofs.ArgumentLemmas.{only_ok, both_ok, name_ok, value_ok, name_again, value_again}
 use Rattle.client_commands.proofs.MoveLemmas.{layout_from_ok, layout_from_again}
-
-abbrev Strings : Type 0
-Strings = List (List ℕ)
 
 abbrev Read : Type 0
 Read = Result (List ℕ) CommandFault

@@ -1,4 +1,3 @@
-pub mod NumberLemmas
 pub mod WordLemmas
 pub mod ArgumentLemmas
 pub mod MoveLemmas

@@ -7,21 +7,24 @@ use Rattle.std.proofs.lemmas.List.{length-map}
 use Rattle.tag.specs.declared.limits.TheConstants.{LONGEST_NAME, MOST_MEMBERS}
 use Rattle.layout.specs.Layout.{Layout, IsLawful}
 use Rattle.words.specs.Parts.{and_then}
-use Rattle.client_commands.specs.Numbers.{small_number}
+use Rattle.string_parts.specs.Strings.{Strings}
 use Rattle.string_parts.specs.Layouts.{checked_layout}
-use Rattle.client_commands.specs.Layouts.{small_numbers, move_layout, layout_from}
+use Rattle.client_commands.specs.Layouts.{small_number, small_numbers, move_layout, layout_from}
 use Rattle.client_commands.specs.Command.{IsShortName, AreNodes, layout_strings}
 use Rattle.client_commands.specs.declared.command.CommandName.TheVariants as of
 use Rattle.client_commands.specs.declared.fault.CommandFault.{CommandFault}
-use Rattle.client_commands.specs.declared.fault.CommandFault.TheVariants.{WrongCount, NameTooLong, BadLayout}
+use Rattle.client_commands.specs.declared.fault.CommandFault.TheVariants.{WrongCount, NameTooLong, BadNumber, OutOfRange, BadLayout}
 use Rattle.words.proofs.PartLemmas.{bind_ok, guarded_above, ok_is}
 use Rattle.string_parts.proofs.LayoutLemmas.{checked_ok, checked_again}
-use Rattle.client_commands.proofs.NumberLemmas.{number_ok, number_again}
-
-abbrev Strings : Type 0
-Strings = List (List ℕ)
+use Rattle.string_parts.proofs.NumberLemmas.{number_ok as up_to_ok, number_again as up_to_again}
 
 -- ---- numbers
+
+number_ok : (string : List ℕ) (n : ℕ) → small_number string ≡ Ok n → (string ≡ decimal n) × (n ≤ 255)
+number_ok string n e = up_to_ok BadNumber OutOfRange 255 string n (omega arith) (omega arith) e
+
+number_again : (n : ℕ) → n ≤ 255 → small_number (decimal n) ≡ Ok n
+number_again n le = up_to_again BadNumber OutOfRange 255 n le (omega arith)
 
 pub numbers_ok : (strings : Strings) (ns : List ℕ) → small_numbers strings ≡ Ok ns → (strings ≡ map decimal ns) × AreNodes ns
 numbers_ok [] ns e = subst (λ (ms : List ℕ). ([] ≡ map decimal ms) × AreNodes ms) (ok_is [] ns e) (refl, tt)

@@ -2,6 +2,7 @@
 -- The bytes of an answer.
 use Rattle.std.specs.Prelude.{ℕ, List, [], ◌∷◌, ◌++◌, length, codes}
 use Rattle.frames.specs.Frame.{header, line_end, string_bytes}
+use Rattle.string_parts.specs.Strings.{Strings}
 use Rattle.client_commands.specs.Texts.{error_text}
 use Rattle.client_commands.specs.declared.answer.Answer.{Answer}
 use Rattle.client_commands.specs.declared.answer.Answer.TheVariants as answer
@@ -20,7 +21,7 @@ sent_bytes answer.NoCommands = codes "*0" ++ line_end
 sent_bytes (answer.Error error) = error_line (error_text error)
 
 -- the strings in which these bytes are sent: a value is in one of its own
-abbrev pub sent_strings : Answer → List (List ℕ)
+abbrev pub sent_strings : Answer → Strings
 sent_strings answer.Ok = sent_bytes answer.Ok ∷ []
 sent_strings answer.Pong = sent_bytes answer.Pong ∷ []
 sent_strings (answer.Value value) = header 36 (length value) ∷ value ∷ line_end ∷ []

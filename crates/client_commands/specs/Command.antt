@@ -5,17 +5,18 @@ use Rattle.std.specs.List.{AllByRecursion}
 use Rattle.std.specs.Fmt.{decimal}
 use Rattle.tag.specs.declared.limits.TheConstants.{LONGEST_NAME, LONGEST_VALUE}
 use Rattle.layout.specs.Layout.{Layout, IsLawful}
+use Rattle.string_parts.specs.Strings.{Strings}
 use Rattle.client_commands.specs.Words.{is_word}
 use Rattle.client_commands.specs.declared.command.Command.{Command}
 use Rattle.client_commands.specs.declared.command.Command.TheVariants as ask
 
 -- the first string is this word, in capital or small letters, and these are the strings behind it
-abbrev pub AreWordAndRest : List ℕ → List (List ℕ) → List (List ℕ) → Type 0
+abbrev pub AreWordAndRest : List ℕ → Strings → Strings → Type 0
 AreWordAndRest text rest [] = ⊥
 AreWordAndRest text rest (word ∷ strings) = IsTrue (is_word word text) × (strings ≡ rest)
 
 -- the first string is this word, in capital or small letters, and any strings stand behind it
-abbrev pub Begins : List ℕ → List (List ℕ) → Type 0
+abbrev pub Begins : List ℕ → Strings → Type 0
 Begins text [] = ⊥
 Begins text (word ∷ strings) = IsTrue (is_word word text)
 
@@ -32,23 +33,23 @@ abbrev pub AreNodes : List ℕ → Type 0
 AreNodes members = AllByRecursion (λ member. member ≤ 255) members
 
 -- the strings of a layout: its k and its members, in decimal digits
-abbrev pub layout_strings : Layout → List (List ℕ)
+abbrev pub layout_strings : Layout → Strings
 layout_strings layout = decimal layout.k ∷ map decimal layout.members
 
 -- the text of a PING, where it has one
-abbrev pub text_strings : Option (List ℕ) → List (List ℕ)
+abbrev pub text_strings : Option (List ℕ) → Strings
 text_strings None = []
 text_strings (Some text) = text ∷ []
 
 -- the strings are a CLIENT, this word, and so many strings
-abbrev pub SaysOfClient : List ℕ → ℕ → List (List ℕ) → Type 0
+abbrev pub SaysOfClient : List ℕ → ℕ → Strings → Type 0
 SaysOfClient text count [] = ⊥
 SaysOfClient text count (word ∷ []) = ⊥
 SaysOfClient text count (word ∷ what ∷ strings) =
     IsTrue (is_word word (codes "client")) × IsTrue (is_word what text) × (length strings ≡ count)
 
 -- the strings ask for this command
-abbrev pub AskFor : List (List ℕ) → Command → Type 0
+abbrev pub AskFor : Strings → Command → Type 0
 AskFor strings (ask.Get name) = AreWordAndRest (codes "get") (name ∷ []) strings × IsShortName name
 AskFor strings (ask.Set name value) =
     AreWordAndRest (codes "set") (name ∷ value ∷ []) strings × IsShortName name × IsShortValue value

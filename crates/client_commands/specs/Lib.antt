@@ -1,5 +1,4 @@
 pub mod Words
-pub mod Numbers
 pub mod Arguments
 pub mod Layouts
 pub mod Command

@@ -3,6 +3,7 @@
 use Rattle.std.specs.Prelude.{ℕ, List, [], ◌∷◌, length, get_or, Option, Some, None, Result, Ok, Err, ◌==◌, codes}
 use Rattle.std.specs.Prelude.{if◌then◌else◌}
 use Rattle.words.specs.Parts.{and_then}
+use Rattle.string_parts.specs.Strings.{Strings}
 use Rattle.client_commands.specs.Arguments.{checked_name, checked_value, only_argument, name_and_value}
 use Rattle.client_commands.specs.Layouts.{layout_from}
 use Rattle.client_commands.specs.Words.{is_word, name_of_word}
@@ -19,14 +20,14 @@ abbrev pub Found : Type 0
 Found = Result Command CommandFault
 
 -- GET: a name
-unfoldable pub get_from : List (List ℕ) → Found
+unfoldable pub get_from : Strings → Found
 get_from arguments =
     and_then (only_argument of.Get arguments) (λ name.
     and_then (checked_name name) (λ name.
     Ok (ask.Get name)))
 
 -- SET: a name and a value
-unfoldable pub set_from : List (List ℕ) → Found
+unfoldable pub set_from : Strings → Found
 set_from arguments =
     and_then (name_and_value arguments) (λ both.
     and_then (checked_name both.0) (λ name.
@@ -34,16 +35,16 @@ set_from arguments =
     Ok (ask.Set name value))))
 
 -- MOVE: a name, and a layout behind it
-unfoldable pub move_from : List (List ℕ) → Found
+unfoldable pub move_from : Strings → Found
 move_from arguments = and_then (layout_from arguments) (λ layout. Ok (ask.Move (get_or arguments 0 []) layout))
 
 -- PING: a text, or nothing
-unfoldable pub ping_from : List (List ℕ) → Found
+unfoldable pub ping_from : Strings → Found
 ping_from [] = Ok (ask.Ping None)
 ping_from (text ∷ more) = and_then (only_argument of.Ping (text ∷ more)) (λ text. Ok (ask.Ping (Some text)))
 
 -- ECHO: a text
-unfoldable pub echo_from : List (List ℕ) → Found
+unfoldable pub echo_from : Strings → Found
 echo_from arguments = and_then (only_argument of.Echo arguments) (λ text. Ok (ask.Echo text))
 
 -- this command, unless the number of strings is another than it has
@@ -59,12 +60,12 @@ subcommand_from word count =
     else Err UnknownSubcommand))
 
 -- CLIENT: a word, and what belongs to it
-unfoldable pub client_from : List (List ℕ) → Found
+unfoldable pub client_from : Strings → Found
 client_from [] = Err (WrongCount of.Client)
 client_from (word ∷ rest) = subcommand_from word (length rest)
 
 -- the command of this name with these arguments
-abbrev pub command_from : CommandName → List (List ℕ) → Found
+abbrev pub command_from : CommandName → Strings → Found
 command_from of.Get arguments = get_from arguments
 command_from of.Set arguments = set_from arguments
 command_from of.Move arguments = move_from arguments
@@ -76,11 +77,11 @@ command_from of.Client arguments = client_from arguments
 command_from of.Quit arguments = Ok ask.Quit
 
 -- the command of this name, where there is one
-abbrev pub command_named : Option CommandName → List (List ℕ) → Found
+abbrev pub command_named : Option CommandName → Strings → Found
 command_named None arguments = Err UnknownCommand
 command_named (Some name) arguments = command_from name arguments
 
 -- the command that strings are: its name, and its arguments behind it
-unfoldable pub command_at : List (List ℕ) → Found
+unfoldable pub command_at : Strings → Found
 command_at [] = Err UnknownCommand
 command_at (word ∷ arguments) = command_named (name_of_word word) arguments

@@ -14,7 +14,6 @@ mod command;
 mod fault;
 mod laws;
 mod layouts;
-mod number;
 mod reading;
 mod vocabulary;
 mod writing;

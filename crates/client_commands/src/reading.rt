@@ -25,7 +25,7 @@ use frames::Frame;
 
 /// What a frame asks. Names of commands are read without regard to the case of ASCII letters.
 ///
-/// A fault is the first one in the order of `CommandFault`. It asks for no memory.
+/// A fault is the first one in the order of `CommandFault`. The function asks for no memory.
 pub fn read_command(frame: Frame) -> Result<Command, CommandFault>
     // The frame asks for what is read.
     ensures found { IfOk result (λ command. AskFor frame command) }

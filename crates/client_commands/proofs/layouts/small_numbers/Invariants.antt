@@ -2,7 +2,7 @@
 use Rattle.std.proofs.Common.{◌≡◌, drop, length}
 use Rattle.client_commands.specs.Layouts.{small_numbers}
 use Rattle.client_commands.proofs.MoveLemmas.{behind}
-use Rattle.client_commands.proofs.layouts.read_numbers.Given as goal
+use Rattle.client_commands.proofs.layouts.small_numbers.Given as goal
 
 abbrev pub invariant-loop-string : goal.invariant-loop-string
 invariant-loop-string l =
