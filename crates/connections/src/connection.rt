@@ -22,9 +22,9 @@ pub struct Connection {
 impl Connection {
     ghost use Rattle.std.specs.Prelude.{◌≡◌, ◌≢◌, ◌++◌, ◌∷◌, [], OnOk, IfSome, IfNone, IsNone};
     ghost use Rattle.connections.specs.declared.connection.State.TheVariants.{Idle, Busy};
-    ghost use Rattle.connections.specs.Connections.{Takes};
+    ghost use Rattle.connections.specs.Connections.{TakesNext};
 
-    /// A command has come. It fails only where memory is refused.
+    /// Keeps a command that has come, behind those that wait. This fails only where memory is refused.
     pub(crate) fn push(&mut self, command: Frame) -> Result<(), std::alloc::AllocError>
         ensures waiting { OnOk result (self.new.waiting.items ≡ self.old.waiting.items ++ command ∷ []) }
         ensures state { self.new.state ≡ self.old.state }
@@ -35,7 +35,7 @@ impl Connection {
 
     /// The next command, if the connection is idle and one waits. The connection is then busy.
     pub(crate) fn next(&mut self) -> Option<Frame>
-        ensures { Takes self.old self.new result }
+        ensures { TakesNext self.old self.new result }
     {
         if self.state != State::Idle {
             return None;

@@ -2,7 +2,7 @@
 ghost use Rattle.std.specs.Prelude.{◌≡◌, ◌≢◌, ◌++◌, ◌∷◌, ℕ, [], nat_eq, None, OnOk, IsSome, is_some, if◌then◌else◌};
 ghost use Rattle.indexmap.specs.IndexMap.{get, index_map_len};
 ghost use Rattle.connections.specs.declared.connection.State.TheVariants.{Idle, Quit};
-ghost use Rattle.connections.specs.Connections.{waiting_on, state_of, TakesAt};
+ghost use Rattle.connections.specs.Connections.{waiting_on, doing, TakesNextAt};
 
 use crate::connection::{Connection, State};
 use frames::Frame;
@@ -19,7 +19,7 @@ pub struct Connections {
 }
 
 impl Connections {
-    /// No connections.
+    /// A table without connections.
     pub fn new(alloc: Global) -> Connections
         ensures { result.by_number.entries ≡ [] }
     {
@@ -36,13 +36,13 @@ impl Connections {
         self.by_number.len()
     }
 
-    /// A command has come on the connection of this number, which is made where there is none. It fails only where
-    /// memory is refused.
+    /// Keeps a command that has come on the connection of this number. Where there is no such connection, it is made.
+    /// This fails only where memory is refused.
     pub fn push(&mut self, number: u64, command: Frame) -> Result<(), AllocError>
         ensures waiting { OnOk result (waiting_on (get nat_eq self.new.by_number number)
             ≡ waiting_on (get nat_eq self.old.by_number number) ++ command ∷ []) }
-        ensures state { OnOk result (state_of (get nat_eq self.new.by_number number)
-            ≡ state_of (get nat_eq self.old.by_number number)) }
+        ensures state { OnOk result (doing (get nat_eq self.new.by_number number)
+            ≡ doing (get nat_eq self.old.by_number number)) }
         ensures others { OnOk result ((other : ℕ) → other ≢ number
             → get nat_eq self.new.by_number other ≡ get nat_eq self.old.by_number other) }
     {
@@ -56,7 +56,7 @@ impl Connections {
     fn open(&mut self, number: u64, command: Frame) -> Result<(), AllocError>
         requires { get nat_eq self.old.by_number number ≡ None }
         ensures waiting { OnOk result (waiting_on (get nat_eq self.new.by_number number) ≡ command ∷ []) }
-        ensures state { OnOk result (state_of (get nat_eq self.new.by_number number) ≡ Idle) }
+        ensures state { OnOk result (doing (get nat_eq self.new.by_number number) ≡ Idle) }
         ensures others { OnOk result ((other : ℕ) → other ≢ number
             → get nat_eq self.new.by_number other ≡ get nat_eq self.old.by_number other) }
     {
@@ -71,7 +71,8 @@ impl Connections {
     /// The next command of the connection of this number, which is then busy. None, and nothing changes, where no
     /// command waits, where the connection is busy or has quit, and where there is none of this number.
     pub fn next(&mut self, number: u64) -> Option<Frame>
-        ensures taken { TakesAt (get nat_eq self.old.by_number number) (get nat_eq self.new.by_number number) result }
+        ensures taken { TakesNextAt (get nat_eq self.old.by_number number)
+            (get nat_eq self.new.by_number number) result }
         ensures others { (other : ℕ) → other ≢ number
             → get nat_eq self.new.by_number other ≡ get nat_eq self.old.by_number other }
     {
@@ -81,10 +82,11 @@ impl Connections {
         }
     }
 
-    /// The command of a connection is answered. Returns whether the connection is there to be told.
+    /// Notes that the command of a connection is answered, so that the connection is idle. Returns whether there is a
+    /// connection of this number.
     pub fn answered(&mut self, number: u64) -> bool
         ensures told { result ≡ is_some (get nat_eq self.old.by_number number) }
-        ensures state { state_of (get nat_eq self.new.by_number number) ≡ Idle }
+        ensures state { doing (get nat_eq self.new.by_number number) ≡ Idle }
         ensures waiting { waiting_on (get nat_eq self.new.by_number number)
             ≡ waiting_on (get nat_eq self.old.by_number number) }
         ensures others { (other : ℕ) → other ≢ number
@@ -99,10 +101,10 @@ impl Connections {
         }
     }
 
-    /// The client of a connection has quit, if the connection is there.
+    /// Notes that the client of a connection has quit, if the connection is there.
     pub fn quit(&mut self, number: u64)
         ensures state { IsSome (get nat_eq self.old.by_number number)
-            → state_of (get nat_eq self.new.by_number number) ≡ Quit }
+            → doing (get nat_eq self.new.by_number number) ≡ Quit }
         ensures others { (other : ℕ) → other ≢ number
             → get nat_eq self.new.by_number other ≡ get nat_eq self.old.by_number other }
     {
@@ -111,7 +113,7 @@ impl Connections {
         }
     }
 
-    /// A connection has ended, with the commands that waited on it.
+    /// Removes a connection that has ended, with the commands that waited on it.
     pub fn leave(&mut self, number: u64)
         ensures gone { get nat_eq self.new.by_number number ≡ None }
         ensures others { (other : ℕ) → other ≢ number
