@@ -1,0 +1,89 @@
+//! Why a node stops.
+use cluster_file::DIGEST_LENGTH;
+use frames::FrameError;
+use node_messages::MessageError;
+use std::alloc::{AllocError, AllocFailed};
+use tag::Refusal;
+use thiserror::Error;
+
+/// Why a node cannot go on. What it keeps is then not to be used any more: the node is started again from its log.
+#[derive(Clone, Copy, Debug, PartialEq, Eq, Error)]
+pub enum NodeError {
+    /// Memory is refused.
+    #[error("out of memory")]
+    NoMemory,
+    /// The node began as many epochs as there are, so that it has no more ids for its calls.
+    #[error("no more ids for calls")]
+    NoMoreIds,
+    /// A message has no frame, or an entry is too long. A node makes no such message and no such entry.
+    #[error("a message that has no frame")]
+    Unwritable,
+    /// An object refused what a node may always do.
+    #[error("refused: {0}")]
+    Refused(Refusal),
+}
+
+impl From<AllocError> for NodeError {
+    fn from(_error: AllocError) -> NodeError {
+        NodeError::NoMemory
+    }
+}
+
+impl<T: Drop> From<AllocFailed<T>> for NodeError {
+    fn from(_error: AllocFailed<T>) -> NodeError {
+        NodeError::NoMemory
+    }
+}
+
+impl From<MessageError> for NodeError {
+    fn from(error: MessageError) -> NodeError {
+        match error {
+            MessageError::NoMemory => NodeError::NoMemory,
+            MessageError::Fault(_) => NodeError::Unwritable,
+        }
+    }
+}
+
+impl From<FrameError> for NodeError {
+    fn from(error: FrameError) -> NodeError {
+        match error {
+            FrameError::NoMemory => NodeError::NoMemory,
+            FrameError::Fault(_) | FrameError::Failed(_) => NodeError::Unwritable,
+        }
+    }
+}
+
+impl From<Refusal> for NodeError {
+    fn from(refusal: Refusal) -> NodeError {
+        match refusal {
+            Refusal::NoMemory => NodeError::NoMemory,
+            refusal => NodeError::Refused(refusal),
+        }
+    }
+}
+
+/// Why an entry of a log cannot be carried out again.
+#[derive(Clone, Copy, Debug, PartialEq, Eq, Error)]
+pub enum RecoveryError {
+    /// The log does not begin with the entry that names the cluster and the node.
+    #[error("the log does not begin with a cluster")]
+    NoCluster,
+    /// The log is that of a cluster whose file has another digest.
+    #[error("the log is of another cluster: a setting that is fixed at the first start differs in the cluster file")]
+    OtherCluster([u8; DIGEST_LENGTH]),
+    /// The log is that of the node of this number.
+    #[error("the log is that of node {0}")]
+    OtherNode(u8),
+    /// The entry is none that a node makes.
+    #[error("no entry of a node")]
+    NoEntry,
+    /// The entry cannot be carried out.
+    #[error("{0}")]
+    Stopped(NodeError),
+}
+
+impl From<NodeError> for RecoveryError {
+    fn from(error: NodeError) -> RecoveryError {
+        RecoveryError::Stopped(error)
+    }
+}

@@ -1,0 +1,9 @@
+use bytes::Bytes;
+use local_object::Letter;
+
+/// A letter, with the name of the object that it is about.
+#[derive(Debug, Drop)]
+pub struct NamedLetter {
+    pub name: Bytes,
+    pub letter: Letter,
+}

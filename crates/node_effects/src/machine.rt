@@ -1,0 +1,31 @@
+use crate::effects::Effects;
+use crate::error::{NodeError, RecoveryError};
+use frames::Frame;
+use node_log::Entry;
+
+/// A deterministic machine over frames, with a log.
+pub trait Machine {
+    ghost use Rattle.std.specs.Prelude.{ℕ, List, OnOk, IfOk};
+    ghost use Rattle.node_effects.specs.declared.effects.Effects.{Effects as Wanted};
+
+    // What the machine is after an entry of its log was carried out again.
+    ghost carries_out: { Self → List (List ℕ) → Self → Type 0 };
+
+    // What the machine wants done after a frame, and what it is then.
+    ghost handles: { Self → List (List ℕ) → Wanted → Self → Type 0 };
+
+    // What the machine is after it was told how long the log is.
+    ghost notes: { Self → ℕ → Self → Type 0 };
+
+    /// Carries out the next entry of the log again.
+    fn recover(&mut self, entry: Entry) -> Result<(), RecoveryError>
+        ensures { OnOk result (carries_out self.old entry self.new) };
+
+    /// Handles a frame that has come.
+    fn handle(&mut self, frame: Frame) -> Result<Effects, NodeError>
+        ensures { IfOk result (λ effects. handles self.old frame effects self.new) };
+
+    /// Is told how long the log is, in bytes.
+    fn note_log(&mut self, bytes: u64)
+        ensures { notes self.old bytes self.new };
+}

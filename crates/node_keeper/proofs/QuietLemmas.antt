@@ -1,0 +1,190 @@
+-- Letters that are served and taken, and calls that are given up, as what a node does.
+use Rattle.std.proofs.Common.{◌≡◌, inl, inr, ℕ, Bool, true, false, cond, List, [], ◌∷◌, ◌++◌, map}
+use Rattle.std.proofs.Common.{Option, None, Some, refl, sym, subst, ap}
+use Rattle.std.specs.List.{AllByRecursion}
+use Rattle.encoder.specs.Fragment.{fragment}
+use Rattle.call.specs.Call.{OpenCall as Machine}
+use Rattle.call.specs.declared.next.Next.{Next}
+use Rattle.call.specs.declared.next.Next.TheVariants as next
+use Rattle.call_ids.specs.CallId.{CallIds}
+use Rattle.network.specs.Worlds.{NodeCall, open_call}
+use Rattle.local_object.specs.declared.letter.Letter.{Letter}
+use Rattle.local_object.specs.declared.progress.Ended.{Ended}
+use Rattle.local_object.specs.Doing.{IsDone, give_up_events, gives_up, is_served, serve_events}
+use Rattle.local_object.specs.Ended.{all_told}
+use Rattle.local_object.specs.Events.{LocalEvent, all_done}
+use Rattle.local_object.specs.Going.{next_here}
+use Rattle.local_object.specs.Local.{LocalObject, Place}
+use Rattle.local_object.specs.Taking.{AreSettling, HasDoneBy, IsTaken, call_events, can_begin}
+use Rattle.local_object.specs.Taking.{lead_events, machine_of, step_events}
+use Rattle.deeds.specs.Deeds.{Notice as Seen}
+use Rattle.deeds.specs.Ids.{IsLater}
+use Rattle.deeds.specs.May.{IsEventFed}
+use Rattle.deeds.specs.Named.{NamedLetter as Named, with_names}
+use Rattle.deeds.proofs.IdLemmas.{later_same}
+use Rattle.deeds.proofs.ListLemmas.{all_append}
+use Rattle.deeds.proofs.MethodLemmas.{BeginsNone, if_all, quiet_handled}
+use Rattle.recoveries.specs.Copies.{IsLogged}
+use Rattle.recoveries.specs.Records.{LogRecord}
+use Rattle.node_objects.specs.Objects.{IsChangedAt, objects_of}
+use Rattle.node_effects.specs.Seen.{all_seen}
+use Rattle.node_effects.specs.Work.{Growth, IsGrown}
+use Rattle.node_effects.specs.declared.work.Work.{Work}
+use Rattle.node_keeper.specs.Acts.{Acts}
+use Rattle.node_keeper.specs.Keeping.{kept_of}
+use Rattle.node_keeper.specs.Logging.{IsReadBack, entry_of}
+use Rattle.node_keeper.specs.Sendings.{IsAddressed, Sending, letters_of, posted, to_itself}
+use Rattle.node_keeper.specs.declared.keeper.Keeper.{Keeper}
+use Rattle.node_keeper.proofs.ActLemmas.{AreFew, few_safe, safe_as}
+use Rattle.node_keeper.proofs.BegunLemmas.{file_same}
+
+-- the parts of what a node does that say what goes out, what the log gets, and what clients see
+pub record GoesOut (asker : ℕ) (keeper : Keeper) (before after : Work) (records : List LogRecord) (letters : List Named)
+    (seen : List Seen) : Type 0 where
+  pub sends : List Sending
+  pub growth : Growth
+  pub grown : IsGrown before after growth
+  pub entries : growth.entries ≡ map (entry_of keeper.digest) records
+  pub read : AllByRecursion (IsReadBack keeper.digest) records
+  pub to_nodes : growth.to_nodes ≡ posted keeper.ids.node keeper.digest sends
+  pub own : growth.own ≡ to_itself keeper.ids.node sends
+  pub addressed : AllByRecursion (IsAddressed keeper.ids.node asker) sends
+  pub those : letters_of sends ≡ letters
+  pub told : all_seen growth.notices ≡ seen
+
+-- events at the object of a name that begin no call
+pub quiet_acts : (asker : ℕ) (got : List Named) (old new : Keeper) (before after : Work) (name : List ℕ)
+    (events : List LocalEvent) (local : LocalObject) (letters : List Letter) (records : List LogRecord) →
+    new.file ≡ old.file → new.digest ≡ old.digest → new.ids ≡ old.ids →
+    IsDone (objects_of old.objects name) events local letters → IsChangedAt old.objects name local new.objects →
+    AllByRecursion (IsEventFed got name) events → AllByRecursion BeginsNone events → AreFew records →
+    IsLogged (kept_of old) records (kept_of new) → GoesOut asker old before after records (with_names name letters)
+    (map (Seen.Tells name) (all_told fragment (objects_of old.objects name) events)) → Acts asker got old before new after
+quiet_acts asker got old new before after name events local letters records file digest ids done changed fed none few logged out =
+    let tells = map (Seen.Tells name) (all_told fragment (objects_of old.objects name) events) in record {
+      sends = out.sends;
+      records = records;
+      growth = out.growth;
+      grown = out.grown;
+      entries = out.entries;
+      read = out.read;
+      to_nodes = out.to_nodes;
+      own = out.own;
+      addressed = out.addressed;
+      handled = λ within. safe_as (kept_of old) got records (kept_of new) (with_names name letters) (letters_of out.sends) tells
+          (all_seen out.growth.notices)
+          (few_safe (kept_of old) got records (kept_of new) (with_names name letters) tells few within
+          (quiet_handled (kept_of old) got name events local letters (kept_of new) done fed none
+          (subst (λ after. IsLater old.ids after) (sym ids) (later_same old.ids within))
+          (file_same old new file changed.settings) changed.objects) logged) out.those out.told;
+      node = ap (λ (i : CallIds). i.node) ids;
+      digest = digest;
+    }
+
+-- Serving
+
+module _ (name : List ℕ) (letter : Letter) (local : LocalObject) where
+  abbrev got : List Named
+  got = record { name = name; letter = letter } ∷ []
+
+  pub serve_fed : AllByRecursion (IsEventFed got name) (serve_events local letter)
+  serve_fed = if_all (IsEventFed got name) (LocalEvent.Serve letter) (is_served local letter) (0, refl)
+
+  pub serve_none : AllByRecursion BeginsNone (serve_events local letter)
+  serve_none = if_all BeginsNone (LocalEvent.Serve letter) (is_served local letter) refl
+
+  pub serve_told : all_told fragment local (serve_events local letter) ≡ []
+  serve_told = go (is_served local letter)
+    where
+      go : (b : Bool) → all_told fragment local (cond b (LocalEvent.Serve letter ∷ []) []) ≡ []
+      go true = refl
+      go false = refl
+
+-- Taking
+
+-- the event begins no call, and takes no letter but one of these
+abbrev IsQuiet : List Named → (name : List ℕ) → LocalEvent → Type 0
+IsQuiet got name event = IsEventFed got name event × BeginsNone event
+
+module _ (got : List Named) (name : List ℕ) where
+  step_quiet : (places : List Place) (call : Machine) (step : Next) →
+      AllByRecursion (IsQuiet got name) (step_events places call step)
+  step_quiet places call next.Wait = tt
+  step_quiet places call next.Settle = tt
+  step_quiet places call (next.Restart kind position) =
+      if_all (IsQuiet got name) (LocalEvent.Advance call.id) (can_begin places call kind position) (tt, refl)
+  step_quiet places call (next.Begin kind position) =
+      if_all (IsQuiet got name) (LocalEvent.Advance call.id) (can_begin places call kind position) (tt, refl)
+  step_quiet places call next.Answer = ((tt, refl), tt)
+
+  call_quiet : (places : List Place) (call : Option NodeCall) → AllByRecursion (IsQuiet got name) (call_events places call)
+  call_quiet places None = tt
+  call_quiet places (Some call) = step_quiet places (machine_of call) (next_here (machine_of call))
+
+  settle_quiet : (local : LocalObject) (id : ℕ) (events : List LocalEvent) → AreSettling local id events →
+      AllByRecursion (IsQuiet got name) events
+  settle_quiet local id events (inl none) = subst (λ es. AllByRecursion (IsQuiet got name) es) (sym none.0) tt
+  settle_quiet local id events (inr one) =
+      subst (λ es. AllByRecursion (IsQuiet got name) es) (sym one.2) ((tt, refl), tt)
+
+-- what was done, as its events, with what each of them needs
+pub record IsDoneQuietly (got : List Named) (name : List ℕ) (old local : LocalObject) (letters : List Letter)
+    (ended : List Ended) : Type 0 where
+  pub events : List LocalEvent
+  pub done : IsDone old events local letters
+  pub told : ended ≡ all_told fragment old events
+  pub fed : AllByRecursion (IsEventFed got name) events
+  pub none : AllByRecursion BeginsNone events
+
+firsts : (P Q : LocalEvent → Type 0) (events : List LocalEvent) → AllByRecursion (λ e. P e × Q e) events → AllByRecursion P events
+firsts P Q [] all = tt
+firsts P Q (e ∷ es) all = (all.0.0, firsts P Q es all.1)
+
+seconds : (P Q : LocalEvent → Type 0) (events : List LocalEvent) → AllByRecursion (λ e. P e × Q e) events → AllByRecursion Q events
+seconds P Q [] all = tt
+seconds P Q (e ∷ es) all = (all.0.1, seconds P Q es all.1)
+
+by_quietly : (got : List Named) (name : List ℕ) (old local : LocalObject) (letters : List Letter) (ended : List Ended)
+    (events : List LocalEvent) → HasDoneBy old events local letters ended → AllByRecursion (IsQuiet got name) events →
+    IsDoneQuietly got name old local letters ended
+by_quietly got name old local letters ended events by quiet = record {
+  events = events;
+  done = by.done;
+  told = by.told;
+  fed = firsts (IsEventFed got name) BeginsNone events quiet;
+  none = seconds (IsEventFed got name) BeginsNone events quiet;
+}
+
+pub taken_quietly : (name : List ℕ) (letter : Letter) (taken : Bool) (old local : LocalObject) (letters : List Letter)
+    (ended : List Ended) → IsTaken taken old letter local letters ended →
+    IsDoneQuietly (record { name = name; letter = letter } ∷ []) name old local letters ended
+taken_quietly name letter false old local letters ended by =
+    by_quietly (record { name = name; letter = letter } ∷ []) name old local letters ended [] by tt
+taken_quietly name letter true old local letters ended goes =
+    let got : List Named = record { name = name; letter = letter } ∷ [] in
+    let first = LocalEvent.Take letter ∷ goes.settling in
+    let last = lead_events (all_done fragment old first).local letter.message.call in
+    by_quietly got name old local letters ended (first ++ last) goes.leads
+    (all_append (IsQuiet got name) first last (
+      ((0, refl), refl),
+      settle_quiet got name (all_done fragment old (LocalEvent.Take letter ∷ [])).local letter.message.call
+          goes.settling goes.settles,
+    )
+    (call_quiet got name (all_done fragment old first).local.places
+    (open_call (all_done fragment old first).local.calls letter.message.call)))
+
+-- Giving up
+
+module _ (got : List Named) (name : List ℕ) (id : ℕ) (local : LocalObject) where
+  pub give_up_fed : AllByRecursion (IsEventFed got name) (give_up_events local id)
+  give_up_fed = if_all (IsEventFed got name) (LocalEvent.GiveUp id) (gives_up local id) tt
+
+  pub give_up_none : AllByRecursion BeginsNone (give_up_events local id)
+  give_up_none = if_all BeginsNone (LocalEvent.GiveUp id) (gives_up local id) refl
+
+  pub give_up_told : all_told fragment local (give_up_events local id) ≡ []
+  give_up_told = go (gives_up local id)
+    where
+      go : (b : Bool) → all_told fragment local (cond b (LocalEvent.GiveUp id ∷ []) []) ≡ []
+      go true = refl
+      go false = refl

@@ -1,0 +1,77 @@
+-- Letters that go out one after another.
+use Rattle.std.proofs.Common.{◌≡◌, inl, ℕ, Bool, true, false, cond, ◌==◌, List, [], ◌∷◌, ◌++◌, refl, sym, ap, ◌∙◌}
+use Rattle.std.proofs.lemmas.List.{map-append}
+use Rattle.std.specs.List.{AllByRecursion}
+use Rattle.deeds.specs.Named.{with_names}
+use Rattle.local_object.specs.declared.letter.Letter.{Letter}
+use Rattle.node_effects.specs.Seen.{named_of}
+use Rattle.node_effects.specs.Work.{IsGrown, both_grown, no_growth}
+use Rattle.node_effects.specs.declared.work.Work.{Work}
+use Rattle.node_effects.proofs.GrowthLemmas.{grown_as, grown_then}
+use Rattle.node_effects.specs.declared.letter.NamedLetter.{NamedLetter}
+use Rattle.node_keeper.specs.Sendings.{IsAddressed, Sending, asked, frame_to, letters_of, member_or, posted, sent_growth, to_itself, to_one}
+
+pub letters_append : (xs ys : List Sending) → letters_of (xs ++ ys) ≡ letters_of xs ++ letters_of ys
+letters_append xs ys = map-append (λ (send : Sending). named_of send.it) xs ys
+
+pub posted_append : (number : ℕ) (digest : List ℕ) (xs ys : List Sending) →
+    posted number digest (xs ++ ys) ≡ posted number digest xs ++ posted number digest ys
+posted_append number digest [] ys = refl
+posted_append number digest (x ∷ xs) ys = go (x.to == number) (posted_append number digest xs ys)
+  where
+    go : (b : Bool) → posted number digest (xs ++ ys) ≡ posted number digest xs ++ posted number digest ys →
+        cond b (posted number digest (xs ++ ys)) (frame_to digest x ∷ posted number digest (xs ++ ys)) ≡
+        cond b (posted number digest xs) (frame_to digest x ∷ posted number digest xs) ++ posted number digest ys
+    go true e = e
+    go false e = ap (λ zs. frame_to digest x ∷ zs) e
+
+pub to_itself_append : (number : ℕ) (xs ys : List Sending) →
+    to_itself number (xs ++ ys) ≡ to_itself number xs ++ to_itself number ys
+to_itself_append number [] ys = refl
+to_itself_append number (x ∷ xs) ys = go (x.to == number) (to_itself_append number xs ys)
+  where
+    go : (b : Bool) → to_itself number (xs ++ ys) ≡ to_itself number xs ++ to_itself number ys →
+        cond b (x.it ∷ to_itself number (xs ++ ys)) (to_itself number (xs ++ ys)) ≡
+        cond b (x.it ∷ to_itself number xs) (to_itself number xs) ++ to_itself number ys
+    go true e = ap (λ zs. x.it ∷ zs) e
+    go false e = e
+
+pub sent_append : (number : ℕ) (digest : List ℕ) (xs ys : List Sending) →
+    both_grown (sent_growth number digest xs) (sent_growth number digest ys) ≡ sent_growth number digest (xs ++ ys)
+sent_append number digest xs ys = go _ _ _ _ (posted_append number digest xs ys) (to_itself_append number xs ys)
+  where
+    go : (p q : List (List (List ℕ))) (o r : List NamedLetter) → p ≡ q → o ≡ r →
+        record no_growth { to_nodes = q; own = r } ≡ record no_growth { to_nodes = p; own = o }
+    go p q o r e f = λ i. record no_growth { to_nodes = (sym e) i; own = (sym f) i }
+
+pub asked_append : (number : ℕ) (name : List ℕ) (xs ys : List Letter) →
+    asked number name (xs ++ ys) ≡ asked number name xs ++ asked number name ys
+asked_append number name [] ys = refl
+asked_append number name (x ∷ xs) ys =
+    ap (λ zs. record { to = member_or number x; it = record { name = name; letter = x } } ∷ zs) (asked_append number name xs ys)
+
+pub asked_letters : (number : ℕ) (name : List ℕ) (letters : List Letter) →
+    letters_of (asked number name letters) ≡ with_names name letters
+asked_letters number name [] = refl
+asked_letters number name (x ∷ xs) =
+    ap (λ zs. record { name = name; letter = x } ∷ zs) (asked_letters number name xs)
+
+pub asked_addressed : (number asker : ℕ) (name : List ℕ) (letters : List Letter) →
+    AllByRecursion (IsAddressed number asker) (asked number name letters)
+asked_addressed number asker name [] = tt
+asked_addressed number asker name (x ∷ xs) = (inl refl, asked_addressed number asker name xs)
+
+-- one more letter goes out
+pub asked_more : (number : ℕ) (digest name : List ℕ) (letters : List Letter) (letter : Letter) (before now after : Work) →
+    IsGrown before now (sent_growth number digest (asked number name letters)) →
+    IsGrown now after (sent_growth number digest (to_one (member_or number letter) (record { name = name; letter = letter }))) →
+    IsGrown before after (sent_growth number digest (asked number name (letters ++ letter ∷ [])))
+asked_more number digest name letters letter before now after first second =
+    let one = to_one (member_or number letter) (record { name = name; letter = letter }) in
+    grown_as before after
+    (both_grown (sent_growth number digest (asked number name letters)) (sent_growth number digest one))
+    (sent_growth number digest (asked number name (letters ++ letter ∷ [])))
+    (grown_then before now after (sent_growth number digest (asked number name letters)) (sent_growth number digest one)
+    first second)
+    (sent_append number digest (asked number name letters) one
+    ∙ ap (λ sends. sent_growth number digest sends) (sym (asked_append number name letters (letter ∷ []))))

@@ -1,0 +1,46 @@
+-- The contracts that docs/trusted.md lists do not depend on this file; other contracts and proofs do.
+-- What a node keeps, as the definitions of deeds have it.
+use Rattle.std.specs.Prelude.{◌==◌, ◌&&◌, ◌||◌, not, Bool, if◌then◌else◌, nat_lt, List, [], ◌∷◌, length}
+use Rattle.cluster_file.specs.File.{FileContents, placement_of}
+use Rattle.placement.specs.Placement.{placed}
+use Rattle.local_object.specs.declared.letter.Letter.{Letter}
+use Rattle.local_object.specs.Agreement.{agrees, knows_all_of}
+use Rattle.deeds.specs.Kept.{FileOfNames, KeptNode}
+use Rattle.deeds.specs.Named.{NamedLetter as Named}
+use Rattle.node_objects.specs.Objects.{first_layout_of, objects_of}
+use Rattle.node_keeper.specs.declared.keeper.Keeper.{Keeper}
+
+-- what a cluster file says
+abbrev pub names_of : FileContents → FileOfNames
+names_of file = record {
+  delta = file.fixed.delta;
+  mover = file.fixed.mover;
+  first = placed (placement_of file.fixed);
+}
+
+-- what the cluster file of a node says, and how it places names
+abbrev pub file_of : Keeper → FileOfNames
+file_of keeper = record {
+  delta = keeper.objects.delta;
+  mover = keeper.file.fixed.mover;
+  first = first_layout_of keeper.objects;
+}
+
+-- what the node keeps
+abbrev pub kept_of : Keeper → KeptNode
+kept_of keeper = record { file = file_of keeper; objects = objects_of keeper.objects; ids = keeper.ids }
+
+-- whether a letter names a member of its layout
+abbrev pub names_member : Letter → Bool
+names_member letter = nat_lt letter.message.member (length letter.layout.members)
+
+-- whether the node heeds a letter: it names a member of its layout, no layout in it is another one than the node has
+-- heard of, and the node that moves objects has heard of each
+abbrev pub heeds : KeptNode → Named → Bool
+heeds node it =
+    names_member it.letter && (agrees (node.objects it.name) it.letter
+    && (not (node.ids.node == node.file.mover) || knows_all_of (node.objects it.name) it.letter))
+
+-- the letter, if the node heeds it
+abbrev pub if_heeded : KeptNode → Named → List Named
+if_heeded node it = if heeds node it then it ∷ [] else []

@@ -1,0 +1,4 @@
+pub mod Keeping
+pub mod Sendings
+pub mod Logging
+pub mod Acts

@@ -1,0 +1,22 @@
+use local_object::Ended;
+use tag::{CallId, Refusal};
+
+/// What became of a letter.
+#[derive(Debug, Drop)]
+pub enum Delivered {
+    /// It was dropped: its layouts are not those that the node has heard of.
+    Dropped,
+    /// It was served or taken, and no call of this node ended.
+    Handled,
+    /// It was taken, and this call of this node was answered.
+    Ended(Ended),
+}
+
+/// What became of a call that was to begin.
+#[derive(Clone, Copy, Debug, PartialEq, Eq)]
+pub enum Begun {
+    /// The call with this id is open.
+    Open(CallId),
+    /// The object refused it.
+    Refused(Refusal),
+}

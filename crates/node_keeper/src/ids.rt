@@ -1,0 +1,68 @@
+//! The ids of a node's calls, with the node's number.
+ghost use Rattle.std.specs.Prelude.{◌≡◌, ◌^◌, nat_lt, suc};
+ghost use Rattle.call_ids.specs.CallId.{HasRanges, after_given, with_next_epoch, next_given_id};
+
+use call_ids::CallIds;
+use std::marker::Model;
+use tag::CallId;
+
+/// Gives the calls of the node of this number their ids.
+#[derive(Debug, Drop)]
+pub struct OwnIds {
+    number: u8,
+    ids: CallIds,
+}
+
+impl Model for OwnIds {
+    ghost use Rattle.std.specs.Prelude.{◌≡◌};
+    ghost use Rattle.call_ids.specs.CallId.{CallIds as Ids, HasRanges};
+
+    ghost Value = { Ids };
+
+    ghost view = { λ i. i.ids };
+
+    ghost invariant = { λ i. (i.ids.node ≡ i.number) × HasRanges i.ids };
+}
+
+impl OwnIds {
+    /// Those of the node of this number, before its first epoch.
+    pub fn new(number: u8) -> OwnIds
+        ensures { result ≡ record { node = number; epoch = 0; given = 0 } }
+    {
+        OwnIds {
+            number,
+            ids: CallIds::new(number),
+        }
+    }
+
+    /// The number of the node.
+    pub fn number(&self) -> u8
+        ensures number { result ≡ self.now.node }
+        ensures within { HasRanges self.now }
+    {
+        self.number
+    }
+
+    /// The number of epochs that were begun, below 2^24.
+    pub fn epoch(&self) -> u32
+        ensures { result ≡ self.now.epoch }
+    {
+        self.ids.epoch()
+    }
+
+    /// Begins the next epoch, and returns whether there was one more. Where there was none, nothing changes.
+    pub fn begin_epoch(&mut self) -> bool
+        ensures more { result ≡ nat_lt (suc self.old.epoch) (2 ^ 24) }
+        ensures begun { self.new ≡ with_next_epoch self.old }
+    {
+        self.ids.begin_epoch()
+    }
+
+    /// The next id, which differs from all that were given before. None where the epoch has given all of its 2^32 ids.
+    pub fn next_id(&mut self) -> Option<CallId>
+        ensures id { result ≡ next_given_id self.old }
+        ensures given { self.new ≡ after_given self.old }
+    {
+        self.ids.next_id()
+    }
+}

@@ -1,0 +1,161 @@
+//! Letters that have come.
+ghost use Rattle.std.specs.Prelude.{◌≡◌, ◌∷◌, [], ℕ, true, false, IfOk, OnOk};
+ghost use Rattle.layout.specs.Layout.{IsLawful};
+ghost use Rattle.local_object.specs.Changing.{IsUnchangedBy, is_changed_by};
+ghost use Rattle.node_objects.specs.Objects.{objects_of};
+ghost use Rattle.local_object.specs.Doing.{has_move_open};
+ghost use Rattle.recoveries.specs.Copies.{IsHeeded};
+ghost use Rattle.recoveries.specs.Records.{LogRecord};
+ghost use Rattle.node_keeper.specs.Logging.{IsReadBack};
+ghost use Rattle.node_effects.specs.Seen.{named_of};
+ghost use Rattle.node_effects.specs.Work.{IsGrown};
+ghost use Rattle.node_keeper.specs.Acts.{Acts, serve_growth, take_growth, tell_growth};
+ghost use Rattle.node_keeper.specs.Keeping.{heeds, if_heeded, kept_of};
+
+use super::Keeper;
+use crate::delivered::Delivered;
+use crate::post::{framed, is_request};
+use bytes::Bytes;
+use local_object::Ended;
+use node_effects::{NamedLetter, NodeError, Notice, Work};
+use node_strings::Record;
+
+impl Keeper {
+    /// A letter has come from the node of this number, which may be this node itself. It is served or taken, unless its
+    /// layouts are not those that the node has heard of, or it names no member. What may change a bank, and what an
+    /// open move takes, goes to the log first.
+    ///
+    /// `NoMemory`. `Unwritable` where the letter is no message.
+    pub fn deliver(
+        &mut self,
+        sender: u8,
+        it: NamedLetter,
+        work: &mut Work,
+    ) -> Result<Delivered, NodeError>
+        ensures acts { OnOk result
+            (Acts sender (if_heeded (kept_of self.old) (named_of it)) self.old work.old self.new work.new) }
+    {
+        if !self.heeds(&it)? {
+            return Ok(Delivered::Dropped);
+        }
+        if is_request(&it.letter) {
+            self.serve(sender, it, work)
+        } else {
+            self.take(it, work)
+        }
+    }
+
+    // Whether a letter names a member of its layout, no layout in it is another one than the node has heard of, and the
+    // node that moves objects has heard of each.
+    fn heeds(&self, it: &NamedLetter) -> Result<bool, NodeError>
+        ensures heeds { IfOk result (λ is. is ≡ heeds (kept_of self.now) (named_of it.now)) }
+        ensures lawful { IfOk result (λ is. is ≡ true → IsLawful it.now.letter.layout) }
+    {
+        if it.letter.message.member >= it.letter.layout.n() {
+            return Ok(false);
+        }
+        if !self.objects.agrees_with(&it.name, &it.letter)? {
+            return Ok(false);
+        }
+        if !self.is_mover() {
+            return Ok(true);
+        }
+        Ok(self.objects.knows_all_of(&it.name, &it.letter)?)
+    }
+
+    // Serves a request, and replies to the node that sent it. A request that may change a bank goes to the log first.
+    fn serve(
+        &mut self,
+        sender: u8,
+        it: NamedLetter,
+        work: &mut Work,
+    ) -> Result<Delivered, NodeError>
+        requires { IsHeeded (kept_of self.old) it.name it.letter }
+        ensures acts { OnOk result
+            (Acts sender (named_of it ∷ []) self.old work.old self.new work.new) }
+    {
+        let it = self.log_serve(it, work)?;
+        let NamedLetter { name, letter } = it;
+        match self.objects.serve(&name, letter)? {
+            Some(reply) => {
+                let letter = reply;
+                self.send(sender, NamedLetter { name, letter }, work)?;
+                Ok(Delivered::Handled)
+            }
+            None => Ok(Delivered::Handled),
+        }
+    }
+
+    // Takes a reply, and goes on with its call. A reply to an open move goes to the log first.
+    fn take(&mut self, it: NamedLetter, work: &mut Work) -> Result<Delivered, NodeError>
+        requires { IsHeeded (kept_of self.old) it.name it.letter }
+        ensures acts { OnOk result
+            ((asker : ℕ) → Acts asker (named_of it ∷ []) self.old work.old self.new work.new) }
+    {
+        let it = self.log_take(it, work)?;
+        let NamedLetter { name, letter } = it;
+        let progress = self.objects.take(&name, letter)?;
+        self.post(&name, progress.letters, work)?;
+        tell(name, progress.ended, work)
+    }
+
+    // A request goes to the log, if it may change a bank. Returns the same letter.
+    fn log_serve(&self, it: NamedLetter, work: &mut Work) -> Result<NamedLetter, NodeError>
+        ensures same { IfOk result (λ same. same ≡ it) }
+        ensures logged { OnOk result (IsGrown work.old work.new (serve_growth self.now it)) }
+        ensures unchanged { OnOk result (is_changed_by (objects_of self.now.objects it.name) it.letter ≡ false
+            → IsUnchangedBy (objects_of self.now.objects it.name) it.letter) }
+
+        ensures read { OnOk result (is_changed_by (objects_of self.now.objects it.name) it.letter ≡ true
+            → IsReadBack self.now.digest (LogRecord.Serves it.name it.letter)) }
+    {
+        if !self.objects.is_changed_by(&it.name, &it.letter)? {
+            return Ok(it);
+        }
+        let (frame, it) = framed(self.alloc, self.digest, it)?;
+        work.log(&Record::Serve(frame))?;
+        Ok(it)
+    }
+
+    // A reply goes to the log, if its call is an open move. Returns the same letter.
+    fn log_take(&self, it: NamedLetter, work: &mut Work) -> Result<NamedLetter, NodeError>
+        ensures same { IfOk result (λ same. same ≡ it) }
+        ensures logged { OnOk result (IsGrown work.old work.new (take_growth self.now it)) }
+        ensures read { OnOk result (has_move_open (objects_of self.now.objects it.name) it.letter.message.call ≡ true
+            → IsReadBack self.now.digest (LogRecord.Takes it.name it.letter)) }
+    {
+        if !self.objects.is_open_move(&it.name, it.letter.message.call) {
+            return Ok(it);
+        }
+        let (frame, it) = framed(self.alloc, self.digest, it)?;
+        work.log(&Record::Take(frame))?;
+        Ok(it)
+    }
+}
+
+// A reply about the object of this name was taken. Where it answered a call, clients see that.
+fn tell(name: Bytes, ended: Option<Ended>, work: &mut Work) -> Result<Delivered, NodeError>
+    ensures { OnOk result (IsGrown work.old work.new (tell_growth name ended)) }
+{
+    let Some(ended) = ended else {
+        return Ok(Delivered::Handled);
+    };
+    let told = copy_of(&ended)?;
+    work.note(Notice::Tells { name, ended: told })?;
+    Ok(Delivered::Ended(ended))
+}
+
+// The same once more.
+fn copy_of(ended: &Ended) -> Result<Ended, NodeError>
+    ensures { IfOk result (λ copy. copy ≡ ended.now) }
+{
+    let value = match &ended.value {
+        Some(value) => Some(value.clone()?),
+        None => None,
+    };
+    Ok(Ended {
+        id: ended.id,
+        kind: ended.kind,
+        value,
+    })
+}

@@ -1,0 +1,71 @@
+//! Letters of an object as messages between nodes, and back.
+ghost use Rattle.std.specs.Prelude.{◌≡◌, IfOk};
+ghost use Rattle.local_object.specs.Doing.{is_request};
+ghost use Rattle.node_messages.specs.Message.{IsMessage};
+ghost use Rattle.node_messages.specs.Strings.{strings_of};
+ghost use Rattle.node_keeper.specs.Sendings.{letter_in, member_or, message_of};
+
+use bytes::Bytes;
+use cluster_file::DIGEST_LENGTH;
+use frames::Frame;
+use local_object::Letter;
+use mail::Body;
+use node_effects::{NamedLetter, NodeError};
+use node_messages::{NodeMessage, frame_of};
+use std::alloc::Global;
+
+/// The letter of a message, with the name of its object.
+pub fn letter_of(message: NodeMessage) -> NamedLetter
+    ensures { result ≡ letter_in message }
+{
+    NamedLetter {
+        name: message.name,
+        letter: Letter {
+            layout: message.layout,
+            next: message.next,
+            message: message.message,
+        },
+    }
+}
+
+/// The frame of a letter, as a message of a node with the cluster file of this digest, and the letter itself.
+pub(crate) fn framed(
+    alloc: Global,
+    digest: [u8; DIGEST_LENGTH],
+    it: NamedLetter,
+) -> Result<(Frame, NamedLetter), NodeError>
+    ensures made { IfOk result (λ r. (r.0 ≡ strings_of (message_of digest it)) × (r.1 ≡ it)) }
+    ensures fits { IfOk result (λ _. IsMessage (message_of digest it)) }
+{
+    let NamedLetter { name, letter } = it;
+    let message = NodeMessage {
+        digest,
+        name,
+        layout: letter.layout,
+        next: letter.next,
+        message: letter.message,
+    };
+    let frame = frame_of(alloc, &message)?;
+    Ok((frame, letter_of(message)))
+}
+
+/// Whether a letter is a request, and not a reply.
+pub(crate) fn is_request(letter: &Letter) -> bool
+    ensures { result ≡ is_request letter.now.message.body }
+{
+    match &letter.message.body {
+        Body::Request(_) => true,
+        Body::Reply { kind: _, reply: _ } => false,
+    }
+}
+
+/// The node that the layout of a letter has as the member that the letter names, or else this node.
+pub(crate) fn member_or(number: u8, letter: &Letter) -> u8
+    ensures { result ≡ member_or number letter.now }
+{
+    if letter.message.member < letter.layout.n() {
+        letter.layout.member(letter.message.member)
+    } else {
+        number
+    }
+}
