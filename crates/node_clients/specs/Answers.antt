@@ -1,0 +1,47 @@
+-- The contracts that docs/trusted.md lists do not depend on this file; other contracts and proofs do.
+-- What the clients of a node are sent.
+use Rattle.std.specs.Prelude.{ℕ, Bool, if◌then◌else◌, List, [], ◌∷◌, Option}
+use Rattle.record.specs.Sending.{value_or_empty}
+use Rattle.record.specs.declared.call.Operation.{Operation}
+use Rattle.record.specs.declared.call.Operation.TheVariants as operation
+use Rattle.local_object.specs.declared.progress.Ended.{Ended}
+use Rattle.client_commands.specs.Answers.{sent_strings}
+use Rattle.client_commands.specs.declared.answer.Answer.{Answer}
+use Rattle.client_commands.specs.declared.answer.Answer.TheVariants as answer
+use Rattle.node_strings.specs.Arrival.{client_address}
+use Rattle.node_effects.specs.Work.{Growth, IsGrown, no_growth}
+use Rattle.node_effects.specs.declared.work.Work.{Work}
+
+-- the frame of an answer to a client
+abbrev pub answer_frame : (client : ℕ) → Answer → List (List ℕ)
+answer_frame client answer = client_address client ∷ sent_strings answer
+
+-- a client is sent an answer, and its next command is due
+abbrev pub answer_sent : (client : ℕ) → Answer → Growth
+answer_sent client answer = record no_growth { to_clients = answer_frame client answer ∷ []; due = client ∷ [] }
+
+-- a client is sent an answer, if its connection is there
+abbrev pub answer_growth : (is_there : Bool) → (client : ℕ) → Answer → Growth
+answer_growth is_there client answer = if is_there then answer_sent client answer else no_growth
+
+-- a client is sent `OK` to its `QUIT`, and its host is told to close the connection
+abbrev pub quit_growth : (client : ℕ) → Growth
+quit_growth client =
+    record no_growth { to_clients = answer_frame client answer.Ok ∷ (client_address client ∷ []) ∷ [] }
+
+-- what a node has to do more is to send frames to clients, and to go on with connections, and nothing else
+pub record TellsClients (before after : Work) : Type 0 where
+  pub frames : List (List (List ℕ))
+  pub due : List ℕ
+  pub grown : IsGrown before after (record no_growth { to_clients = frames; due = due })
+
+-- the answer to a call of this kind with this value: a read is answered the value, or the empty one where none was ever
+-- written; a write and a move are answered `OK`
+abbrev pub kind_answer : Operation → Option (List ℕ) → Answer
+kind_answer operation.Read value = answer.Value (value_or_empty value)
+kind_answer operation.Write value = answer.Ok
+kind_answer operation.Move value = answer.Ok
+
+-- what the client of a call is told that was answered
+abbrev pub ended_answer : Ended → Answer
+ended_answer ended = kind_answer ended.kind ended.value

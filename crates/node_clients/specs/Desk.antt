@@ -1,0 +1,59 @@
+-- The contracts that docs/trusted.md lists do not depend on this file; other contracts and proofs do.
+-- Which clients are told, and what a node counts.
+use Rattle.std.specs.Prelude.{◌≡◌, ◌≢◌, ℕ, ◌+◌, ◌-◌, ◌^◌, min, nat_eq, Bool, false, if◌then◌else◌}
+use Rattle.std.specs.Prelude.{Option, None, Some, is_some}
+use Rattle.indexmap.specs.IndexMap.{get}
+use Rattle.connections.specs.Connections.{doing, waiting_on}
+use Rattle.connections.specs.declared.connection.State.TheVariants.{Idle}
+use Rattle.connections.specs.declared.connections.Connections.{Connections}
+use Rattle.client_commands.specs.declared.answer.Answer.{Answer}
+use Rattle.node_effects.specs.Work.{Growth, no_growth}
+use Rattle.node_clients.specs.Answers.{answer_growth}
+use Rattle.node_clients.specs.declared.counts.Counts.{Counts}
+use Rattle.node_clients.specs.declared.desk.Desk.{Desk}
+
+-- whether the connection of a client is there
+abbrev pub is_connected : Desk → (client : ℕ) → Bool
+is_connected desk client = is_some (get nat_eq desk.clients.by_number client)
+
+-- whether a client waits whose connection is there
+abbrev pub has_listener : Desk → (client : Option ℕ) → Bool
+has_listener desk None = false
+has_listener desk (Some client) = is_connected desk client
+
+-- the client that waits, if one does and its connection is there, is sent an answer
+abbrev pub growth_for : Desk → (client : Option ℕ) → Answer → Growth
+growth_for desk None answer = no_growth
+growth_for desk (Some client) answer = answer_growth (is_connected desk client) client answer
+
+-- the connection of a client is idle, with the commands that waited on it, and all others are as they were
+pub record IsIdleAgain (old : Connections) (client : ℕ) (new : Connections) : Type 0 where
+  pub state : doing (get nat_eq new.by_number client) ≡ Idle
+  pub waiting : waiting_on (get nat_eq new.by_number client) ≡ waiting_on (get nat_eq old.by_number client)
+  pub others : (other : ℕ) → other ≢ client → get nat_eq new.by_number other ≡ get nat_eq old.by_number other
+
+-- the same of the client that waits, if one does; otherwise all connections are as they were
+abbrev pub IsIdleFor : (old : Connections) → (client : Option ℕ) → (new : Connections) → Type 0
+IsIdleFor old None new = new ≡ old
+IsIdleFor old (Some client) new = IsIdleAgain old client new
+
+-- one more, where 2^64 - 1 is the greatest count
+abbrev pub one_more_counted : ℕ → ℕ
+one_more_counted count = min (count + 1) (2 ^ 64 - 1)
+
+-- nothing is counted yet
+abbrev pub none_counted : Counts
+none_counted = record { answered = 0; given_up = 0; dropped = 0; log_bytes = 0 }
+
+-- one more command was answered, if it was
+abbrev pub with_told : (is_answered : Bool) → Counts → Counts
+with_told is_answered counts =
+    if is_answered then record counts { answered = one_more_counted counts.answered } else counts
+
+-- one more call was given up
+abbrev pub with_give_up : Counts → Counts
+with_give_up counts = record counts { given_up = one_more_counted counts.given_up }
+
+-- one more frame was dropped
+abbrev pub with_drop : Counts → Counts
+with_drop counts = record counts { dropped = one_more_counted counts.dropped }

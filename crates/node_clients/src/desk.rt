@@ -1,0 +1,78 @@
+//! The clients of a node, and the calls that it carries out.
+ghost use Rattle.std.specs.Prelude.{◌≡◌, ◌≢◌, [], ℕ, nat_eq, IsSome, OnOk};
+ghost use Rattle.indexmap.specs.IndexMap.{get};
+ghost use Rattle.connections.specs.Connections.{doing};
+ghost use Rattle.connections.specs.declared.connection.State.TheVariants.{Quit};
+ghost use Rattle.node_effects.specs.Work.{IsGrown};
+ghost use Rattle.node_clients.specs.Answers.{TellsClients, quit_growth};
+ghost use Rattle.node_clients.specs.Desk.{none_counted, with_drop};
+
+use crate::counts::Counts;
+use crate::open_call::OpenCall;
+use client_commands::Answer;
+use connections::Connections;
+use indexmap::IndexMap;
+use node_effects::{NodeError, Work};
+use node_strings::ConnectionId;
+use std::alloc::Global;
+use tag::CallId;
+
+mod answers;
+mod calls;
+mod endings;
+
+/// The clients of a node, and the calls that it carries out.
+///
+/// Where a function is refused, nothing is said of what it has sent: the node stops.
+#[derive(Drop)]
+pub struct Desk {
+    alloc: Global,
+    /// The connections of clients, with the commands that wait on them.
+    pub clients: Connections,
+    /// The calls that are open, by their ids.
+    pub calls: IndexMap<CallId, OpenCall>,
+    /// What was counted since the start.
+    pub counts: Counts,
+}
+
+impl Desk {
+    /// No clients and no calls, and nothing is counted yet. It allocates no memory.
+    pub fn new(alloc: Global) -> Desk
+        ensures clients { result.clients.by_number.entries ≡ [] }
+        ensures calls { result.calls.entries ≡ [] }
+        ensures counts { result.counts ≡ none_counted }
+    {
+        Desk {
+            alloc,
+            clients: Connections::new(alloc),
+            calls: IndexMap::new(alloc),
+            counts: Counts::ZERO,
+        }
+    }
+
+    /// The client of a connection has quit: it is answered, and the host closes the connection. `NoMemory`.
+    pub fn quit(&mut self, client: ConnectionId, work: &mut Work) -> Result<(), NodeError>
+        ensures grown { OnOk result (IsGrown work.old work.new (quit_growth client)) }
+        ensures tells { OnOk result (TellsClients work.old work.new) }
+        ensures state { OnOk result (IsSome (get nat_eq self.old.clients.by_number client)
+            → doing (get nat_eq self.new.clients.by_number client) ≡ Quit) }
+        ensures others { OnOk result ((other : ℕ) → other ≢ client
+            → get nat_eq self.new.clients.by_number other ≡ get nat_eq self.old.clients.by_number other) }
+        ensures calls { self.new.calls ≡ self.old.calls }
+        ensures counts { self.new.counts ≡ self.old.counts }
+    {
+        work.answer(client, Answer::Ok)?;
+        work.close(client)?;
+        self.clients.quit(client);
+        Ok(())
+    }
+
+    /// A frame came in that is not for this node to handle.
+    pub fn drop_frame(&mut self)
+        ensures clients { self.new.clients ≡ self.old.clients }
+        ensures calls { self.new.calls ≡ self.old.calls }
+        ensures counts { self.new.counts ≡ with_drop self.old.counts }
+    {
+        self.counts.dropped = self.counts.dropped.saturating_add(1);
+    }
+}

@@ -1,0 +1,54 @@
+//! Answers to commands.
+ghost use Rattle.std.specs.Prelude.{◌≡◌, OnOk};
+ghost use Rattle.client_commands.specs.declared.answer.Answer.TheVariants as answers;
+ghost use Rattle.node_effects.specs.Work.{IsGrown};
+ghost use Rattle.node_clients.specs.Answers.{TellsClients, answer_growth};
+ghost use Rattle.node_clients.specs.Desk.{IsIdleAgain, is_connected, with_told};
+
+use super::Desk;
+use client_commands::{Answer, AnswerError};
+use node_effects::{NodeError, Work};
+use node_strings::ConnectionId;
+
+impl Desk {
+    /// The command of a connection is answered, if the connection is still there, and its next one is due. It fails
+    /// where `Work::answer` does.
+    pub fn answer(
+        &mut self,
+        client: ConnectionId,
+        answer: Answer,
+        work: &mut Work,
+    ) -> Result<(), NodeError>
+        ensures grown { OnOk result (IsGrown work.old work.new
+            (answer_growth (is_connected self.old client) client answer)) }
+        ensures tells { OnOk result (TellsClients work.old work.new) }
+        ensures idle { IsIdleAgain self.old.clients client self.new.clients }
+        ensures calls { self.new.calls ≡ self.old.calls }
+        ensures counts { self.new.counts ≡ with_told (is_connected self.old client) self.old.counts }
+    {
+        if !self.clients.answered(client) {
+            return Ok(());
+        }
+        self.counts.answered = self.counts.answered.saturating_add(1);
+        work.answer(client, answer)?;
+        work.make_due(client)
+    }
+
+    /// The command of a connection is not carried out, and its client is told why, if the connection is still there. It
+    /// fails where `Work::answer` does.
+    pub fn refuse(
+        &mut self,
+        client: ConnectionId,
+        error: AnswerError,
+        work: &mut Work,
+    ) -> Result<(), NodeError>
+        ensures grown { OnOk result (IsGrown work.old work.new
+            (answer_growth (is_connected self.old client) client (answers.Error error))) }
+        ensures tells { OnOk result (TellsClients work.old work.new) }
+        ensures idle { IsIdleAgain self.old.clients client self.new.clients }
+        ensures calls { self.new.calls ≡ self.old.calls }
+        ensures counts { self.new.counts ≡ with_told (is_connected self.old client) self.old.counts }
+    {
+        self.answer(client, Answer::Error(error), work)
+    }
+}

@@ -1,0 +1,101 @@
+//! The calls that are open.
+ghost use Rattle.std.specs.Prelude.{◌≡◌, ◌≢◌, ℕ, IfErr, IfOk, None, OnOk, Some};
+ghost use Rattle.indexmap.specs.IndexMap.{keys};
+ghost use Rattle.node_effects.specs.declared.error.NodeError.TheVariants.{NoMemory};
+ghost use Rattle.node_clients.specs.Calls.{aged_call, call_under, older_call, waiting_for, with_nobody};
+
+use super::Desk;
+use crate::open_call::{Aged, OpenCall};
+use bytes::Bytes;
+use node_effects::NodeError;
+use node_strings::ConnectionId;
+use tag::CallId;
+
+impl Desk {
+    /// A call begins: it is open from now on, and this client waits for its answer, if one is given. `NoMemory`, and
+    /// nothing changes.
+    pub fn open(
+        &mut self,
+        id: CallId,
+        name: Bytes,
+        client: Option<ConnectionId>,
+    ) -> Result<(), NodeError>
+        ensures opened { OnOk result (call_under self.new.calls id
+            ≡ Some (record { name = name; client = client; age = 0 })) }
+        ensures others { (other : ℕ) → other ≢ id → call_under self.new.calls other ≡ call_under self.old.calls other }
+        ensures unchanged { IfErr result (λ e. call_under self.new.calls id ≡ call_under self.old.calls id) }
+        ensures clients { self.new.clients ≡ self.old.clients }
+        ensures counts { self.new.counts ≡ self.old.counts }
+        ensures refused { IfErr result (λ e. e ≡ NoMemory) }
+    {
+        let age = 0;
+        match self.calls.insert(id, OpenCall { name, client, age }) {
+            Ok(_) => Ok(()),
+            Err(_) => Err(NodeError::NoMemory),
+        }
+    }
+
+    /// A call is open no more. Returns the connection that waits for its answer, if one does.
+    pub fn closed(&mut self, id: CallId) -> Option<ConnectionId>
+        ensures client { result ≡ waiting_for self.old.calls id }
+        ensures gone { call_under self.new.calls id ≡ None }
+        ensures others { (other : ℕ) → other ≢ id → call_under self.new.calls other ≡ call_under self.old.calls other }
+        ensures clients { self.new.clients ≡ self.old.clients }
+        ensures counts { self.new.counts ≡ self.old.counts }
+    {
+        match self.calls.swap_remove(&id) {
+            Some(call) => call.client,
+            None => None,
+        }
+    }
+
+    /// The client of a call waits for it no more. Returns the connection that waited, if one did.
+    pub(super) fn released(&mut self, id: CallId) -> Option<ConnectionId>
+        ensures client { result ≡ waiting_for self.old.calls id }
+        ensures released { call_under self.new.calls id ≡ with_nobody (call_under self.old.calls id) }
+        ensures others { (other : ℕ) → other ≢ id → call_under self.new.calls other ≡ call_under self.old.calls other }
+        ensures clients { self.new.clients ≡ self.old.clients }
+        ensures counts { self.new.counts ≡ self.old.counts }
+    {
+        match self.calls.get_mut(&id) {
+            Some(call) => call.client.take(),
+            None => None,
+        }
+    }
+
+    /// The ids of the open calls. `NoMemory`.
+    pub fn open_ids(&self) -> Result<Vec<CallId>, NodeError>
+        ensures ids { IfOk result (λ ids. ids.items ≡ keys self.now.calls) }
+        ensures refused { IfErr result (λ e. e ≡ NoMemory) }
+    {
+        let Ok(mut ids) = Vec::with_capacity(self.alloc, self.calls.len()) else {
+            return Err(NodeError::NoMemory);
+        };
+        for id in self.calls.keys().copied() {
+            if ids.push(id).is_err() {
+                return Err(NodeError::NoMemory);
+            }
+        }
+        Ok(ids)
+    }
+
+    /// An open call is older by a tick. It is late where it is then older than this number of ticks. None, and nothing
+    /// changes, where no call with this id is open. `NoMemory`, and nothing changes.
+    pub fn aged(&mut self, id: CallId, ticks: u32) -> Result<Option<Aged>, NodeError>
+        ensures aged { IfOk result (λ aged. aged ≡ aged_call ticks (call_under self.old.calls id)) }
+        ensures older { OnOk result (call_under self.new.calls id ≡ older_call (call_under self.old.calls id)) }
+        ensures others { (other : ℕ) → other ≢ id → call_under self.new.calls other ≡ call_under self.old.calls other }
+        ensures unchanged { IfErr result (λ e. call_under self.new.calls id ≡ call_under self.old.calls id) }
+        ensures clients { self.new.clients ≡ self.old.clients }
+        ensures counts { self.new.counts ≡ self.old.counts }
+        ensures refused { IfErr result (λ e. e ≡ NoMemory) }
+    {
+        match self.calls.get_mut(&id) {
+            Some(call) => match call.grow_older(ticks) {
+                Ok(aged) => Ok(Some(aged)),
+                Err(error) => Err(error),
+            },
+            None => Ok(None),
+        }
+    }
+}

@@ -1,0 +1,99 @@
+//! What the client of a call is told as the call ends.
+ghost use Rattle.std.specs.Prelude.{◌≡◌, ◌≢◌, ℕ, None, OnOk};
+ghost use Rattle.client_commands.specs.declared.answer.Answer.TheVariants as answers;
+ghost use Rattle.client_commands.specs.declared.answer.AnswerError.TheVariants.{NoQuorum};
+ghost use Rattle.node_effects.specs.Work.{IsGrown};
+ghost use Rattle.node_clients.specs.Answers.{TellsClients, ended_answer};
+ghost use Rattle.node_clients.specs.Calls.{call_under, waiting_for, with_nobody};
+ghost use Rattle.node_clients.specs.Desk.{IsIdleFor, growth_for, has_listener, with_told, with_give_up};
+
+use super::Desk;
+use bytes::Bytes;
+use client_commands::{Answer, AnswerError};
+use local_object::Ended;
+use node_effects::{NodeError, Work};
+use record::Operation;
+use tag::CallId;
+
+impl Desk {
+    /// A call was answered: it is open no more, and the client that waits for it is told, if its connection is there.
+    /// It fails where `Work::answer` does.
+    pub fn end(&mut self, ended: Ended, work: &mut Work) -> Result<(), NodeError>
+        ensures told { OnOk result (IsGrown work.old work.new
+            (growth_for self.old (waiting_for self.old.calls ended.id) (ended_answer ended))) }
+        ensures tells { OnOk result (TellsClients work.old work.new) }
+        ensures gone { call_under self.new.calls ended.id ≡ None }
+        ensures others { (other : ℕ) → other ≢ ended.id
+            → call_under self.new.calls other ≡ call_under self.old.calls other }
+        ensures idle { IsIdleFor self.old.clients (waiting_for self.old.calls ended.id) self.new.clients }
+        ensures counts { self.new.counts
+            ≡ with_told (has_listener self.old (waiting_for self.old.calls ended.id)) self.old.counts }
+    {
+        let id = ended.id;
+        self.close(id, ended_answer(ended), work)
+    }
+
+    /// A call was given up: it is open no more, and the client that waits for it is told that no quorum has answered,
+    /// if its connection is there. It fails where `Work::answer` does.
+    pub fn give_up(&mut self, id: CallId, work: &mut Work) -> Result<(), NodeError>
+        ensures told { OnOk result (IsGrown work.old work.new
+            (growth_for self.old (waiting_for self.old.calls id) (answers.Error NoQuorum))) }
+        ensures tells { OnOk result (TellsClients work.old work.new) }
+        ensures gone { call_under self.new.calls id ≡ None }
+        ensures others { (other : ℕ) → other ≢ id → call_under self.new.calls other ≡ call_under self.old.calls other }
+        ensures idle { IsIdleFor self.old.clients (waiting_for self.old.calls id) self.new.clients }
+        ensures counts { self.new.counts
+            ≡ with_told (has_listener self.old (waiting_for self.old.calls id)) (with_give_up self.old.counts) }
+    {
+        self.counts.given_up = self.counts.given_up.saturating_add(1);
+        self.close(id, Answer::Error(AnswerError::NoQuorum), work)
+    }
+
+    /// The client of a call waits for it no more, and is told that no quorum has answered, if its connection is there.
+    /// The call stays open. It fails where `Work::answer` does.
+    pub fn release(&mut self, id: CallId, work: &mut Work) -> Result<(), NodeError>
+        ensures told { OnOk result (IsGrown work.old work.new
+            (growth_for self.old (waiting_for self.old.calls id) (answers.Error NoQuorum))) }
+        ensures tells { OnOk result (TellsClients work.old work.new) }
+        ensures released { call_under self.new.calls id ≡ with_nobody (call_under self.old.calls id) }
+        ensures others { (other : ℕ) → other ≢ id → call_under self.new.calls other ≡ call_under self.old.calls other }
+        ensures idle { IsIdleFor self.old.clients (waiting_for self.old.calls id) self.new.clients }
+        ensures counts { self.new.counts
+            ≡ with_told (has_listener self.old (waiting_for self.old.calls id)) self.old.counts }
+    {
+        match self.released(id) {
+            Some(client) => self.refuse(client, AnswerError::NoQuorum, work),
+            None => Ok(()),
+        }
+    }
+
+    // A call is open no more. Its client, if one waits and its connection is there, gets this answer.
+    fn close(&mut self, id: CallId, answer: Answer, work: &mut Work) -> Result<(), NodeError>
+        ensures told { OnOk result (IsGrown work.old work.new
+            (growth_for self.old (waiting_for self.old.calls id) answer)) }
+        ensures tells { OnOk result (TellsClients work.old work.new) }
+        ensures gone { call_under self.new.calls id ≡ None }
+        ensures others { (other : ℕ) → other ≢ id → call_under self.new.calls other ≡ call_under self.old.calls other }
+        ensures idle { IsIdleFor self.old.clients (waiting_for self.old.calls id) self.new.clients }
+        ensures counts { self.new.counts
+            ≡ with_told (has_listener self.old (waiting_for self.old.calls id)) self.old.counts }
+    {
+        match self.closed(id) {
+            Some(client) => self.answer(client, answer, work),
+            None => Ok(()),
+        }
+    }
+}
+
+// What the client of a call is told that was answered.
+fn ended_answer(ended: Ended) -> Answer
+    ensures { result ≡ ended_answer ended }
+{
+    match ended.kind {
+        Operation::Read => match ended.value {
+            Some(value) => Answer::Value(value),
+            None => Answer::Value(Bytes::new()),
+        },
+        Operation::Write | Operation::Move => Answer::Ok,
+    }
+}

@@ -1,0 +1,10 @@
+//! The clients of a node, and the calls that it carries out for them: who is told what, and when.
+#![tactic(auto)]
+
+pub use counts::Counts;
+pub use desk::Desk;
+pub use open_call::{Aged, OpenCall};
+
+mod counts;
+mod desk;
+mod open_call;

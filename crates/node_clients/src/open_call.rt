@@ -1,0 +1,46 @@
+//! A call that a node carries out.
+ghost use Rattle.std.specs.Prelude.{◌≡◌, IfErr, IfOk, OnOk};
+ghost use Rattle.node_effects.specs.declared.error.NodeError.TheVariants.{NoMemory};
+ghost use Rattle.node_clients.specs.Calls.{aged_of, older_of};
+
+use bytes::Bytes;
+use node_effects::NodeError;
+use node_strings::ConnectionId;
+
+/// A call that this node carries out.
+#[derive(Debug, Drop)]
+pub struct OpenCall {
+    /// The name of its object.
+    pub name: Bytes,
+    /// The connection that waits for its answer, if one does.
+    pub client: Option<ConnectionId>,
+    /// The number of ticks since it began, of at most 2^32 - 1.
+    pub age: u32,
+}
+
+/// An open call at a tick.
+#[derive(Debug, Drop)]
+pub struct Aged {
+    /// The name of its object.
+    pub name: Bytes,
+    /// Whether it has been open for too many ticks.
+    pub is_late: bool,
+}
+
+impl OpenCall {
+    /// The call is older by a tick. It is late where it is older than this number of ticks. `NoMemory`, and nothing
+    /// changes.
+    pub(crate) fn grow_older(&mut self, ticks: u32) -> Result<Aged, NodeError>
+        ensures older { OnOk result (self.new ≡ older_of self.old) }
+        ensures aged { IfOk result (λ aged. aged ≡ aged_of ticks self.old) }
+        ensures unchanged { IfErr result (λ e. self.new ≡ self.old) }
+        ensures refused { IfErr result (λ e. e ≡ NoMemory) }
+    {
+        let Ok(name) = self.name.clone() else {
+            return Err(NodeError::NoMemory);
+        };
+        self.age = self.age.saturating_add(1);
+        let is_late = self.age > ticks;
+        Ok(Aged { name, is_late })
+    }
+}
