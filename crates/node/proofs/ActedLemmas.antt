@@ -1,0 +1,222 @@
+-- What a node has done so far, as it handles a frame.
+use Rattle.std.proofs.Common.{◌≡◌, ◌⊎◌, inl, inr, ℕ, zero, suc, Bool, true, false, cond, ◌==◌, List, [], ◌∷◌, ◌++◌, map}
+use Rattle.std.proofs.Common.{None, Some, slice_get, refl, sym, subst, ap, ◌∙◌}
+use Rattle.std.proofs.lemmas.List.{map-append}
+use Rattle.std.specs.List.{AllByRecursion}
+use Rattle.encoder.specs.Fragment.{fragment}
+use Rattle.call_ids.specs.CallId.{HasRanges}
+use Rattle.deeds.specs.Named.{NamedLetter as Named, IsOneOf}
+use Rattle.deeds.proofs.ListLemmas.{all_append, all_weaker}
+use Rattle.deeds.proofs.NameLemmas.{one_of_first, one_of_second}
+use Rattle.node_strings.specs.Arrival.{arrival_at}
+use Rattle.recoveries.specs.Stops.{IsHandledSafely}
+use Rattle.recoveries.proofs.StopLemmas.{more_safe, two_safe}
+use Rattle.node_effects.specs.Seen.{all_seen, named_of, seen_of}
+use Rattle.node_effects.specs.Work.{IsDueTaken, IsEmpty, IsOwnTaken, Strings}
+use Rattle.node_effects.specs.declared.effects.Effects.{Effects}
+use Rattle.node_effects.specs.declared.letter.NamedLetter.{NamedLetter}
+use Rattle.node_effects.specs.declared.work.Work.{Work}
+use Rattle.node_keeper.specs.Acts.{Acts}
+use Rattle.node_keeper.specs.Keeping.{heeds, if_heeded, kept_of}
+use Rattle.node_keeper.specs.Logging.{IsReadBack, entry_of}
+use Rattle.node_keeper.specs.Sendings.{IsAddressed, Sending, letters_of, posted, to_itself}
+use Rattle.node_keeper.specs.declared.keeper.Keeper.{Keeper}
+use Rattle.node_keeper.proofs.ActLemmas.{safe_as}
+use Rattle.node_keeper.proofs.IdLemmas.{handled_within}
+use Rattle.node_keeper.proofs.SendingLemmas.{letters_append, posted_append}
+use Rattle.node.specs.declared.node.Node.{Node}
+use Rattle.node.specs.Frames.{letters_in, sender_or}
+use Rattle.node.specs.Handles.{Handles, HasActed}
+
+-- a letter of the node to itself is one of those that it sent
+abbrev pub WasSent : List Sending → NamedLetter → Type 0
+WasSent sends it = IsOneOf (letters_of sends) (named_of it)
+
+later : (send : Sending) (sends : List Sending) (it : NamedLetter) → WasSent sends it → WasSent (send ∷ sends) it
+later send sends it is = (suc is.0, is.1)
+
+own_were_sent : (number : ℕ) (sends : List Sending) → AllByRecursion (WasSent sends) (to_itself number sends)
+own_were_sent number [] = tt
+own_were_sent number (send ∷ sends) =
+    go (send.to == number)
+    (all_weaker (WasSent sends) (WasSent (send ∷ sends)) (later send sends) (to_itself number sends) (own_were_sent number sends))
+  where
+    go : (b : Bool) → AllByRecursion (WasSent (send ∷ sends)) (to_itself number sends) →
+        AllByRecursion (WasSent (send ∷ sends)) (cond b (send.it ∷ to_itself number sends) (to_itself number sends))
+    go true rest = ((0, refl), rest)
+    go false rest = rest
+
+sent_before : (first second : List Sending) (it : NamedLetter) → WasSent first it → WasSent (first ++ second) it
+sent_before first second it is =
+    subst (λ xs. IsOneOf xs (named_of it)) (sym (letters_append first second))
+    (one_of_first (letters_of first) (letters_of second) (named_of it) is)
+
+sent_after : (first second : List Sending) (it : NamedLetter) → WasSent second it → WasSent (first ++ second) it
+sent_after first second it is =
+    subst (λ xs. IsOneOf xs (named_of it)) (sym (letters_append first second))
+    (one_of_second (letters_of first) (letters_of second) (named_of it) is)
+
+-- what is done first, where there was nothing to do
+pub acted_first : (asker : ℕ) (got : List Named) (a b : Keeper) (u v : Work) → HasRanges a.ids → IsEmpty u →
+    Acts asker got a u b v → HasActed asker got a b v
+acted_first asker got a b u v within empty acts =
+    let g = acts.growth in
+    let notices : v.notices.items ≡ g.notices = acts.grown.notices ∙ ap (λ xs. xs ++ g.notices) empty.notices in
+    let own : v.own.items ≡ to_itself a.ids.node acts.sends =
+    acts.grown.own ∙ ap (λ xs. xs ++ g.own) empty.own ∙ acts.own in record {
+      sends = acts.sends;
+      records = acts.records;
+      handled = subst (λ ns. IsHandledSafely fragment (kept_of a) got acts.records (kept_of b) (letters_of acts.sends) (all_seen ns))
+          (sym notices) (acts.handled within);
+      entries = acts.grown.entries ∙ ap (λ xs. xs ++ g.entries) empty.entries ∙ acts.entries;
+      read = acts.read;
+      to_nodes = acts.grown.to_nodes ∙ ap (λ xs. xs ++ g.to_nodes) empty.to_nodes ∙ acts.to_nodes;
+      own = subst (λ xs. AllByRecursion (WasSent acts.sends) xs) (sym own) (own_were_sent a.ids.node acts.sends);
+      addressed = acts.addressed;
+      node = acts.node;
+      digest = acts.digest;
+    }
+
+-- what is done next, where fewer of the letters to itself may wait
+pub acted_then : (asker other : ℕ) (got more : List Named) (a b c : Keeper) (v w x : Work) →
+    (done : HasActed asker got a b v) → w.entries.items ≡ v.entries.items → w.notices.items ≡ v.notices.items →
+    w.to_nodes.items ≡ v.to_nodes.items →
+    AllByRecursion (WasSent done.sends) w.own.items → Acts other more b w c x →
+    ((send : Sending) → IsAddressed a.ids.node other send → IsAddressed a.ids.node asker send) →
+    ((letter : Named) → IsOneOf more letter → IsOneOf (got ++ letters_of done.sends) letter) →
+    HasActed asker got a c x
+acted_then asker other got more a b c v w x done entries notices to_nodes own acts addressed among =
+    let n = a.ids.node in
+    let g = acts.growth in
+    let noted : x.notices.items ≡ v.notices.items ++ g.notices = acts.grown.notices ∙ ap (λ xs. xs ++ g.notices) notices in
+    let within = handled_within fragment (kept_of a) got (kept_of b) (letters_of done.sends) (all_seen v.notices.items)
+    done.handled.handled in
+    let next = more_safe fragment (kept_of b) (kept_of c) more (got ++ letters_of done.sends) (letters_of acts.sends) acts.records
+    (all_seen g.notices) among (acts.handled within) in record {
+      sends = done.sends ++ acts.sends;
+      records = done.records ++ acts.records;
+      handled = safe_as (kept_of a) got (done.records ++ acts.records) (kept_of c)
+          (letters_of done.sends ++ letters_of acts.sends) (letters_of (done.sends ++ acts.sends))
+          (all_seen v.notices.items ++ all_seen g.notices) (all_seen x.notices.items)
+          (two_safe fragment (kept_of a) (kept_of b) (kept_of c) got (letters_of done.sends) (letters_of acts.sends) done.records
+          acts.records (all_seen v.notices.items) (all_seen g.notices) done.handled next)
+          (letters_append done.sends acts.sends) (ap all_seen noted ∙ map-append seen_of v.notices.items g.notices);
+      entries = acts.grown.entries ∙ ap (λ xs. xs ++ g.entries) (entries ∙ done.entries)
+          ∙ ap (λ xs. map (entry_of a.digest) done.records ++ xs) (acts.entries
+          ∙ ap (λ d. map (entry_of d) acts.records) done.digest)
+          ∙ sym (map-append (entry_of a.digest) done.records acts.records);
+      read = all_append (IsReadBack a.digest) done.records acts.records done.read
+          (subst (λ d. AllByRecursion (IsReadBack d) acts.records) done.digest acts.read);
+      to_nodes = acts.grown.to_nodes ∙ ap (λ xs. xs ++ g.to_nodes) (to_nodes ∙ done.to_nodes)
+          ∙ ap (λ xs. posted n a.digest done.sends ++ xs) (acts.to_nodes
+          ∙ ap (λ m. posted m b.digest acts.sends) done.node ∙ ap (λ d. posted n d acts.sends) done.digest)
+          ∙ sym (posted_append n a.digest done.sends acts.sends);
+      own = subst (λ xs. AllByRecursion (WasSent (done.sends ++ acts.sends)) xs)
+          (sym (acts.grown.own ∙ ap (λ xs. w.own.items ++ xs) acts.own))
+          (all_append (WasSent (done.sends ++ acts.sends)) w.own.items (to_itself b.ids.node acts.sends)
+          (all_weaker (WasSent done.sends) (WasSent (done.sends ++ acts.sends)) (sent_before done.sends acts.sends) w.own.items own)
+          (all_weaker (WasSent acts.sends) (WasSent (done.sends ++ acts.sends)) (sent_after done.sends acts.sends)
+          (to_itself b.ids.node acts.sends) (own_were_sent b.ids.node acts.sends)));
+      addressed = all_append (IsAddressed n asker) done.sends acts.sends done.addressed
+          (all_weaker (IsAddressed n other) (IsAddressed n asker) addressed acts.sends
+          (subst (λ m. AllByRecursion (IsAddressed m other) acts.sends) done.node acts.addressed));
+      node = acts.node ∙ done.node;
+      digest = acts.digest ∙ done.digest;
+    }
+
+-- nothing is done, where the same waits in other words
+pub acted_same : (asker : ℕ) (got : List Named) (a b : Keeper) (v w : Work) → HasActed asker got a b v →
+    w.entries.items ≡ v.entries.items → w.notices.items ≡ v.notices.items → w.to_nodes.items ≡ v.to_nodes.items →
+    w.own.items ≡ v.own.items → HasActed asker got a b w
+acted_same asker got a b v w done entries notices to_nodes own = record {
+  sends = done.sends;
+  records = done.records;
+  handled = subst (λ ns. IsHandledSafely fragment (kept_of a) got done.records (kept_of b) (letters_of done.sends) (all_seen ns))
+      (sym notices) done.handled;
+  entries = entries ∙ done.entries;
+  read = done.read;
+  to_nodes = to_nodes ∙ done.to_nodes;
+  own = subst (λ xs. AllByRecursion (WasSent done.sends) xs) (sym own) done.own;
+  addressed = done.addressed;
+  node = done.node;
+  digest = done.digest;
+}
+
+-- a letter that is heeded is the one that came
+pub heeded_is : (keeper : Keeper) (it letter : Named) → IsOneOf (if_heeded (kept_of keeper) it) letter → IsOneOf (it ∷ []) letter
+heeded_is keeper it letter is = go (heeds (kept_of keeper) it) is
+  where
+    go : (b : Bool) → IsOneOf (cond b (it ∷ []) []) letter → IsOneOf (it ∷ []) letter
+    go true is = is
+    go false is = absurd (none is.0 is.1)
+      where
+        none : (i : ℕ) → slice_get [] i ≡ Some letter → ⊥
+        none i e = cc
+
+-- one of the letters that were sent
+pub sent_one : (got : List Named) (sends : List Sending) (it : NamedLetter) (letter : Named) → WasSent sends it →
+    IsOneOf (named_of it ∷ []) letter → IsOneOf (got ++ letters_of sends) letter
+sent_one got sends it letter sent is =
+    one_of_second got (letters_of sends) letter (subst (λ l. IsOneOf (letters_of sends) l) (only is.0 is.1) sent)
+  where
+    only : (i : ℕ) → slice_get (named_of it ∷ []) i ≡ Some letter → named_of it ≡ letter
+    only zero e = cc
+    only (suc i) e = absurd (cc)
+
+-- an answer of the node to itself goes to itself
+pub own_addressed : (number asker own : ℕ) (send : Sending) → own ≡ number → IsAddressed number own send →
+    IsAddressed number asker send
+own_addressed number asker own send same (inl member) = inl member
+own_addressed number asker own send same (inr (inl to)) = inr (inr (to ∙ same))
+own_addressed number asker own send same (inr (inr to)) = inr (inr to)
+
+module _ (asker : ℕ) (got : List Named) (first b : Keeper) where
+  -- a letter of the node to itself is handled
+  pub own_handled : (number : ℕ) (c : Keeper) (v w x : Work) (it : NamedLetter) → number ≡ b.ids.node →
+      IsOwnTaken v w (Some it) → Acts number (if_heeded (kept_of b) (named_of it)) b w c x → HasActed asker got first b v →
+      HasActed asker got first c x
+  own_handled number c v w x it same taken acts done =
+      let all : AllByRecursion (WasSent done.sends) (it ∷ w.own.items) =
+      subst (λ xs. AllByRecursion (WasSent done.sends) xs) taken.own done.own in
+      acted_then asker number got (if_heeded (kept_of b) (named_of it)) first b c v w x done taken.entries taken.notices
+      taken.to_nodes all.1 acts (λ send. own_addressed first.ids.node asker number send (same ∙ done.node))
+      (λ letter is. sent_one got done.sends it letter all.0 (heeded_is b (named_of it) letter is))
+
+  -- no letter of the node to itself waits, and no connection is due
+  none_own : (v u : Work) → IsOwnTaken v u None → HasActed asker got first b v → HasActed asker got first b u
+  none_own v u taken done =
+      acted_same asker got first b v u done taken.entries taken.notices taken.to_nodes (taken.own.1 ∙ sym taken.own.0)
+
+  pub nothing_left : (v u w : Work) → IsOwnTaken v u None → IsDueTaken u w None → HasActed asker got first b v →
+      HasActed asker got first b w
+  nothing_left v u w own due done =
+      acted_same asker got first b u w (none_own v u own done) due.entries due.notices due.to_nodes due.own
+
+  -- the next command of a connection is carried out
+  pub due_handled : (c : Keeper) (v u w x : Work) (client : ℕ) → IsOwnTaken v u None → IsDueTaken u w (Some client) →
+      ((asker : ℕ) → Acts asker [] b w c x) → HasActed asker got first b v → HasActed asker got first c x
+  due_handled c v u w x client own due acts done =
+      let before = none_own v u own done in
+      acted_then asker asker got [] first b c u w x before due.entries due.notices due.to_nodes
+      (subst (λ xs. AllByRecursion (WasSent before.sends) xs) (sym due.own) before.own) (acts asker) (λ send is. is)
+      (λ letter is. absurd (none is.0 is.1))
+    where
+      none : {letter : Named} (i : ℕ) → slice_get [] i ≡ Some letter → ⊥
+      none i e = cc
+
+-- what was done with a frame
+pub handles_of : (old new : Node) (frame : Strings) (work : Work) (effects : Effects) →
+    HasActed (sender_or old.keeper.ids.node (arrival_at frame)) (letters_in old.keeper frame) old.keeper new.keeper work →
+    effects.entries.items ≡ work.entries.items → effects.frames.items ≡ work.to_nodes.items ++ work.to_clients.items →
+    effects.notices.items ≡ work.notices.items → Handles old frame effects new
+handles_of old new frame work effects done entries frames notices = record {
+  sends = done.sends;
+  records = done.records;
+  answers = work.to_clients.items;
+  handled = subst (λ ns. IsHandledSafely fragment (kept_of old.keeper) (letters_in old.keeper frame) done.records
+      (kept_of new.keeper) (letters_of done.sends) (all_seen ns)) (sym notices) done.handled;
+  entries = entries ∙ done.entries;
+  read = done.read;
+  frames = frames ∙ ap (λ xs. xs ++ work.to_clients.items) done.to_nodes;
+  addressed = done.addressed;
+}

@@ -1,0 +1,75 @@
+//! Messages between nodes.
+ghost use Rattle.std.specs.Prelude.{◌≡◌, OnOk};
+ghost use Rattle.node_keeper.specs.Acts.{Acts};
+ghost use Rattle.node_messages.specs.Reading.{message_from};
+ghost use Rattle.node_effects.specs.Seen.{named_of};
+ghost use Rattle.node_keeper.specs.Keeping.{if_heeded, kept_of};
+ghost use Rattle.node.specs.Frames.{is_from_cluster, letter_from, letter_if_read};
+
+use super::Node;
+use frames::Frame;
+use node_effects::{NamedLetter, NodeError, Work};
+use node_keeper::{Delivered, letter_of};
+use node_messages::{MessageError, NodeMessage, read_message};
+
+impl Node {
+    /// A frame of another node has come. What is no message, what comes from no node, and what another cluster file
+    /// sends is dropped and counted.
+    pub(super) fn receive(
+        &mut self,
+        sender: u8,
+        frame: Frame,
+        work: &mut Work,
+    ) -> Result<(), NodeError>
+        ensures { OnOk result (Acts sender (letter_if_read self.old.keeper sender (message_from frame))
+            self.old.keeper work.old self.new.keeper work.new) }
+    {
+        match read_message(self.alloc, frame) {
+            Ok(message) => self.admit(sender, message, work),
+            Err(MessageError::NoMemory) => Err(NodeError::NoMemory),
+            Err(MessageError::Fault(_)) => {
+                self.desk.drop_frame();
+                Ok(())
+            }
+        }
+    }
+
+    // A message has come, which is dropped unless it is one from a node of this cluster.
+    fn admit(&mut self, sender: u8, message: NodeMessage, work: &mut Work) -> Result<(), NodeError>
+        ensures { OnOk result (Acts sender (letter_from self.old.keeper sender message)
+            self.old.keeper work.old self.new.keeper work.new) }
+    {
+        if !self.is_from_cluster(sender, &message) {
+            self.desk.drop_frame();
+            return Ok(());
+        }
+        self.deliver(sender, letter_of(message), work)
+    }
+
+    // Whether a message comes from a node of this cluster.
+    fn is_from_cluster(&self, sender: u8, message: &NodeMessage) -> bool
+        ensures { result ≡ is_from_cluster self.now.keeper sender message.now }
+    {
+        self.keeper.file.has_node(sender) && message.digest == self.keeper.digest
+    }
+
+    /// A letter has come from the node of this number, which may be this node itself.
+    pub(super) fn deliver(
+        &mut self,
+        sender: u8,
+        it: NamedLetter,
+        work: &mut Work,
+    ) -> Result<(), NodeError>
+        ensures { OnOk result (Acts sender (if_heeded (kept_of self.old.keeper) (named_of it))
+            self.old.keeper work.old self.new.keeper work.new) }
+    {
+        match self.keeper.deliver(sender, it, work)? {
+            Delivered::Dropped => {
+                self.desk.drop_frame();
+                Ok(())
+            }
+            Delivered::Handled => Ok(()),
+            Delivered::Ended(ended) => self.desk.end(ended, work),
+        }
+    }
+}
