@@ -1,0 +1,86 @@
+-- How known bytes grow and are consumed, one part after another; and lists that grow at their end.
+use Rattle.std.proofs.Common.{◌≡◌, ℕ, ◌+◌, ◌<◌, List, [], ◌∷◌, ◌++◌, length, get_or, take, Option, Some, None, sym, ap, subst, ◌∙◌}
+use Rattle.std.proofs.Common.{refl, append_assoc, append-nil}
+use Rattle.std.specs.List.{flat_map, FoldsTo, AllByRecursion}
+use Rattle.std.specs.Io.KnownBytes.{Appends, Consumes, Keeps}
+use Rattle.std.proofs.lemmas.Grind.{flat_map-append}
+use Rattle.std.proofs.lemmas.List.{take_more}
+use Rattle.node_log.specs.Reading.{HadLeft}
+use Rattle.node_store.specs.Logs.{Grows}
+
+-- what is known of some bytes
+abbrev pub Known : Type 0
+Known = Option (List ℕ)
+
+pub appends_then : (a b c : Known) (xs ys : List ℕ) → Appends a b xs → Appends b c ys → Appends a c (xs ++ ys)
+appends_then None b c xs ys p q = tt
+appends_then (Some us) None c xs ys p q = absurd p
+appends_then (Some us) (Some vs) None xs ys p q = absurd q
+appends_then (Some us) (Some vs) (Some ws) xs ys p q = q ∙ ap (λ (t : List ℕ). t ++ ys) p ∙ append_assoc us xs ys
+
+pub appends_none : (a : Known) → Appends a a []
+appends_none None = tt
+appends_none (Some xs) = sym (append-nil xs)
+
+pub appends_kept : (a b c : Known) (xs : List ℕ) → Appends a b xs → Keeps b c → Appends a c xs
+appends_kept None b c xs p q = tt
+appends_kept (Some us) None c xs p q = absurd p
+appends_kept (Some us) (Some vs) None xs p q = absurd q
+appends_kept (Some us) (Some vs) (Some ws) xs p q = q ∙ p
+
+pub keeps_then : (a b c : Known) (xs : List ℕ) → Keeps a b → Appends b c xs → Appends a c xs
+keeps_then None b c xs p q = tt
+keeps_then (Some us) None c xs p q = absurd p
+keeps_then (Some us) (Some vs) None xs p q = absurd q
+keeps_then (Some us) (Some vs) (Some ws) xs p q = q ∙ ap (λ (t : List ℕ). t ++ xs) p
+
+pub consumes_then : (a b c : Known) (xs ys : List ℕ) → Consumes a b xs → Consumes b c ys → Consumes a c (xs ++ ys)
+consumes_then None b c xs ys p q = tt
+consumes_then (Some us) None c xs ys p q = absurd p
+consumes_then (Some us) (Some vs) None xs ys p q = absurd q
+consumes_then (Some us) (Some vs) (Some ws) xs ys p q = p ∙ ap (λ (t : List ℕ). xs ++ t) q ∙ sym (append_assoc xs ys ws)
+
+pub consumes_none : (a : Known) → Consumes a a []
+consumes_none None = tt
+consumes_none (Some xs) = refl
+
+pub grows_twice : (a b c : Known) → Grows a b → Grows b c → Grows a c
+grows_twice a b c p q = (p.0 ++ q.0, appends_then a b c p.0 q.0 p.1 q.1)
+
+-- what holds of the bytes behind those that were consumed
+pub left_behind : (P : List ℕ → Type 0) (a b : Known) (xs : List ℕ) → Consumes a b xs → HadLeft P b
+    → HadLeft (λ bytes. (rest : List ℕ) × (bytes ≡ xs ++ rest) × P rest) a
+left_behind P None b xs p q = tt
+left_behind P (Some us) None xs p q = absurd p
+left_behind P (Some us) (Some vs) xs p q = (vs, p, q)
+
+pub left_weaker : {P Q : List ℕ → Type 0} (a : Known) → ((bytes : List ℕ) → P bytes → Q bytes) → HadLeft P a → HadLeft Q a
+left_weaker None h p = tt
+left_weaker (Some xs) h p = h xs p
+
+pub left_any : (P : List ℕ → Type 0) (a : Known) → ((bytes : List ℕ) → P bytes) → HadLeft P a
+left_any P None h = tt
+left_any P (Some xs) h = h xs
+
+-- the bytes of one more element
+pub bytes_more : {X : Type 0} (f : X → List ℕ) (xs : List X) (i : ℕ) (d x : X) → i < length xs → x ≡ get_or xs i d
+    → flat_map f (take (i + 1) xs) ≡ flat_map f (take i xs) ++ f x
+bytes_more {X = X} f xs i d x lt is =
+    ap (λ (ys : List X). flat_map f ys) (take_more xs i d lt)
+    ∙ flat_map-append f (take i xs) (get_or xs i d ∷ [])
+    ∙ ap (λ (t : List ℕ). flat_map f (take i xs) ++ t) (append-nil (f (get_or xs i d)) ∙ ap f (sym is))
+
+-- the bytes of a last element
+pub bytes_push : {X : Type 0} (f : X → List ℕ) (xs : List X) (x : X) → flat_map f (xs ++ x ∷ []) ≡ flat_map f xs ++ f x
+bytes_push f xs x = flat_map-append f xs (x ∷ []) ∙ ap (λ (t : List ℕ). flat_map f xs ++ t) (append-nil (f x))
+
+pub all_push : {X : Type 0} (P : X → Type 0) (xs : List X) (x : X) → AllByRecursion P xs → P x → AllByRecursion P (xs ++ x ∷ [])
+all_push P [] x all h = (h, tt)
+all_push P (y ∷ ys) x all h = (all.0, all_push P ys x all.1 h)
+
+module _ {V X : Type 0} (step : V → X → V → Type 0) where
+  -- steps, and others behind them
+  pub folds_then : (a : V) (xs : List X) (b : V) (ys : List X) (c : V) → FoldsTo step a xs b → FoldsTo step b ys c
+      → FoldsTo step a (xs ++ ys) c
+  folds_then a [] b ys c p q = subst (λ (v : V). FoldsTo step v ys c) (sym p) q
+  folds_then a (x ∷ xs) b ys c p q = (p.0, p.1, folds_then p.0 xs b ys c p.2 q)

@@ -1,0 +1,4 @@
+pub mod GrowthLemmas
+pub mod RecoveryLemmas
+pub mod ServingLemmas
+pub mod CutLogLemmas

@@ -1,0 +1,31 @@
+use Rattle.std.proofs.Common.{◌≡◌, rules}
+use Rattle.std.specs.Io.Buffered.{reader_remaining}
+use Rattle.frames.specs.declared.error.Fault.TheVariants.{UnexpectedEnd}
+use Rattle.node_store.specs.declared.stop.ServeError.TheVariants.{NoFrame}
+use Rattle.node_store.proofs.ServingLemmas.{found_frame, end_from, no_frame_from, arrived_one, arrived_end, arrived_stop}
+use Rattle.node_store.proofs.serving.handle_next.Goals as goal
+
+pub returns-in-Ok : goal.returns-in-Ok
+returns-in-Ok g c =
+    let had = reader_remaining g.I.Read.remaining c.args.input.now in
+    let left = reader_remaining g.I.Read.remaining c.read_frame.new.reader in
+    arrived_one g.M.Machine.handles g.M.Machine.notes c.args.machine.now c.handle.new.machine c.in-Ok-Some.frame had left
+    c.args.batch.now c.handle.new.batch
+    (found_frame had left c.in-Ok-Some.field-0 c.in-Ok-Some.frame c.in-Ok-Some.field-0-is c.in-Ok-Some.ensures.found) c.in-Ok.ensures
+
+pub returns-in-Err-Fault-UnexpectedEnd : goal.returns-in-Err-Fault-UnexpectedEnd
+returns-in-Err-Fault-UnexpectedEnd g c =
+    let had = reader_remaining g.I.Read.remaining c.args.input.now in
+    let left = reader_remaining g.I.Read.remaining c.read_frame.new.reader in
+    let arm = c.in-Err-Fault-UnexpectedEnd in
+    arrived_end g.M.Machine.handles g.M.Machine.notes c.args.machine.now had left c.args.batch.now
+    (end_from had left arm.field-0 arm.field-0-0 arm.field-0-is arm.field-0-0-is arm.ensures.exact)
+
+pub returns-in-Err-Fault : goal.returns-in-Err-Fault
+returns-in-Err-Fault g c =
+    let had = reader_remaining g.I.Read.remaining c.args.input.now in
+    let left = reader_remaining g.I.Read.remaining c.read_frame.new.reader in
+    let arm = c.in-Err-Fault in
+    let late : arm.fault ≡ UnexpectedEnd → ⊥ = search rules in
+    arrived_stop g.M.Machine.handles g.M.Machine.notes c.args.machine.now had (NoFrame arm.fault)
+    (no_frame_from had left arm.field-0 arm.fault arm.field-0-is late arm.ensures.exact)

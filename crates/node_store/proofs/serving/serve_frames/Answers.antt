@@ -1,0 +1,64 @@
+use Rattle.std.proofs.Common.{rules, true, false, List, ℕ}
+use Rattle.std.specs.Io.Buffered.{reader_remaining}
+use Rattle.std.proofs.lemmas.Result.{err_from_is_err_and}
+use Rattle.node_store.specs.declared.stop.ServeError.TheVariants.{NoInput}
+use Rattle.node_store.proofs.ServingLemmas.{serves_none, serves_more, serves_as, serves_idle, going, stopped}
+use Rattle.node_store.proofs.serving.serve_frames.Goals as goal
+
+pub returns-in_err-serve_arrived : goal.returns-in_err-serve_arrived
+returns-in_err-serve_arrived g c =
+    let p = err_from_is_err_and c.from_residual.result c.from_residual.ensures.1 in
+    let known = reader_remaining g.I.Read.remaining in
+    let kept = g.L.Log.kept in
+    let held = g.O.Write.contents in
+    rw (p.1, p.2) (serves_more g.M.Machine.handles g.M.Machine.notes
+    c.args.machine.now c.loop.machine c.note_log.new.self c.serve_arrived.new.machine c.loop.length
+    (known c.args.input.now) (known c.loop.input) (known c.serve_arrived.new.input)
+    (kept c.args.log.now) (kept c.loop.log) (kept c.serve_arrived.new.log)
+    (held c.args.output.now) (held c.loop.output) (held c.serve_arrived.new.output)
+    (stopped c.in_err-serve_arrived.field-0.0) c.loop.invariant.0 c.note_log.ensures c.in_err-serve_arrived.ensures.serves)
+
+pub returns-then-not-branch : goal.returns-then-not-branch
+returns-then-not-branch g c =
+    let known = reader_remaining g.I.Read.remaining in
+    let kept = g.L.Log.kept in
+    let held = g.O.Write.contents in
+    serves_more g.M.Machine.handles g.M.Machine.notes
+    c.args.machine.now c.loop.machine c.note_log.new.self c.serve_arrived.new.machine c.loop.length
+    (known c.args.input.now) (known c.loop.input) (known c.serve_arrived.new.input)
+    (kept c.args.log.now) (kept c.loop.log) (kept c.serve_arrived.new.log)
+    (held c.args.output.now) (held c.loop.output) (held c.serve_arrived.new.output)
+    (going false) c.loop.invariant.0 c.note_log.ensures
+    (serves_as g.M.Machine.handles g.M.Machine.notes c.note_log.new.self c.serve_arrived.new.machine
+    (known c.loop.input) (known c.serve_arrived.new.input) (kept c.loop.log) (kept c.serve_arrived.new.log)
+    (held c.loop.output) (held c.serve_arrived.new.output) c.in_ok-serve_arrived.field-0 false (search rules)
+    c.in_ok-serve_arrived.ensures.serves)
+
+pub loop-preserved : goal.loop-preserved
+loop-preserved g c =
+    let known = reader_remaining g.I.Read.remaining in
+    let kept = g.L.Log.kept in
+    let held = g.O.Write.contents in (
+      serves_more g.M.Machine.handles g.M.Machine.notes
+          c.args.machine.now c.loop.machine c.note_log.new.self c.serve_arrived.new.machine c.loop.length
+          (known c.args.input.now) (known c.loop.input) (known c.serve_arrived.new.input)
+          (kept c.args.log.now) (kept c.loop.log) (kept c.serve_arrived.new.log)
+          (held c.args.output.now) (held c.loop.output) (held c.serve_arrived.new.output)
+          (going true) c.loop.invariant.0 c.note_log.ensures
+          (serves_as g.M.Machine.handles g.M.Machine.notes c.note_log.new.self c.serve_arrived.new.machine
+          (known c.loop.input) (known c.serve_arrived.new.input) (kept c.loop.log) (kept c.serve_arrived.new.log)
+          (held c.loop.output) (held c.serve_arrived.new.output) c.in_ok-serve_arrived.field-0 true (search rules)
+          c.in_ok-serve_arrived.ensures.serves),
+      c.in_ok-serve_arrived.ensures.synced,
+      c.clear.ensures.log,
+      c.clear.ensures.output,
+    )
+
+pub returns : goal.returns
+returns g c =
+    let known = reader_remaining g.I.Read.remaining in
+    let kept = g.L.Log.kept in
+    let held = g.O.Write.contents in
+    serves_idle g.M.Machine.handles g.M.Machine.notes c.args.machine.now c.loop.machine
+    (known c.args.input.now) (known c.loop.input) (kept c.args.log.now) (kept c.loop.log)
+    (held c.args.output.now) (held c.loop.output) (NoInput c.from.result) (λ (bytes : List ℕ). tt) c.loop.invariant.0

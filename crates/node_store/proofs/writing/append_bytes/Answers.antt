@@ -1,0 +1,5 @@
+use Rattle.node_store.proofs.GrowthLemmas.{grows_twice}
+use Rattle.node_store.proofs.writing.append_bytes.Goals as goal
+
+pub returns-clause-grows : goal.returns-clause-grows
+returns-clause-grows g c = grows_twice _ _ _ c.append.ensures.kept c.sync.ensures.kept

@@ -1,0 +1,16 @@
+-- The contracts that docs/trusted.md lists do not depend on this file; other contracts and proofs do.
+-- What holds of every log.
+use Rattle.std.specs.Prelude.{◌≡◌, ◌++◌, ℕ, List, take}
+use Rattle.std.specs.List.{AllByRecursion}
+use Rattle.node_log.specs.Reading.{IsEnd}
+use Rattle.node_store.specs.Recovery.{IsWholeEntry, log_bytes, BeginsWith}
+
+-- what is left of a log that is cut anywhere: the bytes of its first entries, and the end of a log behind them
+abbrev pub CutLogIsFront : Type 0
+CutLogIsFront = (entries : List (List (List ℕ))) (front back : List ℕ) → AllByRecursion IsWholeEntry entries
+    → log_bytes entries ≡ front ++ back → (count : ℕ) × BeginsWith (take count entries) IsEnd front
+
+-- where two lists of entries begin the same bytes, and the log ends behind both, they are the same entries
+abbrev pub LogIsReadOnce : Type 0
+LogIsReadOnce = (es fs : List (List (List ℕ))) (x y : List ℕ) → AllByRecursion IsWholeEntry es
+    → AllByRecursion IsWholeEntry fs → log_bytes es ++ x ≡ log_bytes fs ++ y → IsEnd x → IsEnd y → (es ≡ fs) × (x ≡ y)

@@ -1,0 +1,4 @@
+pub mod Logs
+pub mod Recovery
+pub mod Serving
+pub mod Laws

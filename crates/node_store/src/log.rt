@@ -1,0 +1,56 @@
+//! A log that keeps what was synced.
+ghost use Rattle.std.specs.Prelude.{OnOk};
+ghost use Rattle.std.specs.Io.KnownBytes.{Appends};
+ghost use Rattle.frames.specs.Writing.{Writes};
+
+use crate::output::write_bytes;
+use std::fs::OpenFile;
+use std::io;
+use std::io::Write;
+
+/// Bytes to which others are appended, and which are there after the machine stops once they are synced.
+pub trait Log {
+    ghost use Rattle.std.specs.Prelude.{◌≡◌, ℕ, List, Option, None, OnOk};
+    ghost use Rattle.std.specs.Io.KnownBytes.{Appends, Keeps};
+    ghost use Rattle.node_store.specs.Logs.{Grows};
+
+    // The bytes that were appended, where they are known.
+    ghost written: { Self → Option (List ℕ) } = { λ _. None };
+
+    // The bytes that are there after the machine stops, where they are known.
+    ghost kept: { Self → Option (List ℕ) } = { λ _. None };
+
+    /// Appends bytes. Some of them may be kept at once.
+    fn append(&mut self, bytes: &[u8]) -> io::Result<()>
+        ensures written { OnOk result (Appends (written self.old) (written self.new) bytes.now) }
+        ensures kept { Grows (kept self.old) (kept self.new) };
+
+    /// Has all bytes kept that were appended.
+    fn sync(&mut self) -> io::Result<()>
+        ensures written { Keeps (written self.old) (written self.new) }
+        ensures kept { Grows (kept self.old) (kept self.new) }
+        ensures all { OnOk result (kept self.new ≡ written self.new) };
+}
+
+/// A file that is a log, written at its end.
+#[derive(Drop)]
+pub struct LogFile<F> {
+    /// The file, in which the place to write is its end.
+    pub file: F,
+}
+
+impl<F: Write + OpenFile> Log for LogFile<F> {
+    // What is known of a file is what it holds, and a file that is synced is taken to keep that.
+    ghost written = { λ log. F.contents log.file };
+
+    ghost kept = { λ log. F.contents log.file };
+
+    fn append(&mut self, bytes: &[u8]) -> io::Result<()> {
+        write_bytes(&mut self.file, bytes)
+    }
+
+    fn sync(&mut self) -> io::Result<()> {
+        self.file.flush()?;
+        self.file.sync_data()
+    }
+}

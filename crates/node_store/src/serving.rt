@@ -1,0 +1,149 @@
+//! The loop of a node: frames in, entries to the log, frames out.
+ghost use Rattle.std.specs.Prelude.{◌≡◌, [], OnOk, IfOk};
+ghost use Rattle.std.specs.Io.Buffered.{reader_remaining};
+ghost use Rattle.frames.specs.Writing.{Writes};
+ghost use Rattle.node_store.specs.Serving.{Serves, ServesSome, HandlesArrived, IsHandled};
+
+use crate::batch::Batch;
+use crate::log::Log;
+use crate::output::write_bytes;
+use crate::stop::ServeError;
+use crate::writing::append_bytes;
+use frames::{Fault, Frame, FrameError, read_frame};
+use node_effects::{Machine, NodeError};
+use std::alloc::Global;
+use std::io;
+use std::io::{BufReader, ErrorKind, Read, Write};
+
+// How many frames are handled before the log is synced, at most.
+const MOST_AT_ONCE: u16 = 1024;
+
+/// Handles the frames of the input, until it ends. All frames that have arrived are handled one after another. Their
+/// entries are appended to the log, which is synced once, and only then are the frames written that go out.
+///
+/// `length` is that of the log, which is synced. An input that ends within a frame ends there. After 2^64 - 1 times
+/// that frames arrived, the error is `NoInput` with `TimedOut`.
+pub fn serve_frames<M: Machine, I: Read + Drop, O: Write, L: Log>(
+    alloc: Global,
+    machine: &mut M,
+    input: &mut BufReader<I>,
+    output: &mut O,
+    log: &mut L,
+    length: u64,
+) -> Result<(), ServeError>
+    requires { L.kept log.old ≡ L.written log.old }
+    ensures { Serves M.handles M.notes machine.old machine.new (reader_remaining I.remaining input.old)
+        (L.kept log.old) (L.kept log.new) (O.contents output.old) (O.contents output.new) result }
+{
+    let mut length = length;
+    let mut batch = Batch::new(alloc);
+    for _ in 0..u64::MAX {
+        machine.note_log(length);
+        if !serve_arrived(alloc, machine, input, output, log, &mut batch)? {
+            return Ok(());
+        }
+        length = length.saturating_add(batch.log.len() as u64);
+        batch.clear();
+    }
+    Err(ServeError::NoInput(io::Error::from(ErrorKind::TimedOut)))
+}
+
+// Serves the next frame, for which it waits, and those that have arrived behind it. Returns whether the input goes on.
+fn serve_arrived<M: Machine, I: Read + Drop, O: Write, L: Log>(
+    alloc: Global,
+    machine: &mut M,
+    input: &mut BufReader<I>,
+    output: &mut O,
+    log: &mut L,
+    batch: &mut Batch,
+) -> Result<bool, ServeError>
+    requires empty_log { batch.old.log.items ≡ [] }
+    requires empty_output { batch.old.output.items ≡ [] }
+    requires synced { L.kept log.old ≡ L.written log.old }
+    ensures serves { ServesSome M.handles M.notes machine.old machine.new
+        (reader_remaining I.remaining input.old) (reader_remaining I.remaining input.new)
+        (L.kept log.old) (L.kept log.new) (O.contents output.old) (O.contents output.new) result }
+    ensures synced { OnOk result (L.kept log.new ≡ L.written log.new) }
+{
+    let goes_on = handle_arrived(alloc, machine, input, batch)?;
+    if let Err(error) = append_bytes(log, &batch.log) {
+        return Err(ServeError::LogLost(error));
+    }
+    match write_out(output, &batch.output) {
+        Ok(()) => Ok(goes_on),
+        Err(error) => Err(ServeError::OutputLost(error)),
+    }
+}
+
+// Handles the next frame, for which it waits, and those that have arrived behind it. Returns whether the input goes on.
+fn handle_arrived<M: Machine, I: Read + Drop>(
+    alloc: Global,
+    machine: &mut M,
+    input: &mut BufReader<I>,
+    batch: &mut Batch,
+) -> Result<bool, ServeError>
+    ensures { HandlesArrived M.handles M.notes machine.old machine.new (reader_remaining I.remaining input.old)
+        (reader_remaining I.remaining input.new) batch.old batch.new result }
+{
+    for _ in 0..MOST_AT_ONCE {
+        if !handle_next(alloc, machine, input, batch)? {
+            return Ok(false);
+        }
+        if is_due(input, batch) {
+            break;
+        }
+    }
+    Ok(true)
+}
+
+// Whether the batch is to be written: no further byte has arrived, or enough bytes wait.
+fn is_due<I: Read + Drop>(input: &BufReader<I>, batch: &Batch) -> bool {
+    input.buffer().is_empty() || batch.is_full()
+}
+
+// Handles the next frame. Returns whether there was one.
+fn handle_next<M: Machine, I: Read + Drop>(
+    alloc: Global,
+    machine: &mut M,
+    input: &mut BufReader<I>,
+    batch: &mut Batch,
+) -> Result<bool, ServeError>
+    ensures { HandlesArrived M.handles M.notes machine.old machine.new (reader_remaining I.remaining input.old)
+        (reader_remaining I.remaining input.new) batch.old batch.new result }
+{
+    match read_frame(alloc, input) {
+        Ok(Some(frame)) => match handle(machine, frame, batch) {
+            Ok(()) => Ok(true),
+            Err(error) => Err(ServeError::Stopped(error)),
+        },
+        Ok(None) => Ok(false),
+        Err(FrameError::Fault(Fault::UnexpectedEnd)) => Ok(false),
+        Err(FrameError::Fault(fault)) => Err(ServeError::NoFrame(fault)),
+        Err(FrameError::NoMemory) => Err(ServeError::Stopped(NodeError::NoMemory)),
+        Err(FrameError::Failed(error)) => Err(ServeError::NoInput(error)),
+    }
+}
+
+// Handles a frame, and adds what the machine wants done to the batch.
+fn handle<M: Machine>(machine: &mut M, frame: Frame, batch: &mut Batch) -> Result<(), NodeError>
+    ensures { OnOk result (IsHandled M.handles M.notes machine.old machine.new frame batch.old batch.new) }
+{
+    match machine.handle(frame) {
+        Ok(effects) => match batch.push(&effects) {
+            Ok(()) => Ok(()),
+            Err(_) => Err(NodeError::NoMemory),
+        },
+        Err(error) => Err(error),
+    }
+}
+
+// Writes bytes to the output, and flushes it. Where there are no bytes, it does nothing.
+fn write_out<O: Write>(output: &mut O, bytes: &[u8]) -> io::Result<()>
+    ensures { Writes (O.contents output.old) (O.contents output.new) result bytes.now }
+{
+    if bytes.is_empty() {
+        return Ok(());
+    }
+    write_bytes(output, bytes)?;
+    output.flush()
+}

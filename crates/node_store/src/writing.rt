@@ -1,0 +1,53 @@
+//! Appending to the log.
+ghost use Rattle.std.specs.Prelude.{◌≡◌, ◌++◌, IfOk, OnOk, length};
+ghost use Rattle.std.specs.Io.KnownBytes.{Appends};
+ghost use Rattle.node_store.specs.Recovery.{log_bytes};
+ghost use Rattle.node_store.specs.Logs.{Grows};
+
+use crate::log::Log;
+use node_log::{Entry, write_entry};
+use std::alloc::Global;
+use std::io;
+
+/// Appends the bytes of entries to those that wait to be written to the log. It fails only where memory is refused.
+pub fn push_entries(bytes: &mut Vec<u8>, entries: &[Entry]) -> io::Result<()>
+    ensures { OnOk result (bytes.new.items ≡ bytes.old.items ++ log_bytes entries.now) }
+{
+    for entry in entries {
+        write_entry(bytes, entry)?;
+    }
+    Ok(())
+}
+
+/// Appends bytes to a log that is synced, and syncs it again. Where there are no bytes, it does nothing. Where it
+/// fails, some of the bytes may be kept.
+pub fn append_bytes<L: Log>(log: &mut L, bytes: &[u8]) -> io::Result<()>
+    requires { L.kept log.old ≡ L.written log.old }
+    ensures kept { OnOk result (Appends (L.kept log.old) (L.kept log.new) bytes.now) }
+    ensures synced { OnOk result (L.kept log.new ≡ L.written log.new) }
+    ensures grows { Grows (L.kept log.old) (L.kept log.new) }
+{
+    if bytes.is_empty() {
+        return Ok(());
+    }
+    log.append(bytes)?;
+    log.sync()
+}
+
+/// Appends entries to a log that is synced, and syncs it again. Returns how many bytes they have. Where it fails,
+/// also for want of memory, some of the bytes may be kept.
+pub fn append_entries<L: Log>(alloc: Global, log: &mut L, entries: &[Entry]) -> io::Result<u64>
+    requires { L.kept log.old ≡ L.written log.old }
+    ensures kept { IfOk result (λ bytes. Appends (L.kept log.old) (L.kept log.new) (log_bytes entries.now)
+        × (bytes ≡ length (log_bytes entries.now))) }
+    ensures synced { OnOk result (L.kept log.new ≡ L.written log.new) }
+{
+    let mut bytes = Vec::new(alloc);
+    match push_entries(&mut bytes, entries) {
+        Ok(()) => match append_bytes(log, &bytes) {
+            Ok(()) => Ok(bytes.len() as u64),
+            Err(error) => Err(error),
+        },
+        Err(error) => Err(error),
+    }
+}
