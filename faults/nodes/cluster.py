@@ -73,7 +73,7 @@ class Cluster:
     """`due` gives the step from which on a frame that is sent may arrive; calls are given up after some ticks."""
 
     def __init__(self, words, count, ticks, folder, history, due):
-        file = Path(folder) / "cluster"
+        self.file = file = Path(folder) / "cluster"
         with open(file, "wb") as output:
             subprocess.run([CLUSTER_FILE, str(count), str(ticks)], check=True, stdout=output)
         self.nodes, self.history, self.due = {}, history, due
@@ -84,6 +84,11 @@ class Cluster:
         for number in range(1, count + 1):
             (Path(folder) / str(number)).mkdir()
             self.nodes[number] = Node(words, number, Path(folder) / str(number), file)
+
+    def set_needed(self, needed):
+        """Before the first start: so many fragments give a value back."""
+        lines = self.file.read_text().split("\n")
+        self.file.write_text("\n".join(f"k {needed}" if line.startswith("k ") else line for line in lines))
 
     def up(self):
         return [number for number, node in self.nodes.items() if node.process is not None]
@@ -151,7 +156,7 @@ class Cluster:
         client, _, key = self.open.pop(connection)
         self.ended.append(client)
         if key is None:
-            self.history.moves += answer == b"+OK\r\n"
+            self.take_move_answer(answer)
         elif answer == b"+OK\r\n":
             self.history.end(key, None)
         elif answer.startswith(b"$"):
@@ -159,6 +164,12 @@ class Cluster:
         elif answer.startswith(b"-ERR no quorum answered in time"):
             self.history.give_up(key)
         else:
+            raise NodeEnded(f"unexpected answer: {answer[:80]}")
+
+    def take_move_answer(self, answer):
+        """A move that is still open, or that the node refuses because an earlier one is open, is no fault."""
+        self.history.moves += answer == b"+OK\r\n"
+        if not answer.startswith((b"+OK", b"-ERR refused: 11 MovePending", b"-ERR no quorum")):
             raise NodeEnded(f"unexpected answer: {answer[:80]}")
 
     def leave(self, connection):

@@ -1,0 +1,43 @@
+//! The program `casd`: one node of a cluster, over frames on its standard input and output.
+#![tactic(auto)]
+
+use fault::Fault;
+use program::run_words;
+use std::process::ExitCode;
+use std::{env, fs, io};
+
+mod arguments;
+mod fault;
+mod opening;
+mod program;
+
+fn main(rt: HostRuntime) -> ExitCode {
+    let status = match run(&rt) {
+        Ok(status) => status,
+        Err(fault) => fault.report(&mut rt.stderr()),
+    };
+    ExitCode::from(status)
+}
+
+// Where a standard stream is closed, the next file that is opened takes its number, and what is written to the stream
+// would go into that file. So three files are opened first, which cannot be written and are read to their end at once.
+fn run(rt: &HostRuntime) -> Result<u8, Fault> {
+    let _first = fs::open(rt, "/dev/null").map_err(Fault::NoNull)?;
+    let _second = fs::open(rt, "/dev/null").map_err(Fault::NoNull)?;
+    let _third = fs::open(rt, "/dev/null").map_err(Fault::NoNull)?;
+    let words = words_of(rt).map_err(Fault::from_arguments)?;
+    Ok(run_words(
+        rt,
+        words.as_slice(),
+        rt.stdin(),
+        &mut rt.stdout(),
+        &mut rt.stderr(),
+    ))
+}
+
+// The words after the program's name.
+fn words_of(rt: &HostRuntime) -> io::Result<Vec<String>> {
+    let mut arguments = env::args(rt)?;
+    let _program = arguments.next();
+    Ok(arguments.collect(rt.alloc())?)
+}

@@ -1,0 +1,93 @@
+//! The cluster file, and the log in a node's folder.
+use crate::fault::Fault;
+use cluster_file::{ClusterFile, read_cluster_file};
+use node::Node;
+use node_store::{LogFile, append_entries, recover_machine};
+use std::fs;
+use std::fs::{OpenFile, OpenOptions};
+use std::io::{BufReader, ErrorKind, Seek, SeekFrom};
+use std::rt::Files;
+
+// The size of the buffer with which the log is read, in bytes.
+const LOG_BUFFER: usize = 65_536;
+
+/// The cluster file of this name, which has a node of this number.
+pub fn read_file<R: Files + AllocGlobal>(
+    rt: &R,
+    name: &str,
+    number: u8,
+) -> Result<ClusterFile, Fault> {
+    let text = fs::read(rt, name).map_err(Fault::Unread)?;
+    let file = read_cluster_file(rt.alloc(), &text).map_err(Fault::BadFile)?;
+    if file.has_node(number) {
+        Ok(file)
+    } else {
+        Err(Fault::NoNode(number))
+    }
+}
+
+/// Opens the log in the folder, has the node carry it out again, cuts off an entry that is cut short at its end, and
+/// begins an epoch of the node. Returns the log, which is synced, and its length.
+///
+/// Where the log is damaged or not the node's, it is left as it is.
+pub fn open_log<R: Files + AllocGlobal>(
+    rt: &R,
+    folder: &str,
+    node: &mut Node,
+) -> Result<(LogFile<R::File>, u64), Fault> {
+    let mut file = open_file(rt, folder)?;
+    let length = recover(rt, &mut file, node)?;
+    cut_behind(&mut file, length)?;
+    let mut log = LogFile { file };
+    let effects = node.start().map_err(Fault::Stopped)?;
+    let more = append_entries(rt.alloc(), &mut log, &effects.entries).map_err(Fault::LogLost)?;
+    sync_folder(rt, folder)?;
+    Ok((log, length.saturating_add(more)))
+}
+
+// Opens the file `log` in the folder, and makes it where there is none.
+fn open_file<R: Files + AllocGlobal>(rt: &R, folder: &str) -> Result<R::File, Fault> {
+    let Ok(name) = format!(in rt.alloc(); "{folder}/log") else {
+        return Err(Fault::NoMemory);
+    };
+    let mut options = OpenOptions::new();
+    match options
+        .read(true)
+        .write(true)
+        .create(true)
+        .open(rt, name.as_str())
+    {
+        Ok(file) => Ok(file),
+        Err(error) => match error.kind() {
+            ErrorKind::NotFound => Err(Fault::NoFolder),
+            _ => Err(Fault::Unopened(error)),
+        },
+    }
+}
+
+// Has the node carry out the log again. Returns the number of bytes of its entries.
+fn recover<R: Files + AllocGlobal>(
+    rt: &R,
+    file: &mut R::File,
+    node: &mut Node,
+) -> Result<u64, Fault> {
+    match BufReader::with_capacity(rt.alloc(), LOG_BUFFER, file) {
+        Ok(mut reader) => recover_machine(rt.alloc(), &mut reader, node).map_err(Fault::BadLog),
+        Err(_) => Err(Fault::NoMemory),
+    }
+}
+
+// Cuts the file behind so many bytes, where the next byte is then written.
+fn cut_behind<F: Seek + OpenFile>(file: &mut F, length: u64) -> Result<(), Fault> {
+    file.set_len(length).map_err(Fault::Unopened)?;
+    match file.seek(SeekFrom::Start(length)) {
+        Ok(_) => Ok(()),
+        Err(error) => Err(Fault::Unopened(error)),
+    }
+}
+
+// Syncs the folder, so that a log that was made since the last start is in it after the machine stops.
+fn sync_folder<R: Files + AllocGlobal>(rt: &R, folder: &str) -> Result<(), Fault> {
+    let opened = fs::open(rt, folder).map_err(Fault::Unopened)?;
+    opened.sync_all().map_err(Fault::Unopened)
+}

@@ -1,0 +1,72 @@
+//! The program, generic over its input and its writers.
+use crate::arguments::{Request, read_request};
+use crate::fault::Fault;
+use crate::opening::{open_log, read_file};
+use node::Node;
+use node_store::serve_frames;
+use std::io::{BufReader, Read, Write};
+use std::rt::Files;
+
+// The size of the buffer of the input, in bytes: that of a pipe.
+const INPUT_BUFFER: usize = 65_536;
+
+const HELP: &str = "usage: casd FILE NODE FOLDER
+
+One node of a cluster. FILE is the cluster file, NODE the number of the node, and FOLDER
+its folder, which must exist. The node keeps its log there, in the file `log`. Frames come
+in on standard input and go out on standard output; a host moves them.
+
+The status is 0 at the end of the input, 2 for wrong arguments or a bad cluster file, and
+1 for anything else, such as a log that is damaged or cannot be written.";
+
+/// Carries out the words after the program's name, and returns the exit status: 0 at the end of the input, and else
+/// that of the fault, whose text goes to `err`.
+pub fn run_words<R: Files + AllocGlobal, I: Read + Drop, O: Write, E: Write>(
+    rt: &R,
+    words: &[String],
+    input: I,
+    output: &mut O,
+    err: &mut E,
+) -> u8 {
+    let done = match read_request(words) {
+        Ok(Request::Help) => print_line(output, HELP),
+        Ok(Request::Version) => print_line(output, "casd 1"),
+        Ok(
+            Request::Run {
+                file,
+                number,
+                folder,
+            },
+        ) => run_node(rt, file, number, folder, input, output),
+        Err(fault) => Err(fault),
+    };
+    match done {
+        Ok(()) => 0,
+        Err(fault) => fault.report(err),
+    }
+}
+
+fn print_line<O: Write>(output: &mut O, text: &str) -> Result<(), Fault> {
+    match writeln!(output, "{text}") {
+        Ok(()) => Ok(()),
+        Err(error) => Err(Fault::OutputLost(error)),
+    }
+}
+
+// The node of this number runs until its input ends.
+fn run_node<R: Files + AllocGlobal, I: Read + Drop, O: Write>(
+    rt: &R,
+    file: &str,
+    number: u8,
+    folder: &str,
+    input: I,
+    output: &mut O,
+) -> Result<(), Fault> {
+    let file = read_file(rt, file, number)?;
+    let mut node = Node::new(rt.alloc(), file, number);
+    let (mut log, length) = open_log(rt, folder, &mut node)?;
+    let Ok(mut input) = BufReader::with_capacity(rt.alloc(), INPUT_BUFFER, input) else {
+        return Err(Fault::NoMemory);
+    };
+    serve_frames(rt.alloc(), &mut node, &mut input, output, &mut log, length).map_err(Fault::Ended)
+}

@@ -1,0 +1,110 @@
+#!/usr/bin/env python3
+"""A node program that is broken on purpose: broken.py KIND PROGRAM FILE NODE FOLDER. It starts PROGRAM and stands
+between it and its pipes, or changes its log before it starts. The checker of histories must find each KIND:
+
+unsynced  at a start, the last entries of the log are gone, as where it was not synced before the answers went out
+hasty     a write is answered before the node hears of it
+stale     a read is answered with the value that the node read or wrote last under that name, where there is one
+"""
+import ctypes
+import os
+import signal
+import subprocess
+import sys
+import threading
+from pathlib import Path
+
+sys.path[:0] = [str(Path(__file__).resolve().parents[2] / "deploy" / "test")]
+sys.dont_write_bytecode = True
+
+from frames import Frames, encode, frame_at  # noqa: E402
+
+# So many entries are gone at a start.
+LOST = 30
+
+
+def cut_log(log):
+    """Cuts the last entries off, but never the first two, with which the log began."""
+    data = log.read_bytes() if log.exists() else b""
+    places = [0]
+    while places[-1] < len(data) and (entry := frame_at(data, places[-1])) is not None:
+        places.append(entry[1])
+    if len(places) > 3:
+        os.truncate(log, places[max(2, len(places) - 1 - LOST)])
+
+
+class Between:
+    """Hands frames on in both directions, and answers some of them itself."""
+
+    def __init__(self, kind, child):
+        self.kind, self.child = kind, child
+        self.values, self.asked, self.answered = {}, {}, set()
+        self.lock = threading.Lock()
+
+    def write(self, data):
+        with self.lock:
+            view = memoryview(data)
+            while view:
+                view = view[os.write(1, view):]
+
+    def arrive(self, frame):
+        """A frame for the node. Returns whether the node gets it."""
+        client, words = frame[0], [word.upper() for word in frame[1:2]]
+        if words == [b"SET"] and len(frame) == 4:
+            self.values[frame[2]] = frame[3]
+            if self.kind == "hasty":
+                self.answered.add(client)
+                self.write(encode([client, b"+OK\r\n"]))
+        if words == [b"GET"] and len(frame) == 3:
+            self.asked[client] = frame[2]
+            if self.kind == "stale" and frame[2] in self.values:
+                value = self.values[frame[2]]
+                self.write(encode([client, b"$%d\r\n" % len(value), value, b"\r\n"]))
+                return False
+        return True
+
+    def leave(self, frame):
+        """A frame from the node. Returns whether it goes on."""
+        client = frame[0]
+        if len(frame) == 4 and client in self.asked:
+            self.values[self.asked[client]] = frame[2]
+        if client in self.answered and len(frame) > 1:
+            self.answered.remove(client)
+            return False
+        return True
+
+    def pass_output(self):
+        frames = Frames()
+        while data := os.read(self.child.stdout.fileno(), 1 << 20):
+            kept = [encode(frame) for frame in frames.take(data) if self.leave(frame)]
+            self.write(b"".join(kept))
+        os._exit(self.child.wait())
+
+    def pass_input(self):
+        frames = Frames()
+        while data := os.read(0, 1 << 20):
+            for frame in frames.take(data):
+                if self.arrive(frame):
+                    self.child.stdin.write(encode(frame))
+        self.child.stdin.close()
+
+
+def end_with_parent():
+    """Linux ends the program by SIGKILL when this process ends, so that two never write one log."""
+    ctypes.CDLL(None).prctl(1, signal.SIGKILL)
+
+
+def main(kind, program, *words):
+    if kind == "unsynced":
+        cut_log(Path(words[2]) / "log")
+        os.execv(program, [program, *words])
+    child = subprocess.Popen([program, *words], stdin=subprocess.PIPE, stdout=subprocess.PIPE, bufsize=0,
+                             preexec_fn=end_with_parent)
+    between = Between(kind, child)
+    threading.Thread(target=between.pass_output, daemon=True).start()
+    between.pass_input()
+    child.wait()
+
+
+if __name__ == "__main__":
+    main(*sys.argv[1:])

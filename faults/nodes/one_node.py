@@ -1,0 +1,46 @@
+"""Runs of one node program by itself, for tests: a cluster of one node, whose folder and log the test sees."""
+import subprocess
+import tempfile
+from pathlib import Path
+
+from frames import Frames, encode
+
+CLUSTER = "nodes 1\nn 1\nk 1\ndelta 8\nmover 1\nlater\nticks 50\n"
+
+
+def command(*words):
+    """The frame of a command of the connection 1."""
+    return encode([b"client 1", *words])
+
+
+class OneNode:
+    """The node program, a cluster file with one node, and that node's folder."""
+
+    def __init__(self, program, cluster=CLUSTER):
+        self.program = program
+        self.home = tempfile.TemporaryDirectory()
+        self.file, self.folder = Path(self.home.name) / "cluster", Path(self.home.name) / "1"
+        self.log = self.folder / "log"
+        self.file.write_text(cluster)
+        self.folder.mkdir()
+
+    def __enter__(self):
+        return self
+
+    def __exit__(self, *_):
+        self.home.cleanup()
+
+    def run(self, data=b"", words=None, **options):
+        """Runs the program until its input ends. Returns its status, what it wrote, and the text of its error."""
+        words = [self.file, "1", self.folder] if words is None else words
+        options = {"stdout": subprocess.PIPE, **options}
+        ended = subprocess.run([self.program, *map(str, words)], input=data, stderr=subprocess.PIPE, timeout=60,
+                               check=False, **options)
+        return ended.returncode, ended.stdout, ended.stderr.decode()
+
+    def answers(self, *frames):
+        """What the program answers to frames of clients, each as the bytes that a client gets."""
+        status, written, text = self.run(b"".join(frames))
+        if (status, text) != (0, ""):
+            raise AssertionError(f"status {status}: {text}")
+        return [b"".join(strings[1:]) for strings in Frames().take(written)]
