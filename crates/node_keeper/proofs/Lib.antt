@@ -6,3 +6,4 @@ pub mod QuietLemmas
 pub mod ResultLemmas
 pub mod LetterLemmas
 pub mod ReadLemmas
+pub mod SeenLemmas

@@ -1,6 +1,7 @@
 -- The contracts that docs/trusted.md lists do not depend on this file; other contracts and proofs do.
 -- What a node does, and what it has to do afterwards.
-use Rattle.std.specs.Prelude.{◌≡◌, ◌<◌, ◌^◌, ◌⊎◌, ℕ, suc, if◌then◌else◌, List, [], ◌∷◌, map, Option, None, Some}
+use Rattle.std.specs.Prelude.{◌≡◌, ◌<◌, ◌^◌, ◌⊎◌, ℕ, suc, Bool, true, false, if◌then◌else◌}
+use Rattle.std.specs.Prelude.{List, [], ◌∷◌, ◌++◌, map, Option, None, Some}
 use Rattle.std.specs.List.{AllByRecursion}
 use Rattle.encoder.specs.Fragment.{fragment}
 use Rattle.call_ids.specs.CallId.{CallIds, HasRanges, after_given, with_next_epoch, next_given_id}
@@ -18,6 +19,10 @@ use Rattle.node_effects.specs.declared.letter.NamedLetter.{NamedLetter}
 use Rattle.node_effects.specs.declared.notice.Notice.{Notice}
 use Rattle.node_effects.specs.declared.notice.Notice.TheVariants as notice
 use Rattle.node_effects.specs.declared.work.Work.{Work}
+use Rattle.node_keeper.specs.declared.delivered.Begun.{Begun}
+use Rattle.node_keeper.specs.declared.delivered.Begun.TheVariants as begun
+use Rattle.node_keeper.specs.declared.delivered.Delivered.{Delivered}
+use Rattle.node_keeper.specs.declared.delivered.Delivered.TheVariants as delivered
 use Rattle.node_keeper.specs.Keeping.{kept_of}
 use Rattle.node_keeper.specs.Logging.{IsReadBack, entry_of, move_entry, serve_entry, start_entry, take_entry}
 use Rattle.node_keeper.specs.Sendings.{IsAddressed, Sending, letters_of, posted, to_itself}
@@ -46,6 +51,37 @@ move_growth name id layout = record no_growth {
 abbrev pub told_of : (name : List ℕ) → Option Ended → List Notice
 told_of name None = []
 told_of name (Some ended) = notice.Tells name ended ∷ []
+
+-- what became of a letter that was taken
+abbrev pub delivered_of : Option Ended → Delivered
+delivered_of None = delivered.Handled
+delivered_of (Some ended) = delivered.Ended ended
+
+-- what clients see of a letter of which this became
+abbrev pub told_by : (name : List ℕ) → Delivered → List Notice
+told_by name delivered.Dropped = []
+told_by name delivered.Handled = []
+told_by name (delivered.Ended ended) = notice.Tells name ended ∷ []
+
+-- the id of the first of these calls, if there is one
+abbrev pub first_id : List Ended → Option ℕ
+first_id [] = None
+first_id (ended ∷ more) = Some ended.id
+
+-- whether a letter was dropped
+abbrev pub was_dropped : Delivered → Bool
+was_dropped delivered.Dropped = true
+was_dropped delivered.Handled = false
+was_dropped (delivered.Ended ended) = false
+
+-- what clients see of a call that was to begin
+abbrev pub seen_of_begun : (ℕ → Notice) → Begun → List Notice
+seen_of_begun seen (begun.Open id) = seen id ∷ []
+seen_of_begun seen (begun.Refused refusal) = []
+
+-- clients saw these, and nothing else, between the first of these and the second
+abbrev pub Sees : (before after : Work) → List Notice → Type 0
+Sees before after notices = after.notices.items ≡ before.notices.items ++ notices
 
 -- what a node has to do more after a reply was taken
 abbrev pub tell_growth : (name : List ℕ) → Option Ended → Growth

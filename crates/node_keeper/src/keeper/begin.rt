@@ -5,8 +5,9 @@ ghost use Rattle.call_ids.specs.CallId.{with_next_epoch};
 ghost use Rattle.local_object.specs.Doing.{gives_up};
 ghost use Rattle.node_objects.specs.Objects.{objects_of};
 ghost use Rattle.node_effects.specs.Work.{IsGrown, one_entry};
+ghost use Rattle.node_effects.specs.declared.notice.Notice.TheVariants as notice;
 ghost use Rattle.node_effects.specs.declared.work.Work.{Work as Todo};
-ghost use Rattle.node_keeper.specs.Acts.{Acts, GivesId, move_growth};
+ghost use Rattle.node_keeper.specs.Acts.{Acts, GivesId, Sees, move_growth, seen_of_begun};
 ghost use Rattle.layout.specs.Layout.{IsLawful};
 ghost use Rattle.recoveries.specs.Records.{LogRecord};
 ghost use Rattle.node_keeper.specs.Logging.{IsReadBack, start_entry};
@@ -40,6 +41,9 @@ impl Keeper {
     /// `NoMoreIds` where there is no id for the call, and `NoMemory`.
     pub fn begin_read(&mut self, name: &Bytes, work: &mut Work) -> Result<Begun, NodeError>
         ensures acts { OnOk result ((asker : ℕ) → Acts asker [] self.old work.old self.new work.new) }
+        ensures begun { IfOk result (λ begun. Sees work.old work.new
+            (seen_of_begun (λ id. notice.Reads name.now id) begun)) }
+
     {
         let id = next_id(&mut self.ids, work)?;
         match self.objects.begin_read(name, id) {
@@ -65,6 +69,9 @@ impl Keeper {
         work: &mut Work,
     ) -> Result<Begun, NodeError>
         ensures acts { OnOk result ((asker : ℕ) → Acts asker [] self.old work.old self.new work.new) }
+        ensures begun { IfOk result (λ begun. Sees work.old work.new
+            (seen_of_begun (λ id. notice.Writes name.now id value) begun)) }
+
     {
         let id = next_id(&mut self.ids, work)?;
         let written = value.clone()?;
@@ -95,6 +102,9 @@ impl Keeper {
     ) -> Result<Begun, NodeError>
         requires { self.old.ids.node ≡ self.old.file.fixed.mover }
         ensures acts { OnOk result ((asker : ℕ) → Acts asker [] self.old work.old self.new work.new) }
+        ensures begun { IfOk result (λ begun. Sees work.old work.new
+            (seen_of_begun (λ id. notice.Moves name.now id layout) begun)) }
+
     {
         let id = next_id(&mut self.ids, work)?;
         let to = layout.clone()?;

@@ -1,5 +1,5 @@
 //! Letters that have come.
-ghost use Rattle.std.specs.Prelude.{◌≡◌, ◌∷◌, [], ℕ, true, false, IfOk, OnOk};
+ghost use Rattle.std.specs.Prelude.{◌≡◌, ◌∷◌, [], ℕ, not, true, false, IfOk, OnOk};
 ghost use Rattle.layout.specs.Layout.{IsLawful};
 ghost use Rattle.local_object.specs.Changing.{IsUnchangedBy, is_changed_by};
 ghost use Rattle.node_objects.specs.Objects.{objects_of};
@@ -9,7 +9,8 @@ ghost use Rattle.recoveries.specs.Records.{LogRecord};
 ghost use Rattle.node_keeper.specs.Logging.{IsReadBack};
 ghost use Rattle.node_effects.specs.Seen.{named_of};
 ghost use Rattle.node_effects.specs.Work.{IsGrown};
-ghost use Rattle.node_keeper.specs.Acts.{Acts, serve_growth, take_growth, tell_growth};
+ghost use Rattle.node_keeper.specs.Acts.{Acts, Sees, delivered_of, serve_growth, take_growth, tell_growth};
+ghost use Rattle.node_keeper.specs.Acts.{told_by, was_dropped};
 ghost use Rattle.node_keeper.specs.Keeping.{heeds, if_heeded, kept_of};
 
 use super::Keeper;
@@ -34,6 +35,9 @@ impl Keeper {
     ) -> Result<Delivered, NodeError>
         ensures acts { OnOk result
             (Acts sender (if_heeded (kept_of self.old) (named_of it)) self.old work.old self.new work.new) }
+        ensures told { IfOk result (λ delivered. Sees work.old work.new (told_by it.name delivered)) }
+        ensures dropped { IfOk result (λ delivered.
+            was_dropped delivered ≡ not (heeds (kept_of self.old) (named_of it))) }
     {
         if !self.heeds(&it)? {
             return Ok(Delivered::Dropped);
@@ -73,6 +77,8 @@ impl Keeper {
         requires { IsHeeded (kept_of self.old) it.name it.letter }
         ensures acts { OnOk result
             (Acts sender (named_of it ∷ []) self.old work.old self.new work.new) }
+        ensures told { IfOk result (λ delivered. Sees work.old work.new (told_by it.name delivered)) }
+        ensures kept { IfOk result (λ delivered. was_dropped delivered ≡ false) }
     {
         let it = self.log_serve(it, work)?;
         let NamedLetter { name, letter } = it;
@@ -91,6 +97,8 @@ impl Keeper {
         requires { IsHeeded (kept_of self.old) it.name it.letter }
         ensures acts { OnOk result
             ((asker : ℕ) → Acts asker (named_of it ∷ []) self.old work.old self.new work.new) }
+        ensures told { IfOk result (λ delivered. Sees work.old work.new (told_by it.name delivered)) }
+        ensures kept { IfOk result (λ delivered. was_dropped delivered ≡ false) }
     {
         let it = self.log_take(it, work)?;
         let NamedLetter { name, letter } = it;
@@ -135,7 +143,8 @@ impl Keeper {
 
 // A reply about the object of this name was taken. Where it answered a call, clients see that.
 fn tell(name: Bytes, ended: Option<Ended>, work: &mut Work) -> Result<Delivered, NodeError>
-    ensures { OnOk result (IsGrown work.old work.new (tell_growth name ended)) }
+    ensures grown { OnOk result (IsGrown work.old work.new (tell_growth name ended)) }
+    ensures delivered { IfOk result (λ delivered. delivered ≡ delivered_of ended) }
 {
     let Some(ended) = ended else {
         return Ok(Delivered::Handled);

@@ -1,9 +1,10 @@
 //! What is carried out again from the log. Nothing is sent, and clients see nothing.
-ghost use Rattle.std.specs.Prelude.{◌≡◌, ◌∷◌, [], true, OnOk};
+ghost use Rattle.std.specs.Prelude.{◌≡◌, ◌∷◌, ◌^◌, [], true, nat_lt, option_to_list, suc, IfOk, OnOk};
 ghost use Rattle.local_object.specs.Doing.{serve_events};
 ghost use Rattle.local_object.specs.Events.{LocalEvent};
 ghost use Rattle.node_objects.specs.Objects.{objects_of};
 ghost use Rattle.recoveries.specs.Records.{IsDoneTo, IsStarted, IsTakenBy};
+ghost use Rattle.node_keeper.specs.Acts.{first_id};
 ghost use Rattle.node_keeper.specs.Keeping.{kept_of};
 
 use super::Keeper;
@@ -16,7 +17,8 @@ use tag::CallId;
 impl Keeper {
     /// An epoch begins again. Returns whether there was one more.
     pub fn start_again(&mut self) -> bool
-        ensures { result ≡ true → IsStarted (kept_of self.old) (kept_of self.new) }
+        ensures more { result ≡ nat_lt (suc self.old.ids.epoch) (2 ^ 24) }
+        ensures started { result ≡ true → IsStarted (kept_of self.old) (kept_of self.new) }
     {
         self.ids.begin_epoch()
     }
@@ -33,7 +35,9 @@ impl Keeper {
 
     /// A reply is taken again. Returns the call that it answers, if it answers one. `NoMemory`.
     pub fn take_again(&mut self, it: NamedLetter) -> Result<Option<CallId>, NodeError>
-        ensures { OnOk result (IsTakenBy (kept_of self.old) it.name it.letter (kept_of self.new)) }
+        ensures { IfOk result (λ id. (taken : IsTakenBy (kept_of self.old) it.name it.letter (kept_of self.new))
+            × (id ≡ first_id taken.ended)) }
+
     {
         let NamedLetter { name, letter } = it;
         let progress = self.objects.take(&name, letter)?;
@@ -51,7 +55,9 @@ impl Keeper {
 }
 
 // The id of a call that was answered, if one was.
-fn id_of(ended: Option<Ended>) -> Option<CallId> {
+fn id_of(ended: Option<Ended>) -> Option<CallId>
+    ensures { result ≡ first_id (option_to_list ended) }
+{
     match ended {
         Some(ended) => Some(ended.id),
         None => None,

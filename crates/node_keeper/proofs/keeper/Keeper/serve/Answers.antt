@@ -15,15 +15,17 @@ use Rattle.node_keeper.specs.Logging.{IsReadBack}
 use Rattle.node_keeper.specs.Sendings.{to_one}
 use Rattle.node_keeper.specs.declared.keeper.Keeper.{Keeper}
 use Rattle.node_keeper.proofs.LetterLemmas.{served_acts}
+use Rattle.node_keeper.specs.Logging.{serve_entry}
+use Rattle.node_keeper.proofs.SeenLemmas.{log_unseen, sees_then}
 use Rattle.node_keeper.proofs.keeper.Keeper.serve.Goals as goal
 
-pub returns-in_ok-send-in-Some : goal.returns-in_ok-send-in-Some
-returns-in_ok-send-in-Some c =
+pub returns-in_ok-send-in-Some-clause-acts : goal.returns-in_ok-send-in-Some-clause-acts
+returns-in_ok-send-in-Some-clause-acts c =
     let old = c.args.self.now in
     let it = c.in_ok-it.it in
     let same : c.args.it ≡ it = sym c.in_ok-it.ensures.same in
-    let new : Keeper = record old { objects = c.serve.new.self } in record {
-      acts = subst (λ i. Acts c.args.sender (named_of i ∷ []) old c.args.work.now new c.send.new.work) c.in_ok-it.ensures.same
+    let new : Keeper = record old { objects = c.serve.new.self } in
+    subst (λ i. Acts c.args.sender (named_of i ∷ []) old c.args.work.now new c.send.new.work) c.in_ok-it.ensures.same
           (served_acts old new c.args.work.now c.log_serve.new.work it refl refl refl
           (subst (λ (i : NamedLetter). IsHeeded (kept_of old) i.name i.letter) same c.requires) c.args.sender c.send.new.work
           (c.in-Some.reply ∷ []) (to_one c.args.sender (record { name = it.name; letter = c.in-Some.reply }))
@@ -33,16 +35,15 @@ returns-in_ok-send-in-Some c =
           (subst (λ (i : NamedLetter). is_changed_by (objects_of old.objects i.name) i.letter ≡ false →
           IsUnchangedBy (objects_of old.objects i.name) i.letter) same c.in_ok-it.ensures.unchanged)
           (subst (λ (i : NamedLetter). is_changed_by (objects_of old.objects i.name) i.letter ≡ true →
-          IsReadBack old.digest (LogRecord.Serves i.name i.letter)) same c.in_ok-it.ensures.read));
-    }
+          IsReadBack old.digest (LogRecord.Serves i.name i.letter)) same c.in_ok-it.ensures.read))
 
-pub returns-in-None : goal.returns-in-None
-returns-in-None c =
+pub returns-in-None-clause-acts : goal.returns-in-None-clause-acts
+returns-in-None-clause-acts c =
     let old = c.args.self.now in
     let it = c.in_ok-it.it in
     let same : c.args.it ≡ it = sym c.in_ok-it.ensures.same in
-    let new : Keeper = record old { objects = c.serve.new.self } in record {
-      acts = subst (λ i. Acts c.args.sender (named_of i ∷ []) old c.args.work.now new c.log_serve.new.work) c.in_ok-it.ensures.same
+    let new : Keeper = record old { objects = c.serve.new.self } in
+    subst (λ i. Acts c.args.sender (named_of i ∷ []) old c.args.work.now new c.log_serve.new.work) c.in_ok-it.ensures.same
           (served_acts old new c.args.work.now c.log_serve.new.work it refl refl refl
           (subst (λ (i : NamedLetter). IsHeeded (kept_of old) i.name i.letter) same c.requires) c.args.sender c.log_serve.new.work
           [] [] (subst (λ o. IsDoneAt old.objects it.name (serve_events (objects_of old.objects it.name) it.letter)
@@ -51,5 +52,16 @@ returns-in-None c =
           (subst (λ (i : NamedLetter). is_changed_by (objects_of old.objects i.name) i.letter ≡ false →
           IsUnchangedBy (objects_of old.objects i.name) i.letter) same c.in_ok-it.ensures.unchanged)
           (subst (λ (i : NamedLetter). is_changed_by (objects_of old.objects i.name) i.letter ≡ true →
-          IsReadBack old.digest (LogRecord.Serves i.name i.letter)) same c.in_ok-it.ensures.read));
-    }
+          IsReadBack old.digest (LogRecord.Serves i.name i.letter)) same c.in_ok-it.ensures.read))
+
+pub returns-in_ok-send-in-Some-clause-told : goal.returns-in_ok-send-in-Some-clause-told
+returns-in_ok-send-in-Some-clause-told c =
+    sees_then c.args.work.now c.log_serve.new.work c.send.new.work [] []
+    (log_unseen (is_changed_by (objects_of c.args.self.now.objects c.args.it.name) c.args.it.letter)
+    (serve_entry c.args.self.now.digest c.args.it) c.args.work.now c.log_serve.new.work c.in_ok-it.ensures.logged)
+    c.in_ok-send-in-Some.ensures.notices
+
+pub returns-in-None-clause-told : goal.returns-in-None-clause-told
+returns-in-None-clause-told c =
+    log_unseen (is_changed_by (objects_of c.args.self.now.objects c.args.it.name) c.args.it.letter)
+    (serve_entry c.args.self.now.digest c.args.it) c.args.work.now c.log_serve.new.work c.in_ok-it.ensures.logged

@@ -5,5 +5,5 @@ use Rattle.node_keeper.proofs.keeper.Keeper.take_again.Goals as goal
 pub returns : goal.returns
 returns c =
     let old = c.args.self.now in
-    taken_by old (record old { objects = c.take.new.self }) c.args.it.name c.args.it.letter c.in_ok-progress.progress.letters.items
-    (option_to_list c.in_ok-progress.progress.ended) refl refl c.in_ok-progress.ensures.done
+    (taken_by old (record old { objects = c.take.new.self }) c.args.it.name c.args.it.letter c.in_ok-progress.progress.letters.items
+    (option_to_list c.in_ok-progress.progress.ended) refl refl c.in_ok-progress.ensures.done, c.id_of.ensures)
