@@ -1,0 +1,3 @@
+pub mod ServedNameLemmas
+pub mod RewrittenLogLemmas
+pub mod OwnObjectLemmas

@@ -1,0 +1,3 @@
+pub mod Records
+pub mod Sound
+pub mod Laws
