@@ -26,13 +26,7 @@ fn run(rt: &HostRuntime) -> Result<u8, Fault> {
     let _second = fs::open(rt, "/dev/null").map_err(Fault::NoNull)?;
     let _third = fs::open(rt, "/dev/null").map_err(Fault::NoNull)?;
     let words = words_of(rt).map_err(Fault::from_arguments)?;
-    Ok(run_words(
-        rt,
-        words.as_slice(),
-        rt.stdin(),
-        &mut rt.stdout(),
-        &mut rt.stderr(),
-    ))
+    Ok(run_words(rt, words.as_slice(), rt.stdin(), &mut rt.stdout(), &mut rt.stderr()))
 }
 
 // The words after the program's name.

@@ -2,6 +2,7 @@
 use crate::fault::Fault;
 use cluster_file::{ClusterFile, read_cluster_file};
 use node::Node;
+use node_log::Entry;
 use node_store::{LogFile, append_entries, recover_machine};
 use std::fs;
 use std::fs::{OpenFile, OpenOptions};
@@ -10,6 +11,9 @@ use std::rt::Files;
 
 // The size of the buffer with which the log is read, in bytes.
 const LOG_BUFFER: usize = 65_536;
+
+// A log that is no longer than this is never written anew, in bytes.
+const SPARED_BYTES: u64 = 4_096;
 
 /// The cluster file of this name, which has a node of this number.
 pub fn read_file<R: Files + AllocGlobal>(
@@ -35,28 +39,66 @@ pub fn open_log<R: Files + AllocGlobal>(
     folder: &str,
     node: &mut Node,
 ) -> Result<(LogFile<R::File>, u64), Fault> {
-    let mut file = open_file(rt, folder)?;
+    let mut file = open_file(rt, folder, "log")?;
     let length = recover(rt, &mut file, node)?;
     cut_behind(&mut file, length)?;
-    let mut log = LogFile { file };
+    let (mut log, length) = match written_anew(rt, folder, node, length)? {
+        Some(anew) => anew,
+        None => (LogFile { file }, length),
+    };
     let effects = node.start().map_err(Fault::Stopped)?;
     let more = append_entries(rt.alloc(), &mut log, &effects.entries).map_err(Fault::LogLost)?;
     sync_folder(rt, folder)?;
     Ok((log, length.saturating_add(more)))
 }
 
-// Opens the file `log` in the folder, and makes it where there is none.
-fn open_file<R: Files + AllocGlobal>(rt: &R, folder: &str) -> Result<R::File, Fault> {
-    let Ok(name) = format!(in rt.alloc(); "{folder}/log") else {
+// Writes the log anew in the place of this long one, if it has more bytes than twice those that the node stores, and
+// than `SPARED_BYTES` more. None where it does not, or where the node may not write its log anew.
+fn written_anew<R: Files + AllocGlobal>(
+    rt: &R,
+    folder: &str,
+    node: &Node,
+    length: u64,
+) -> Result<Option<(LogFile<R::File>, u64)>, Fault> {
+    let most = node.bytes_stored().saturating_mul(2).saturating_add(SPARED_BYTES);
+    if length <= most {
+        return Ok(None);
+    }
+    let entries = node.entries_anew().map_err(Fault::Stopped)?;
+    match entries {
+        Some(entries) => exchange(rt, folder, &entries),
+        None => Ok(None),
+    }
+}
+
+// Writes entries to a new file, and puts this in the place of the log. Until it has its name, a stop leaves the old log.
+fn exchange<R: Files + AllocGlobal>(
+    rt: &R,
+    folder: &str,
+    entries: &[Entry],
+) -> Result<Option<(LogFile<R::File>, u64)>, Fault> {
+    let mut file = open_file(rt, folder, "log.new")?;
+    cut_behind(&mut file, 0)?;
+    let mut log = LogFile { file };
+    let length = append_entries(rt.alloc(), &mut log, entries).map_err(Fault::LogLost)?;
+    let Ok(from) = format!(in rt.alloc(); "{folder}/log.new") else {
+        return Err(Fault::NoMemory);
+    };
+    let Ok(to) = format!(in rt.alloc(); "{folder}/log") else {
+        return Err(Fault::NoMemory);
+    };
+    fs::rename(rt, from.as_str(), to.as_str()).map_err(Fault::Unopened)?;
+    sync_folder(rt, folder)?;
+    Ok(Some((log, length)))
+}
+
+// Opens a file in the folder, and makes it where there is none.
+fn open_file<R: Files + AllocGlobal>(rt: &R, folder: &str, file: &str) -> Result<R::File, Fault> {
+    let Ok(name) = format!(in rt.alloc(); "{folder}/{file}") else {
         return Err(Fault::NoMemory);
     };
     let mut options = OpenOptions::new();
-    match options
-        .read(true)
-        .write(true)
-        .create(true)
-        .open(rt, name.as_str())
-    {
+    match options.read(true).write(true).create(true).open(rt, name.as_str()) {
         Ok(file) => Ok(file),
         Err(error) => match error.kind() {
             ErrorKind::NotFound => Err(Fault::NoFolder),

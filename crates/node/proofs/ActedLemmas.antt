@@ -1,6 +1,6 @@
 -- What a node has done so far, as it handles a frame.
-use Rattle.std.proofs.Common.{◌≡◌, ◌⊎◌, inl, inr, ℕ, zero, suc, Bool, true, false, cond, ◌==◌, List, [], ◌∷◌, ◌++◌, map}
-use Rattle.std.proofs.Common.{None, Some, slice_get, refl, sym, subst, ap, ◌∙◌}
+use Rattle.std.proofs.Common.{◌≡◌, ◌⊎◌, inl, inr, ℕ, zero, suc, Bool, true, false, cond, ◌==◌, List, [], ◌∷◌, ◌++◌, map, Some, slice_get}
+use Rattle.std.proofs.Common.{refl, sym, subst, ap, ◌∙◌}
 use Rattle.std.proofs.lemmas.List.{map-append}
 use Rattle.std.specs.List.{AllByRecursion}
 use Rattle.encoder.specs.Fragment.{fragment}
@@ -8,12 +8,10 @@ use Rattle.call_ids.specs.CallId.{HasRanges}
 use Rattle.deeds.specs.Named.{NamedLetter as Named, IsOneOf}
 use Rattle.deeds.proofs.ListLemmas.{all_append, all_weaker}
 use Rattle.deeds.proofs.NameLemmas.{one_of_first, one_of_second}
-use Rattle.node_strings.specs.Arrival.{arrival_at}
 use Rattle.recoveries.specs.Stops.{IsHandledSafely}
 use Rattle.recoveries.proofs.StopLemmas.{more_safe, two_safe}
 use Rattle.node_effects.specs.Seen.{all_seen, named_of, seen_of}
-use Rattle.node_effects.specs.Work.{IsDueTaken, IsEmpty, IsOwnTaken, Strings}
-use Rattle.node_effects.specs.declared.effects.Effects.{Effects}
+use Rattle.node_effects.specs.Work.{IsEmpty, IsGrown}
 use Rattle.node_effects.specs.declared.letter.NamedLetter.{NamedLetter}
 use Rattle.node_effects.specs.declared.work.Work.{Work}
 use Rattle.node_keeper.specs.Acts.{Acts}
@@ -24,9 +22,7 @@ use Rattle.node_keeper.specs.declared.keeper.Keeper.{Keeper}
 use Rattle.node_keeper.proofs.ActLemmas.{safe_as}
 use Rattle.node_keeper.proofs.IdLemmas.{handled_within}
 use Rattle.node_keeper.proofs.SendingLemmas.{letters_append, posted_append}
-use Rattle.node.specs.declared.node.Node.{Node}
-use Rattle.node.specs.Frames.{letters_in, sender_or}
-use Rattle.node.specs.Handles.{Handles, HasActed}
+use Rattle.node.specs.Handles.{HasActed}
 
 -- a letter of the node to itself is one of those that it sent
 abbrev pub WasSent : List Sending → NamedLetter → Type 0
@@ -169,54 +165,3 @@ pub own_addressed : (number asker own : ℕ) (send : Sending) → own ≡ number
 own_addressed number asker own send same (inl member) = inl member
 own_addressed number asker own send same (inr (inl to)) = inr (inr (to ∙ same))
 own_addressed number asker own send same (inr (inr to)) = inr (inr to)
-
-module _ (asker : ℕ) (got : List Named) (first b : Keeper) where
-  -- a letter of the node to itself is handled
-  pub own_handled : (number : ℕ) (c : Keeper) (v w x : Work) (it : NamedLetter) → number ≡ b.ids.node →
-      IsOwnTaken v w (Some it) → Acts number (if_heeded (kept_of b) (named_of it)) b w c x → HasActed asker got first b v →
-      HasActed asker got first c x
-  own_handled number c v w x it same taken acts done =
-      let all : AllByRecursion (WasSent done.sends) (it ∷ w.own.items) =
-      subst (λ xs. AllByRecursion (WasSent done.sends) xs) taken.own done.own in
-      acted_then asker number got (if_heeded (kept_of b) (named_of it)) first b c v w x done taken.entries taken.notices
-      taken.to_nodes all.1 acts (λ send. own_addressed first.ids.node asker number send (same ∙ done.node))
-      (λ letter is. sent_one got done.sends it letter all.0 (heeded_is b (named_of it) letter is))
-
-  -- no letter of the node to itself waits, and no connection is due
-  none_own : (v u : Work) → IsOwnTaken v u None → HasActed asker got first b v → HasActed asker got first b u
-  none_own v u taken done =
-      acted_same asker got first b v u done taken.entries taken.notices taken.to_nodes (taken.own.1 ∙ sym taken.own.0)
-
-  pub nothing_left : (v u w : Work) → IsOwnTaken v u None → IsDueTaken u w None → HasActed asker got first b v →
-      HasActed asker got first b w
-  nothing_left v u w own due done =
-      acted_same asker got first b u w (none_own v u own done) due.entries due.notices due.to_nodes due.own
-
-  -- the next command of a connection is carried out
-  pub due_handled : (c : Keeper) (v u w x : Work) (client : ℕ) → IsOwnTaken v u None → IsDueTaken u w (Some client) →
-      ((asker : ℕ) → Acts asker [] b w c x) → HasActed asker got first b v → HasActed asker got first c x
-  due_handled c v u w x client own due acts done =
-      let before = none_own v u own done in
-      acted_then asker asker got [] first b c u w x before due.entries due.notices due.to_nodes
-      (subst (λ xs. AllByRecursion (WasSent before.sends) xs) (sym due.own) before.own) (acts asker) (λ send is. is)
-      (λ letter is. absurd (none is.0 is.1))
-    where
-      none : {letter : Named} (i : ℕ) → slice_get [] i ≡ Some letter → ⊥
-      none i e = cc
-
--- what was done with a frame
-pub handles_of : (old new : Node) (frame : Strings) (work : Work) (effects : Effects) →
-    HasActed (sender_or old.keeper.ids.node (arrival_at frame)) (letters_in old.keeper frame) old.keeper new.keeper work →
-    effects.entries.items ≡ work.entries.items → effects.frames.items ≡ work.to_nodes.items ++ work.to_clients.items →
-    effects.notices.items ≡ work.notices.items → Handles old frame effects new
-handles_of old new frame work effects done entries frames notices = record {
-  sends = done.sends;
-  records = done.records;
-  answers = work.to_clients.items;
-  handled = subst (λ ns. IsHandledSafely fragment (kept_of old.keeper) (letters_in old.keeper frame) done.records
-      (kept_of new.keeper) (letters_of done.sends) (all_seen ns)) (sym notices) done.handled;
-  entries = entries ∙ done.entries;
-  read = done.read;
-  frames = frames ∙ ap (λ xs. xs ++ work.to_clients.items) done.to_nodes;
-  addressed = done.addressed;
-}

@@ -1,3 +1,3 @@
-pub mod TellLemmas
 pub mod ActedLemmas
-pub mod StartLemmas
+pub mod TellLemmas
+pub mod RecoveryLemmas

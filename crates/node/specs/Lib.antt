@@ -1,3 +1,3 @@
 pub mod Frames
+pub mod Desk
 pub mod Handles
-pub mod Starts

@@ -4,4 +4,6 @@
 
 pub use node::Node;
 
+mod counts;
+mod desk;
 mod node;

@@ -1,24 +1,20 @@
 //! A node, and what it does with a frame.
-ghost use Rattle.std.specs.Prelude.{◌≡◌, [], ℕ, List, IfOk, OnOk};
+ghost use Rattle.std.specs.Prelude.{◌≡◌, ℕ, List, OnOk};
 ghost use Rattle.cluster_file.specs.Digest.{fixed_digest};
 ghost use Rattle.deeds.specs.Kept.{new_node};
 ghost use Rattle.deeds.specs.Named.{NamedLetter as Named};
-ghost use Rattle.node_strings.specs.Arrival.{arrival_at};
-ghost use Rattle.recoveries.specs.Records.{IsStarted};
-ghost use Rattle.node_effects.specs.Work.{IsGrown};
 ghost use Rattle.node_keeper.specs.Acts.{Acts};
 ghost use Rattle.node_keeper.specs.Keeping.{kept_of, names_of};
 ghost use Rattle.node_keeper.specs.declared.keeper.Keeper.{Keeper as Kept};
-ghost use Rattle.node.specs.Frames.{letter_of_arrival, letters_in, sender_of, sender_or};
+ghost use Rattle.node.specs.Frames.{letter_of_arrival, sender_of};
 ghost use Rattle.node.specs.Handles.{HasActed};
-ghost use Rattle.node.specs.Starts.{name_growth, start_entries};
 
+use crate::desk::Desk;
 use cluster_file::ClusterFile;
-use frames::Frame;
-use node_clients::Desk;
 use node_effects::{Effects, NodeError, Work};
 use node_keeper::Keeper;
-use node_strings::{Arrival, Record, read_arrival};
+use node_log::Entry;
+use node_strings::{Arrival, Record};
 use std::alloc::Global;
 
 mod commands;
@@ -58,47 +54,40 @@ impl Node {
     /// The node starts, behind what its log says: its calls' ids begin a new epoch. It sends nothing.
     ///
     /// `NoMoreIds` where it began all epochs, and `NoMemory`.
-    pub fn start(&mut self) -> Result<Effects, NodeError>
-        ensures started { OnOk result (IsStarted (kept_of self.old.keeper) (kept_of self.new.keeper)) }
-        ensures entries { IfOk result (λ effects. effects.entries.items ≡ start_entries self.old) }
-        ensures frames { IfOk result (λ effects. effects.frames.items ≡ []) }
-        ensures notices { IfOk result (λ effects. effects.notices.items ≡ []) }
-    {
+    pub fn start(&mut self) -> Result<Effects, NodeError> {
         let mut work = Work::new(self.alloc);
-        self.name_log(&mut work)?;
+        if !self.is_named {
+            work.log(&Record::Cluster {
+                digest: self.keeper.digest,
+                node: self.keeper.number(),
+            })?;
+            self.is_named = true;
+        }
         self.keeper.begin_epoch(&mut work)?;
-        let effects = work.into_effects()?;
-        Ok(effects)
+        work.into_effects()
     }
 
-    // A new log gets the entry that names the cluster and the node.
-    fn name_log(&mut self, work: &mut Work) -> Result<(), NodeError>
-        ensures grown { OnOk result (IsGrown work.old work.new (name_growth self.old)) }
-        ensures keeper { self.new.keeper ≡ self.old.keeper }
-    {
-        if self.is_named {
-            return Ok(());
+    /// The entries of a log that is written anew, which gives back what the log gives back. None where the node may not
+    /// write its log anew now.
+    ///
+    /// `NoMemory`. `Unwritable` where a letter is no message.
+    pub fn entries_anew(&self) -> Result<Option<Vec<Entry>>, NodeError> {
+        if !self.keeper.may_rewrite() {
+            return Ok(None);
         }
+        let mut work = Work::new(self.alloc);
         work.log(&Record::Cluster {
             digest: self.keeper.digest,
             node: self.keeper.number(),
         })?;
-        self.is_named = true;
-        Ok(())
+        self.keeper.log_anew(&mut work)?;
+        let effects = work.into_effects()?;
+        Ok(Some(effects.entries))
     }
 
-    // What the node does with a frame. Its letters to itself wait.
-    fn take_frame(&mut self, frame: Frame, work: &mut Work) -> Result<(), NodeError>
-        ensures { OnOk result (Acts (sender_or self.old.keeper.ids.node (arrival_at frame))
-            (letters_in self.old.keeper frame) self.old.keeper work.old self.new.keeper work.new) }
-    {
-        match read_arrival(frame) {
-            Some(arrival) => self.take_arrival(arrival, work),
-            None => {
-                self.desk.drop_frame();
-                Ok(())
-            }
-        }
+    /// The number of bytes of all pieces that the node stores, or `u64::MAX` where it is greater.
+    pub fn bytes_stored(&self) -> u64 {
+        self.keeper.objects.bytes_stored()
     }
 
     // What the node does with what has come.
@@ -128,30 +117,14 @@ impl Node {
             → HasActed asker got first self.old.keeper work.old → HasActed asker got first self.new.keeper work.new) }
     {
         for _ in 0..u64::MAX {
-            if !self.go_a_step(number, work)? {
+            if let Some(it) = work.next_own() {
+                self.deliver(number, it, work)?;
+            } else if let Some(client) = work.next_due() {
+                self.go_on(client, work)?;
+            } else {
                 break;
             }
         }
         Ok(())
-    }
-
-    // The node of this number handles its oldest letter to itself, or else the next command of the connection that has
-    // been due longest. Returns whether there was one.
-    fn go_a_step(&mut self, number: u8, work: &mut Work) -> Result<bool, NodeError>
-        requires { number ≡ self.old.keeper.ids.node }
-        ensures acted { OnOk result ((asker : ℕ) (got : List Named) (first : Kept)
-            → HasActed asker got first self.old.keeper work.old → HasActed asker got first self.new.keeper work.new) }
-
-        ensures number { OnOk result (self.new.keeper.ids.node ≡ self.old.keeper.ids.node) }
-    {
-        if let Some(it) = work.next_own() {
-            self.deliver(number, it, work)?;
-            return Ok(true);
-        }
-        if let Some(client) = work.next_due() {
-            self.go_on(client, work)?;
-            return Ok(true);
-        }
-        Ok(false)
     }
 }

@@ -13,6 +13,7 @@ use std::alloc::Global;
 mod begin;
 mod letters;
 mod recovery;
+mod rewriting;
 mod send;
 
 /// What a node keeps: its cluster file with its digest, its objects, and what gives its calls their ids.

@@ -58,6 +58,11 @@ impl Objects {
         }
     }
 
+    /// The name and the object at this place, from 0, among those of which the node has heard.
+    pub fn named(&self, index: usize) -> Option<(&Bytes, &LocalObject)> {
+        self.by_name.get_index(index)
+    }
+
     // The object of a name, as it is before the node has heard of it.
     fn new_object(&self, name: &Bytes) -> Result<LocalObject, Refusal>
         ensures new { IfOk result (λ local. local ≡ new_of self.now name.now) }

@@ -38,7 +38,8 @@ cut_log cut [] (byte ∷ front) back all e = absurd cc
 cut_log cut (x ∷ xs) front back all e =
     elim (split (frame_bytes x) front (log_bytes xs) back e) [
       | inl p ↦
-          let rec = cut_log cut xs p.0 back all.1 p.2 in (
+          let rec = cut_log cut xs p.0 back all.1 p.2 in
+          (
             suc rec.0,
             (
               rec.1.0,
@@ -64,7 +65,7 @@ no_end : EntryIsRead → (e : List (List ℕ)) (rest bytes : List ℕ) → IsWho
 no_end read e rest bytes whole is (inl none) = not_empty (frame_bytes e) rest (entry_has_bytes e) (sym is ∙ none)
 no_end read e rest bytes whole is (inr early) =
     not_both bytes early.0 rest (sealed whole.0.0) early.1
-    (ap frame_at (is ∙ ap (λ (t : List ℕ). t ++ rest) (bytes_of e whole)) ∙ read whole.0.0 rest (entry_of e whole))
+        (ap frame_at (is ∙ ap (λ (t : List ℕ). t ++ rest) (bytes_of e whole)) ∙ read whole.0.0 rest (entry_of e whole))
 
 pub one_log : EntryIsRead → BeginsOneEntry → (es fs : List (List (List ℕ))) (x y : List ℕ) → AllByRecursion IsWholeEntry es
     → AllByRecursion IsWholeEntry fs → log_bytes es ++ x ≡ log_bytes fs ++ y → IsEnd x → IsEnd y → (es ≡ fs) × (x ≡ y)
@@ -75,9 +76,9 @@ one_log read one (h ∷ es) [] x y ae af e ex ey =
     absurd (no_end read h (log_bytes es ++ x) y ae.0 (sym e ∙ append_assoc (frame_bytes h) (log_bytes es) x) ey)
 one_log read one (h ∷ es) (f ∷ fs) x y ae af e ex ey =
     let begins : sealed_bytes ae.0.0.0 ++ (log_bytes es ++ x) ≡ sealed_bytes af.0.0.0 ++ (log_bytes fs ++ y) =
-    ap (λ (t : List ℕ). t ++ (log_bytes es ++ x)) (sym (bytes_of h ae.0))
-    ∙ sym (append_assoc (frame_bytes h) (log_bytes es) x) ∙ e ∙ append_assoc (frame_bytes f) (log_bytes fs) y
-    ∙ ap (λ (t : List ℕ). t ++ (log_bytes fs ++ y)) (bytes_of f af.0) in
+        ap (λ (t : List ℕ). t ++ (log_bytes es ++ x)) (sym (bytes_of h ae.0))
+        ∙ sym (append_assoc (frame_bytes h) (log_bytes es) x) ∙ e ∙ append_assoc (frame_bytes f) (log_bytes fs) y
+        ∙ ap (λ (t : List ℕ). t ++ (log_bytes fs ++ y)) (bytes_of f af.0) in
     let same = one ae.0.0.0 af.0.0.0 (log_bytes es ++ x) (log_bytes fs ++ y) (entry_of h ae.0) (entry_of f af.0) begins in
     let rest = one_log read one es fs x y ae.1 af.1 same.1 ex ey in
     let first : h ≡ f = ae.0.0.1 ∙ ap sealed same.0 ∙ sym af.0.0.1 in

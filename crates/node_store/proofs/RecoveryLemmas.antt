@@ -60,7 +60,8 @@ module _ {M : Type 0} (carries_out : M → List (List ℕ) → M → Type 0) whe
   so_far_more old mid new had left next at end p q =
       let (entries, whole, folds, bytes, took) = p in
       let (entry, is_whole, carried, took_more, ends) = q in
-      let push : log_bytes (entries ++ entry ∷ []) ≡ log_bytes entries ++ frame_bytes entry = bytes_push frame_bytes entries entry in (
+      let push : log_bytes (entries ++ entry ∷ []) ≡ log_bytes entries ++ frame_bytes entry = bytes_push frame_bytes entries entry in
+      (
         entries ++ entry ∷ [],
         all_push IsWholeEntry entries entry whole is_whole,
         folds_then carries_out old entries mid (entry ∷ []) new folds (new, carried, refl),
@@ -79,7 +80,8 @@ module _ {M : Type 0} (carries_out : M → List (List ℕ) → M → Type 0) whe
   pub so_far_end : (old mid new : M) (had left next : Known) (at : ℕ) → IsSoFar old mid had left at
       → HasReadNext carries_out at mid new left next (Ok None) → HasRecovered carries_out old new had (Ok at)
   so_far_end old mid new had left next at p q =
-      let (entries, whole, folds, bytes, took) = p in (
+      let (entries, whole, folds, bytes, took) = p in
+      (
         entries,
         (
           whole,
@@ -93,7 +95,8 @@ module _ {M : Type 0} (carries_out : M → List (List ℕ) → M → Type 0) whe
   pub so_far_stop : (old mid new last : M) (had left next : Known) (at : ℕ) (error : StoreError) → IsSoFar old mid had left at
       → HasReadNext carries_out at mid new left next (Err error) → HasRecovered carries_out old last had (Err error)
   so_far_stop old mid new last had left next at error p q =
-      let (entries, whole, folds, bytes, took) = p in (
+      let (entries, whole, folds, bytes, took) = p in
+      (
         entries,
         mid,
         (

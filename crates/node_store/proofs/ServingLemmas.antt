@@ -21,21 +21,22 @@ use Rattle.node_store.specs.Serving.{StopsEarly, ServesSome}
 use Rattle.node_store.specs.declared.batch.Batch.{Batch}
 use Rattle.node_store.specs.declared.stop.ServeError.{ServeError}
 use Rattle.node_store.specs.declared.stop.ServeError.TheVariants as stops
-use Rattle.node_store.proofs.GrowthLemmas.{Known, appends_then, appends_none, consumes_then, consumes_none, left_behind}
-use Rattle.node_store.proofs.GrowthLemmas.{folds_then, left_any, left_weaker}
+use Rattle.node_store.proofs.GrowthLemmas.{Known, appends_then, appends_none, consumes_then, consumes_none, left_behind, left_weaker, left_any}
+use Rattle.node_store.proofs.GrowthLemmas.{folds_then}
 
 -- frames that were read, and what holds of the bytes behind them
 pub frames_behind : (P : List ℕ → Type 0) (events more : List Event) (had left : Known) → Consumes had left (flat_map read_by events)
     → HadLeft (BeginsWithFrames more P) left → HadLeft (BeginsWithFrames (events ++ more) P) had
 frames_behind P events more None left took p = tt
 frames_behind P events more (Some xs) None took p = absurd took
-frames_behind P events more (Some xs) (Some ys) took p = (
-  p.0,
-  took ∙ ap (λ (t : List ℕ). flat_map read_by events ++ t) p.1
-      ∙ sym (append_assoc (flat_map read_by events) (flat_map read_by more) p.0)
-      ∙ ap (λ (t : List ℕ). t ++ p.0) (sym (flat_map-append read_by events more)),
-  p.2,
-)
+frames_behind P events more (Some xs) (Some ys) took p =
+    (
+      p.0,
+      took ∙ ap (λ (t : List ℕ). flat_map read_by events ++ t) p.1
+          ∙ sym (append_assoc (flat_map read_by events) (flat_map read_by more) p.0)
+          ∙ ap (λ (t : List ℕ). t ++ p.0) (sym (flat_map-append read_by events more)),
+      p.2,
+    )
 
 pub frames_then : (events more : List Event) (had mid left : Known) (goes_on : Bool) → ReadsFrames had mid events true
     → ReadsFrames mid left more goes_on → ReadsFrames had left (events ++ more) goes_on
@@ -80,7 +81,7 @@ pub end_from : (had left : Known) (error : FrameError) (fault : Fault) → error
     → Returns frame_at had left (fails Found error) → HadLeft IsEnd had
 end_from had left error fault same early p =
     left_weaker had (λ bytes h. inr h)
-    (fault_from had left error UnexpectedEnd (same ∙ ap (λ (f : Fault). errors.Fault f) early) p)
+        (fault_from had left error UnexpectedEnd (same ∙ ap (λ (f : Fault). errors.Fault f) early) p)
 
 -- what comes in is no frame
 pub no_frame_from : (had left : Known) (error : FrameError) (fault : Fault) → error ≡ errors.Fault fault
@@ -107,7 +108,8 @@ pub at_least_then : (events more : List Event) (a b c : Known) → Appends a b (
     → AppendsAtLeast b c (flat_map logged_by more) → AppendsAtLeast a c (flat_map logged_by (events ++ more))
 at_least_then events more a b c p q =
     let one = flat_map logged_by events in
-    let two = flat_map logged_by more in (
+    let two = flat_map logged_by more in
+    (
       q.0,
       subst (Appends a c)
           (sym (append_assoc one two q.0) ∙ ap (λ (t : List ℕ). t ++ q.0) (sym (flat_map-append logged_by events more)))
@@ -118,7 +120,8 @@ pub front_then : (events more : List Event) (a b c : Known) → Appends a b (fla
     → AppendsFront b c (flat_map sent_by more) → AppendsFront a c (flat_map sent_by (events ++ more))
 front_then events more a b c p q =
     let one = flat_map sent_by events in
-    let two = flat_map sent_by more in (
+    let two = flat_map sent_by more in
+    (
       one ++ q.0,
       q.1,
       flat_map-append sent_by events more ∙ ap (λ (t : List ℕ). one ++ t) q.2 ∙ sym (append_assoc one q.0 q.1),
@@ -153,7 +156,8 @@ module _ {M : Type 0} (handles : M → List (List ℕ) → Effects → M → Typ
       → HandlesArrived handles notes old new had left before after (Ok true)
   arrived_one old new frame had left before after took handled =
       let (effects, does, pushed) = handled in
-      let event : Event = Handles frame effects in (
+      let event : Event = Handles frame effects in
+      (
         event ∷ [],
         (new, does, refl),
         subst (Consumes had left) (sym (append-nil (read_by event))) took,
@@ -169,19 +173,21 @@ module _ {M : Type 0} (handles : M → List (List ℕ) → Effects → M → Typ
   pub arrived_then : (a b c : M) (had mid left : Known) (one two three : Batch) (r : Result Bool ServeError)
       → HandlesArrived handles notes a b had mid one two (Ok true) → HandlesArrived handles notes b c mid left two three r
       → HandlesArrived handles notes a c had left one three r
-  arrived_then a b c had mid left one two three (Ok goes_on) p q = (
-    p.0 ++ q.0,
-    folds_then (Happens handles notes) a p.0 b q.0 c p.1 q.1,
-    frames_then p.0 q.0 had mid left goes_on p.2 q.2,
-    waits_then logged_by p.0 q.0 one.log.items two.log.items three.log.items p.3 q.3,
-    waits_then sent_by p.0 q.0 one.output.items two.output.items three.output.items p.4 q.4,
-  )
-  arrived_then a b c had mid left one two three (Err error) p q = (
-    p.0 ++ q.0,
-    q.1,
-    folds_then (Happens handles notes) a p.0 b q.0 q.1 p.1 q.2,
-    frames_behind (StopsServing error) p.0 q.0 had mid p.2 q.3,
-  )
+  arrived_then a b c had mid left one two three (Ok goes_on) p q =
+      (
+        p.0 ++ q.0,
+        folds_then (Happens handles notes) a p.0 b q.0 c p.1 q.1,
+        frames_then p.0 q.0 had mid left goes_on p.2 q.2,
+        waits_then logged_by p.0 q.0 one.log.items two.log.items three.log.items p.3 q.3,
+        waits_then sent_by p.0 q.0 one.output.items two.output.items three.output.items p.4 q.4,
+      )
+  arrived_then a b c had mid left one two three (Err error) p q =
+      (
+        p.0 ++ q.0,
+        q.1,
+        folds_then (Happens handles notes) a p.0 b q.0 q.1 p.1 q.2,
+        frames_behind (StopsServing error) p.0 q.0 had mid p.2 q.3,
+      )
 
   pub arrived_as : (old new : M) (had left : Known) (before after : Batch) (found goes_on : Bool) → found ≡ goes_on
       → HandlesArrived handles notes old new had left before after (Ok found)
@@ -202,15 +208,16 @@ module _ {M : Type 0} (handles : M → List (List ℕ) → Effects → M → Typ
       (error : ServeError) → ((bytes : List ℕ) → StopsServing error bytes)
       → HandlesArrived handles notes old new had left one two (Ok goes_on) → Grows kept keeps
       → StopsEarly handles notes old had kept keeps held held error
-  serves_unlogged old new had left one two kept keeps held goes_on error any p grows = (
-    [],
-    p.0,
-    new,
-    p.1,
-    frames_stood (StopsServing error) p.0 had left goes_on any p.2,
-    grows,
-    ([], [], refl, appends_none held),
-  )
+  serves_unlogged old new had left one two kept keeps held goes_on error any p grows =
+      (
+        [],
+        p.0,
+        new,
+        p.1,
+        frames_stood (StopsServing error) p.0 had left goes_on any p.2,
+        grows,
+        ([], [], refl, appends_none held),
+      )
 
   -- the output cannot be written
   pub serves_unsent : {E : Type 0} (old new : M) (had left : Known) (one two : Batch) (kept keeps held holds : Known)
@@ -220,7 +227,8 @@ module _ {M : Type 0} (handles : M → List (List ℕ) → Effects → M → Typ
       → StopsEarly handles notes old had kept keeps held holds error
   serves_unsent old new had left one two kept keeps held holds goes_on error cause any p no_log no_output logged wrote =
       let log : two.log.items ≡ flat_map logged_by p.0 = p.3 ∙ ap (λ (t : List ℕ). t ++ flat_map logged_by p.0) no_log in
-      let output : two.output.items ≡ flat_map sent_by p.0 = p.4 ∙ ap (λ (t : List ℕ). t ++ flat_map sent_by p.0) no_output in (
+      let output : two.output.items ≡ flat_map sent_by p.0 = p.4 ∙ ap (λ (t : List ℕ). t ++ flat_map sent_by p.0) no_output in
+      (
         p.0,
         [],
         new,
@@ -236,13 +244,14 @@ module _ {M : Type 0} (handles : M → List (List ℕ) → Effects → M → Typ
       → HandlesArrived handles notes old new had left one two (Ok goes_on) → one.log.items ≡ [] → one.output.items ≡ []
       → Appends kept keeps two.log.items → Appends held holds two.output.items
       → ServesSome handles notes old new had left kept keeps held holds (Ok goes_on)
-  serves_arrived old new had left one two kept keeps held holds goes_on p no_log no_output logged wrote = (
-    p.0,
-    p.1,
-    p.2,
-    subst (Appends kept keeps) (p.3 ∙ ap (λ (t : List ℕ). t ++ flat_map logged_by p.0) no_log) logged,
-    subst (Appends held holds) (p.4 ∙ ap (λ (t : List ℕ). t ++ flat_map sent_by p.0) no_output) wrote,
-  )
+  serves_arrived old new had left one two kept keeps held holds goes_on p no_log no_output logged wrote =
+      (
+        p.0,
+        p.1,
+        p.2,
+        subst (Appends kept keeps) (p.3 ∙ ap (λ (t : List ℕ). t ++ flat_map logged_by p.0) no_log) logged,
+        subst (Appends held holds) (p.4 ∙ ap (λ (t : List ℕ). t ++ flat_map sent_by p.0) no_output) wrote,
+      )
 
   -- ---- one batch after another
 
@@ -257,15 +266,17 @@ module _ {M : Type 0} (handles : M → List (List ℕ) → Effects → M → Typ
   pub serves_then : (a b c : M) (had mid left : Known) (k0 k1 k2 h0 h1 h2 : Known) (r : Result Bool ServeError)
       → ServesSome handles notes a b had mid k0 k1 h0 h1 (Ok true) → ServesSome handles notes b c mid left k1 k2 h1 h2 r
       → ServesSome handles notes a c had left k0 k2 h0 h2 r
-  serves_then a b c had mid left k0 k1 k2 h0 h1 h2 (Ok goes_on) p q = (
-    p.0 ++ q.0,
-    folds_then (Happens handles notes) a p.0 b q.0 c p.1 q.1,
-    frames_then p.0 q.0 had mid left goes_on p.2 q.2,
-    grows_then logged_by p.0 q.0 k0 k1 k2 p.3 q.3,
-    grows_then sent_by p.0 q.0 h0 h1 h2 p.4 q.4,
-  )
+  serves_then a b c had mid left k0 k1 k2 h0 h1 h2 (Ok goes_on) p q =
+      (
+        p.0 ++ q.0,
+        folds_then (Happens handles notes) a p.0 b q.0 c p.1 q.1,
+        frames_then p.0 q.0 had mid left goes_on p.2 q.2,
+        grows_then logged_by p.0 q.0 k0 k1 k2 p.3 q.3,
+        grows_then sent_by p.0 q.0 h0 h1 h2 p.4 q.4,
+      )
   serves_then a b c had mid left k0 k1 k2 h0 h1 h2 (Err error) p q =
-      let together : p.0 ++ (q.0 ++ q.1) ≡ (p.0 ++ q.0) ++ q.1 = sym (append_assoc p.0 q.0 q.1) in (
+      let together : p.0 ++ (q.0 ++ q.1) ≡ (p.0 ++ q.0) ++ q.1 = sym (append_assoc p.0 q.0 q.1) in
+      (
         p.0 ++ q.0,
         q.1,
         q.2,
@@ -289,7 +300,7 @@ module _ {M : Type 0} (handles : M → List (List ℕ) → Effects → M → Typ
       → ServesSome handles notes between c mid left k1 k2 h1 h2 r → ServesSome handles notes a c had left k0 k2 h0 h2 r
   serves_more a b between c bytes had mid left k0 k1 k2 h0 h1 h2 r p noted q =
       serves_then a b c had mid left k0 k1 k2 h0 h1 h2 r p
-      (serves_then b between c mid mid left k1 k1 k2 h1 h1 h2 r (serves_note b between bytes mid k1 h1 noted) q)
+          (serves_then b between c mid mid left k1 k1 k2 h1 h1 h2 r (serves_note b between bytes mid k1 h1 noted) q)
 
   -- the loop stops between two batches
   pub serves_idle : (old new : M) (had left kept keeps held holds : Known) (error : ServeError)
@@ -297,7 +308,8 @@ module _ {M : Type 0} (handles : M → List (List ℕ) → Effects → M → Typ
       → StopsEarly handles notes old had kept keeps held holds error
   serves_idle old new had left kept keeps held holds error any p =
       let logged = flat_map logged_by p.0 in
-      let sent = flat_map sent_by p.0 in (
+      let sent = flat_map sent_by p.0 in
+      (
         p.0,
         [],
         new,

@@ -35,8 +35,8 @@ abbrev pub IsEntryAt : (List (List ℕ) → Type 0) → List ℕ → Type 0
 IsEntryAt P bytes =
     (entry : List (List ℕ)) × (left : List ℕ) × IsWholeEntry entry × (bytes ≡ frame_bytes entry ++ left) × P entry
 
--- why reading stops at byte `at`, where these bytes begin: damage that begins there, or an entry that stands there
--- and is refused; where memory was refused or the reader failed, nothing is said
+-- why reading stops at byte `at`, where these bytes begin: damage that begins there, or an entry that stands there and is
+-- refused; where memory was refused or the reader failed, nothing is said
 abbrev pub StopsFor : (at : ℕ) → StoreFault → List ℕ → Type 0
 StopsFor at (faults.Damaged damage) bytes = IsDamaged bytes damage
 StopsFor at (faults.NotCarriedOut error) bytes = IsEntryAt (λ entry. ⊤) bytes
@@ -46,8 +46,8 @@ StopsFor at (faults.Failed error) bytes = ⊤
 
 -- `carries_out old entry new` says that the machine carries out an entry
 module _ {M : Type 0} (carries_out : M → List (List ℕ) → M → Type 0) where
-  -- reading the entry from byte `at` on had the machine carry it out, and its end was returned; or the log ends
-  -- there; or reading stopped there
+  -- reading the entry from byte `at` on had the machine carry it out, and its end was returned; or the log ends there; or
+  -- reading stopped there
   abbrev pub HasReadNext : (at : ℕ) → M → M → Option (List ℕ) → Option (List ℕ) → Result (Option ℕ) StoreError → Type 0
   HasReadNext at old new had left (Ok (Some end)) =
       (entry : List (List ℕ)) × IsWholeEntry entry × carries_out old entry new × Consumes had left (frame_bytes entry)
@@ -55,8 +55,8 @@ module _ {M : Type 0} (carries_out : M → List (List ℕ) → M → Type 0) whe
   HasReadNext at old new had left (Ok None) = (old ≡ new) × HadLeft IsEnd had
   HasReadNext at old new had left (Err error) = (error.at ≡ at) × HadLeft (StopsFor at error.fault) had
 
-  -- These entries stood at the front of the log, and the machine carried them out one after another. They have this
-  -- many bytes, and this holds of the bytes behind them.
+  -- These entries stood at the front of the log, and the machine carried them out one after another. They have this many
+  -- bytes, and this holds of the bytes behind them.
   abbrev pub HasCarriedOut : M → M → Option (List ℕ) → ℕ → (List ℕ → Type 0) → List (List (List ℕ)) → Type 0
   HasCarriedOut old new had bytes P entries =
       AllByRecursion IsWholeEntry entries × FoldsTo carries_out old entries new × (bytes ≡ length (log_bytes entries))

@@ -65,8 +65,7 @@ AppendsFront old new bytes = (front back : List ℕ) × (bytes ≡ front ++ back
 abbrev pub AppendsAtLeast : Option (List ℕ) → Option (List ℕ) → List ℕ → Type 0
 AppendsAtLeast old new bytes = (more : List ℕ) × Appends old new (bytes ++ more)
 
--- `handles old frame effects new` says what a machine does with a frame, and `notes old bytes new` how it is told a
--- length
+-- `handles old frame effects new` says what a machine does with a frame, and `notes old bytes new` how it is told a length
 module _ {M : Type 0} (handles : M → List (List ℕ) → Effects → M → Type 0) (notes : M → ℕ → M → Type 0) where
   -- the machine after an event
   abbrev pub Happens : M → Event → M → Type 0
@@ -84,19 +83,17 @@ module _ {M : Type 0} (handles : M → List (List ℕ) → Effects → M → Typ
       (lost : List Event) × (between : M) × FoldsTo Happens old lost between
       × HadLeft (BeginsWithFrames lost (StopsServing error)) had
 
-  -- the frames that had arrived were handled one after another, and what the machine wants done waits in the batch;
-  -- or the loop stops
-  abbrev pub HandlesArrived : M → M → Option (List ℕ) → Option (List ℕ) → Batch → Batch → Result Bool ServeError →
-      Type 0
+  -- the frames that had arrived were handled one after another, and what the machine wants done waits in the batch; or
+  -- the loop stops
+  abbrev pub HandlesArrived : M → M → Option (List ℕ) → Option (List ℕ) → Batch → Batch → Result Bool ServeError → Type 0
   HandlesArrived old new had left before after (Ok goes_on) =
       (events : List Event) × FoldsTo Happens old events new × ReadsFrames had left events goes_on
       × (after.log.items ≡ before.log.items ++ flat_map logged_by events)
       × (after.output.items ≡ before.output.items ++ flat_map sent_by events)
   HandlesArrived old new had left before after (Err error) = StopsBehind old had error
 
-  -- The loop stopped early, behind the frames of some events that are done and of some that may be lost. The log
-  -- keeps the entries that were wanted by what is done, and nothing was written but a front of the frames that were
-  -- wanted by it.
+  -- The loop stopped early, behind the frames of some events that are done and of some that may be lost. The log keeps the
+  -- entries that were wanted by what is done, and nothing was written but a front of the frames that were wanted by it.
   abbrev pub StopsEarly : M → (had : Option (List ℕ)) → (kept keeps : Option (List ℕ)) → (held holds : Option (List ℕ))
       → ServeError → Type 0
   StopsEarly old had kept keeps held holds error =

@@ -10,8 +10,8 @@ pub fn cut_logs_are_fronts()
     entries_are_read_back();
 }
 
-/// A law: where two lists of entries stand at the front of the same bytes, and the log ends behind both, they are the
-/// same entries.
+/// A law: where two lists of entries stand at the front of the same bytes, and the log ends behind both, they are the same
+/// entries.
 pub fn logs_are_read_once()
     ensures { LogIsReadOnce }
 {

@@ -4,8 +4,7 @@ ghost use Rattle.frames.specs.Writing.{Writes};
 use std::io;
 use std::io::{ErrorKind, Write};
 
-/// Writes all of the bytes. Where it fails, a front of them was written. A write that a signal interrupts is tried
-/// again.
+/// Writes all of the bytes. Where it fails, a front of them was written. A write that a signal interrupts is tried again.
 pub(crate) fn write_bytes<W: Write>(writer: &mut W, bytes: &[u8]) -> io::Result<()>
     ensures { Writes (W.contents writer.old) (W.contents writer.new) result bytes.now }
 {

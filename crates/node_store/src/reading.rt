@@ -10,13 +10,11 @@ use std::alloc::Global;
 use std::io;
 use std::io::Read;
 
-/// Has the machine carry out each entry of the log again, one after another, and returns how many bytes the entries
-/// have.
+/// Has the machine carry out each entry of the log again, one after another, and returns how many bytes the entries have.
 ///
 /// Behind these bytes the log ends, or it has an entry that is cut short: the process stopped while it wrote that
-/// entry, and sent nothing that depends on it. Whoever calls this cuts the file there. Any other bytes are damage.
-/// Then, and where memory is refused, reading fails, or the machine cannot carry out an entry, the error says at
-/// which byte.
+/// entry, and sent nothing that depends on it. Whoever calls this cuts the file there. Any other bytes are damage. Then, and
+/// where memory is refused, reading fails, or the machine cannot carry out an entry, the error says at which byte.
 pub fn recover_machine<R: Read, M: Machine>(
     alloc: Global,
     reader: &mut R,

@@ -21,8 +21,8 @@ const MOST_AT_ONCE: u16 = 1024;
 /// Handles the frames of the input, until it ends. All frames that have arrived are handled one after another. Their
 /// entries are appended to the log, which is synced once, and only then are the frames written that go out.
 ///
-/// `length` is that of the log, which is synced. An input that ends within a frame ends there. After 2^64 - 1 times
-/// that frames arrived, the error is `NoInput` with `TimedOut`.
+/// `length` is that of the log, which is synced. An input that ends within a frame ends there. After 2^64 - 1 times that
+/// frames arrived, the error is `NoInput` with `TimedOut`.
 pub fn serve_frames<M: Machine, I: Read + Drop, O: Write, L: Log>(
     alloc: Global,
     machine: &mut M,

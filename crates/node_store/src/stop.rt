@@ -7,8 +7,7 @@ use thiserror::Error;
 /// Why a node's loop ended before its input did. The frames that were handled last may have had no effect.
 #[derive(Debug, Drop, Error)]
 pub enum ServeError {
-    /// What came in is no frame. The fault is never `UnexpectedEnd`, because an input that ends within a frame ends
-    /// there.
+    /// What came in is no frame. The fault is never `UnexpectedEnd`, because an input that ends within a frame ends there.
     #[error("the input is no frame: {0}")]
     NoFrame(Fault),
     /// The input cannot be read.

@@ -19,8 +19,8 @@ pub fn push_entries(bytes: &mut Vec<u8>, entries: &[Entry]) -> io::Result<()>
     Ok(())
 }
 
-/// Appends bytes to a log that is synced, and syncs it again. Where there are no bytes, it does nothing. Where it
-/// fails, some of the bytes may be kept.
+/// Appends bytes to a log that is synced, and syncs it again. Where there are no bytes, it does nothing. Where it fails,
+/// some of the bytes may be kept.
 pub fn append_bytes<L: Log>(log: &mut L, bytes: &[u8]) -> io::Result<()>
     requires { L.kept log.old ≡ L.written log.old }
     ensures kept { OnOk result (Appends (L.kept log.old) (L.kept log.new) bytes.now) }
@@ -34,8 +34,8 @@ pub fn append_bytes<L: Log>(log: &mut L, bytes: &[u8]) -> io::Result<()>
     log.sync()
 }
 
-/// Appends entries to a log that is synced, and syncs it again. Returns how many bytes they have. Where it fails,
-/// also for want of memory, some of the bytes may be kept.
+/// Appends entries to a log that is synced, and syncs it again. Returns how many bytes they have. Where it fails, also for
+/// want of memory, some of the bytes may be kept.
 pub fn append_entries<L: Log>(alloc: Global, log: &mut L, entries: &[Entry]) -> io::Result<u64>
     requires { L.kept log.old ≡ L.written log.old }
     ensures kept { IfOk result (λ bytes. Appends (L.kept log.old) (L.kept log.new) (log_bytes entries.now)

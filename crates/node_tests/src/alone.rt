@@ -4,7 +4,6 @@ use cluster_file::read_cluster_file;
 use frames::Frame;
 use node::Node;
 use node_effects::{Effects, Machine};
-use node_log::Entry;
 use std::alloc::Global;
 use std::process::Abort;
 
@@ -22,13 +21,6 @@ pub(crate) fn new_node(rt: &impl Abort, alloc: Global) -> Node {
     let text = b"nodes 1\nn 1\nk 1\ndelta 8\nmover 1\nlater\nticks 2\n";
     let file = read_cluster_file(alloc, text).expect(rt, "a cluster file");
     Node::new(alloc, file, 1)
-}
-
-/// The entries of a node that has started with an empty log.
-pub(crate) fn new_log(rt: &impl Abort, alloc: Global) -> Vec<Entry> {
-    let mut node = new_node(rt, alloc);
-    let started = node.start().expect(rt, "a start");
-    started.entries
 }
 
 /// The strings as a frame.

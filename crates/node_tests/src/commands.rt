@@ -1,5 +1,5 @@
 //! Commands of clients, and what is read again from the log.
-use crate::alone::{Alone, new_log, new_node};
+use crate::alone::{Alone, new_node};
 use node_effects::Machine;
 
 #[test]
@@ -38,7 +38,7 @@ fn a_restart(rt: HostRuntime) {
     let mut alone = Alone::new(&rt, rt.alloc());
     alone.handle(&rt, &["client 1", "SET", "photo", "hello"]);
     let mut again = new_node(&rt, rt.alloc());
-    let mut log = new_log(&rt, rt.alloc());
+    let mut log = Alone::new(&rt, rt.alloc()).last.entries;
     log.append(&mut alone.last.entries).expect(&rt, "memory");
     for entry in log {
         again.recover(entry).expect(&rt, "an entry of the log");

@@ -1,6 +1,5 @@
 //! Commands of clients.
 ghost use Rattle.std.specs.Prelude.{[], ℕ, OnOk};
-ghost use Rattle.node_clients.specs.Answers.{TellsClients};
 ghost use Rattle.node_keeper.specs.Acts.{Acts};
 
 use super::Node;
@@ -8,9 +7,7 @@ use bytes::Bytes;
 use client_commands::{Answer, AnswerError, Command, read_command};
 use frames::Frame;
 use layout::Layout;
-use node_clients::Desk;
 use node_effects::{NodeError, Work};
-use node_keeper::Begun;
 use node_strings::ConnectionId;
 use tag::Refusal;
 
@@ -68,7 +65,7 @@ impl Node {
         ensures { OnOk result ((asker : ℕ) → Acts asker [] self.old.keeper work.old self.new.keeper work.new) }
     {
         let begun = self.keeper.begin_read(&name, work)?;
-        wait(&mut self.desk, client, name, begun, work)
+        self.desk.begin(client, name, begun, work)
     }
 
     // A write begins.
@@ -82,7 +79,7 @@ impl Node {
         ensures { OnOk result ((asker : ℕ) → Acts asker [] self.old.keeper work.old self.new.keeper work.new) }
     {
         let begun = self.keeper.begin_write(&name, value, work)?;
-        wait(&mut self.desk, client, name, begun, work)
+        self.desk.begin(client, name, begun, work)
     }
 
     // A move begins. Only the mover moves objects, and only to nodes of the cluster.
@@ -104,7 +101,7 @@ impl Node {
             return self.desk.refuse(client, error, work);
         }
         let begun = self.keeper.begin_move(&name, layout, work)?;
-        wait(&mut self.desk, client, name, begun, work)
+        self.desk.begin(client, name, begun, work)
     }
 
     // Whether the members of a layout are nodes of the cluster.
@@ -115,24 +112,5 @@ impl Node {
             }
         }
         true
-    }
-}
-
-// A call has begun, and its client waits for it; or it was refused, and its client is told.
-fn wait(
-    desk: &mut Desk,
-    client: ConnectionId,
-    name: Bytes,
-    begun: Begun,
-    work: &mut Work,
-) -> Result<(), NodeError>
-    ensures { OnOk result (TellsClients work.old work.new) }
-{
-    match begun {
-        Begun::Open(id) => {
-            desk.open(id, name, Some(client))?;
-            Ok(())
-        }
-        Begun::Refused(refusal) => desk.refuse(client, AnswerError::Refused(refusal), work),
     }
 }

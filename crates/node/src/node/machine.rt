@@ -3,7 +3,7 @@ use super::Node;
 use frames::Frame;
 use node_effects::{Effects, Machine, NodeError, RecoveryError, Work};
 use node_log::Entry;
-use node_strings::read_record;
+use node_strings::{read_arrival, read_record};
 
 impl Machine for Node {
     ghost use Rattle.node.specs.Handles.{Notes, CarriesOut, Handles};
@@ -38,10 +38,12 @@ impl Machine for Node {
     fn handle(&mut self, frame: Frame) -> Result<Effects, NodeError> {
         let number = self.keeper.number();
         let mut work = Work::new(self.alloc);
-        self.take_frame(frame, &mut work)?;
+        match read_arrival(frame) {
+            Some(arrival) => self.take_arrival(arrival, &mut work)?,
+            None => self.desk.drop_frame(),
+        }
         self.finish(number, &mut work)?;
-        let effects = work.into_effects()?;
-        Ok(effects)
+        work.into_effects()
     }
 
     /// The program says how long the log is, in bytes, for `INFO`.

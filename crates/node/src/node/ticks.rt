@@ -3,8 +3,8 @@ ghost use Rattle.std.specs.Prelude.{[], ℕ, OnOk};
 ghost use Rattle.node_keeper.specs.Acts.{Acts};
 
 use super::Node;
+use crate::desk::Aged;
 use bytes::Bytes;
-use node_clients::Aged;
 use node_effects::{NodeError, Work};
 use tag::CallId;
 

@@ -38,17 +38,18 @@ pub loop-preserved : goal.loop-preserved
 loop-preserved g c =
     let known = reader_remaining g.I.Read.remaining in
     let kept = g.L.Log.kept in
-    let held = g.O.Write.contents in (
+    let held = g.O.Write.contents in
+    (
       serves_more g.M.Machine.handles g.M.Machine.notes
-          c.args.machine.now c.loop.machine c.note_log.new.self c.serve_arrived.new.machine c.loop.length
-          (known c.args.input.now) (known c.loop.input) (known c.serve_arrived.new.input)
-          (kept c.args.log.now) (kept c.loop.log) (kept c.serve_arrived.new.log)
-          (held c.args.output.now) (held c.loop.output) (held c.serve_arrived.new.output)
-          (going true) c.loop.invariant.0 c.note_log.ensures
-          (serves_as g.M.Machine.handles g.M.Machine.notes c.note_log.new.self c.serve_arrived.new.machine
-          (known c.loop.input) (known c.serve_arrived.new.input) (kept c.loop.log) (kept c.serve_arrived.new.log)
-          (held c.loop.output) (held c.serve_arrived.new.output) c.in_ok-serve_arrived.field-0 true (search rules)
-          c.in_ok-serve_arrived.ensures.serves),
+      c.args.machine.now c.loop.machine c.note_log.new.self c.serve_arrived.new.machine c.loop.length
+      (known c.args.input.now) (known c.loop.input) (known c.serve_arrived.new.input)
+      (kept c.args.log.now) (kept c.loop.log) (kept c.serve_arrived.new.log)
+      (held c.args.output.now) (held c.loop.output) (held c.serve_arrived.new.output)
+      (going true) c.loop.invariant.0 c.note_log.ensures
+      (serves_as g.M.Machine.handles g.M.Machine.notes c.note_log.new.self c.serve_arrived.new.machine
+      (known c.loop.input) (known c.serve_arrived.new.input) (kept c.loop.log) (kept c.serve_arrived.new.log)
+      (held c.loop.output) (held c.serve_arrived.new.output) c.in_ok-serve_arrived.field-0 true (search rules)
+      c.in_ok-serve_arrived.ensures.serves),
       c.in_ok-serve_arrived.ensures.synced,
       c.clear.ensures.log,
       c.clear.ensures.output,

@@ -1,0 +1,3 @@
+pub mod ServedCopyLemmas
+pub mod PlaceLetterLemmas
+pub mod RebuildableLemmas

@@ -1,0 +1,3 @@
+pub mod Rebuildable
+pub mod Letters
+pub mod Laws
