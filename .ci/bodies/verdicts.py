@@ -45,7 +45,7 @@ class Report:
                 rows.append(row)
 
     def reached_the_prover(self):
-        return bool(re.match(r"(logic|holes)=", self.lines[-1])) and not rt.rtlib.STALE.search(self.text)
+        return bool(re.match(r"(logic|only)=", self.lines[-1])) and not rt.rtlib.STALE.search(self.text)
 
     def unread(self, texts):
         """The files of the edited texts that hold a line which the prover could not read."""
