@@ -17,3 +17,4 @@ pub mod HeardLayoutLemmas
 pub mod ChangingLemmas
 pub mod AgreementLemmas
 pub mod CappedSumLemmas
+pub mod GivenUpCallLemmas

@@ -1,16 +1,14 @@
 -- The calls of an object, as they are found, changed and removed by its events.
-use Rattle.std.proofs.Common.{◌≡◌, ◌≢◌, ℕ, zero, suc, ◌⊎◌, Bool, true, false, cond, IsSome, List, [], ◌∷◌}
+use Rattle.std.proofs.Common.{◌≡◌, ℕ, ◌⊎◌, Bool, true, false, cond, IsSome, List, [], ◌∷◌}
 use Rattle.std.proofs.Common.{set, slice_get, Option, Some, None, inl, inr, refl, sym, subst, ap, ◌∙◌}
 use Rattle.std.proofs.Common.{MatchOption}
-use Rattle.std.specs.List.{AllByRecursion, remove}
+use Rattle.std.specs.List.{remove}
 use Rattle.std.proofs.lemmas.Option.{none-some, same_Some}
 use Rattle.bank.specs.declared.kind.Kind.{Kind}
 use Rattle.encoder.specs.Fragment.{fragment}
 use Rattle.layout.specs.Layout.{Layout}
 use Rattle.mail.specs.declared.message.Message.{Message}
 use Rattle.record.specs.PhaseOrder.{due}
-use Rattle.record.specs.Legal.{is_move}
-use Rattle.record.specs.declared.call.CallKind.TheVariants.{Move}
 use Rattle.call.specs.declared.next.Next.TheVariants as next
 use Rattle.call.specs.Call.{OpenCall as Machine, reached}
 use Rattle.call.specs.Steps.{entered, phase_next, taken_call}
@@ -19,8 +17,7 @@ use Rattle.network.specs.Worlds.{NodeCall, open_call, due_phase, with_open, with
 use Rattle.local_object.specs.declared.letter.Letter.{Letter}
 use Rattle.local_object.specs.declared.progress.Ended.{Ended}
 use Rattle.local_object.specs.Codes.{at_node, carried}
-use Rattle.local_object.specs.Distinct.{HaveOtherIds, DifferInIds, HaveDistinctIds, IsCallAt}
-use Rattle.local_object.specs.Doing.{IsDone, give_up_events, gives_up, is_client_call}
+use Rattle.local_object.specs.Distinct.{HaveOtherIds, HaveDistinctIds, IsCallAt}
 use Rattle.local_object.specs.Ended.{told_if, told_of}
 use Rattle.local_object.specs.Events.{LocalEvent, Outcome, advanced_at, advanced_here, done_here, on_open_call, silent}
 use Rattle.local_object.specs.Going.{Advances, IsAdvanced, IsFetchedValue, next_here, settled_here, taken_here}
@@ -31,7 +28,7 @@ use Rattle.local_object.specs.May.{MayHappenHere}
 use Rattle.local_object.specs.Resent.{IsResent}
 use Rattle.local_object.specs.Sent.{IsCurrent}
 use Rattle.local_object.proofs.BeginLemmas.{open_found}
-use Rattle.local_object.proofs.CarriedCallLemmas.{open_none, other_at, same_call, with_set, without_at}
+use Rattle.local_object.proofs.CarriedCallLemmas.{open_none, same_call, with_set, without_at}
 use Rattle.local_object.proofs.DoneLemmas.{by_none, by_one}
 use Rattle.local_object.proofs.FetchedLemmas.{may_settle_here}
 use Rattle.local_object.proofs.NextLemmas.{answer_of, begin_of, due_begun, lacking_of, ready_of, restart_of}
@@ -237,38 +234,3 @@ pub match_weaker : {X : Type 0} {P Q : Type 0} {R S : X → Type 0} (o : Option 
     → MatchOption o P R → MatchOption o Q S
 match_weaker None f g h = f h
 match_weaker (Some x) f g h = g x h
-
--- giving up a call changes no call but this one
-other_kept : (node id : ℕ) (calls : List Machine) → HaveOtherIds id calls
-    → AllByRecursion (λ (call : NodeCall). call.id ≡ id → call.kind ≢ Move) (carried node calls)
-other_kept node id [] others = tt
-other_kept node id (c ∷ cs) others = ((λ e. absurd (others.0 e)), other_kept node id cs others.1)
-
-pub give_up_may : (node : ℕ) (calls : List Machine) (i : ℕ) (call : Machine) → DifferInIds calls → slice_get calls i ≡ Some call
-    → is_move call.kind ≡ false → AllByRecursion (λ (other : NodeCall). other.id ≡ call.id → other.kind ≢ Move) (carried node calls)
-give_up_may node [] i call distinct at client = tt
-give_up_may node (c ∷ cs) zero call distinct at client =
-    let same = same_call c call at in (
-      (λ _ e. absurd (let t : is_move call.kind ≡ true = ap (λ (m : Machine). is_move m.kind) (sym same) ∙ ap is_move e in cc)),
-      other_kept node call.id cs (subst (λ (m : Machine). HaveOtherIds m.id cs) same distinct.0),
-    )
-give_up_may node (c ∷ cs) (suc i) call distinct at client =
-    ((λ e. absurd (other_at c.id cs i call distinct.0 at (sym e))), give_up_may node cs i call distinct.1 at client)
-
-module _ (o old : LocalObject) (view : o ≡ old) (id : ℕ) where
-  pub gives_is : (r : Bool) → r ≡ is_client_call (open_call o.calls id) → r ≡ gives_up old id
-  gives_is r is = is ∙ ap (λ (l : LocalObject). gives_up l id) view
-
-  pub give_up_none : (new : LocalObject) → false ≡ is_client_call (open_call o.calls id) → new ≡ old
-      → IsDone old (give_up_events old id) new []
-  give_up_none new is same =
-      subst (λ b. IsDone old (cond b (LocalEvent.GiveUp id ∷ []) []) new []) (gives_is false is)
-      (record { may = tt; local = same; letters = refl })
-
-  pub give_up_done : (new : LocalObject) → true ≡ is_client_call (open_call o.calls id)
-      → AllByRecursion (λ (call : NodeCall). call.id ≡ id → call.kind ≢ Move) o.calls
-      → new ≡ record o { calls = without_call id o.calls } → IsDone old (give_up_events old id) new []
-  give_up_done new is may same =
-      subst (λ b. IsDone old (cond b (LocalEvent.GiveUp id ∷ []) []) new []) (gives_is true is)
-      (subst (λ (l : LocalObject). IsDone l (LocalEvent.GiveUp id ∷ []) new []) view
-      (record { may = (may, tt); local = same; letters = refl }))
