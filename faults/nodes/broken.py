@@ -2,9 +2,9 @@
 """A node program that is broken on purpose: broken.py KIND PROGRAM FILE NODE FOLDER. It starts PROGRAM and stands
 between it and its pipes, or changes its log before it starts. The checker of histories must find each KIND:
 
-unsynced  at a start, the last entries of the log are gone, as where it was not synced before the answers went out
-hasty     a write is answered before the node hears of it
-stale     a read is answered with the value that the node read or wrote last under that name, where there is one
+forgets  at a start, no request that it served is in the log, as where none was written before the answers went out
+hasty    a write is answered before the node hears of it
+stale    a read is answered with the value that the node read or wrote last under that name, where there is one
 """
 import ctypes
 import os
@@ -19,18 +19,14 @@ sys.dont_write_bytecode = True
 
 from frames import Frames, encode, frame_at  # noqa: E402
 
-# So many entries are gone at a start.
-LOST = 30
-
-
-def cut_log(log):
-    """Cuts the last entries off, but never the first two, with which the log began."""
-    data = log.read_bytes() if log.exists() else b""
-    places = [0]
-    while places[-1] < len(data) and (entry := frame_at(data, places[-1])) is not None:
-        places.append(entry[1])
-    if len(places) > 3:
-        os.truncate(log, places[max(2, len(places) - 1 - LOST)])
+def forget(log):
+    """Leaves only the entries of starts in the log, and the one that names the cluster: no request that was served."""
+    data, kept, place = log.read_bytes() if log.exists() else b"", [], 0
+    while place < len(data) and (entry := frame_at(data, place)) is not None:
+        if entry[0][0] in (b"cluster", b"start"):
+            kept.append(data[place:entry[1]])
+        place = entry[1]
+    log.write_bytes(b"".join(kept))
 
 
 class Between:
@@ -95,8 +91,8 @@ def end_with_parent():
 
 
 def main(kind, program, *words):
-    if kind == "unsynced":
-        cut_log(Path(words[2]) / "log")
+    if kind == "forgets":
+        forget(Path(words[2]) / "log")
         os.execv(program, [program, *words])
     child = subprocess.Popen([program, *words], stdin=subprocess.PIPE, stdout=subprocess.PIPE, bufsize=0,
                              preexec_fn=end_with_parent)
