@@ -1,0 +1,3 @@
+pub mod ShiftLemmas
+pub mod StateLemmas
+pub mod TableLemmas
