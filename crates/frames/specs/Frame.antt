@@ -32,7 +32,7 @@ string_bytes string = header 36 (length string) ++ (string ++ line_end)
 abbrev pub frame_bytes : List (List ℕ) → List ℕ
 frame_bytes strings = header 42 (length strings) ++ flat_map string_bytes strings
 
--- why strings are no frame: there are too many, or, where there are not, one of them is too long
+-- why strings are no frame: there are too many, or otherwise one of them is too long
 abbrev pub IsNoFrame : List (List ℕ) → Fault → Type 0
 IsNoFrame strings faults.TooManyStrings = MOST_STRINGS < length strings
 IsNoFrame strings faults.StringTooLong = (length strings ≤ MOST_STRINGS) × (AllByRecursion IsShort strings → ⊥)

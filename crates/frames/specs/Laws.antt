@@ -5,22 +5,22 @@ use Rattle.frames.specs.declared.error.Fault.TheVariants.{UnexpectedEnd}
 use Rattle.frames.specs.Frame.{IsFrame, frame_bytes}
 use Rattle.frames.specs.Reading.{frame_at}
 
--- a frame that was written is read back, and exactly what stands behind it is left
+-- a frame that was written is read back, and exactly what comes after it is left
 abbrev pub WrittenIsRead : Type 0
 WrittenIsRead = (strings : List (List ℕ)) (rest : List ℕ) → IsFrame strings
     → frame_at (frame_bytes strings ++ rest) ≡ Ok (Some strings, rest)
 
--- what is read as a frame is one, and stands there as it is written
+-- what is read as a frame is one, and was there as it is written
 abbrev pub ReadWasWritten : Type 0
 ReadWasWritten = (bytes : List ℕ) (strings : List (List ℕ)) (rest : List ℕ) → frame_at bytes ≡ Ok (Some strings, rest)
     → IsFrame strings × (bytes ≡ frame_bytes strings ++ rest)
 
--- where two frames begin the same bytes, they are the same frame, and the same bytes are left behind both
+-- if two frames begin the same bytes, they are the same frame, and the same bytes are left after both
 abbrev pub BeginsOneFrame : Type 0
 BeginsOneFrame = (f g : List (List ℕ)) (x y : List ℕ) → IsFrame f → IsFrame g
     → frame_bytes f ++ x ≡ frame_bytes g ++ y → (f ≡ g) × (x ≡ y)
 
--- where the bytes of a frame are cut, and some are left, they are read as bytes that end within a frame
+-- if the bytes of a frame are cut, and some are left, they are read as bytes that end within a frame
 abbrev pub CutEndsEarly : Type 0
 CutEndsEarly = (strings : List (List ℕ)) (front back : List ℕ) → IsFrame strings → frame_bytes strings ≡ front ++ back
     → (front ≡ [] → ⊥) → (back ≡ [] → ⊥) → frame_at front ≡ Err (UnexpectedEnd, [])

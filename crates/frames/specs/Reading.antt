@@ -11,7 +11,7 @@ use Rattle.frames.specs.declared.error.FrameError.{FrameError}
 use Rattle.frames.specs.declared.error.FrameError.TheVariants as errors
 use Rattle.frames.specs.declared.limits.TheConstants.{MOST_STRINGS, LONGEST_STRING}
 
--- what stands at the front of some bytes, or the first fault there; and the bytes that are left behind it
+-- what is at the front of some bytes, or the first fault there; and the bytes that are left after it
 abbrev pub Parsed : Type 0 → Type 0
 Parsed X = Result (X × List ℕ) (Fault × List ℕ)
 
@@ -25,7 +25,7 @@ unfoldable pub byte_at : List ℕ → Parsed ℕ
 byte_at [] = Err (UnexpectedEnd, [])
 byte_at (byte ∷ rest) = Ok (byte, rest)
 
--- this byte, or this fault where another stands
+-- this byte, or this fault if another one is there
 unfoldable pub expected_at : ℕ → Fault → List ℕ → Parsed ℕ
 expected_at expected fault bytes =
     and_then (byte_at bytes) (λ byte. if byte.0 == expected then Ok byte else Err (fault, byte.1))
@@ -87,8 +87,8 @@ Between P None new = ⊤
 Between P (Some xs) None = ⊥
 Between P (Some xs) (Some ys) = P xs ys
 
--- What a function returned, seen by `view`, is what stands at the front of the bytes that the reader had left, and the
--- reader now has left what stands behind it. Where memory was refused or the reader failed, nothing is said.
+-- What a function returned, seen by `view`, is what is at the front of the bytes that the reader had left, and the
+-- reader now has left what comes after it. If there was no memory or the reader failed, nothing is said.
 abbrev pub GivesAs : {X Y : Type 0} → (X → Y) → (List ℕ → Parsed Y) → Option (List ℕ) → Option (List ℕ)
     → Result X FrameError → Type 0
 GivesAs view at old new (Ok x) = Between (λ xs ys. at xs ≡ Ok (view x, ys)) old new
@@ -96,7 +96,7 @@ GivesAs view at old new (Err (errors.Fault fault)) = Between (λ xs ys. at xs �
 GivesAs view at old new (Err errors.NoMemory) = ⊤
 GivesAs view at old new (Err (errors.Failed error)) = ⊤
 
--- the same of what a function returned as it is
+-- the same for what a function returned, as it is
 abbrev pub Returns : {X : Type 0} → (List ℕ → Parsed X) → Option (List ℕ) → Option (List ℕ) → Result X FrameError
     → Type 0
 Returns at old new result = GivesAs (λ x. x) at old new result

@@ -3,13 +3,13 @@ use std::alloc::{AllocError, AllocFailed};
 use std::io;
 use thiserror::Error;
 
-/// What is wrong with the bytes in a frame's place: the first fault, from left to right.
+/// What is wrong with bytes that should be a frame: the first fault from left to right.
 #[derive(Clone, Copy, Debug, PartialEq, Eq, Error)]
 pub enum Fault {
-    /// The frame begins with another byte than `*`, or a string with another than `$`.
+    /// The frame begins with another byte than `*`, or a string with another byte than `$`.
     #[error("unknown type byte")]
     BadType,
-    /// A byte in a number's place is no digit: a sign, say, or a number without digits. Or a digit follows a leading 0.
+    /// A byte of a number is no digit (a sign, for example), a number has no digits, or a digit follows a leading 0.
     #[error("bad number")]
     BadNumber,
     /// A number or a string is not followed by CR LF.
@@ -32,7 +32,7 @@ pub enum FrameError {
     /// The bytes are no frame.
     #[error("{0}")]
     Fault(Fault),
-    /// Memory is refused for a string or for the list of strings.
+    /// There is no memory for a string or for the list of strings.
     #[error("out of memory")]
     NoMemory,
     /// The reader fails, and not because of a signal.

@@ -28,8 +28,8 @@ impl Model for Frame {
 }
 
 impl Frame {
-    /// The frame of these strings. `TooManyStrings` where there are more than `MOST_STRINGS`, and otherwise
-    /// `StringTooLong` where one is longer than `LONGEST_STRING`.
+    /// The frame of these strings. `TooManyStrings` if there are more than `MOST_STRINGS`, and otherwise
+    /// `StringTooLong` if one is longer than `LONGEST_STRING`.
     pub fn new(strings: Vec<Bytes>) -> Result<Frame, Fault>
         ensures made { IfOk result (λ frame. frame ≡ strings.items) }
         ensures lawful { IsOk result ↔ IsFrame strings.items }
@@ -68,9 +68,9 @@ impl Frame {
     }
 }
 
-/// A law: a frame that is written is read back, and exactly the bytes behind it are left; what is read as a frame
-/// stands there as it is written; where two frames begin the same bytes, they are the same frame; and the bytes of a
-/// frame that are cut short are the fault `UnexpectedEnd`.
+/// A law: a frame that is written is read back, and exactly the bytes after it are left; what is read as a frame was
+/// there as it is written; if two frames begin the same bytes, they are the same frame; and the bytes of a frame that
+/// are cut short give the fault `UnexpectedEnd`.
 pub fn frames_are_read_back()
     ensures written { WrittenIsRead }
     ensures read { ReadWasWritten }

@@ -4,6 +4,7 @@
 pub use error::{Fault, FrameError};
 pub use frame::{Frame, frames_are_read_back, limits_are_these};
 pub use limits::{LONGEST_STRING, MOST_STRINGS};
+pub use output::write_bytes;
 pub use reading::read_frame;
 pub use writing::write_frame;
 

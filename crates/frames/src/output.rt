@@ -4,8 +4,9 @@ ghost use Rattle.frames.specs.Writing.{Writes};
 use std::io;
 use std::io::{ErrorKind, Write};
 
-/// Writes all of the bytes. Where it fails, a front of them was written.
-pub(crate) fn write_bytes<W: Write>(writer: &mut W, bytes: &[u8]) -> io::Result<()>
+/// Writes all of the bytes. It does not flush. Where it fails, a front of them was written. A write that a signal
+/// interrupts is tried again, at most 2^64 - 1 times in a row, and then the error is `TimedOut`.
+pub fn write_bytes<W: Write>(writer: &mut W, bytes: &[u8]) -> io::Result<()>
     ensures { Writes (W.contents writer.old) (W.contents writer.new) result bytes.now }
 {
     let mut rest = bytes;

@@ -14,12 +14,12 @@ use bytes::Bytes;
 use std::alloc::Global;
 use std::io::Read;
 
-/// The next frame, or none where the input ends before its first byte. It takes no byte behind the frame.
+/// The next frame, or none if the input ends before its first byte. It reads no byte beyond the frame.
 ///
-/// A `Fault` is the first one from left to right. It takes the bytes up to it, with the byte that is wrong. A number is
-/// refused as soon as its digits exceed the limit, before memory is asked for. The memory of a string is asked for
-/// once its length is read, so never more than `LONGEST_STRING` bytes beyond what has come. `NoMemory` and `Failed`
-/// leave the reader within the frame. A read that a signal interrupts is tried again.
+/// A `Fault` is the first one from left to right. The reader is then just after the byte that is wrong. A number is
+/// refused as soon as its digits exceed the limit. Memory for a string is allocated once its length is read, so never
+/// for more than `LONGEST_STRING` bytes beyond what has come. After `NoMemory` and `Failed` the reader is somewhere
+/// within the frame. A read that a signal interrupts is tried again.
 pub fn read_frame<R: Read>(alloc: Global, reader: &mut R) -> Result<Option<Frame>, FrameError>
     // What is read stood at the front, and nothing else is taken.
     ensures found { IfOk result (λ found. MatchOption found (IsAtEnd (R.remaining reader.old))

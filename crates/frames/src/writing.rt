@@ -11,7 +11,7 @@ use itoa::Buffer;
 use std::io;
 use std::io::Write;
 
-/// Writes a frame. It does not flush. Where it fails, a front of the frame's bytes was written.
+/// Writes a frame. It does not flush. If it fails, it wrote a beginning of the frame's bytes.
 pub fn write_frame<W: Write>(writer: &mut W, frame: &Frame) -> io::Result<()>
     ensures { Writes (W.contents writer.old) (W.contents writer.new) result (frame_bytes frame.now) }
 {

@@ -1,7 +1,7 @@
 //! Frames written to memory and to a slow writer.
 use crate::commands::{SET, set};
 use crate::slow::Slow;
-use frames::write_frame;
+use frames::{write_bytes, write_frame};
 use std::io::ErrorKind;
 
 #[test]
@@ -27,4 +27,11 @@ fn one_byte_at_a_time(rt: HostRuntime) {
     let mut writer = Slow::new(rt.alloc(), b"", SET.len());
     assert!(rt; write_frame(&mut writer, &set(&rt, rt.alloc())).is_ok());
     assert_eq!(rt; writer.written.as_slice(), SET);
+}
+
+#[test]
+fn bytes_alone(rt: HostRuntime) {
+    let mut out = Vec::new(rt.alloc());
+    assert!(rt; write_bytes(&mut out, b"hello").is_ok());
+    assert_eq!(rt; out.as_slice(), b"hello".as_slice());
 }

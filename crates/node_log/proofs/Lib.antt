@@ -1,1 +1,5 @@
-pub mod SealLemmas
+pub mod HeadLemmas
+pub mod EntryLemmas
+pub mod ZeroLemmas
+pub mod ReadEntryLemmas
+pub mod CutEntryLemmas

@@ -1,25 +1,65 @@
 -- The contracts that docs/trusted.md lists do not depend on this file; other contracts and proofs do.
 -- What is read of a log, of which an entry, its end or damage stands at the front.
-use Rattle.std.specs.Prelude.{◌≡◌, ◌⊎◌, ℕ, List, [], Option, Some, None, Result, Ok, Err, ⊤}
+use Rattle.std.specs.Prelude.{◌≡◌, ◌≢◌, ◌⊎◌, ◌≤◌, ◌+◌, ◌-◌, ◌++◌, ℕ, List, take, drop, slice_index}
+use Rattle.std.specs.Prelude.{Option, Some, None, Result, Ok, Err, ⊤}
 use Rattle.std.specs.Io.KnownBytes.{Consumes}
-use Rattle.frames.specs.Reading.{frame_at}
-use Rattle.frames.specs.declared.error.Fault.TheVariants.{UnexpectedEnd}
-use Rattle.node_log.specs.Entry.{IsSealed, sealed}
+use Rattle.frames.specs.Frame.{IsFrame, frame_bytes}
+use Rattle.node_log.specs.Entry.{IsHead, length_in, digest_in, digest_of, entry_bytes}
 use Rattle.node_log.specs.declared.error.Damage.{Damage}
-use Rattle.node_log.specs.declared.error.Damage.TheVariants.{NoFrame, WrongDigest}
+use Rattle.node_log.specs.declared.error.Damage.TheVariants.{WrongHead, WrongDigest, NoFrame}
 use Rattle.node_log.specs.declared.error.LogError.{LogError}
 use Rattle.node_log.specs.declared.error.LogError.TheVariants as errors
-use Rattle.frames.specs.Frame.{IsFrame, frame_bytes}
 
--- the log ends here: there is no byte left, or the bytes end within a frame
+-- an entry stands at the front
+abbrev pub HasEntry : List ℕ → Type 0
+HasEntry bytes = (strings : List (List ℕ)) × (rest : List ℕ) × IsFrame strings × (bytes ≡ entry_bytes strings ++ rest)
+
+-- the first 16 bytes are a head
+abbrev pub HasHead : List ℕ → Type 0
+HasHead bytes = IsHead (take 16 bytes)
+
+-- what stands behind the first 16 bytes
+abbrev pub behind_head : List ℕ → List ℕ
+behind_head bytes = drop 16 bytes
+
+-- how many bytes the body has, as the first 16 bytes say
+abbrev pub body_length : List ℕ → ℕ
+body_length bytes = length_in (take 16 bytes)
+
+-- as much of the body as is there
+abbrev pub body_at : List ℕ → List ℕ
+body_at bytes = take (body_length bytes) (behind_head bytes)
+
+-- no byte from this place on is another than zero; the first one has place 0
+abbrev pub AreZerosFrom : ℕ → List ℕ → Type 0
+AreZerosFrom place bytes = (i : ℕ) → place ≤ i → slice_index bytes i ≡ 0
+
+-- the last byte of the head at the front is missing or zero, as is all behind it
+abbrev pub StopsInHead : List ℕ → Type 0
+StopsInHead bytes = AreZerosFrom 15 bytes
+
+-- the last byte of the body is missing or zero, as is all behind it
+abbrev pub StopsInBody : List ℕ → Type 0
+StopsInBody bytes = AreZerosFrom (16 + (body_length bytes - 1)) bytes
+
+-- The log ends here: no entry stands at the front, and what stands there may be one that was not written to its end.
+-- Its last byte is missing or zero, as is all behind it. Where that byte belongs is known from a head alone.
 abbrev pub IsEnd : List ℕ → Type 0
-IsEnd bytes = (bytes ≡ []) ⊎ ((left : List ℕ) × (frame_at bytes ≡ Err (UnexpectedEnd, left)))
+IsEnd bytes =
+    (HasEntry bytes → ⊥) × (((HasHead bytes → ⊥) × StopsInHead bytes) ⊎ (HasHead bytes × StopsInBody bytes))
+
+-- these bytes are the frame of no strings
+abbrev pub IsNoBody : List ℕ → Type 0
+IsNoBody body = (strings : List (List ℕ)) → IsFrame strings → body ≡ frame_bytes strings → ⊥
 
 -- the bytes at the front are damaged in this way
 abbrev pub IsDamaged : List ℕ → Damage → Type 0
-IsDamaged bytes (NoFrame fault) = (fault ≡ UnexpectedEnd → ⊥) × ((left : List ℕ) × (frame_at bytes ≡ Err (fault, left)))
+IsDamaged bytes WrongHead = (HasHead bytes → ⊥) × (StopsInHead bytes → ⊥)
 IsDamaged bytes WrongDigest =
-    (frame : List (List ℕ)) × (left : List ℕ) × (frame_at bytes ≡ Ok (Some frame, left)) × (IsSealed frame → ⊥)
+    HasHead bytes × (digest_of (body_at bytes) ≢ digest_in (take 16 bytes)) × (StopsInBody bytes → ⊥)
+IsDamaged bytes NoFrame =
+    HasHead bytes × (digest_of (body_at bytes) ≡ digest_in (take 16 bytes)) × IsNoBody (body_at bytes)
+    × (StopsInBody bytes → ⊥)
 
 -- If it is known what a reader had left, this holds of it.
 abbrev pub HadLeft : (List ℕ → Type 0) → Option (List ℕ) → Type 0
@@ -29,7 +69,7 @@ HadLeft P (Some bytes) = P bytes
 -- What was read: an entry that stood at the front, and nothing else was taken; or none, at the end of the log; or
 -- damage. Where memory was refused or the reader failed, nothing is said.
 abbrev pub ReadsEntry : Option (List ℕ) → Option (List ℕ) → Result (Option (List (List ℕ))) LogError → Type 0
-ReadsEntry old new (Ok (Some frame)) = IsSealed frame × IsFrame frame × Consumes old new (frame_bytes frame)
+ReadsEntry old new (Ok (Some strings)) = IsFrame strings × Consumes old new (entry_bytes strings)
 ReadsEntry old new (Ok None) = HadLeft IsEnd old
 ReadsEntry old new (Err (errors.Damaged damage)) = HadLeft (λ bytes. IsDamaged bytes damage) old
 ReadsEntry old new (Err errors.NoMemory) = ⊤
@@ -37,7 +77,7 @@ ReadsEntry old new (Err (errors.Failed error)) = ⊤
 
 -- these strings were read, and these bytes are left, unless memory was refused or the reader failed
 abbrev pub ReadsThis : List (List ℕ) → List ℕ → Option (List ℕ) → Result (Option (List (List ℕ))) LogError → Type 0
-ReadsThis strings rest new (Ok (Some frame)) = (frame ≡ sealed strings) × (new ≡ Some rest)
+ReadsThis strings rest new (Ok (Some found)) = (found ≡ strings) × (new ≡ Some rest)
 ReadsThis strings rest new (Ok None) = ⊥
 ReadsThis strings rest new (Err (errors.Damaged damage)) = ⊥
 ReadsThis strings rest new (Err errors.NoMemory) = ⊤

@@ -1,89 +1,85 @@
 //! One entry of a log.
-ghost use Rattle.std.specs.Prelude.{◌≡◌, ◌↔◌, IsTrue, MatchResult, IsSome, IfSome};
-ghost use Rattle.node_log.specs.Entry.{sealed, IsSealed, IsNoEntry};
+ghost use Rattle.std.specs.Prelude.{◌≡◌, MatchResult, OnOk, length};
+ghost use Rattle.frames.specs.Frame.{IsFrame, frame_bytes};
+ghost use Rattle.node_log.specs.Entry.{head_of, entry_bytes, sealed, IsEntry, IsNoEntry};
 
-use crate::digest::digest_of;
+use crate::head::{HEAD_LENGTH, head_of};
 use bytes::Bytes;
-use frames::{Frame, FrameError};
+use frames::{Frame, FrameError, write_frame};
 use std::alloc::Global;
 use std::marker::Model;
 
-/// Strings with their digest behind them.
+/// Strings, and the head that stands before their frame in a log.
 #[derive(Debug, Drop)]
 pub struct Entry {
-    // The strings, and the digest as the last one.
+    head: [u8; HEAD_LENGTH],
     frame: Frame,
 }
 
 impl Model for Entry {
-    ghost use Rattle.std.specs.Prelude.{ℕ, List};
-    ghost use Rattle.node_log.specs.Entry.{IsSealed};
+    ghost use Rattle.std.specs.Prelude.{◌≡◌, ℕ, List};
+    ghost use Rattle.frames.specs.Frame.{frame_bytes};
+    ghost use Rattle.node_log.specs.Entry.{head_of};
 
     ghost Value = { List (List ℕ) };
 
     ghost view = { λ entry. entry.frame };
 
-    ghost invariant = { λ entry. IsSealed entry.frame };
+    ghost invariant = { λ entry. entry.head ≡ head_of (frame_bytes entry.frame) };
 }
 
 impl Entry {
-    /// The entry of these strings. `Fault` with `TooManyStrings` where there are `MOST_STRINGS` of them or more, since
-    /// the digest is one more, and otherwise with `StringTooLong` where one is longer than `LONGEST_STRING`; `NoMemory`
-    /// where memory is refused for the digest.
+    /// The entry of these strings. `Fault` with `TooManyStrings` where there are more than `MOST_STRINGS`, and
+    /// otherwise with `StringTooLong` where one is longer than `LONGEST_STRING`; `NoMemory` where memory is refused for
+    /// the bytes of which the digest is computed.
     pub fn new(alloc: Global, strings: Vec<Bytes>) -> Result<Entry, FrameError>
         ensures made { MatchResult result (λ entry. entry ≡ sealed strings.items) (IsNoEntry strings.items) }
+        ensures fits { OnOk result (IsEntry strings.items) }
     {
-        let mut strings = strings;
-        let digest = digest_of(&strings);
-        strings.push(Bytes::copy_from_slice(alloc, &digest)?)?;
-        Ok(Entry {
-            frame: Frame::new(strings)?,
-        })
-    }
-
-    /// The entry that a frame is, or none where its last string is not the digest of those before it.
-    pub(crate) fn of(frame: Frame) -> Option<Entry>
-        ensures same { IfSome result (λ entry. entry ≡ frame) }
-        ensures sealed { IsSome result ↔ IsSealed frame }
-    {
-        if is_sealed(frame.strings()) {
-            Some(Entry { frame })
-        } else {
-            None
+        let frame = Frame::new(strings)?;
+        let mut body = Vec::new(alloc);
+        match write_frame(&mut body, &frame) {
+            Ok(()) => Ok(Entry {
+                head: head_of(&body),
+                frame,
+            }),
+            Err(_) => Err(FrameError::NoMemory),
         }
     }
 
-    /// The strings with their digest.
+    /// The entry of a frame whose head is known.
+    pub(crate) fn of(head: [u8; HEAD_LENGTH], frame: Frame) -> Entry
+        requires { head ≡ head_of (frame_bytes frame) }
+        ensures { result ≡ frame }
+    {
+        Entry { head, frame }
+    }
+
+    /// What stands before the frame in a log.
+    pub(crate) fn head(&self) -> &[u8; HEAD_LENGTH]
+        ensures { result.now ≡ head_of (frame_bytes self.now) }
+    {
+        &self.head
+    }
+
+    /// The strings as a frame.
     pub(crate) fn frame(&self) -> &Frame
         ensures { result.now ≡ self.now }
     {
         &self.frame
     }
 
-    /// The strings, in order, without the digest.
+    /// The strings, in order.
     pub fn strings(&self) -> &[Bytes]
         ensures { self.now ≡ sealed result.now }
     {
-        let strings = self.frame.strings();
-        &strings[..strings.len() - 1]
+        self.frame.strings()
     }
 
-    /// The strings, in order, without the digest.
+    /// The strings, in order.
     pub fn into_strings(self) -> Vec<Bytes>
         ensures { self ≡ sealed result.items }
     {
-        let mut strings = self.frame.into_strings();
-        strings.truncate(strings.len() - 1);
-        strings
-    }
-}
-
-// Whether the last string is the digest of those before it.
-fn is_sealed(strings: &[Bytes]) -> bool
-    ensures { IsTrue result ↔ IsSealed strings.now }
-{
-    match strings.split_last() {
-        Some((digest, strings)) => digest.as_slice() == digest_of(strings).as_slice(),
-        None => false,
+        self.frame.into_strings()
     }
 }

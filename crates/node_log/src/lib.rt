@@ -10,6 +10,8 @@ pub use writing::write_entry;
 mod digest;
 mod entry;
 mod error;
+mod head;
+mod input;
 mod laws;
 mod reading;
 mod writing;

@@ -1,36 +1,123 @@
 //! Entries from a reader.
-ghost use Rattle.std.specs.Prelude.{◌≡◌, ◌++◌, ℕ, List, Some};
-ghost use Rattle.node_log.specs.Entry.{IsEntry, sealed_bytes};
+ghost use Rattle.std.specs.Prelude.{◌≡◌, ◌++◌, ℕ, List, Some, length, MatchResult};
+ghost use Rattle.std.specs.Io.KnownBytes.{prepend_known};
+ghost use Rattle.frames.specs.Frame.{IsFrame, frame_bytes};
+ghost use Rattle.node_log.specs.Entry.{IsHead, length_in, entry_bytes};
 ghost use Rattle.node_log.specs.Reading.{ReadsEntry, ReadsThis};
+ghost use Rattle.node_log.specs.Parts.{IsBodyOf, IsNoBodyFor, IsNoFrameFor, EndsOrIsDamaged};
 
 use crate::entry::Entry;
 use crate::error::{Damage, LogError};
-use frames::{Fault, Frame, FrameError, read_frame};
+use crate::head::{HEAD_LENGTH, has_digest, length_in};
+use crate::input::{are_zeros, has_only_zeros, read_full};
+use frames::{Frame, FrameError, read_frame};
 use std::alloc::Global;
 use std::io::Read;
 
 /// The next entry, or none where the log ends: before the entry's first byte, or within the entry. An entry is cut
-/// short where its node stopped while it wrote it; nothing that depends on such an entry was sent.
+/// short where its node stopped while it wrote it; nothing that depends on such an entry was sent. A file system may
+/// leave zeros in place of the bytes that are missing.
 ///
-/// `Damaged` says what is wrong with any other bytes. It takes no byte behind the entry. `NoMemory` and `Failed` leave
-/// the reader within the entry.
+/// `Damaged` says what is wrong with any other bytes. It takes no byte behind an entry that it returns. In each other
+/// case the reader may have lost bytes.
 pub fn read_entry<R: Read>(alloc: Global, reader: &mut R) -> Result<Option<Entry>, LogError>
     // What is read stood at the front, and nothing else is taken; where nothing is read, which bytes stood there.
     ensures read { ReadsEntry (R.remaining reader.old) (R.remaining reader.new) result }
     // An entry that stands at the front is read, unless memory is refused or the reader fails.
-    ensures only { (strings : List (List ℕ)) (rest : List ℕ) → IsEntry strings
-        → R.remaining reader.old ≡ Some (sealed_bytes strings ++ rest)
+    ensures only { (strings : List (List ℕ)) (rest : List ℕ) → IsFrame strings
+        → R.remaining reader.old ≡ Some (entry_bytes strings ++ rest)
         → ReadsThis strings rest (R.remaining reader.new) result }
 {
-    match read_frame(alloc, reader) {
-        Ok(None) => Ok(None),
-        Ok(Some(frame)) => match Entry::of(frame) {
-            Some(entry) => Ok(Some(entry)),
-            None => Err(LogError::Damaged(Damage::WrongDigest)),
-        },
-        Err(FrameError::Fault(Fault::UnexpectedEnd)) => Ok(None),
-        Err(FrameError::Fault(fault)) => Err(LogError::Damaged(Damage::NoFrame(fault))),
+    read_next(alloc, reader)
+}
+
+// The same, by its first clause.
+fn read_next<R: Read>(alloc: Global, reader: &mut R) -> Result<Option<Entry>, LogError>
+    ensures { ReadsEntry (R.remaining reader.old) (R.remaining reader.new) result }
+{
+    let mut head = [0; HEAD_LENGTH];
+    let count = read_full(reader, &mut head)?;
+    if count < HEAD_LENGTH {
+        return Ok(None);
+    }
+    match length_in(&head) {
+        Some(length) => read_body(alloc, reader, &head, length),
+        None => end_or_damage(reader, &head, Damage::WrongHead),
+    }
+}
+
+// The entry whose head was read.
+fn read_body<R: Read>(
+    alloc: Global,
+    reader: &mut R,
+    head: &[u8; HEAD_LENGTH],
+    length: u64,
+) -> Result<Option<Entry>, LogError>
+    requires head { IsHead head.now }
+    requires length { length ≡ length_in head.now }
+    ensures { ReadsEntry (prepend_known head.now (R.remaining reader.old)) (R.remaining reader.new) result }
+{
+    let mut body = vec![in alloc; 0; length as usize]?;
+    let count = read_full(reader, &mut body)?;
+    if count < body.len() {
+        return Ok(None);
+    }
+    match entry_of(alloc, head, &body) {
+        Ok(entry) => Ok(Some(entry)),
+        Err(LogError::Damaged(damage)) => end_or_damage(reader, &body, damage),
+        Err(error) => Err(error),
+    }
+}
+
+// The entry of a head and a whole body.
+fn entry_of(alloc: Global, head: &[u8; HEAD_LENGTH], body: &[u8]) -> Result<Entry, LogError>
+    requires head { IsHead head.now }
+    requires length { length body.now ≡ length_in head.now }
+    ensures { MatchResult result (IsBodyOf head.now body.now) (IsNoBodyFor head.now body.now) }
+{
+    if !has_digest(head, body) {
+        return Err(LogError::Damaged(Damage::WrongDigest));
+    }
+    let frame = frame_of(alloc, body)?;
+    Ok(Entry::of(*head, frame))
+}
+
+// The frame that the bytes are, with nothing behind it.
+fn frame_of(alloc: Global, body: &[u8]) -> Result<Frame, LogError>
+    ensures { MatchResult result (λ frame. IsFrame frame × (body.now ≡ frame_bytes frame)) (IsNoFrameFor body.now) }
+{
+    let mut rest = body;
+    match read_frame(alloc, &mut rest) {
+        Ok(Some(frame)) => {
+            if rest.is_empty() {
+                Ok(frame)
+            } else {
+                Err(LogError::Damaged(Damage::NoFrame))
+            }
+        }
+        Ok(None) => Err(LogError::Damaged(Damage::NoFrame)),
+        Err(FrameError::Fault(_)) => Err(LogError::Damaged(Damage::NoFrame)),
         Err(FrameError::NoMemory) => Err(LogError::NoMemory),
         Err(FrameError::Failed(error)) => Err(LogError::Failed(error)),
+    }
+}
+
+// Of bytes that are no entry, the last part of which was read: the end of the log, where the last byte of the part and
+// all behind it are zeros, and damage otherwise.
+fn end_or_damage<R: Read>(
+    reader: &mut R,
+    part: &[u8],
+    damage: Damage,
+) -> Result<Option<Entry>, LogError>
+    ensures { EndsOrIsDamaged part.now damage (R.remaining reader.old) result }
+{
+    let last = part.len().saturating_sub(1);
+    if !are_zeros(&part[last..]) {
+        return Err(LogError::Damaged(damage));
+    }
+    if has_only_zeros(reader)? {
+        Ok(None)
+    } else {
+        Err(LogError::Damaged(damage))
     }
 }

@@ -4,13 +4,16 @@ use node_log::Entry;
 use std::alloc::Global;
 use std::process::Abort;
 
-/// The strings `SET`, `photo` and `hello`, and the first eight bytes of the SHA-256 digest of these strings, each with
-/// its length before it. The digest was computed with Python's `hashlib`.
+/// The entry of the strings `SET`, `photo` and `hello`. The body has 35 bytes. Both digests were computed with a Python
+/// function that shifts one bit at a time and gives the sums of RFC 3720.
 pub(crate) const SET: &[u8] =
-    b"*4\r\n$3\r\nSET\r\n$5\r\nphoto\r\n$5\r\nhello\r\n$8\r\n\xfaIY\xe2;2+A\r\n";
+    b"\x00\x00\x00\x00\x00\x00\x00#\xbde\x19o\xd7!l{*3\r\n$3\r\nSET\r\n$5\r\nphoto\r\n$5\r\nhello\r\n";
+
+/// The number of bytes of a head.
+pub(crate) const HEAD_LENGTH: usize = 16;
 
 /// The entry without strings.
-pub(crate) const NOTHING: &[u8] = b"*1\r\n$8\r\n\xe3\xb0\xc4B\x98\xfc\x1c\x14\r\n";
+pub(crate) const NOTHING: &[u8] = b"\x00\x00\x00\x00\x00\x00\x00\x04\xecY\x8b\x9e.WX\xab*0\r\n";
 
 fn text<R: Abort>(rt: &R, alloc: Global, text: &[u8]) -> Bytes {
     Bytes::copy_from_slice(alloc, text).expect(rt, "memory")
@@ -37,4 +40,16 @@ pub(crate) fn is_set(strings: &[Bytes]) -> bool {
 
 fn is_text(string: &[u8], text: &[u8]) -> bool {
     string == text
+}
+
+/// The first bytes of the entry, and zeros behind them.
+pub(crate) fn cut<R: Abort>(rt: &R, alloc: Global, len: usize, zeros: usize) -> Vec<u8> {
+    let mut log = Vec::new(alloc);
+    for byte in SET.iter().take(len) {
+        log.push(*byte).expect(rt, "memory");
+    }
+    for _ in 0..zeros {
+        log.push(0).expect(rt, "memory");
+    }
+    log
 }

@@ -33,7 +33,7 @@ fn the_strings_come_back(rt: HostRuntime) {
 #[test]
 fn a_string_too_many(rt: HostRuntime) {
     let mut strings = Vec::new(rt.alloc());
-    for _ in 0..MOST_STRINGS {
+    for _ in 0..=MOST_STRINGS {
         strings.push(Bytes::new()).expect(&rt, "memory");
     }
     let refused = Entry::new(rt.alloc(), strings);

@@ -1,8 +1,12 @@
-use Rattle.std.proofs.Common.{[], ◌∷◌, refl, inl, inr}
-use Rattle.node_log.specs.Entry.{sealed}
+use Rattle.node_log.proofs.EntryLemmas.{not_damaged, one_entry}
+use Rattle.node_log.proofs.CutEntryLemmas.{cut_entry, no_end}
 use Rattle.node_log.proofs.laws.entries_are_read_back.Goals as goal
 
+pub returns-clause-written : goal.returns-clause-written
+returns-clause-written c strings rest lawful = (no_end strings rest lawful, not_damaged strings rest lawful)
+
 pub returns-clause-cut : goal.returns-clause-cut
-returns-clause-cut c strings [] back lawful e some = inl refl
-returns-clause-cut c strings (byte ∷ front) back lawful e some =
-    inr ([], c.frames_are_read_back.ensures.cut (sealed strings) (byte ∷ front) back lawful e (λ none. absurd cc) some)
+returns-clause-cut c = cut_entry
+
+pub returns-clause-one : goal.returns-clause-one
+returns-clause-one c = one_entry
