@@ -115,7 +115,7 @@ pub error_is_text : (e : AnswerError) → IsText (error_text e)
 error_is_text (error.Fault f) = fault_is_text f
 error_is_text (error.Refused r) = refusal_is_text r
 error_is_text error.NoQuorum = is_text _ refl
-error_is_text error.NotAdministrator = is_text _ refl
+error_is_text error.NotMover = is_text _ refl
 error_is_text error.Protocol = is_text _ refl
 
 pub printable : ErrorTextsArePrintable

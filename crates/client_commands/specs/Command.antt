@@ -10,12 +10,12 @@ use Rattle.client_commands.specs.Words.{is_word}
 use Rattle.client_commands.specs.declared.command.Command.{Command}
 use Rattle.client_commands.specs.declared.command.Command.TheVariants as ask
 
--- the first string is this word, in capital or small letters, and these are the strings behind it
+-- the first string is this word, in capital or small letters, and these are the strings after it
 abbrev pub AreWordAndRest : List ℕ → Strings → Strings → Type 0
 AreWordAndRest text rest [] = ⊥
 AreWordAndRest text rest (word ∷ strings) = IsTrue (is_word word text) × (strings ≡ rest)
 
--- the first string is this word, in capital or small letters, and any strings stand behind it
+-- the first string is this word, in capital or small letters, and any strings follow it
 abbrev pub Begins : List ℕ → Strings → Type 0
 Begins text [] = ⊥
 Begins text (word ∷ strings) = IsTrue (is_word word text)
@@ -36,7 +36,7 @@ AreNodes members = AllByRecursion (λ member. member ≤ 255) members
 abbrev pub layout_strings : Layout → Strings
 layout_strings layout = decimal layout.k ∷ map decimal layout.members
 
--- the text of a PING, where it has one
+-- the text of a PING, if it has one
 abbrev pub text_strings : Option (List ℕ) → Strings
 text_strings None = []
 text_strings (Some text) = text ∷ []

@@ -34,7 +34,7 @@ set_from arguments =
     and_then (checked_value both.1) (λ value.
     Ok (ask.Set name value))))
 
--- MOVE: a name, and a layout behind it
+-- MOVE: a name, and then a layout
 unfoldable pub move_from : Strings → Found
 move_from arguments = and_then (layout_from arguments) (λ layout. Ok (ask.Move (get_or arguments 0 []) layout))
 
@@ -47,11 +47,11 @@ ping_from (text ∷ more) = and_then (only_argument of.Ping (text ∷ more)) (λ
 unfoldable pub echo_from : Strings → Found
 echo_from arguments = and_then (only_argument of.Echo arguments) (λ text. Ok (ask.Echo text))
 
--- this command, unless the number of strings is another than it has
+-- this command, unless the number of strings is wrong for it
 abbrev pub counted : ℕ → ℕ → Command → Found
 counted count wanted command = if count == wanted then Ok command else Err (WrongCount of.Client)
 
--- CLIENT with this word, and so many strings behind it
+-- CLIENT with this word and this many strings after it
 unfoldable pub subcommand_from : List ℕ → ℕ → Found
 subcommand_from word count =
     if is_word word (codes "id") then counted count 0 ask.ClientId
@@ -81,7 +81,7 @@ abbrev pub command_named : Option CommandName → Strings → Found
 command_named None arguments = Err UnknownCommand
 command_named (Some name) arguments = command_from name arguments
 
--- the command that strings are: its name, and its arguments behind it
+-- the command of these strings: its name, followed by its arguments
 unfoldable pub command_at : Strings → Found
 command_at [] = Err UnknownCommand
 command_at (word ∷ arguments) = command_named (name_of_word word) arguments

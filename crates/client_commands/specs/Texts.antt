@@ -25,5 +25,5 @@ abbrev pub error_text : AnswerError → List ℕ
 error_text (error.Fault fault) = fault_text fault
 error_text (error.Refused refusal) = codes "refused: " ++ refusal_text refusal
 error_text error.NoQuorum = codes "no quorum answered in time"
-error_text error.NotAdministrator = codes "only the administrator moves objects"
+error_text error.NotMover = codes "only the mover moves objects"
 error_text error.Protocol = codes "protocol"

@@ -7,7 +7,7 @@ use std::error::Error;
 use std::fmt;
 use tag::Refusal;
 
-/// What a client is answered.
+/// An answer to a client's command.
 #[derive(Debug, PartialEq, Eq, Drop)]
 pub enum Answer {
     /// `OK`: the command was carried out.
@@ -33,13 +33,13 @@ pub enum AnswerError {
     Refused(Refusal),
     /// The call was given up, because no quorum answered in time. A write may still take effect.
     NoQuorum,
-    /// The command moves an object, and the node is not the administrator's.
-    NotAdministrator,
-    /// What the client sent is no frame. The connection ends behind this answer.
+    /// The command moves an object, and this node is not the one that moves objects.
+    NotMover,
+    /// What the client sent is no frame. The connection ends after this answer.
     Protocol,
 }
 
-/// The text that a client is shown.
+/// The text that the client gets.
 impl fmt::Display for AnswerError {
     ghost output = { λ error. Some (error_text error) };
 
@@ -48,7 +48,7 @@ impl fmt::Display for AnswerError {
             AnswerError::Fault(fault) => write!(f, "{fault}"),
             AnswerError::Refused(refusal) => write!(f, "refused: {refusal}"),
             AnswerError::NoQuorum => f.write_str("no quorum answered in time"),
-            AnswerError::NotAdministrator => f.write_str("only the administrator moves objects"),
+            AnswerError::NotMover => f.write_str("only the mover moves objects"),
             AnswerError::Protocol => f.write_str("protocol"),
         }
     }

@@ -1,4 +1,4 @@
-//! The arguments of a command: the strings behind its name.
+//! The arguments of a command: the strings after its name.
 ghost use Rattle.std.specs.Prelude.{◌≡◌, ◌<◌, ◌∷◌, length};
 ghost use Rattle.client_commands.specs.Arguments.{
   checked_name,

@@ -5,7 +5,7 @@ use bytes::Bytes;
 use layout::Layout;
 use std::fmt;
 
-/// What a client asks. The names, the values and the texts are strings of the frame, and no byte of them is copied.
+/// A client's command. The names, the values and the texts are strings of the frame, and no byte of them is copied.
 #[derive(Debug, PartialEq, Eq, Drop)]
 pub enum Command {
     /// `GET name`: the value of a name.
@@ -14,7 +14,7 @@ pub enum Command {
     Set { name: Bytes, value: Bytes },
     /// `MOVE name k node ..`: moves a name to the layout of this k and these nodes.
     Move { name: Bytes, layout: Layout },
-    /// `INFO`: what the node says of itself.
+    /// `INFO`: what the node tells about itself.
     Info,
     /// `PING` or `PING text`: whether the node answers.
     Ping(Option<Bytes>),
@@ -24,7 +24,8 @@ pub enum Command {
     ListCommands,
     /// `CLIENT ID`: the number of the connection.
     ClientId,
-    /// `CLIENT SETNAME text` or `CLIENT SETINFO text text`: what the client says of itself. A node keeps none of it.
+    /// `CLIENT SETNAME text` or `CLIENT SETINFO text text`: what the client tells about itself. A node does not keep
+    /// it.
     DescribeClient,
     /// `QUIT`: the end of the connection.
     Quit,

@@ -5,31 +5,31 @@ use crate::command::CommandName;
 use std::error::Error;
 use std::fmt;
 
-/// Why a frame asks for no command: the first fault in the order of these variants, where faults of numbers come from
-/// left to right, byte by byte.
+/// Why a frame asks for no command: the first fault in the order of these variants; among faults of numbers, the first
+/// from left to right, byte by byte.
 #[derive(Clone, Copy, Debug, PartialEq, Eq)]
 pub enum CommandFault {
     /// The first string names no command, or there is none.
     UnknownCommand,
-    /// The string behind `CLIENT` is none of `ID`, `SETNAME` and `SETINFO`.
+    /// The string after `CLIENT` is not `ID`, `SETNAME` or `SETINFO`.
     UnknownSubcommand,
     /// The command of this name has another number of arguments.
     WrongCount(CommandName),
-    /// There are arguments behind the value of a `SET`. Redis has options there, and a node has none.
+    /// There are arguments after the value of a `SET`. Redis has options there, and a node has none.
     SyntaxError,
     /// The name is longer than `LONGEST_NAME`.
     NameTooLong,
     /// The value is longer than `LONGEST_VALUE`.
     ValueTooLong,
-    /// In the place of k or of a node there is a byte that is no digit, a leading 0, or nothing.
+    /// A string for k or a node has a byte that is no digit, a leading 0, or no byte.
     BadNumber,
-    /// In the place of k or of a node the digits so far are those of a number above 255.
+    /// The digits so far of k or of a node are those of a number above 255.
     OutOfRange,
     /// k is 0, there are fewer nodes than k, or a node is named twice.
     BadLayout,
 }
 
-/// The text that a client is shown.
+/// The text that the client gets.
 impl fmt::Display for CommandFault {
     ghost output = { λ fault. Some (fault_text fault) };
 

@@ -23,9 +23,9 @@ use crate::vocabulary::{is_word, name_of};
 use bytes::Bytes;
 use frames::Frame;
 
-/// What a frame asks. Names of commands are read without regard to the case of ASCII letters.
+/// The command for which a frame asks. Capital and small letters of ASCII count as the same in names of commands.
 ///
-/// A fault is the first one in the order of `CommandFault`. The function asks for no memory.
+/// A fault is the first one in the order of `CommandFault`. The function allocates no memory.
 pub fn read_command(frame: Frame) -> Result<Command, CommandFault>
     // The frame asks for what is read.
     ensures found { IfOk result (λ command. AskFor frame command) }

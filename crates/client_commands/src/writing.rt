@@ -10,9 +10,9 @@ use bytes::Bytes;
 use std::alloc::{AllocError, Global};
 
 /// Appends the strings of an answer to those of a frame. The host writes the bytes of the strings to the connection,
-/// one after another. A value stands in a string of its own, and no byte of it is copied.
+/// one after another. A value is a string of its own, and no byte of it is copied.
 ///
-/// Where memory is refused, the strings are as they were.
+/// If there is no memory, the strings are as they were.
 pub fn push_answer(
     alloc: Global,
     strings: &mut Vec<Bytes>,

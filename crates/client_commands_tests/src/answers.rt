@@ -73,13 +73,13 @@ fn errors(rt: HostRuntime) {
     assert_answer(&rt, alloc, error, 1, b"-ERR no quorum answered in time\r\n");
     let error = Answer::Error(AnswerError::Protocol);
     assert_answer(&rt, alloc, error, 1, b"-ERR protocol\r\n");
-    let error = Answer::Error(AnswerError::NotAdministrator);
+    let error = Answer::Error(AnswerError::NotMover);
     assert_answer(
         &rt,
         alloc,
         error,
         1,
-        b"-ERR only the administrator moves objects\r\n",
+        b"-ERR only the mover moves objects\r\n",
     );
     let error = Answer::Error(AnswerError::Refused(Refusal::Full));
     assert_answer(&rt, alloc, error, 1, b"-ERR refused: 12 Full\r\n");

@@ -1,5 +1,5 @@
 -- The contracts that docs/trusted.md lists do not depend on this file; other contracts and proofs do.
--- The digest of what is fixed.
+-- The digest of the settings that may not change.
 use Rattle.std.specs.Prelude.{ℕ, ◌++◌, List, [], ◌∷◌, take, Option, Some, None}
 use Rattle.std.specs.Int.{w32, to_be_bytes}
 use Rattle.sha2.specs.Sha256.{sha256}

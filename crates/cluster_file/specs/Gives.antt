@@ -25,11 +25,11 @@ shown fixed = record {
   mover = fixed.mover;
 }
 
--- what a function returned, a value and the lines behind it, is what reading gives; the value is seen by `view`
+-- what a function returned, a value and the lines after it, is what reading gives; the value is seen by `view`
 abbrev pub SeesLines : {X Y : Type 0} → (X → Y) → OrFault (X × Bor (List HeldLine)) → OrFault (Y × List Line) → Type 0
 SeesLines view result read = Sees (λ x. (view x.0, map seen x.1.now)) result read
 
--- what a function returned is what reading gives; where memory was refused, nothing is said
+-- what a function returned is what reading gives; if there was no memory, nothing is said
 abbrev pub GivesFile : {X : Type 0} → Result X FileError → OrFault X → Type 0
 GivesFile (Ok x) read = read ≡ Ok x
 GivesFile (Err (errors.Fault fault)) read = read ≡ Err fault

@@ -7,7 +7,7 @@ use Rattle.cluster_file.specs.File.{Fixed, FileContents, IsLawfulFile, placement
 use Rattle.cluster_file.specs.Written.{IsDelta}
 use Rattle.cluster_file.specs.Digest.{hashed_fixed}
 
--- where the same bytes are hashed of two files, what is fixed in them is the same
+-- if the same bytes are hashed for two files, their fixed settings are the same
 abbrev pub HashedBytesDiffer : Type 0
 HashedBytesDiffer = (a b : Fixed) → IsDelta a.delta → IsDelta b.delta → hashed_fixed a ≡ hashed_fixed b → a ≡ b
 

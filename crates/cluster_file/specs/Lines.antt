@@ -5,7 +5,7 @@ use Rattle.std.specs.List.{slice_split, before_first}
 use Rattle.std.specs.Str.Lines.{lines}
 use Rattle.words.specs.Word.{Word}
 
--- a line that has a word: its number, its first word, and the words behind that
+-- a line that has a word: its number, its first word, and the words after it
 pub record Line : Type 0 where
   pub number : ℕ
   pub name : Word
@@ -15,7 +15,7 @@ pub record Line : Type 0 where
 abbrev pub is_blank : ℕ → Bool
 is_blank byte = byte == 32 || byte == 9
 
--- a line without its comment: what stands before the first `#`
+-- a line without its comment: what comes before the first `#`
 abbrev pub without_comment : List ℕ → List ℕ
 without_comment text = before_first (λ byte. byte == 35) text
 
@@ -47,6 +47,6 @@ lines_from number (text ∷ texts) =
 abbrev pub lines_of : List ℕ → List Line
 lines_of text = lines_from 1 (lines text)
 
--- the number of the line behind the last line of a text
+-- the number of the line after the last line of a text
 abbrev pub end_line : List ℕ → ℕ
 end_line text = length (lines text) + 1

@@ -20,7 +20,7 @@ is_decimal [] = false
 is_decimal (digit ∷ []) = is_ascii_digit digit
 is_decimal (first ∷ second ∷ rest) = nat_lt 48 first && list_all is_ascii_digit (first ∷ second ∷ rest)
 
--- a number that stands in this place, unless it is outside the range
+-- a number that is in this range, or the fault of the range
 abbrev pub within : Range → ℕ → Result ℕ Fault
 within range n = if nat_lt n range.least || nat_lt range.most n then Err range.outside else Ok n
 
@@ -47,7 +47,7 @@ unfoldable pub mover_from : List ℕ → Word → Result ℕ Fault
 mover_from nodes word =
     and_then (number_from of_a_byte word) (λ node. if has nodes node then Ok node else Err NoNode)
 
--- the node that a word writes, which is in neither list, where there is room for one more
+-- the node that a word writes, if it is in neither list and there is room for one more
 unfoldable pub node_from : List ℕ → List ℕ → Word → Result ℕ Fault
 node_from others listed word =
     and_then (number_from of_a_byte word) (λ node.

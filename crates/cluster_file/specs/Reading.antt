@@ -33,7 +33,7 @@ abbrev pub unless_at : {X : Type 0} → ℕ → ℕ → Option Fault → X → O
 unless_at line word None x = Ok x
 unless_at line word (Some fault) x = Err (fault_at line word fault)
 
--- the line of the setting that is due, and the lines behind it
+-- the line of the setting that is due, and the lines after it
 unfoldable pub setting_at : Setting → ℕ → List Line → OrFault (Line × List Line)
 setting_at due end [] = Err (fault_at end 1 (SettingMissing due))
 setting_at due end (line ∷ rest) = unless_at line.number 1 (due_fault due line.name) (line, rest)
@@ -64,14 +64,14 @@ setting_value due from end lines =
     and_then (value_of_line from line.0) (λ x.
     Ok (x, line.1)))
 
--- the nodes of these words, of which the first is the word with this number, behind those that were listed before
+-- the nodes of these words, the first of which is the word with this number, after those that were listed before
 unfoldable pub nodes_from : List ℕ → List ℕ → ℕ → List Word → OrFault (List ℕ)
 nodes_from others listed line [] = Ok listed
 nodes_from others listed line (word ∷ words) =
     and_then (placed_at line (length listed + 2) (node_from others listed word)) (λ node.
     nodes_from others (listed ++ node ∷ []) line words)
 
--- the nodes that placement uses, of which there is one at least
+-- the nodes among which placement chooses, of which there is at least one
 unfoldable pub nodes_at : ℕ → List Line → OrFault (List ℕ × List Line)
 nodes_at end lines =
     and_then (setting_at setting.Nodes end lines) (λ line.
@@ -86,7 +86,7 @@ later_at others end lines =
     and_then (nodes_from others [] line.0.number line.0.values) (λ nodes.
     Ok (nodes, line.1)))
 
--- the numbers that n may be, where there are so many nodes
+-- the numbers that n may be, if there are this many nodes
 abbrev pub of_n : ℕ → Range
 of_n count = record { least = 1; most = count; outside = BadN }
 
@@ -108,7 +108,7 @@ fixed_at end lines =
 abbrev pub of_ticks : Range
 of_ticks = record { least = 1; most = 2 ^ 32 - 1; outside = OutOfRange }
 
--- this value, unless a line is left behind it
+-- this value, unless a line is left after it
 abbrev pub unless_line_left : {X : Type 0} → List Line → X → OrFault X
 unless_line_left [] x = Ok x
 unless_line_left (line ∷ rest) x = Err (fault_at line.number 1 (behind_fault line.name))

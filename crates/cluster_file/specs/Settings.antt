@@ -40,7 +40,8 @@ setting_from word =
     else (if bytes_eq word (codes "ticks") then Some setting.Ticks
     else None))))))
 
--- what is wrong with this setting where that one is due: it stands above already, or the one that is due is missing
+-- what is wrong with this setting where that one is due: an earlier line has it already, or the one that is due is
+-- missing
 abbrev pub order_fault : Setting → Setting → Option Fault
 order_fault due found =
     if nat_lt (order_of found) (order_of due) then Some SettingTwice
@@ -55,11 +56,11 @@ named_fault due (Some found) = order_fault due found
 abbrev pub due_fault : Setting → Word → Option Fault
 due_fault due word = named_fault due (setting_from word)
 
--- what is wrong with a setting behind the last one
+-- what is wrong with a setting after the last one
 abbrev pub more_fault : Option Setting → Fault
 more_fault None = UnknownSetting
 more_fault (Some found) = SettingTwice
 
--- what is wrong with a first word behind the last setting
+-- what is wrong with a first word after the last setting
 abbrev pub behind_fault : Word → Fault
 behind_fault word = more_fault (setting_from word)

@@ -1,4 +1,4 @@
-//! The digest of what is fixed.
+//! The digest of the settings that may not change.
 ghost use Rattle.std.specs.Prelude.{◌≡◌, ◌++◌, ℕ, List, take};
 ghost use Rattle.sha2.specs.Hashers.{Holds256};
 ghost use Rattle.cluster_file.specs.Digest.{delta_bytes, fixed_digest};

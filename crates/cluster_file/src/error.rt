@@ -1,4 +1,4 @@
-//! Why a text is no cluster file.
+//! Why a text is not a cluster file.
 use crate::setting::Setting;
 use std::alloc::AllocError;
 use thiserror::Error;
@@ -9,19 +9,19 @@ pub enum Fault {
     /// The first word of the line names no setting.
     #[error("unknown setting")]
     UnknownSetting,
-    /// The setting stands above already.
+    /// An earlier line has this setting already.
     #[error("setting given twice")]
     SettingTwice,
-    /// This setting is due here, and a later one or the end of the text stands in its place.
+    /// This setting is due here, but a later one or the end of the text is here.
     #[error("setting `{0}` missing")]
     SettingMissing(Setting),
     /// The line ends where a value is due.
     #[error("value missing")]
     ValueMissing,
-    /// The setting has one value, and this word stands behind it.
+    /// The setting has one value, and this is a word after it.
     #[error("word behind the value")]
     WordBehind,
-    /// The word is no number in decimal digits without a leading zero, nor `none` for `delta`.
+    /// The word is not a number in decimal digits without a leading zero, nor `none` for `delta`.
     #[error("not a number")]
     NotANumber,
     /// The number is too small or too great for its setting.
@@ -62,7 +62,7 @@ pub enum FileError {
     /// The text is no cluster file.
     #[error("{0}")]
     Fault(FileFault),
-    /// Memory is refused for the lines and words of the text.
+    /// There is no memory for the lines and words of the text.
     #[error("out of memory")]
     NoMemory,
 }

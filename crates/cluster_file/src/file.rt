@@ -25,8 +25,8 @@ pub(crate) struct Fixed {
     pub mover: u8,
 }
 
-/// What all nodes of a cluster agree on: what is fixed when the cluster is first started, the nodes that joined later,
-/// and the patience of calls.
+/// What all nodes of a cluster agree on: the settings that are fixed when the cluster is first started, the nodes that
+/// joined later, and how long calls wait.
 #[derive(Debug, Drop)]
 pub struct ClusterFile {
     fixed: Fixed,
@@ -60,7 +60,7 @@ impl ClusterFile {
         }
     }
 
-    /// The nodes that placement uses, in order.
+    /// The nodes among which placement chooses, in order.
     pub fn nodes(&self) -> &[u8]
         ensures nodes { result.now ≡ self.now.fixed.nodes }
         ensures lawful { IsLawfulFile self.now }
@@ -82,14 +82,14 @@ impl ClusterFile {
         self.fixed.k
     }
 
-    /// The bound delta of each bank, or none where banks keep all pieces.
+    /// The bound delta of each bank, or none if banks keep all pieces.
     pub fn delta(&self) -> Option<u32>
         ensures { result ≡ self.now.fixed.delta }
     {
         self.fixed.delta
     }
 
-    /// The node that moves objects. It is one of those that placement uses.
+    /// The node that moves objects. It is one of those among which placement chooses.
     pub fn mover(&self) -> u8
         ensures { result ≡ self.now.fixed.mover }
     {
@@ -103,7 +103,7 @@ impl ClusterFile {
         &self.later
     }
 
-    /// Whether this is the number of a node, be it one that joined later.
+    /// Whether this is the number of a node, including those that joined later.
     pub fn has_node(&self, number: u8) -> bool
         ensures { result ≡ (has self.now.fixed.nodes number || has self.now.later number) }
     {
@@ -117,7 +117,8 @@ impl ClusterFile {
         self.ticks
     }
 
-    /// The nodes, n and k, which place each name. It allocates no memory and is never refused.
+    /// The nodes, n and k, from which placement computes the layout of each name. It allocates no memory and is never
+    /// refused.
     pub fn placement(&self) -> ClusterNodes
         ensures { result ≡ placement_of self.now.fixed }
     {
@@ -127,7 +128,8 @@ impl ClusterFile {
         }
     }
 
-    /// A digest of what is fixed: the first 16 bytes of a SHA-256 digest. Later nodes and ticks do not change it.
+    /// A digest of the settings that may not change: the first 16 bytes of a SHA-256 digest. Later nodes and ticks do
+    /// not change it.
     pub fn digest(&self) -> [u8; DIGEST_LENGTH]
         ensures { result ≡ fixed_digest self.now.fixed }
     {

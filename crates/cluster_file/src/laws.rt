@@ -1,8 +1,8 @@
 ghost use Rattle.cluster_file.specs.Laws.{HashedBytesDiffer, PlacedLayoutsAreLawful};
 ghost use Rattle.cluster_file.specs.Written.{ReadFilesAreWritten, WrittenFilesAreRead};
 
-/// A law: the lines of a text that is read as a file are the seven settings in their order, and each of their words
-/// writes what the file has in its place.
+/// A law: if a text is read as a file, its lines are the seven settings in their order, and each of their words writes
+/// what the file has in its place.
 pub fn read_files_are_written()
     ensures { ReadFilesAreWritten }
 {}
@@ -13,7 +13,7 @@ pub fn written_files_are_read()
     ensures { WrittenFilesAreRead }
 {}
 
-/// A law: where the same bytes are hashed of two files, what is fixed in them is the same.
+/// A law: if the same bytes are hashed for two files, their fixed settings are the same.
 pub fn hashed_bytes_differ()
     ensures { HashedBytesDiffer }
 {}

@@ -30,7 +30,7 @@ use words::split_lines;
 
 /// The file that a text writes.
 ///
-/// A `Fault` is the first one from top to bottom and, in a line, from left to right. `NoMemory` where memory is refused
+/// A `Fault` is the first one from top to bottom and, in a line, from left to right. `NoMemory` if there is no memory
 /// for the lists of lines and words.
 pub fn read_cluster_file(alloc: Global, text: &[u8]) -> Result<ClusterFile, FileError>
     ensures { GivesFile result (file_of text.now) }

@@ -6,16 +6,16 @@ ghost use Rattle.cluster_file.specs.Settings.{order_of, word_of, setting_from, d
 use crate::error::Fault;
 use std::fmt;
 
-/// The settings, in the order in which they stand in a file.
+/// The settings, in their order in a file.
 #[derive(Clone, Copy, Debug, PartialEq, Eq)]
 pub enum Setting {
-    /// The nodes that placement uses.
+    /// The nodes among which placement chooses.
     Nodes,
     /// The number of members of a name's first layout.
     N,
     /// The number of fragments that give a value back.
     K,
-    /// How many finished writes a bank keeps besides the greatest, or `none` to keep all.
+    /// Of how many finished writes, besides the greatest, a bank keeps pieces; or `none` to keep all.
     Delta,
     /// The node that moves objects.
     Mover,
@@ -107,7 +107,7 @@ pub(crate) fn due_fault(due: Setting, word: &[u8]) -> Option<Fault>
     }
 }
 
-/// What is wrong with the first word of a line behind the last setting.
+/// What is wrong with the first word of a line after the last setting.
 pub(crate) fn behind_fault(word: &[u8]) -> Fault
     ensures { result ≡ behind_fault word.now }
 {

@@ -1,9 +1,9 @@
 -- The contracts that docs/trusted.md lists do not depend on this file; other contracts and proofs do.
 -- What waits on the connections of clients, and what the connections are doing.
-use Rattle.std.specs.Prelude.{◌≡◌, ℕ, List, [], ◌∷◌, Option, Some, None}
+use Rattle.std.specs.Prelude.{◌≡◌, ℕ, Bool, true, false, List, [], ◌∷◌, Option, Some, None}
 use Rattle.connections.specs.declared.connection.Connection.{Connection}
 use Rattle.connections.specs.declared.connection.State.{State}
-use Rattle.connections.specs.declared.connection.State.TheVariants.{Idle, Busy}
+use Rattle.connections.specs.declared.connection.State.TheVariants.{Idle, Busy, Quit}
 
 -- the commands that wait on a connection, if there is one; each command is a list of strings
 abbrev pub waiting_on : Option Connection → List (List (List ℕ))
@@ -15,15 +15,31 @@ abbrev pub doing : Option Connection → State
 doing None = Idle
 doing (Some connection) = connection.state
 
--- How a connection changes when its next command is taken: it gives the oldest command that waits, and is then busy.
--- Where it is not idle, or no command waits, it gives none and does not change.
+-- whether a connection in this state, on which these commands wait, gives the next one
+abbrev pub gives_next_of : State → List (List (List ℕ)) → Bool
+gives_next_of Idle [] = false
+gives_next_of Idle (command ∷ waiting) = true
+gives_next_of Busy waiting = false
+gives_next_of Quit waiting = false
+
+-- whether a connection is idle and a command waits
+abbrev pub gives_next : Connection → Bool
+gives_next connection = gives_next_of connection.state connection.waiting.items
+
+-- whether there is a connection, it is idle, and a command waits
+abbrev pub has_next : Option Connection → Bool
+has_next None = false
+has_next (Some connection) = gives_next connection
+
+-- How a connection changes when its next command is taken: it gives the oldest command that waits, and is then busy. If
+-- it is not idle, or no command waits, it gives none and does not change.
 abbrev pub TakesNext : Connection → Connection → Option (List (List ℕ)) → Type 0
 TakesNext old new (Some command) =
     (old.state ≡ Idle) × (old.waiting.items ≡ command ∷ new.waiting.items) × (new.state ≡ Busy)
 TakesNext old new None =
     ((old.state ≡ Idle) → old.waiting.items ≡ []) × (new.waiting.items ≡ old.waiting.items) × (new.state ≡ old.state)
 
--- the same of a connection that need not be there: where there is none, it is idle and no command waits
+-- the same for a connection that may not be there: it then counts as idle, without waiting commands
 abbrev pub TakesNextAt : Option Connection → Option Connection → Option (List (List ℕ)) → Type 0
 TakesNextAt old new (Some command) =
     (doing old ≡ Idle) × (waiting_on old ≡ command ∷ waiting_on new) × (doing new ≡ Busy)

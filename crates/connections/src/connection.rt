@@ -22,15 +22,25 @@ pub struct Connection {
 impl Connection {
     ghost use Rattle.std.specs.Prelude.{◌≡◌, ◌≢◌, ◌++◌, ◌∷◌, [], OnOk, IfSome, IfNone, IsNone};
     ghost use Rattle.connections.specs.declared.connection.State.TheVariants.{Idle, Busy};
-    ghost use Rattle.connections.specs.Connections.{TakesNext};
+    ghost use Rattle.connections.specs.Connections.{TakesNext, gives_next};
 
-    /// Keeps a command that has come, behind those that wait. This fails only where memory is refused.
+    /// Keeps a command that has come, after those that wait. It fails only if there is no memory.
     pub(crate) fn push(&mut self, command: Frame) -> Result<(), std::alloc::AllocError>
         ensures waiting { OnOk result (self.new.waiting.items ≡ self.old.waiting.items ++ command ∷ []) }
         ensures state { self.new.state ≡ self.old.state }
     {
         self.waiting.push_back(command)?;
         Ok(())
+    }
+
+    /// Whether the connection is idle and a command waits.
+    pub(crate) fn has_next(&self) -> bool
+        ensures { result ≡ gives_next self.now }
+    {
+        match self.state {
+            State::Idle => !self.waiting.is_empty(),
+            State::Busy | State::Quit => false,
+        }
     }
 
     /// The next command, if the connection is idle and one waits. The connection is then busy.

@@ -1,8 +1,8 @@
 //! All connections, by their numbers.
-ghost use Rattle.std.specs.Prelude.{◌≡◌, ◌≢◌, ◌++◌, ◌∷◌, ℕ, [], nat_eq, None, OnOk, IsSome, is_some, if◌then◌else◌};
+ghost use Rattle.std.specs.Prelude.{◌≡◌, ◌≢◌, ◌++◌, ◌∷◌, ℕ, [], nat_eq, None, OnOk, IsSome, is_some};
 ghost use Rattle.indexmap.specs.IndexMap.{get, index_map_len};
 ghost use Rattle.connections.specs.declared.connection.State.TheVariants.{Idle, Quit};
-ghost use Rattle.connections.specs.Connections.{waiting_on, doing, TakesNextAt};
+ghost use Rattle.connections.specs.Connections.{waiting_on, doing, has_next, TakesNextAt};
 
 use crate::connection::{Connection, State};
 use frames::Frame;
@@ -11,7 +11,7 @@ use std::alloc::{AllocError, Global};
 use std::collections::VecDeque;
 
 /// The connections of clients. The commands of one connection are carried out one after another: the next one is given
-/// out only when the one before it is answered.
+/// out only when the one before it has been answered.
 #[derive(Debug, Drop)]
 pub struct Connections {
     alloc: Global,
@@ -36,13 +36,14 @@ impl Connections {
         self.by_number.len()
     }
 
-    /// Keeps a command that has come on the connection of this number. Where there is no such connection, it is made.
-    /// This fails only where memory is refused.
+    /// Keeps a command that has come on the connection with this number, and makes the connection if it is not there
+    /// yet. It fails only if there is no memory.
     pub fn push(&mut self, number: u64, command: Frame) -> Result<(), AllocError>
         ensures waiting { OnOk result (waiting_on (get nat_eq self.new.by_number number)
             ≡ waiting_on (get nat_eq self.old.by_number number) ++ command ∷ []) }
         ensures state { OnOk result (doing (get nat_eq self.new.by_number number)
             ≡ doing (get nat_eq self.old.by_number number)) }
+        ensures there { OnOk result (IsSome (get nat_eq self.new.by_number number)) }
         ensures others { OnOk result ((other : ℕ) → other ≢ number
             → get nat_eq self.new.by_number other ≡ get nat_eq self.old.by_number other) }
     {
@@ -57,6 +58,7 @@ impl Connections {
         requires { get nat_eq self.old.by_number number ≡ None }
         ensures waiting { OnOk result (waiting_on (get nat_eq self.new.by_number number) ≡ command ∷ []) }
         ensures state { OnOk result (doing (get nat_eq self.new.by_number number) ≡ Idle) }
+        ensures there { OnOk result (IsSome (get nat_eq self.new.by_number number)) }
         ensures others { OnOk result ((other : ℕ) → other ≢ number
             → get nat_eq self.new.by_number other ≡ get nat_eq self.old.by_number other) }
     {
@@ -68,11 +70,25 @@ impl Connections {
         Ok(())
     }
 
-    /// The next command of the connection of this number, which is then busy. None, and nothing changes, where no
-    /// command waits, where the connection is busy or has quit, and where there is none of this number.
+    /// Whether the next command of the connection of this number may be carried out: it is there, it is idle, and a
+    /// command waits.
+    pub fn has_next(&self, number: u64) -> bool
+        ensures { result ≡ has_next (get nat_eq self.now.by_number number) }
+    {
+        match self.by_number.get(&number) {
+            Some(connection) => connection.has_next(),
+            None => false,
+        }
+    }
+
+    /// Returns the next command of the connection with this number, which is then busy. Returns none, and changes
+    /// nothing, if no command waits, if the connection is busy or has quit, or if there is no connection with this
+    /// number.
     pub fn next(&mut self, number: u64) -> Option<Frame>
         ensures taken { TakesNextAt (get nat_eq self.old.by_number number)
             (get nat_eq self.new.by_number number) result }
+        ensures stays { is_some (get nat_eq self.new.by_number number)
+            ≡ is_some (get nat_eq self.old.by_number number) }
         ensures others { (other : ℕ) → other ≢ number
             → get nat_eq self.new.by_number other ≡ get nat_eq self.old.by_number other }
     {
@@ -86,6 +102,8 @@ impl Connections {
     /// connection of this number.
     pub fn answered(&mut self, number: u64) -> bool
         ensures told { result ≡ is_some (get nat_eq self.old.by_number number) }
+        ensures stays { is_some (get nat_eq self.new.by_number number)
+            ≡ is_some (get nat_eq self.old.by_number number) }
         ensures state { doing (get nat_eq self.new.by_number number) ≡ Idle }
         ensures waiting { waiting_on (get nat_eq self.new.by_number number)
             ≡ waiting_on (get nat_eq self.old.by_number number) }
@@ -101,10 +119,14 @@ impl Connections {
         }
     }
 
-    /// Notes that the client of a connection has quit, if the connection is there.
+    /// Notes that the client of a connection has quit, if the connection is there. Its commands wait for ever.
     pub fn quit(&mut self, number: u64)
         ensures state { IsSome (get nat_eq self.old.by_number number)
             → doing (get nat_eq self.new.by_number number) ≡ Quit }
+        ensures waiting { waiting_on (get nat_eq self.new.by_number number)
+            ≡ waiting_on (get nat_eq self.old.by_number number) }
+        ensures stays { is_some (get nat_eq self.new.by_number number)
+            ≡ is_some (get nat_eq self.old.by_number number) }
         ensures others { (other : ℕ) → other ≢ number
             → get nat_eq self.new.by_number other ≡ get nat_eq self.old.by_number other }
     {

@@ -8,16 +8,16 @@ use Rattle.node_messages.specs.declared.error.MessageError.{MessageError}
 use Rattle.node_messages.specs.declared.error.MessageError.TheVariants as errors
 use Rattle.node_messages.specs.Reading.{FirstAndRest}
 
--- what a function returned, seen by `view`, is what reading gives; where memory was refused, nothing is said
+-- what a function returned, seen by `view`, is what reading gives; if there was no memory, nothing is said
 abbrev pub AgreesAs : {X Y : Type 0} → (X → Y) → Result X MessageError → Result Y Fault → Type 0
 AgreesAs view (Ok x) read = read ≡ Ok (view x)
 AgreesAs view (Err (errors.Fault fault)) read = read ≡ Err fault
 AgreesAs view (Err errors.NoMemory) read = Unit {0}
 
--- the same of what a function returned as it is
+-- the same for what a function returned, as it is
 abbrev pub Agrees : {X : Type 0} → Result X MessageError → Result X Fault → Type 0
 Agrees result read = AgreesAs (λ x. x) result read
 
--- the same of a value and the strings behind it
+-- the same for a value and the strings after it
 abbrev pub AgreesAt : {X : Type 0} → Result (X × Bor Strings) MessageError → FirstAndRest X → Type 0
 AgreesAt result read = AgreesAs (λ x. (x.0, x.1.now)) result read

@@ -102,8 +102,8 @@ abbrev pub IsBody : Body → Type 0
 IsBody (body.Request q) = IsRequest q
 IsBody (body.Reply k r) = IsKind k × (r.step < 2 ^ 64) × IsAnswer r.answer × (is_answer_to k r.answer ≡ true)
 
--- what the types of a message's fields give: the digest has its length, the layouts are lawful, and numbers are within
--- their bits
+-- what the types of a message's fields guarantee: the digest has its length, the layouts are lawful, and numbers are
+-- within their bits
 pub record HasTypedFields (m : NodeMessage) : Type 0 where
   pub digest : length m.digest ≡ DIGEST_LENGTH
   pub layout : IsLawful m.layout
@@ -114,8 +114,8 @@ pub record HasTypedFields (m : NodeMessage) : Type 0 where
   pub next : IfSome m.next IsLawful
 
 -- What a message between nodes is: the digest has its length, the name is not too long, the layouts are lawful, the
--- member is one of the layout, there is a next layout exactly where the message says that the pointer is pending or
--- final, an answer is one to a request of its kind, and numbers are within their bits.
+-- member is one of the layout, there is a next layout exactly if the message says that the pointer is pending or final,
+-- an answer belongs to a request of its kind, and numbers are within their bits.
 pub record IsMessage (m : NodeMessage) : Type 0 where
   pub digest : length m.digest ≡ DIGEST_LENGTH
   pub name : length m.name ≤ LONGEST_NAME

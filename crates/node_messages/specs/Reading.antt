@@ -31,7 +31,7 @@ use Rattle.cluster_file.specs.declared.file.TheConstants.{DIGEST_LENGTH}
 use Rattle.node_messages.specs.Message.{names_next}
 use Rattle.node_messages.specs.Words.{status_from, is_request_from, is_piece_from}
 
--- what the first strings write, or the first fault there; and the strings behind it
+-- what the first strings write, or the first fault there; and the strings after them
 abbrev pub FirstAndRest : Type 0 → Type 0
 FirstAndRest X = Result (X × Strings) Fault
 
@@ -185,12 +185,12 @@ first_body strings =
     and_then (first_kind word.1) (λ k.
     body_from is_request k.0 k.1)))
 
--- the layout of the next position, where there is to be one
+-- the layout of the next position, if there is to be one
 unfoldable pub first_next : Bool → Strings → FirstAndRest (Option Layout)
 first_next true strings = and_then (first_layout strings) (λ layout. Ok (Some layout.0, layout.1))
 first_next false strings = Ok (None, strings)
 
--- this value, unless strings are left behind it
+-- this value, unless strings are left after it
 abbrev pub ending : {X : Type 0} → X → Strings → Result X Fault
 ending x [] = Ok x
 ending x (string ∷ rest) = Err WrongCount

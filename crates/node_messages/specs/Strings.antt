@@ -28,7 +28,7 @@ tag_strings t = decimal t.number ∷ decimal t.call ∷ []
 abbrev pub piece_strings : Piece → Strings
 piece_strings p = decimal p.point ∷ decimal p.len ∷ p.bytes ∷ []
 
--- what stands behind the word for a kind: its status or its tag, if it has one
+-- what follows the word for a kind: its status or its tag, if it has one
 abbrev pub kind_rest : Kind → Strings
 kind_rest kind.Next = []
 kind_rest (kind.Spread found) = status_word found ∷ []
@@ -41,7 +41,7 @@ kind_rest (kind.Fetch tag) = tag_strings tag
 abbrev pub kind_strings : Kind → Strings
 kind_strings k = kind_word k ∷ kind_rest k
 
--- what a request has beside its kind: its piece, if it has one
+-- what a request has besides its kind: its piece, if it has one
 abbrev pub request_rest : Request → Strings
 request_rest (request.PreWrite tag piece) = piece_strings piece
 request_rest q = []
@@ -51,19 +51,19 @@ abbrev pub held_strings : Option Piece → Strings
 held_strings None = codes "none" ∷ []
 held_strings (Some piece) = codes "piece" ∷ piece_strings piece
 
--- an answer is its status, its tag or its piece; which of them it is, the kind of the request tells
+-- an answer is its status, its tag or its piece; the kind of the request tells which of them
 abbrev pub answer_strings : Answer → Strings
 answer_strings answer.Done = []
 answer_strings (answer.Pointer found) = status_word found ∷ []
 answer_strings (answer.Greatest tag) = tag_strings tag
 answer_strings (answer.Piece piece) = held_strings piece
 
--- a body begins with a word and a kind; behind these a request has its piece, and a reply its step and its answer
+-- a body begins with a word and a kind; then a request has its piece, and a reply its step and its answer
 abbrev pub body_strings : Body → Strings
 body_strings (body.Request q) = codes "request" ∷ kind_strings (kind_of q) ++ request_rest q
 body_strings (body.Reply k r) = codes "reply" ∷ kind_strings k ++ decimal r.step ∷ answer_strings r.answer
 
--- the layout of the next position, where there is one
+-- the layout of the next position, if there is one
 abbrev pub next_strings : Option Layout → Strings
 next_strings None = []
 next_strings (Some layout) = layout_string layout ∷ []

@@ -17,8 +17,8 @@ use Rattle.node_messages.specs.Strings.{strings_of}
 abbrev pub same : Bool → Bool → Bool
 same a b = if a then b else not b
 
--- the first fault of a message, if it has one: its name is too long, its member is none of the layout, its answer is
--- none to a request of its kind, or it has a next layout where it names none or has none where it names one
+-- the first fault of a message, if it has one: its name is too long, its layout has no such member, its answer does not
+-- belong to a request of its kind, or it has a next layout although it names none or has none although it names one
 abbrev pub checked : NodeMessage → Result (Unit {0}) Fault
 checked m =
     if nat_lt LONGEST_NAME (length m.name) then Err NameTooLong
@@ -32,7 +32,7 @@ abbrev pub is_frame : Strings → Bool
 is_frame strings =
     nat_le (length strings) MOST_STRINGS && list_all (λ string. nat_le (length string) LONGEST_STRING) strings
 
--- these strings, unless they are none of a frame
+-- these strings, unless they are not those of a frame
 abbrev pub framed : Strings → Result Strings Fault
 framed strings = if is_frame strings then Ok strings else Err PieceTooLong
 

@@ -5,7 +5,7 @@ use thiserror::Error;
 /// What is wrong with the strings of a frame, or with a message: the first fault, from left to right.
 #[derive(Clone, Copy, Debug, PartialEq, Eq, Error)]
 pub enum Fault {
-    /// A string is missing, or a string stands behind the message.
+    /// A string is missing, or there is a string after the message.
     #[error("wrong number of strings")]
     WrongCount,
     /// The digest has another length than `DIGEST_LENGTH`.
@@ -17,10 +17,10 @@ pub enum Fault {
     /// A layout has no k, or is not lawful.
     #[error("bad layout")]
     BadLayout,
-    /// In a number's place there is a byte that is no digit, a leading 0, or nothing.
+    /// A byte of a number is no digit, a number has a leading 0, or a number has no digits.
     #[error("bad number")]
     BadNumber,
-    /// A number is too great for its place.
+    /// A number is too great for its field.
     #[error("number out of range")]
     OutOfRange,
     /// The layout has no such member.
@@ -29,15 +29,15 @@ pub enum Fault {
     /// A word stands for no kind of message or request, for no status, or for neither a piece nor none.
     #[error("unknown word")]
     UnknownWord,
-    /// The answer is not one to a request of its kind. Only a message has this fault, no frame.
+    /// The answer does not belong to a request of its kind. Only a message can have this fault, not a frame.
     #[error("answer to another kind")]
     BadAnswer,
-    /// There is a next layout in a message that names none, or none in one that names it. Only a message has this
-    /// fault.
+    /// A message has a next layout although it names none, or has none although it names one. Only a message can have
+    /// this fault, not a frame.
     #[error("bad next layout")]
     BadNext,
-    /// The piece is longer than a string of a frame may be. Only a message has this fault. No other string of a message
-    /// is so long.
+    /// The piece is longer than a string of a frame may be. Only a message can have this fault. No other string of a
+    /// message can be so long.
     #[error("piece too long")]
     PieceTooLong,
 }
@@ -48,7 +48,7 @@ pub enum MessageError {
     /// The frame is no message, or the message has no frame.
     #[error("{0}")]
     Fault(Fault),
-    /// Memory is refused, or a string of the frame has too many owners.
+    /// There is no memory, or a string of the frame has too many owners.
     #[error("out of memory")]
     NoMemory,
 }

@@ -1,4 +1,4 @@
-//! The parts of a message that stand in its frame's first strings, and the parts of which the others are made.
+//! The parts of a message in the first strings of its frame, and the parts of which the others are made.
 ghost use Rattle.std.specs.Prelude.{◌≡◌, ◌≤◌, ◌^◌, ◌-◌, ◌<◌, IfOk, length};
 ghost use Rattle.node_messages.specs.Gives.{AgreesAs, AgreesAt};
 ghost use Rattle.node_messages.specs.Reading.{

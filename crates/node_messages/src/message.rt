@@ -10,11 +10,11 @@ pub struct NodeMessage {
     pub digest: [u8; DIGEST_LENGTH],
     /// The object's name, of at most `LONGEST_NAME` bytes.
     pub name: Bytes,
-    /// The layout of the position that the message speaks of.
+    /// The layout of the message's position.
     pub layout: Layout,
-    /// The layout of the next position, exactly where the message says that the pointer is pending or final: a request
+    /// The layout of the next position, exactly if the message says that the pointer is pending or final: a request
     /// `Spread` with that status, or an answer `Pointer` with it.
     pub next: Option<Layout>,
-    /// The request, or the reply. The step of a reply is one of the node that answers.
+    /// The request, or the reply. The step number in a reply is that of the node that answers.
     pub message: Message,
 }

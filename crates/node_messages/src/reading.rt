@@ -19,7 +19,7 @@ use std::alloc::Global;
 
 /// The message of a frame. Its name and its piece are those of the frame, and no byte of them is copied.
 ///
-/// A `Fault` is the first one from left to right. A string too many, behind the message, is found last.
+/// A `Fault` is the first one from left to right. A superfluous string after the message is found last.
 pub fn read_message(alloc: Global, frame: Frame) -> Result<NodeMessage, MessageError>
     // What is read is a message, and the frame is that of the message.
     ensures found { IfOk result (λ m. IsMessage m × (frame ≡ strings_of m)) }

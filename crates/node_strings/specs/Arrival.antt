@@ -45,7 +45,7 @@ client_arrival number rest = then_read (number_or_none (2 ^ 64 - 1) number)
 abbrev pub tick_arrival : List ℕ → Strings → Option Arrival
 tick_arrival address rest = if bytes_eq address (codes "tick") && is_empty rest then Some came.Tick else None
 
--- what comes from a client, if this is what stands behind `client `, and else what `other` says
+-- what comes from a client, if there is something after `client `, and otherwise what `other` says
 abbrev pub if_behind : Option (List ℕ) → (List ℕ → Option Arrival) → Option Arrival → Option Arrival
 if_behind (Some number) from other = from number
 if_behind None from other = other
@@ -56,7 +56,7 @@ node_arrival address rest = if_behind (rest_behind (codes "node ") address)
     (λ number. then_read (number_or_none 255 number) (λ node. Some (came.Message node rest)))
     (tick_arrival address rest)
 
--- what has come, by the address and the strings behind it
+-- what has come, by the address and the strings after it
 unfoldable pub arrival_from : List ℕ → Strings → Option Arrival
 arrival_from address rest = if_behind (rest_behind (codes "client ") address)
     (λ number. client_arrival number rest) (node_arrival address rest)

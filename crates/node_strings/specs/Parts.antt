@@ -24,7 +24,7 @@ abbrev pub then_read : {A B : Type 0} → Option A → (A → Option B) → Opti
 then_read (Some x) next = next x
 then_read None next = None
 
--- the first string, and those behind it
+-- the first string, and the others
 abbrev pub first_and_rest : Strings → Option (List ℕ × Strings)
 first_and_rest [] = None
 first_and_rest (string ∷ rest) = Some (string, rest)
@@ -33,7 +33,7 @@ first_and_rest (string ∷ rest) = Some (string, rest)
 abbrev pub number_or_none : (most : ℕ) → List ℕ → Option ℕ
 number_or_none most string = if_read (number_up_to {E = Unit {0}} tt most tt string)
 
--- what stands behind these bytes, if the string begins with them
+-- what follows these bytes, if the string begins with them
 abbrev pub rest_behind : (front string : List ℕ) → Option (List ℕ)
 rest_behind front string =
     if bytes_eq (take (length front) string) front then Some (drop (length front) string) else None

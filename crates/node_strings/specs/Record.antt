@@ -45,7 +45,7 @@ move_record (id ∷ name ∷ layout ∷ []) =
     (λ to. Some (kept.Move number name to)))
 move_record strings = None
 
--- the record with this word and these strings behind it
+-- the record with this word and these strings after it
 unfoldable pub record_from : List ℕ → Strings → Option Record
 record_from word rest =
     if bytes_eq word (codes "serve") then Some (kept.Serve rest)

@@ -22,8 +22,8 @@ pub enum Arrival {
     Tick,
 }
 
-/// What has come, as the frame and the address in front of it say, or none where the first string is no address. The
-/// function asks for no memory.
+/// What has come, by the address at the front of the frame; none if the first string is no address. The function
+/// allocates no memory.
 pub fn read_arrival(frame: Frame) -> Option<Arrival>
     // The frame is the one that says what is read.
     ensures found { IfSome result (λ arrival. frame ≡ arrival_strings arrival) }

@@ -1,4 +1,4 @@
-//! What the strings of a node's frames and of its log say: from whom a frame came and to whom it goes, and what an
+//! What the strings of a node's frames and of its log mean: where a frame comes from and where it goes, and what an
 //! entry of the log records.
 #![tactic(auto)]
 

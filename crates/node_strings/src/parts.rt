@@ -9,7 +9,7 @@ use frames::Frame;
 use layout::Layout;
 use string_parts::{read_layout, read_number};
 
-/// The first string of a frame, and the frame of those behind it. None where it has no string.
+/// The first string of a frame, and the frame of the others. None if the frame has no string.
 pub(crate) fn split(frame: Frame) -> Option<(Bytes, Frame)>
     ensures { MatchOption result (frame ≡ []) (λ parts. frame ≡ parts.0 ∷ parts.1) }
 {
@@ -24,7 +24,7 @@ pub(crate) fn split(frame: Frame) -> Option<(Bytes, Frame)>
     }
 }
 
-/// The first string, and those behind it.
+/// The first string, and the others.
 pub(crate) fn string_of(strings: &[Bytes]) -> Option<(&Bytes, &[Bytes])>
     ensures { IsReadAs (λ x. (x.0.now, x.1.now)) result (first_and_rest strings.now) }
 {
@@ -46,7 +46,7 @@ pub(crate) fn number_of(string: &[u8], most: u64) -> Option<u64>
     }
 }
 
-/// What stands behind these bytes, if the string begins with them.
+/// What follows these bytes, if the string begins with them.
 pub(crate) fn behind<'a>(string: &'a [u8], front: &[u8]) -> Option<&'a [u8]>
     ensures { IsReadAs (λ rest. rest.now) result (rest_behind front.now string.now) }
 {

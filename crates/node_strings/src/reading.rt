@@ -10,8 +10,8 @@ use bytes::Bytes;
 use frames::Frame;
 use string_parts::is_text;
 
-/// The record that an entry of these strings keeps, or none where no node writes such an entry. The function asks for
-/// no memory.
+/// The record of an entry with these strings, or none if no node writes such an entry. The function allocates no
+/// memory.
 pub fn read_record(frame: Frame) -> Option<Record>
     // The strings are those of what is read.
     ensures found { IfSome result (λ it. HasPartsInRange it × (frame ≡ record_strings it)) }

@@ -8,8 +8,8 @@ use frames::Frame;
 use std::alloc::{AllocError, Global};
 use string_parts::{push_bytes, push_layout, push_number, push_shared, push_word};
 
-/// The strings of the entry that keeps this record. The function fails only where memory is refused, and copies no byte
-/// of a name or of a message.
+/// The strings of the entry of this record. It fails only if there is no memory, and copies no byte of a name or of a
+/// message.
 pub fn record_strings(alloc: Global, it: &Record) -> Result<Vec<Bytes>, AllocError>
     ensures { IfOk result (λ strings. strings.items ≡ record_strings it.now) }
 {

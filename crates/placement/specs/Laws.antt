@@ -12,7 +12,7 @@ abbrev pub PlacedAreLawful : Type 0
 PlacedAreLawful =
     (cluster : ClusterNodes) (name : List ℕ) → AreLawfulNodes cluster → IsLawfulLayout (placed cluster name)
 
--- each of the list comes before all that stand behind it
+-- each node of the list comes before all that follow it
 abbrev pub AreInOrder : List ℕ → List ℕ → Type 0
 AreInOrder name [] = Unit {0}
 AreInOrder name (x ∷ xs) = AllByRecursion (λ y. IsTrue (comes_before name x y)) xs × AreInOrder name xs
@@ -35,7 +35,7 @@ abbrev pub OrderOfListingDoesNotMatter : Type 0
 OrderOfListingDoesNotMatter = (k n : ℕ) (nodes others name : List ℕ) → IsPermutation nodes others
     → placed (record { k = k; n = n; nodes = nodes }) name ≡ placed (record { k = k; n = n; nodes = others }) name
 
--- where a node is not a member, the layout is the same without this node
+-- if a node is not a member, the layout is the same without this node
 abbrev pub OthersMayLeave : Type 0
 OthersMayLeave = (k n node : ℕ) (before behind name : List ℕ)
     → has (placed (record { k = k; n = n; nodes = before ++ node ∷ behind }) name).members node ≡ false

@@ -12,8 +12,8 @@ pub fn placed_are_lawful()
     ensures { PlacedAreLawful }
 {}
 
-/// A law: the members of a name's layout are n of the nodes, each comes before those behind it, and each node that is
-/// no member comes after all of them.
+/// A law: the members of a name's layout are n of the nodes, each comes before the members after it, and each node that
+/// is no member comes after all of them.
 pub fn placed_are_first()
     ensures { PlacedAreFirst }
 {}
@@ -23,8 +23,8 @@ pub fn order_of_listing_does_not_matter()
     ensures { OrderOfListingDoesNotMatter }
 {}
 
-/// A law: where a node is not a member, the layout is the same without this node. So a node that is taken out of the
-/// list changes the layouts of those names alone that had it as a member.
+/// A law: if a node is not a member, the layout is the same without this node. So taking a node out of the list changes
+/// only the layouts of the names that had it as a member.
 pub fn others_may_leave()
     ensures { OthersMayLeave }
 {}
@@ -36,7 +36,7 @@ pub fn newcomers_change_one_place()
 {}
 
 /// A law: two different pairs of a node and a name never give the same bytes to the hash, since the node's number is
-/// one byte and stands before the name.
+/// one byte and comes before the name.
 pub fn inputs_differ()
     ensures { InputsDiffer }
 {}

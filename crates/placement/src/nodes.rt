@@ -10,7 +10,7 @@ use std::marker::Model;
 use tag::{MOST_MEMBERS, Refusal};
 
 /// The nodes of a cluster, with the `k` and the `n` of the layouts that names have before any move. All nodes of a
-/// cluster use the same ones, from when the cluster is first started; nodes that join later are not among them.
+/// cluster use the same ones from the first start on; nodes that join later are not among them.
 #[derive(Debug, Drop)]
 pub struct ClusterNodes {
     k: u8,
@@ -56,10 +56,10 @@ impl ClusterNodes {
         })
     }
 
-    /// The layout of a name: its members are the `n` nodes with the greatest scores for the name, the greatest first,
-    /// and the smaller number first where scores are equal. This is rendezvous hashing (Thaler and Ravishankar, 1998).
-    /// A score is the first eight bytes, high byte first, of the SHA-256 digest of the node's number, as one byte, and
-    /// the name's bytes behind it.
+    /// The layout of a name: its members are the `n` nodes with the greatest scores for the name, the greatest first;
+    /// if scores are equal, the smaller number comes first. This is rendezvous hashing (Thaler and Ravishankar, 1998).
+    /// A score is the first eight bytes, high byte first, of the SHA-256 digest of the node's number, as one byte,
+    /// followed by the name's bytes.
     ///
     /// Any bytes are a name. It allocates no memory and is never refused.
     pub fn place(&self, name: &[u8]) -> Layout

@@ -16,7 +16,7 @@ abbrev pub is_lawful : Layout → Bool
 is_lawful layout = nat_le 1 layout.k && (nat_le layout.k (length layout.members)
     && (nat_le (length layout.members) MOST_MEMBERS && are_named_once layout.members))
 
--- this layout, or this fault where it is not lawful
+-- this layout, or this fault if it is not lawful
 abbrev pub checked_layout : {E : Type 0} → E → Layout → Result Layout E
 checked_layout fault layout = if is_lawful layout then Ok layout else Err fault
 
@@ -24,7 +24,7 @@ checked_layout fault layout = if is_lawful layout then Ok layout else Err fault
 abbrev pub layout_string : Layout → List ℕ
 layout_string layout = layout.k ∷ layout.members
 
--- the lawful layout whose string this is, or this fault where there is none
+-- the lawful layout whose string this is, or this fault if there is none
 unfoldable pub layout_of_string : {E : Type 0} → E → List ℕ → Result Layout E
 layout_of_string fault [] = Err fault
 layout_of_string fault (k ∷ members) = checked_layout fault (record { k = k; members = members })

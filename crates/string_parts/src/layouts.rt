@@ -5,7 +5,7 @@ ghost use Rattle.string_parts.specs.Layouts.{checked_layout, layout_string, layo
 
 use layout::Layout;
 
-/// The layout of this k and these members, or this fault where it is not lawful: unless `1 <= k <= n <= MOST_MEMBERS`,
+/// The layout of this k and these members, or this fault if it is not lawful: unless `1 <= k <= n <= MOST_MEMBERS`,
 /// where n is the number of members, and no member is named twice.
 pub fn checked_layout<E: Copy>(k: u8, members: &[u8], fault: E) -> Result<Layout, E>
     ensures lawful { IsOk result ↔ IsLawful (record { k = k; members = members.now }) }
@@ -17,8 +17,8 @@ pub fn checked_layout<E: Copy>(k: u8, members: &[u8], fault: E) -> Result<Layout
     }
 }
 
-/// The layout whose string this is: a byte for k, and then one for each member. The fault is returned where the string
-/// is empty or the layout is not lawful.
+/// The layout whose string this is: a byte for k, and then one for each member. The fault is returned if the string is
+/// empty or the layout is not lawful.
 pub fn read_layout<E: Copy>(string: &[u8], fault: E) -> Result<Layout, E>
     // The string is that of the layout.
     ensures found { IfOk result (λ layout. IsLawful layout × (string.now ≡ layout_string layout)) }

@@ -1,4 +1,4 @@
-//! The parts of which the strings of frames and of log entries are made: words, numbers in decimal digits and layouts.
+//! The parts of the strings of frames and of log entries: words, numbers in decimal digits and layouts.
 #![tactic(auto)]
 
 pub use layouts::{checked_layout, read_layout};

@@ -7,8 +7,8 @@ use words::{first_digit, with_digit};
 
 /// The number up to `most` that the bytes write in decimal digits, without a sign or a leading zero.
 ///
-/// The caller gives both faults, and the first one from left to right is returned: `bad` where there is a byte that is
-/// no digit, a leading 0, or nothing; `above` where the digits so far are those of a number above `most`.
+/// The caller gives both faults, and the first one from left to right is returned: `bad` if there is a byte that is no
+/// digit, a leading 0, or nothing; `above` if the digits so far are those of a number above `most`.
 pub fn read_number<E: Copy>(bytes: &[u8], most: u64, bad: E, above: E) -> Result<u64, E>
     requires { 9 ≤ most }
     ensures within { IfOk result (λ number. number ≤ most) }

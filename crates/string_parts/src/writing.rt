@@ -1,5 +1,5 @@
-//! Appends to a list of strings. Each function fails only where memory is refused, or where the bytes to be shared have
-//! as many owners as can be counted.
+//! Appends to a list of strings. Each function fails only if there is no memory, or if the bytes to be shared have as
+//! many owners as can be counted.
 ghost use Rattle.std.specs.Prelude.{◌≡◌, ◌++◌, ◌∷◌, [], OnOk};
 ghost use Rattle.std.specs.Fmt.{decimal};
 ghost use Rattle.layout.specs.Layout.{IsLawful};
@@ -26,7 +26,7 @@ pub fn push_bytes(alloc: Global, strings: &mut Vec<Bytes>, bytes: &[u8]) -> Resu
     Ok(())
 }
 
-/// Appends these bytes themselves. They get one more owner, and no byte is copied.
+/// Appends these bytes without a copy: they get one more owner.
 pub fn push_shared(strings: &mut Vec<Bytes>, bytes: &Bytes) -> Result<(), AllocError>
     ensures { OnOk result (strings.new.items ≡ strings.old.items ++ bytes.now ∷ []) }
 {
