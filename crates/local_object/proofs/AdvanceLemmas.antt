@@ -7,7 +7,7 @@ use Rattle.layout.specs.Layout.{Layout}
 use Rattle.call.specs.Call.{OpenCall as Machine}
 use Rattle.local_object.specs.declared.letter.Letter.{Letter}
 use Rattle.local_object.specs.Coding.{is_sendable}
-use Rattle.local_object.specs.Going.{Advances, IsAdvanced}
+use Rattle.local_object.specs.Going.{IsAdvancedIf, IsAdvanced}
 use Rattle.local_object.specs.Local.{Place, layout_in, heard_place}
 use Rattle.local_object.specs.Taking.{can_begin}
 
@@ -40,10 +40,10 @@ module _ (places : List Place) (call : Machine) (kind : Kind) (position : ℕ) w
 
   module _ (old new : List Machine) (index : ℕ) (letters : List Letter) where
     pub not_advanced : can_begin places call kind position ≡ false → new ≡ old → letters ≡ []
-        → Advances (can_begin places call kind position) places old call index kind position new letters
+        → IsAdvancedIf (can_begin places call kind position) places old call index kind position new letters
     not_advanced can same none =
-        subst (λ b. Advances b places old call index kind position new letters) (sym can) (same, none)
+        subst (λ b. IsAdvancedIf b places old call index kind position new letters) (sym can) (same, none)
 
     pub is_advanced : can_begin places call kind position ≡ true → IsAdvanced places old call index kind position new letters
-        → Advances (can_begin places call kind position) places old call index kind position new letters
-    is_advanced can advanced = subst (λ b. Advances b places old call index kind position new letters) (sym can) advanced
+        → IsAdvancedIf (can_begin places call kind position) places old call index kind position new letters
+    is_advanced can advanced = subst (λ b. IsAdvancedIf b places old call index kind position new letters) (sym can) advanced

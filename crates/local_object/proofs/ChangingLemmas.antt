@@ -11,7 +11,7 @@ use Rattle.mail.specs.declared.message.Body.{Body}
 use Rattle.mail.specs.declared.message.Body.TheVariants as body
 use Rattle.local_object.specs.declared.letter.Letter.{Letter}
 use Rattle.local_object.specs.Changing.{HasOnlyHeard, IsUnchangedBy, changes_bank, changes_in_body, is_changed_by}
-use Rattle.local_object.specs.Distinct.{IsInOrderIfOpen}
+use Rattle.local_object.specs.Distinct.{IsBankInOrderIfOpen}
 use Rattle.local_object.specs.Doing.{is_served}
 use Rattle.local_object.specs.Events.{LocalEvent, all_done, learnt_from, served_here}
 use Rattle.local_object.specs.Local.{LocalObject, Place, bank_here, bank_in, bank_or_opened, new_local, heard_place}
@@ -58,7 +58,7 @@ module _ (local : LocalObject) (letter : Letter) where
   served asked = served_bank (bank_here heard position letter.message.member) asked 0
 
   -- the bank is put back as it was
-  module _ (order : IsInOrderIfOpen (bank_in (heard_place local.places position))) where
+  module _ (order : IsBankInOrderIfOpen (bank_in (heard_place local.places position))) where
     same : (asked : Request) → changes_bank old asked ≡ false → served asked ≡ old
     same asked e =
         ap (λ b. served_bank b asked 0) (bank_here_heard local letter position letter.message.member)
@@ -106,7 +106,7 @@ module _ (local : LocalObject) (letter : Letter) where
 
 -- of an object of which the node has not heard
 none_open : (first : Layout) (b : Bool)
-    → IsInOrderIfOpen (bank_in (cond b (Some (let p : Place = record { position = 0; layout = first; bank = None } in p)) None))
+    → IsBankInOrderIfOpen (bank_in (cond b (Some (let p : Place = record { position = 0; layout = first; bank = None } in p)) None))
 none_open first true = tt
 none_open first false = tt
 

@@ -17,3 +17,5 @@ pub mod HeardLayoutLemmas
 pub mod ChangingLemmas
 pub mod AgreementLemmas
 pub mod CappedSumLemmas
+pub mod GivenUpCallLemmas
+pub mod ResentLemmas

@@ -1,16 +1,14 @@
 -- The calls of an object, as they are found, changed and removed by its events.
-use Rattle.std.proofs.Common.{◌≡◌, ◌≢◌, ℕ, zero, suc, ◌⊎◌, Bool, true, false, cond, IsSome, List, [], ◌∷◌}
+use Rattle.std.proofs.Common.{◌≡◌, ℕ, ◌⊎◌, Bool, true, false, cond, IsSome, List, [], ◌∷◌}
 use Rattle.std.proofs.Common.{set, slice_get, Option, Some, None, inl, inr, refl, sym, subst, ap, ◌∙◌}
 use Rattle.std.proofs.Common.{MatchOption}
-use Rattle.std.specs.List.{AllByRecursion, remove}
+use Rattle.std.specs.List.{remove}
 use Rattle.std.proofs.lemmas.Option.{none-some, same_Some}
 use Rattle.bank.specs.declared.kind.Kind.{Kind}
 use Rattle.encoder.specs.Fragment.{fragment}
 use Rattle.layout.specs.Layout.{Layout}
 use Rattle.mail.specs.declared.message.Message.{Message}
 use Rattle.record.specs.PhaseOrder.{due}
-use Rattle.record.specs.Legal.{is_move}
-use Rattle.record.specs.declared.call.CallKind.TheVariants.{Move}
 use Rattle.call.specs.declared.next.Next.TheVariants as next
 use Rattle.call.specs.Call.{OpenCall as Machine, reached}
 use Rattle.call.specs.Steps.{entered, phase_next, taken_call}
@@ -19,19 +17,19 @@ use Rattle.network.specs.Worlds.{NodeCall, open_call, due_phase, with_open, with
 use Rattle.local_object.specs.declared.letter.Letter.{Letter}
 use Rattle.local_object.specs.declared.progress.Ended.{Ended}
 use Rattle.local_object.specs.Codes.{at_node, carried}
-use Rattle.local_object.specs.Distinct.{HaveOtherIds, DifferInIds, HaveDistinctIds, IsCallAt}
-use Rattle.local_object.specs.Doing.{IsDone, give_up_events, gives_up, is_client_call}
+use Rattle.local_object.specs.Coding.{is_sendable}
+use Rattle.local_object.specs.Distinct.{HaveOtherIds, HaveDistinctIds, IsCallAt}
 use Rattle.local_object.specs.Ended.{told_if, told_of}
 use Rattle.local_object.specs.Events.{LocalEvent, Outcome, advanced_at, advanced_here, done_here, on_open_call, silent}
-use Rattle.local_object.specs.Going.{Advances, IsAdvanced, IsFetchedValue, next_here, settled_here, taken_here}
+use Rattle.local_object.specs.Going.{IsAdvancedIf, IsAdvanced, IsFetchedValue, next_here, settled_here, taken_here}
 use Rattle.local_object.specs.Taking.{CanSettle, HasDoneBy, call_events, can_begin, lead_events, machine_of, step_events}
 use Rattle.call.specs.declared.next.Next.{Next as Step}
 use Rattle.local_object.specs.Local.{LocalObject, Place, layout_in, heard_place}
 use Rattle.local_object.specs.May.{MayHappenHere}
-use Rattle.local_object.specs.Resent.{IsResent}
-use Rattle.local_object.specs.Sent.{IsCurrent}
+use Rattle.local_object.specs.Resent.{letters_again, letters_again_at, letters_again_of}
+use Rattle.local_object.specs.Sent.{missing_letters}
 use Rattle.local_object.proofs.BeginLemmas.{open_found}
-use Rattle.local_object.proofs.CarriedCallLemmas.{open_none, other_at, same_call, with_set, without_at}
+use Rattle.local_object.proofs.CarriedCallLemmas.{open_none, same_call, with_set, without_at}
 use Rattle.local_object.proofs.DoneLemmas.{by_none, by_one}
 use Rattle.local_object.proofs.FetchedLemmas.{may_settle_here}
 use Rattle.local_object.proofs.NextLemmas.{answer_of, begin_of, due_begun, lacking_of, ready_of, restart_of}
@@ -115,17 +113,28 @@ module _ (node : ℕ) (delta : Option ℕ) (places : List Place) where
       unfetched none value can =
           none value (subst (λ (c : NodeCall). IsFetchedValue places (machine_of c) value) (call_is value can) can.fetched)
 
-      pub resent : (layout : Layout) → layout_in (heard_place places call.phase.position) ≡ Some layout → (letter : Letter)
-          → IsCurrent places call layout letter → IsResent fragment (object calls) letter
-      resent layout known letter current = record {
-        id = id;
-        call = at_node node call;
-        carried = open_is;
-        layout = layout;
-        known = known;
-        place = current.place;
-        at = current.at;
-      }
+      -- the letters that the call sends again
+      again_is : letters_again fragment (object calls) id
+          ≡ letters_again_at fragment (object calls) (at_node node call) (layout_in (heard_place places call.phase.position))
+      again_is = ap (letters_again_of fragment (object calls)) open_is
+
+      pub unknown_again : layout_in (heard_place places call.phase.position) ≡ None → letters_again fragment (object calls) id ≡ []
+      unknown_again none = again_is ∙ ap (letters_again_at fragment (object calls) (at_node node call)) none
+
+      module _ (layout : Layout) (known : layout_in (heard_place places call.phase.position) ≡ Some layout) where
+        sent_if : (sendable : Bool) → is_sendable call.phase.kind call ≡ sendable
+            → letters_again fragment (object calls) id ≡ cond sendable (missing_letters places call layout) []
+        sent_if sendable is =
+            again_is
+            ∙ ap (letters_again_at fragment (object calls) (at_node node call)) known
+            ∙ ap (λ (b : Bool). cond b (missing_letters places call layout) []) is
+
+        pub unsendable_again : is_sendable call.phase.kind call ≡ false → letters_again fragment (object calls) id ≡ []
+        unsendable_again is = sent_if false is
+
+        pub sent_again : is_sendable call.phase.kind call ≡ true
+            → letters_again fragment (object calls) id ≡ missing_letters places call layout
+        sent_again is = sent_if true is
 
       pub answered_by : (new : List Machine) (letters : List Letter) (ended : List Ended) → next_here call ≡ next.Answer
           → new ≡ remove calls index → letters ≡ [] → ended ≡ told_of (at_node node call) ∷ []
@@ -169,7 +178,7 @@ module _ (node : ℕ) (delta : Option ℕ) (places : List Place) where
             subst (λ n. IsSome (layout_in (heard_place places n))) same (subst IsSome (sym known) refl)
 
       module _ (kind : Kind) (position : ℕ) (new : List Machine) (letters : List Letter) where
-        begun_if : (can : Bool) → Advances can places calls call index kind position new letters
+        begun_if : (can : Bool) → IsAdvancedIf can places calls call index kind position new letters
             → ((adv : IsAdvanced places calls call index kind position new letters)
             → HasDoneBy (object calls) (LocalEvent.Advance call.id ∷ []) (object new) letters [])
             → HasDoneBy (object calls) (cond can (LocalEvent.Advance call.id ∷ []) []) (object new) letters []
@@ -177,7 +186,7 @@ module _ (node : ℕ) (delta : Option ℕ) (places : List Place) where
         begun_if false same advanced = by_none (object calls) (object new) letters [] (ap object same.0) same.1 refl
 
         pub advanced_by : (next_here call ≡ next.Restart kind position) ⊎ (next_here call ≡ next.Begin kind position)
-            → Advances (can_begin places call kind position) places calls call index kind position new letters
+            → IsAdvancedIf (can_begin places call kind position) places calls call index kind position new letters
             → HasDoneBy (object calls) (lead_events (object calls) id) (object new) letters []
         advanced_by (inl step) advances =
             let both = restart_of call kind position step in
@@ -237,38 +246,3 @@ pub match_weaker : {X : Type 0} {P Q : Type 0} {R S : X → Type 0} (o : Option 
     → MatchOption o P R → MatchOption o Q S
 match_weaker None f g h = f h
 match_weaker (Some x) f g h = g x h
-
--- giving up a call changes no call but this one
-other_kept : (node id : ℕ) (calls : List Machine) → HaveOtherIds id calls
-    → AllByRecursion (λ (call : NodeCall). call.id ≡ id → call.kind ≢ Move) (carried node calls)
-other_kept node id [] others = tt
-other_kept node id (c ∷ cs) others = ((λ e. absurd (others.0 e)), other_kept node id cs others.1)
-
-pub give_up_may : (node : ℕ) (calls : List Machine) (i : ℕ) (call : Machine) → DifferInIds calls → slice_get calls i ≡ Some call
-    → is_move call.kind ≡ false → AllByRecursion (λ (other : NodeCall). other.id ≡ call.id → other.kind ≢ Move) (carried node calls)
-give_up_may node [] i call distinct at client = tt
-give_up_may node (c ∷ cs) zero call distinct at client =
-    let same = same_call c call at in (
-      (λ _ e. absurd (let t : is_move call.kind ≡ true = ap (λ (m : Machine). is_move m.kind) (sym same) ∙ ap is_move e in cc)),
-      other_kept node call.id cs (subst (λ (m : Machine). HaveOtherIds m.id cs) same distinct.0),
-    )
-give_up_may node (c ∷ cs) (suc i) call distinct at client =
-    ((λ e. absurd (other_at c.id cs i call distinct.0 at (sym e))), give_up_may node cs i call distinct.1 at client)
-
-module _ (o old : LocalObject) (view : o ≡ old) (id : ℕ) where
-  pub gives_is : (r : Bool) → r ≡ is_client_call (open_call o.calls id) → r ≡ gives_up old id
-  gives_is r is = is ∙ ap (λ (l : LocalObject). gives_up l id) view
-
-  pub give_up_none : (new : LocalObject) → false ≡ is_client_call (open_call o.calls id) → new ≡ old
-      → IsDone old (give_up_events old id) new []
-  give_up_none new is same =
-      subst (λ b. IsDone old (cond b (LocalEvent.GiveUp id ∷ []) []) new []) (gives_is false is)
-      (record { may = tt; local = same; letters = refl })
-
-  pub give_up_done : (new : LocalObject) → true ≡ is_client_call (open_call o.calls id)
-      → AllByRecursion (λ (call : NodeCall). call.id ≡ id → call.kind ≢ Move) o.calls
-      → new ≡ record o { calls = without_call id o.calls } → IsDone old (give_up_events old id) new []
-  give_up_done new is may same =
-      subst (λ b. IsDone old (cond b (LocalEvent.GiveUp id ∷ []) []) new []) (gives_is true is)
-      (subst (λ (l : LocalObject). IsDone l (LocalEvent.GiveUp id ∷ []) new []) view
-      (record { may = (may, tt); local = same; letters = refl }))

@@ -12,7 +12,7 @@ use Rattle.local_object.specs.declared.progress.Ended.{Ended}
 use Rattle.local_object.specs.Doing.{is_request, is_taken}
 use Rattle.local_object.specs.Events.{LocalEvent, learnt_from}
 use Rattle.local_object.specs.Going.{taken_here}
-use Rattle.local_object.specs.Taking.{AreSettling, HasDoneBy, IsTaken, Settles, lead_events}
+use Rattle.local_object.specs.Taking.{AreSettling, HasDoneBy, IsTaken, SettlesFetched, lead_events}
 use Rattle.local_object.specs.Local.{LocalObject}
 use Rattle.local_object.proofs.DoneLemmas.{by_none, by_one, by_then}
 use Rattle.local_object.proofs.OpenLemmas.{silent_sent}
@@ -54,7 +54,7 @@ taken_none old letter new letters ended taken same sent tells =
 
 -- what was done after a reply was taken
 module _ {old mid settled new : LocalObject} {letter : Letter} {letters : List Letter} {ended : List Ended}
-    (first : HasDoneBy old (LocalEvent.Take letter ∷ []) mid [] []) (second : Settles mid letter.message.call settled)
+    (first : HasDoneBy old (LocalEvent.Take letter ∷ []) mid [] []) (second : SettlesFetched mid letter.message.call settled)
     (third : HasDoneBy settled (lead_events settled letter.message.call) new letters ended) where
   both : HasDoneBy old (LocalEvent.Take letter ∷ second.events) settled [] []
   both = by_then old mid settled (LocalEvent.Take letter ∷ []) second.events [] [] [] [] first second.done

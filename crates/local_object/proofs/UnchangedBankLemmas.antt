@@ -26,19 +26,19 @@ use Rattle.bank.proofs.MonotoneLemmas.{served_grows}
 use Rattle.bank.proofs.PieceRetentionLemmas.{no_piece, opened_collected, served_collected}
 use Rattle.bank.proofs.RowChangeLemmas.{Comes, get-with_row}
 use Rattle.local_object.specs.Changing.{changes_bank}
-use Rattle.local_object.specs.Distinct.{IsInOrder, IsInOrderIfOpen}
+use Rattle.local_object.specs.Distinct.{IsBankInOrder, IsBankInOrderIfOpen}
 use Rattle.local_object.specs.Local.{bank_or_opened}
 
 -- Banks are in order
 
-pub opened_in_order : (member : ℕ) (delta : Option ℕ) → IsInOrder (opened_bank member delta 0)
+pub opened_in_order : (member : ℕ) (delta : Option ℕ) → IsBankInOrder (opened_bank member delta 0)
 opened_in_order member delta = record {
   collected = opened_collected member delta 0;
   opening = opening-opened member delta 0;
 }
 
-pub either_in_order : (bank : Option Bank) (member : ℕ) (delta : Option ℕ) → IsInOrderIfOpen bank
-    → IsInOrder (bank_or_opened bank member delta)
+pub either_in_order : (bank : Option Bank) (member : ℕ) (delta : Option ℕ) → IsBankInOrderIfOpen bank
+    → IsBankInOrder (bank_or_opened bank member delta)
 either_in_order None member delta order = opened_in_order member delta
 either_in_order (Some bank) member delta order = order
 
@@ -47,7 +47,7 @@ still_there None new comes some = absurd (false≢true some)
 still_there (Some step) new (inl same) some = subst IsSome (sym same) refl
 still_there (Some step) new (inr same) some = subst IsSome (sym same) refl
 
-pub served_in_order : (bank : Bank) (asked : Request) → IsInOrder bank → IsInOrder (served_bank bank asked 0)
+pub served_in_order : (bank : Bank) (asked : Request) → IsBankInOrder bank → IsBankInOrder (served_bank bank asked 0)
 served_in_order bank asked order = record {
   collected = served_collected bank asked 0 order.collected;
   opening = still_there (finalized_at bank opening_tag) (finalized_at (served_bank bank asked 0) opening_tag)
@@ -107,14 +107,14 @@ not_false : (b : Bool) → not b ≡ false → b ≡ true
 not_false true e = refl
 not_false false e = absurd (cc)
 
-finalize_again : (bank : Bank) (tag : Tag) → IsInOrder bank → not (tag_eq (greatest_final bank) tag) ≡ false
+finalize_again : (bank : Bank) (tag : Tag) → IsBankInOrder bank → not (tag_eq (greatest_final bank) tag) ≡ false
     → collected (finalized bank tag 0) ≡ bank
 finalize_again bank tag order e =
     let same = tag_eq-true (greatest_final bank) tag (not_false (tag_eq (greatest_final bank) tag) e) in
     let final = subst (λ t. IsSome (finalized_at bank t)) same (greatest_final_is bank order.opening).final in
     ap collected (finalized_again bank tag final) ∙ collected_again bank order.collected
 
-pub unchanged_bank : (bank : Bank) (asked : Request) → IsInOrder bank → changes_bank bank asked ≡ false
+pub unchanged_bank : (bank : Bank) (asked : Request) → IsBankInOrder bank → changes_bank bank asked ≡ false
     → served_bank bank asked 0 ≡ bank
 unchanged_bank bank request.Next order e = refl
 unchanged_bank bank (request.Spread status) order e = ap (with_pointer bank) (unraised bank.pointer status e)
@@ -124,7 +124,7 @@ unchanged_bank bank (request.Finalize tag) order e = finalize_again bank tag ord
 unchanged_bank bank (request.Fetch tag) order e = finalize_again bank tag order e
 
 -- a bank that served a request, or was refused
-pub kept_in_order : {X E : Type 0} (r : Result X E) (old new : Bank) (asked : Request) → IsInOrder old
-    → OnOk r (new ≡ served_bank old asked 0) → OnErr r (new ≡ old) → IsInOrder new
-kept_in_order (Ok x) old new asked order served same = subst IsInOrder (sym served) (served_in_order old asked order)
-kept_in_order (Err e) old new asked order served same = subst IsInOrder (sym same) order
+pub kept_in_order : {X E : Type 0} (r : Result X E) (old new : Bank) (asked : Request) → IsBankInOrder old
+    → OnOk r (new ≡ served_bank old asked 0) → OnErr r (new ≡ old) → IsBankInOrder new
+kept_in_order (Ok x) old new asked order served same = subst IsBankInOrder (sym served) (served_in_order old asked order)
+kept_in_order (Err e) old new asked order served same = subst IsBankInOrder (sym same) order

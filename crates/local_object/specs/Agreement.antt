@@ -25,7 +25,7 @@ abbrev pub if_there : (Layout → Bool) → Option Layout → Bool
 if_there test None = true
 if_there test (Some layout) = test layout
 
--- whether no layout in a letter is another one than the node has heard of for its position
+-- whether no layout in a letter differs from the one that the node has heard of for its position
 abbrev pub agrees : LocalObject → Letter → Bool
 agrees local letter =
     is_not_another (layout_here local letter.message.position) letter.layout

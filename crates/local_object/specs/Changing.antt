@@ -33,18 +33,19 @@ abbrev pub changes_in_body : Bank → Body → Bool
 changes_in_body bank (body.Request asked) = changes_bank bank asked
 changes_in_body bank (body.Reply kind made) = false
 
--- whether a letter is served, and may then change the bank that the node keeps as the member that the letter names
+-- whether the node serves a letter, which may then change the bank that the node keeps as the member that the letter
+-- names
 abbrev pub is_changed_by : LocalObject → Letter → Bool
 is_changed_by local letter =
     is_served local letter
     && changes_in_body (bank_here local letter.message.position letter.message.member) letter.message.body
 
--- what the node keeps after a letter came that is served if it is a request for this node
+-- what the node keeps after a letter came, which it served if it is a request for this node
 abbrev pub after_serving : LocalObject → Letter → LocalObject
 after_serving local letter = (all_done fragment local (serve_events local letter)).local
 
--- after a letter came, the node keeps what it kept before; it may have heard of layouts in the letter, and it may have
--- opened its bank at the letter's position as the member that the letter names
+-- after a letter came, the node keeps what it kept before, except that it may have heard of layouts in the letter, and
+-- may have opened its bank at the letter's position as the member that the letter names
 pub record HasOnlyHeard (before : LocalObject) (letter : Letter) (after : LocalObject) : Type 0 where
   pub node : after.node ≡ before.node
   pub delta : after.delta ≡ before.delta
@@ -56,7 +57,7 @@ pub record HasOnlyHeard (before : LocalObject) (letter : Letter) (after : LocalO
   pub banks : (position member : ℕ) → (position ≡ letter.message.position → member ≡ letter.message.member) →
       bank_here after position member ≡ bank_here before position member
 
--- if the letter is served, nothing changes but what the node has heard of, and whether its bank is opened
+-- if the node serves the letter, nothing changes but what the node has heard of, and whether its bank is opened
 abbrev pub IsUnchangedBy : LocalObject → Letter → Type 0
 IsUnchangedBy local letter = HasOnlyHeard local letter (after_serving local letter)
 
@@ -70,5 +71,5 @@ abbrev pub place_bytes : Place → ℕ
 place_bytes place = bytes_in place.bank
 
 -- the number of bytes of all pieces in the banks that the node keeps
-abbrev pub stored_bytes : LocalObject → ℕ
-stored_bytes local = sum_by place_bytes local.places
+abbrev pub bytes_at_places : LocalObject → ℕ
+bytes_at_places local = sum_by place_bytes local.places

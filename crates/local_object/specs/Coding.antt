@@ -9,7 +9,7 @@ use Rattle.layout.specs.Layout.{Layout}
 use Rattle.record.specs.Sending.{sent_value, value_or_empty}
 use Rattle.call.specs.Call.{OpenCall as Machine}
 
--- the value that a call writes, or settled, or else the empty one
+-- the value that a call writes, or otherwise the one that it settled, or otherwise the empty one
 abbrev pub call_value : Machine → List ℕ
 call_value call = value_or_empty (sent_value call.kind call.settled)
 
@@ -18,7 +18,7 @@ abbrev pub is_sendable : Kind → Machine → Bool
 is_sendable (PreWrite tag) call = nat_le (length (call_value call)) LONGEST_VALUE
 is_sendable _ call = true
 
--- for a phase that sends pieces the value of the call, encoded for a layout
+-- the value of the call, encoded for a layout, if this is a phase that sends pieces
 abbrev pub phase_coding : Kind → Layout → Machine → Option Coding
 phase_coding (PreWrite tag) layout call =
     Some (record { k = layout.k; n = length layout.members; value = call_value call })

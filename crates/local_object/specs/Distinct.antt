@@ -28,7 +28,7 @@ pub record IsCallAt (calls : List Machine) (id index : ℕ) : Type 0 where
   pub there : slice_get calls index ≡ Some call
   pub named : call.id ≡ id
 
--- the place of a position is at this index, where a new bank would change it
+-- the place of a position is at this index, and a new bank at the position would change this place
 pub record IsPlaceAt (places : List Place) (number index : ℕ) : Type 0 where
   pub place : Place
   pub there : slice_get places index ≡ Some place
@@ -36,15 +36,15 @@ pub record IsPlaceAt (places : List Place) (number index : ℕ) : Type 0 where
   pub changed : (bank : Bank) →
       with_bank_here places number bank ≡ slice_set places index (record place { bank = Some bank })
 
--- a bank has exactly the pieces that it is to keep, and has finalized the opening tag
-pub record IsInOrder (bank : Bank) : Type 0 where
+-- a bank has exactly the pieces that it has to keep, and has finalized the opening tag
+pub record IsBankInOrder (bank : Bank) : Type 0 where
   pub collected : IsCollected bank
   pub opening : IsSome (finalized_at bank opening_tag)
 
 -- the bank is in order, if there is one
-abbrev pub IsInOrderIfOpen : Option Bank → Type 0
-IsInOrderIfOpen None = Unit {0}
-IsInOrderIfOpen (Some bank) = IsInOrder bank
+abbrev pub IsBankInOrderIfOpen : Option Bank → Type 0
+IsBankInOrderIfOpen None = Unit {0}
+IsBankInOrderIfOpen (Some bank) = IsBankInOrder bank
 
 -- the node has heard of position 0
 pub record KnowsFirst (places : List Place) : Type 0 where

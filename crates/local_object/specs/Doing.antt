@@ -1,5 +1,5 @@
 -- The contracts that docs/trusted.md lists do not depend on this file; other contracts and proofs do.
--- What the functions of a node's object promise: which events they are, and why they are refused.
+-- What the contracts of an object's functions at a node say: which events happen, and why a function is refused.
 use Rattle.std.specs.Prelude.{◌≡◌, ℕ, ◌+◌, ◌^◌, ◌&&◌, not, Bool, true, false, ◌==◌, is_some, if◌then◌else◌, nat_lt}
 use Rattle.std.specs.Prelude.{List, [], ◌∷◌, length, Option, Some, None, slice_get}
 use Rattle.std.specs.List.{list_any}
@@ -25,7 +25,7 @@ pub record IsDone (old : LocalObject) (events : List LocalEvent) (new : LocalObj
 
 -- Refusals
 
--- NotNow where a call with this id is open here, and else what comes after
+-- NotNow if a call with this id is open here, and otherwise the next cause
 abbrev pub unless_open : LocalObject → (id : ℕ) → Option Refusal → Option Refusal
 unless_open local id later = if is_some (open_call local.calls id) then Some NotNow else later
 
@@ -50,7 +50,8 @@ is_move_call (Some call) = is_move call.kind
 abbrev pub has_move_open : LocalObject → (id : ℕ) → Bool
 has_move_open local id = is_move_call (open_call local.calls id)
 
--- why a move is refused: a move is open here, or there are no numbers for the position after the last one and its next
+-- why a move is refused: a move is open here, or there are no numbers for the position after the last one and the one
+-- after that
 abbrev pub move_refusal : LocalObject → (id : ℕ) → Option Refusal
 move_refusal local id = unless_open local id
     (if is_moving local then Some MovePending
@@ -63,21 +64,22 @@ abbrev pub is_request : Body → Bool
 is_request (body.Request asked) = true
 is_request (body.Reply kind made) = false
 
--- whether this is a server, and it is the node
+-- whether there is a server, and it is this node
 abbrev pub names_node : Option ℕ → (node : ℕ) → Bool
 names_node None node = false
 names_node (Some server) node = server == node
 
--- whether a layout has this node as the member
+-- whether this node is the member of the layout with this number
 abbrev pub has_member : Layout → (member node : ℕ) → Bool
 has_member layout member node = names_node (slice_get layout.members member) node
 
--- whether there is a layout that has this node as the member
+-- whether there is a layout of which this node is the member with this number
 abbrev pub is_member : Option Layout → (member node : ℕ) → Bool
 is_member None member node = false
 is_member (Some layout) member node = has_member layout member node
 
--- whether the node serves a letter: it is a request, its position has a next one, and the node is the member it names
+-- whether the node serves a letter: it is a request, its position has a next one, and the node is the member that it
+-- names
 abbrev pub is_served : LocalObject → Letter → Bool
 is_served local letter =
     is_request letter.message.body && (nat_lt (letter.message.position + 1) (2 ^ 32)
@@ -104,6 +106,6 @@ is_client_call (Some call) = not (is_move call.kind)
 abbrev pub gives_up : LocalObject → (id : ℕ) → Bool
 gives_up local id = is_client_call (open_call local.calls id)
 
--- what a node does to give up a call: nothing where no read or write with this id is open here
+-- what a node does to give a call up: nothing if no read or write with this id is open here
 abbrev pub give_up_events : LocalObject → (id : ℕ) → List LocalEvent
 give_up_events local id = if gives_up local id then LocalEvent.GiveUp id ∷ [] else []

@@ -54,7 +54,7 @@ silent local = record { local = local; sent = [] }
 
 -- Letters
 
--- the layout, where a pointer with this status says that there is a next position
+-- the layout, if a pointer with this status says that there is a next position
 abbrev pub if_pointed : Status → Option Layout → Option Layout
 if_pointed Unset layout = None
 if_pointed Pending layout = layout

@@ -32,7 +32,7 @@ abbrev pub unless_unsettled : Machine → Next → Next
 unless_unsettled call next.Answer = if is_unsettled call then next.Wait else next.Answer
 unless_unsettled call step = step
 
--- what a call does next here: it waits where the numbers of its next position or tag have no successors
+-- what a call does next here: it waits if the numbers of its next position or tag have no successors
 abbrev pub next_here : Machine → Next
 next_here call = if is_within_limits call then unless_unsettled call (next_of call) else next.Wait
 
@@ -56,20 +56,20 @@ pub record IsAdvanced (places : List Place) (old : List Machine) (call : Machine
   pub calls : new ≡ slice_set old index (entered call (phase_next call kind position layout 0))
   pub sent : letters ≡ next_letters places call kind position layout
 
--- the call at an index began its next phase, if it could; else nothing changed, and nothing was sent
-abbrev pub Advances : (can : Bool) → List Place → (old : List Machine) → Machine → (index : ℕ) → Kind → (position : ℕ) →
-    (new : List Machine) → (letters : List Letter) → Type 0
-Advances true places old call index kind position new letters =
+-- the call at an index began its next phase, if it could; otherwise nothing changed, and nothing was sent
+abbrev pub IsAdvancedIf : (can : Bool) → List Place → (old : List Machine) → Machine → (index : ℕ) → Kind →
+    (position : ℕ) → (new : List Machine) → (letters : List Letter) → Type 0
+IsAdvancedIf true places old call index kind position new letters =
     IsAdvanced places old call index kind position new letters
-Advances false places old call index kind position new letters = (new ≡ old) × (letters ≡ [])
+IsAdvancedIf false places old call index kind position new letters = (new ≡ old) × (letters ≡ [])
 
--- the value is decoded from these k pieces, and no other value is
+-- the value is decoded from these k pieces, and no other value is decoded from them
 pub record IsOnlyValue (k : ℕ) (pieces : List Piece) (value : List ℕ) : Type 0 where
   pub decoded : IsDecoded (record { k = k; pieces = pieces; value = value })
   pub only : (other : List ℕ) → IsDecoded (record { k = k; pieces = pieces; value = other }) → other ≡ value
 
--- the value that a call fetched: it alone is decoded from the first k pieces of its replies, by its phase's position's
--- layout
+-- the value that a call fetched: the only one that is decoded from the first k pieces of its replies, by the layout of
+-- its phase's position
 pub record IsFetchedValue (places : List Place) (call : Machine) (value : List ℕ) : Type 0 where
   pub layout : Layout
   pub known : layout_in (heard_place places call.phase.position) ≡ Some layout
@@ -79,13 +79,13 @@ pub record IsFetchedValue (places : List Place) (call : Machine) (value : List �
       IsDecoded (record { k = layout.k; pieces = first_pieces layout.k call.phase.replies; value = other }) →
       other ≡ value
 
--- what the node keeps after the call that a message names takes it, if it carries out the call
+-- what the node keeps after a call takes the message that names it, if the node carries out the call
 abbrev pub taken_here : LocalObject → Message → Outcome
 taken_here local message =
     on_open_call local (open_call local.calls message.call)
     (λ call. silent (record local { calls = with_open (taking_open message call) local.calls }))
 
--- what the node keeps after a call with this id settles a value, if it carries out the call
+-- what the node keeps after the call with this id settles a value, if the node carries out the call
 abbrev pub settled_here : LocalObject → (id : ℕ) → (value : List ℕ) → Outcome
 settled_here local id value =
     on_open_call local (open_call local.calls id)

@@ -15,7 +15,7 @@ use Rattle.local_object.specs.declared.letter.Letter.{Letter}
 use Rattle.local_object.specs.Local.{Place, layout_in, heard_place}
 use Rattle.local_object.specs.Events.{next_in_body}
 
--- a message as a letter, by these places: as `letter_of` says
+-- a message as a letter with the layouts of these places, as `letter_of` defines it
 abbrev pub letter_in : List Place → Layout → Message → Letter
 letter_in places layout message = record {
   layout = layout;

@@ -5,14 +5,14 @@ use Rattle.layout.specs.Layout.{Layout}
 use Rattle.bank.specs.Bank.{Bank, opened_bank}
 use Rattle.network.specs.Worlds.{NodeCall}
 
--- what a node keeps for a position that it has heard of: the layout, and its bank once a request has reached it
+-- what a node keeps for a position that it has heard of: the layout, and its bank once a request for it has come
 pub record Place : Type 0 where
   pub position : ℕ
   pub layout : Layout
   pub bank : Option Bank
 
--- what one node keeps of one object: the node's number, how many finalized versions its banks keep beside the newest
--- (None: all), the positions that it has heard of, each once, and the calls that it carries out
+-- what one node keeps of one object: the node's number, of how many finalized versions its banks keep pieces besides
+-- the newest (None: of all), the positions that it has heard of, each once, and the calls that it carries out
 pub record LocalObject : Type 0 where
   pub node : ℕ
   pub delta : Option ℕ
@@ -42,7 +42,7 @@ layout_in (Some place) = Some place.layout
 abbrev pub layout_here : LocalObject → (position : ℕ) → Option Layout
 layout_here local position = layout_in (heard_place local.places position)
 
--- a bank, or a newly opened one where there is none
+-- a bank, or a newly opened one if there is none
 abbrev pub bank_or_opened : Option Bank → (member : ℕ) → (delta : Option ℕ) → Bank
 bank_or_opened None member delta = opened_bank member delta 0
 bank_or_opened (Some bank) member delta = bank
@@ -63,7 +63,7 @@ with_bank_here (place ∷ places) position bank =
     if place.position == position then record place { bank = Some bank } ∷ places
     else place ∷ with_bank_here places position bank
 
--- the places after the node hears of a position and its layout: one more where it had not heard of that position
+-- the places after the node hears of a position and its layout: one more if it had not heard of that position
 abbrev pub added_place : List Place → Option Place → (position : ℕ) → Layout → List Place
 added_place places None position layout = places ++ record { position = position; layout = layout; bank = None } ∷ []
 added_place places (Some place) position layout = places
@@ -73,12 +73,12 @@ abbrev pub with_heard : LocalObject → (position : ℕ) → Layout → LocalObj
 with_heard local position layout =
     record local { places = added_place local.places (heard_place local.places position) position layout }
 
--- what the node keeps after it hears of a position and maybe its layout
+-- what the node keeps after it hears of a position, if it hears of its layout
 abbrev pub learnt_if : LocalObject → (position : ℕ) → Option Layout → LocalObject
 learnt_if local position None = local
 learnt_if local position (Some layout) = with_heard local position layout
 
--- the greatest of these positions, or the one that is given
+-- the greatest of these positions and the given one
 abbrev pub greatest_position : List Place → ℕ → ℕ
 greatest_position [] greatest = greatest
 greatest_position (place ∷ places) greatest =

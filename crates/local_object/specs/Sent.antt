@@ -1,8 +1,10 @@
 -- The contracts that docs/trusted.md lists do not depend on this file; other contracts and proofs do.
 -- The letters of a call's current phase.
-use Rattle.std.specs.Prelude.{◌≡◌, ℕ, List, Some, map, slice_get}
+use Rattle.std.specs.Prelude.{not, List, map, filter}
 use Rattle.encoder.specs.Fragment.{fragment}
 use Rattle.layout.specs.Layout.{Layout}
+use Rattle.phase.specs.Phase.{has_taken}
+use Rattle.phase.specs.declared.phase.Taken.{Taken}
 use Rattle.record.specs.Sending.{fragment_piece, requests}
 use Rattle.call.specs.Call.{OpenCall as Machine}
 use Rattle.local_object.specs.declared.letter.Letter.{Letter}
@@ -17,7 +19,10 @@ sent_letters places call layout =
     (requests call.id call.phase.number call.phase.kind call.phase.position layout.members 0
     (fragment_piece fragment layout (call_value call)))
 
--- the letter is one of those of the current phase
-pub record IsCurrent (places : List Place) (call : Machine) (layout : Layout) (letter : Letter) : Type 0 where
-  pub place : ℕ
-  pub at : slice_get (sent_letters places call layout) place ≡ Some letter
+-- those of the letters that go to members whose replies are not recorded
+abbrev pub unanswered : List Taken → List Letter → List Letter
+unanswered replies letters = filter (λ letter. not (has_taken replies letter.message.member)) letters
+
+-- the letters of the current phase of a call, to those members of a layout whose replies are not recorded
+abbrev pub missing_letters : List Place → Machine → Layout → List Letter
+missing_letters places call layout = unanswered call.phase.replies (sent_letters places call layout)

@@ -1,5 +1,5 @@
 -- The contracts that docs/trusted.md lists do not depend on this file; other contracts and proofs do.
--- By exactly which events a call goes on after it took a reply.
+-- Exactly which events happen after a call took a reply.
 use Rattle.std.specs.Prelude.{◌≡◌, ◌⊎◌, ℕ, ◌+◌, ◌^◌, ◌&&◌, Bool, true, false, is_some, if◌then◌else◌, nat_lt}
 use Rattle.std.specs.Prelude.{List, [], ◌∷◌, ◌++◌, Option, None, Some}
 use Rattle.bank.specs.declared.kind.Kind.{Kind}
@@ -40,7 +40,7 @@ abbrev pub begin_events : List Place → Machine → Kind → (position : ℕ) �
 begin_events places call kind position =
     if can_begin places call kind position then LocalEvent.Advance call.id ∷ [] else []
 
--- by which events a call goes on that does this next
+-- the events by which a call goes on that does this next
 abbrev pub step_events : List Place → Machine → Next → List LocalEvent
 step_events places call next.Wait = []
 step_events places call next.Settle = []
@@ -48,12 +48,12 @@ step_events places call (next.Restart kind position) = begin_events places call 
 step_events places call (next.Begin kind position) = begin_events places call kind position
 step_events places call next.Answer = LocalEvent.Answer call.id ∷ []
 
--- by which events a call goes on, if there is one
+-- the events by which a call goes on, if there is one
 abbrev pub call_events : List Place → Option NodeCall → List LocalEvent
 call_events places None = []
 call_events places (Some call) = step_events places (machine_of call) (next_here (machine_of call))
 
--- by which events the call with this id goes on
+-- the events by which the call with this id goes on
 abbrev pub lead_events : LocalObject → (id : ℕ) → List LocalEvent
 lead_events local id = call_events local.places (open_call local.calls id)
 
@@ -64,7 +64,7 @@ pub record CanSettle (local : LocalObject) (id : ℕ) (value : List ℕ) : Type 
   pub next : next_here (machine_of call) ≡ next.Settle
   pub fetched : IsFetchedValue local.places (machine_of call) value
 
--- by these events the call with this id settles what it fetched: by none exactly where it can settle nothing
+-- by these events the call with this id settles what it fetched: by none exactly if it can settle nothing
 abbrev pub AreSettling : LocalObject → (id : ℕ) → List LocalEvent → Type 0
 AreSettling local id events =
     ((events ≡ []) × ((value : List ℕ) → CanSettle local id value → ⊥))
@@ -77,7 +77,7 @@ pub record HasDoneBy (old : LocalObject) (events : List LocalEvent) (new : Local
   pub told : ended ≡ all_told fragment old events
 
 -- the call with this id settled what it fetched, if it could
-pub record Settles (old : LocalObject) (id : ℕ) (new : LocalObject) : Type 0 where
+pub record SettlesFetched (old : LocalObject) (id : ℕ) (new : LocalObject) : Type 0 where
   pub events : List LocalEvent
   pub settles : AreSettling old id events
   pub done : HasDoneBy old events new [] []
@@ -92,7 +92,7 @@ pub record GoesOn (old : LocalObject) (letter : Letter) (new : LocalObject) (let
       ++ lead_events (all_done fragment old (LocalEvent.Take letter ∷ settling)).local letter.message.call)
       new letters ended
 
--- what becomes of a letter that may be a reply to a call that is open here: if it is one, the call takes it and goes on
+-- what comes of a letter that may be a reply to a call that is open here: if it is one, the call takes it and goes on
 abbrev pub IsTaken : Bool → LocalObject → Letter → LocalObject → List Letter → List Ended → Type 0
 IsTaken false old letter new letters ended = HasDoneBy old [] new letters ended
 IsTaken true old letter new letters ended = GoesOn old letter new letters ended

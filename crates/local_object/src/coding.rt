@@ -1,4 +1,4 @@
-//! The encoded values of which calls send the pieces.
+//! The values of calls, encoded for the pieces that are sent.
 
 ghost use Rattle.std.specs.Prelude.{◌≡◌, ◌≤◌, true, length, IfOk, IfErr};
 ghost use Rattle.tag.specs.declared.refusal.Refusal.TheVariants.{NoMemory};
@@ -22,7 +22,7 @@ pub(crate) fn is_sendable(kind: Kind, call: &Call) -> bool
     }
 }
 
-/// For a phase that sends pieces, the value of the call, encoded for a layout. None for any other phase.
+/// The value of the call, encoded for a layout, if this is a phase that sends pieces. None for any other phase.
 ///
 /// `NoMemory` is the only refusal.
 pub(crate) fn coded_for(

@@ -10,7 +10,7 @@ ghost use Rattle.call.specs.Call.{OpenCall as Machine};
 ghost use Rattle.call.specs.Limits.{IsWithinLimits};
 ghost use Rattle.call.specs.Next.{is_unsettled};
 ghost use Rattle.local_object.specs.Coding.{is_sendable, call_value};
-ghost use Rattle.local_object.specs.Going.{Advances, IsFetchedValue, IsOnlyValue, UnlessWaiting, next_here};
+ghost use Rattle.local_object.specs.Going.{IsAdvancedIf, IsFetchedValue, IsOnlyValue, UnlessWaiting, next_here};
 ghost use Rattle.local_object.specs.Taking.{can_begin};
 
 use crate::calls::Calls;
@@ -30,7 +30,7 @@ use piece::Piece;
 use std::alloc::Global;
 use tag::Refusal;
 
-/// What a call does next here. It waits where the numbers of its next position or tag have no successors.
+/// What a call does next here. It waits if the numbers of its next position or tag have no successors.
 pub(crate) fn next_here(call: &Call) -> Next
     ensures next { result ≡ next_here call.now }
     ensures limits { UnlessWaiting result (IsWithinLimits call.now) }
@@ -60,8 +60,8 @@ fn is_unsettled(call: &Call) -> bool
     }
 }
 
-/// The call at an index begins a phase of this kind at this position. Returns its requests. No letters, and nothing
-/// changes, where the node has not heard of the position, where there is no number for the phase, or where the value is
+/// The call at an index begins a phase of this kind at this position. Returns its requests. Returns no letters, and
+/// changes nothing, if the node has not heard of the position, if there is no number for the phase, or if the value is
 /// too long to be encoded.
 ///
 /// `NoMemory` is the only refusal.
@@ -76,7 +76,7 @@ pub(crate) fn advance(
     requires within { index < length calls.old }
     requires limits { (call : Machine) → slice_get calls.old index ≡ Some call → IsWithinLimits call }
     ensures advanced { IfOk result (λ letters. (call : Machine) → slice_get calls.old index ≡ Some call
-        → Advances (can_begin places.now call kind position) places.now calls.old call index kind position
+        → IsAdvancedIf (can_begin places.now call kind position) places.now calls.old call index kind position
         calls.new letters.items) }
 
     ensures refused { IfErr result (λ e. e ≡ NoMemory) }
@@ -104,8 +104,8 @@ pub(crate) fn advance(
     Ok(letters)
 }
 
-// The requests of a phase of a call to the members of a layout, with the pieces of its value where they carry pieces.
-fn coded_requests(
+/// The requests of a phase of a call to the members of a layout, with the pieces of its value where they carry pieces.
+pub(crate) fn coded_requests(
     alloc: Global,
     ask: Ask,
     call: &Call,
@@ -122,8 +122,8 @@ fn coded_requests(
     requests(alloc, ask, layout.n(), coded.as_ref())
 }
 
-/// The value that a call fetched. None where the node has not heard of the position of its phase, or where its pieces
-/// do not decode.
+/// The value that a call fetched. None if the node has not heard of the position of its phase, or if its pieces do not
+/// decode.
 ///
 /// `NoMemory` is the only refusal.
 pub(crate) fn fetched(alloc: Global, places: &Places, call: &Call) -> Result<Option<Bytes>, Refusal>
@@ -159,7 +159,7 @@ fn decoded(alloc: Global, k: u8, pieces: Vec<Piece>) -> Result<Option<Bytes>, Re
     }
 }
 
-/// What the client of a call is told that is answered. `NoMemory` is the only refusal.
+/// What the client of an answered call is told. `NoMemory` is the only refusal.
 pub(crate) fn ended(call: &Call) -> Result<Ended, Refusal>
     ensures told { IfOk result (λ ended. ended ≡ record {
       id = call.now.id;

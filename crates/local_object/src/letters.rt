@@ -30,8 +30,8 @@ pub(crate) fn letters_of(
     Ok(letters)
 }
 
-/// The message as a letter: with the layout of its position, and that of the next one if the message says that there is
-/// one. `NoMemory` is the only refusal.
+/// The message as a letter: with the layout of its position, and that of the next position if the message says that
+/// there is one. `NoMemory` is the only refusal.
 pub(crate) fn letter_of(
     places: &Places,
     layout: Layout,

@@ -1,5 +1,5 @@
 //! What one node of a cluster of processes keeps of one object, and what it does with it: it serves requests, and
-//! carries out calls. The node that holds the objects hands in each letter, and sends those that come out.
+//! carries out calls. The node hands each letter in, and sends those that come out.
 #![tactic(auto)]
 
 pub use letter::Letter;

@@ -21,12 +21,12 @@ mod resend;
 mod take;
 mod views;
 
-/// What one node of a cluster keeps of one object: the positions that it has heard of with their layouts, its banks,
+/// What one node of a cluster keeps of one object: the positions that it has heard of, with their layouts; its banks;
 /// and the calls that it carries out.
 ///
-/// Where a function is refused with `NoMemory`, an allocation was refused, and nothing is said of what the object is
-/// afterwards: the node stops, and starts again from its log. Every other refusal changes nothing. Of several refusals
-/// that apply, the first in the order NotNow, MovePending, TooLong, Full, NoMemory comes.
+/// If a function is refused with `NoMemory`, an allocation was refused, and its contract says nothing of the object:
+/// the node stops, and starts again from its log. Every other refusal changes nothing. If several refusals apply, the
+/// first in the order NotNow, MovePending, TooLong, Full, NoMemory is returned.
 #[derive(Debug, Drop)]
 pub struct LocalObject {
     // The number of the node.
@@ -52,10 +52,10 @@ impl Model for LocalObject {
 }
 
 impl LocalObject {
-    /// What the node of this number keeps of an object of which it has not heard: position 0 with its layout.
+    /// What the node with this number keeps of an object of which it has not heard: position 0 with its layout.
     ///
-    /// `delta` is how many finalized versions the node's banks keep beside the newest; without it they keep all pieces.
-    /// `NoMemory` is the only refusal.
+    /// `delta` is the number of finalized versions of which the node's banks keep pieces, besides the newest; without
+    /// it they keep all pieces. `NoMemory` is the only refusal.
     pub fn new(
         alloc: Global,
         node: u8,
@@ -74,9 +74,9 @@ impl LocalObject {
         })
     }
 
-    /// The node serves a request, and its reply is to be sent to the node from which the request came. None, and
-    /// nothing changes, where the letter is no request, where its position has no next one in 32 bits, or where the
-    /// node is not the member that it names.
+    /// The node serves a request. The reply has to be sent to the node from which the request came. Returns none, and
+    /// changes nothing, if the letter is no request, if there is no number in 32 bits for the next position, or if this
+    /// node is not the member that the letter names.
     ///
     /// `NoMemory` is the only refusal.
     pub fn serve(&mut self, letter: Letter) -> Result<Option<Letter>, Refusal>

@@ -11,7 +11,7 @@ use piece::Piece;
 use std::alloc::Global;
 use tag::Refusal;
 
-/// The first `k` pieces that the replies carry. A piece counts only if it is at the point of the member that replied.
+/// The first `k` pieces that the replies carry. A piece counts only if its point is that of the member that replied.
 ///
 /// `NoMemory` is the only refusal.
 pub(crate) fn first_pieces(alloc: Global, k: u8, replies: &[Taken]) -> Result<Vec<Piece>, Refusal>

@@ -23,7 +23,7 @@ impl Model for Place {
     ghost use Rattle.bank.specs.contracts.bank.Bank as table;
     ghost use Rattle.local_object.specs.Local.{Place as Heard};
     ghost use Rattle.local_object.specs.Codes.{place_code};
-    ghost use Rattle.local_object.specs.Distinct.{IsInOrderIfOpen};
+    ghost use Rattle.local_object.specs.Distinct.{IsBankInOrderIfOpen};
 
     ghost Value = { Heard };
 
@@ -31,13 +31,13 @@ impl Model for Place {
 
     ghost view = { λ p. record { position = p.position; layout = p.layout; bank = p.bank } };
 
-    ghost invariant = { λ p. IsInOrderIfOpen p.bank };
+    ghost invariant = { λ p. IsBankInOrderIfOpen p.bank };
 }
 
 impl Place {
     ghost use Rattle.bank.specs.Serve.{served_bank, reply_to};
     ghost use Rattle.local_object.specs.Changing.{place_bytes};
-    ghost use Rattle.local_object.specs.Distinct.{IsInOrderIfOpen};
+    ghost use Rattle.local_object.specs.Distinct.{IsBankInOrderIfOpen};
     ghost use Rattle.local_object.specs.Local.{bank_or_opened};
 
     /// A position of this layout, without a bank.
@@ -65,15 +65,15 @@ impl Place {
         &self.layout
     }
 
-    /// The bank, once a request has reached it.
+    /// The bank, once a request for it has come.
     pub fn bank(&self) -> Option<&Bank>
         ensures bank { option_copied result ≡ self.now.bank }
-        ensures order { IsInOrderIfOpen self.now.bank }
+        ensures order { IsBankInOrderIfOpen self.now.bank }
     {
         self.bank.as_ref()
     }
 
-    /// The number of bytes of all pieces in the bank, or `u64::MAX` where it is greater.
+    /// The number of bytes of all pieces in the bank, or `u64::MAX` if there are more.
     pub(crate) fn bytes(&self) -> u64
         ensures { result ≡ min (place_bytes self.now) (2 ^ 64 - 1) }
     {
@@ -83,7 +83,7 @@ impl Place {
         }
     }
 
-    /// The node's bank serves a request as this member. It is opened first where it is not there.
+    /// The node's bank serves a request as this member. If the bank is not there, it is opened first.
     ///
     /// `NoMemory` is the only refusal.
     pub(crate) fn serve(

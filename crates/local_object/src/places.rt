@@ -7,7 +7,7 @@ ghost use Rattle.bank.specs.Serve.{served_bank, reply_to};
 ghost use Rattle.local_object.specs.Local.{added_place, bank_in, bank_or_opened, greatest_position, layout_in};
 ghost use Rattle.local_object.specs.Local.{heard_place, with_bank_here};
 ghost use Rattle.local_object.specs.Changing.{place_bytes};
-ghost use Rattle.local_object.specs.Distinct.{IsInOrderIfOpen, IsPlaceAt};
+ghost use Rattle.local_object.specs.Distinct.{IsBankInOrderIfOpen, IsPlaceAt};
 
 use crate::place::Place;
 use bank::{Bank, Reply, Request};
@@ -68,10 +68,10 @@ impl Places {
         }
     }
 
-    /// The bank that the node keeps for a position, if a request has reached it.
+    /// The bank that the node keeps for a position, if a request for it has come.
     pub(crate) fn bank_of(&self, position: u32) -> Option<&Bank>
         ensures bank { option_copied result ≡ bank_in (heard_place self.now position) }
-        ensures order { IsInOrderIfOpen (bank_in (heard_place self.now position)) }
+        ensures order { IsBankInOrderIfOpen (bank_in (heard_place self.now position)) }
     {
         match place_of(&self.places, u64::from(position)) {
             Some(index) => self.places[index].bank(),
@@ -79,7 +79,7 @@ impl Places {
         }
     }
 
-    /// The number of bytes of all pieces in the banks, or `u64::MAX` where it is greater.
+    /// The number of bytes of all pieces in the banks, or `u64::MAX` if there are more.
     pub(crate) fn bytes(&self) -> u64
         ensures { result ≡ min (sum_by place_bytes self.now) (2 ^ 64 - 1) }
     {
@@ -103,7 +103,7 @@ impl Places {
         last_of(&self.places)
     }
 
-    /// The node hears of a position and its layout. Nothing changes where it had heard of the position.
+    /// The node hears of a position and its layout. Nothing changes if it had heard of the position before.
     ///
     /// `NoMemory` is the only refusal.
     pub(crate) fn learn(&mut self, position: u32, layout: &Layout) -> Result<(), Refusal>

@@ -1,4 +1,4 @@
-//! What a node does as a reply comes in.
+//! What a node does when a reply comes in.
 
 ghost use Rattle.std.specs.Prelude.{◌≡◌, [], None, Some};
 

@@ -19,8 +19,9 @@ pub record IsDoneAt (old : Objects) (name : List ℕ) (events : List LocalEvent)
   pub done : IsDone (objects_of old name) events local sent
   pub changed : IsChangedAt old name local new
 
--- the object of the name was handed a letter that may be a reply to an open call: some events happened at it, after
--- which the node keeps this, has sent these letters, and has answered these calls; every other object is what it was
+-- what came of a letter that may be a reply to an open call of the object of the name: exactly the events of `IsTaken`,
+-- after which the node keeps this, has sent these letters, and has answered these calls; every other object is what it
+-- was
 pub record IsTakenAt (old : Objects) (name : List ℕ) (letter : Letter) (new : Objects) (letters : List Letter)
     (ended : List Ended) : Type 0 where
   pub local : LocalObject

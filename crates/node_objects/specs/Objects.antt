@@ -5,7 +5,7 @@ use Rattle.std.specs.Cmp.Lexicographic.{pointwise}
 use Rattle.indexmap.specs.IndexMap.{get, values}
 use Rattle.layout.specs.Layout.{Layout}
 use Rattle.placement.specs.Placement.{placed}
-use Rattle.local_object.specs.Changing.{stored_bytes}
+use Rattle.local_object.specs.Changing.{bytes_at_places}
 use Rattle.local_object.specs.Local.{LocalObject, new_local}
 use Rattle.deeds.specs.Named.{with_named}
 use Rattle.node_objects.specs.declared.objects.Objects.{Objects}
@@ -29,9 +29,9 @@ objects_of objects name = found_or_new (get (pointwise nat_eq) objects.by_name n
 
 -- the number of bytes of all pieces in the banks that the node keeps
 abbrev pub bytes_in_banks : Objects → ℕ
-bytes_in_banks objects = sum_by stored_bytes (values objects.by_name)
+bytes_in_banks objects = sum_by bytes_at_places (values objects.by_name)
 
--- the node has the same number, its banks keep as many versions, and names have the same first layouts
+-- the node's number, its delta, and the layouts that names have before any move are the same
 pub record HaveSameSettings (old new : Objects) : Type 0 where
   pub number : new.number ≡ old.number
   pub delta : new.delta ≡ old.delta

@@ -20,10 +20,10 @@ mod replies;
 mod requests;
 
 /// What a node keeps of all its objects, each under its name. Any bytes are a name. An object of which the node has not
-/// heard is as a new one with the layout that placement gives its name.
+/// heard counts as a new one, with the layout that placement gives its name.
 ///
-/// Where a function is refused with `NoMemory`, an allocation was refused, and nothing is said of what the objects are
-/// afterwards: the node stops, and starts again from its log. Every other refusal changes no object.
+/// If a function is refused with `NoMemory`, its contract says nothing of the objects, because the node stops and
+/// starts again from its log. Every other refusal changes no object.
 #[derive(Drop)]
 pub struct Objects {
     alloc: Global,
@@ -38,10 +38,10 @@ pub struct Objects {
 }
 
 impl Objects {
-    /// What the node of this number keeps before it has heard of any object. It allocates no memory.
+    /// What the node with this number keeps before it has heard of any object. It allocates no memory.
     ///
-    /// `delta` is how many finalized versions the node's banks keep beside the newest; without it they keep all pieces.
-    /// `placement` gives each name the layout that its object has before any move.
+    /// `delta` is the number of finalized versions of which the node's banks keep pieces, besides the newest; without
+    /// it they keep all pieces. `placement` gives each name the layout that its object has before any move.
     pub fn new(alloc: Global, number: u8, delta: Option<u32>, placement: ClusterNodes) -> Objects
         ensures number { result.number ≡ number }
         ensures delta { result.delta ≡ delta }

@@ -7,8 +7,8 @@ use crate::{Letter, LocalObject};
 use layout::Layout;
 
 impl LocalObject {
-    /// Whether no layout in the letter is another one than the node has heard of for its position. It holds of each
-    /// letter of a node that follows the rules. It allocates no memory.
+    /// Whether no layout in the letter differs from the one that the node has heard of for its position. While all
+    /// nodes follow the rules, this holds of every letter. It allocates no memory.
     pub fn agrees_with(&self, letter: &Letter) -> bool
         ensures { result ≡ agrees self.now letter.now }
     {
@@ -20,8 +20,8 @@ impl LocalObject {
         }
     }
 
-    /// Whether the node has heard of each position of which the letter has the layout, and with that layout. It holds
-    /// of each letter that comes to the node that moves objects, while all nodes follow the rules. It allocates no
+    /// Whether the node has heard of each position of which the letter has the layout, and with that layout. While all
+    /// nodes follow the rules, this holds of every letter that comes to the node that moves objects. It allocates no
     /// memory.
     pub fn knows_all_of(&self, letter: &Letter) -> bool
         ensures { result ≡ knows_all_of self.now letter.now }

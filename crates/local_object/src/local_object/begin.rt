@@ -26,7 +26,7 @@ impl LocalObject {
     /// The node begins a read, with an id that no other call of the object has in the whole cluster. The letters are
     /// its requests to the members of position 0.
     ///
-    /// `NotNow` where a call with this id is open here, and `NoMemory`.
+    /// `NotNow` if a call with this id is open here, and `NoMemory`.
     pub fn begin_read(&mut self, id: CallId) -> Result<Vec<Letter>, Refusal>
         ensures done { IfOk result (λ letters. IsDone self.old (LocalEvent.BeginRead id ∷ []) self.new letters.items) }
         ensures cause { IsByCause (read_refusal self.old id) result }
@@ -37,11 +37,11 @@ impl LocalObject {
         self.begin(id, CallKind::Read, Stage::ReadBegin, Kind::Next, first)
     }
 
-    /// The node begins a write of this value, with an id that no other call of the object has in the whole cluster.
-    /// The letters are its requests to the members of position 0.
+    /// The node begins a write of this value, with an id that no other call of the object has in the whole cluster. The
+    /// letters are its requests to the members of position 0.
     ///
-    /// `NotNow` where a call with this id is open here, `TooLong` where the value has more than `LONGEST_VALUE` bytes,
-    /// and `NoMemory`.
+    /// `NotNow` if a call with this id is open here, `TooLong` if the value has more than `LONGEST_VALUE` bytes, and
+    /// `NoMemory`.
     pub fn begin_write(&mut self, id: CallId, value: Bytes) -> Result<Vec<Letter>, Refusal>
         ensures done { IfOk result (λ letters.
             IsDone self.old (LocalEvent.BeginWrite id value ∷ []) self.new letters.items) }
@@ -66,8 +66,8 @@ impl LocalObject {
     /// The node begins a move from the last position of which it has heard to a new one with this layout. The letters
     /// are its requests to the members of that last position.
     ///
-    /// `NotNow` where a call with this id is open here, `MovePending` where a move is, `Full` where there is no number
-    /// for one more position and its next one, and `NoMemory`.
+    /// `NotNow` if a call with this id is open here, `MovePending` if a move is, `Full` if there are no numbers for the
+    /// new position and the one after it, and `NoMemory`.
     pub fn begin_move(&mut self, id: CallId, layout: Layout) -> Result<Vec<Letter>, Refusal>
         ensures done { IfOk result (λ letters.
             IsDone self.old (LocalEvent.BeginMove id layout ∷ []) self.new letters.items) }

@@ -3,7 +3,7 @@
 ghost use Rattle.std.specs.Prelude.{◌≡◌, ℕ, List, IfOk, IfErr, MatchOption, OnOk, option_to_list};
 ghost use Rattle.tag.specs.declared.refusal.Refusal.TheVariants.{NoMemory};
 ghost use Rattle.local_object.specs.Going.{settled_here};
-ghost use Rattle.local_object.specs.Taking.{CanSettle, HasDoneBy, Settles, lead_events};
+ghost use Rattle.local_object.specs.Taking.{CanSettle, HasDoneBy, SettlesFetched, lead_events};
 
 use crate::going::{advance, ended, fetched, next_here};
 use crate::{LocalObject, Progress};
@@ -16,7 +16,7 @@ impl LocalObject {
     ///
     /// `NoMemory` is the only refusal.
     pub(crate) fn settle(&mut self, id: CallId) -> Result<(), Refusal>
-        ensures done { OnOk result (Settles self.old id self.new) }
+        ensures done { OnOk result (SettlesFetched self.old id self.new) }
         ensures refused { IfErr result (λ e. e ≡ NoMemory) }
     {
         let Some(value) = self.fetched(id)? else {
@@ -53,8 +53,7 @@ impl LocalObject {
         }
     }
 
-    /// The call with this id begins the phase that is due, or is answered where none is due. It waits where it cannot
-    /// go on.
+    /// The call with this id begins the phase that is due, or is answered if none is due. It waits if it cannot go on.
     ///
     /// `NoMemory` is the only refusal.
     pub(crate) fn lead(&mut self, id: CallId) -> Result<Progress, Refusal>

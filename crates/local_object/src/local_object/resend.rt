@@ -5,7 +5,7 @@ ghost use Rattle.std.specs.List.{AllByRecursion};
 ghost use Rattle.tag.specs.declared.refusal.Refusal.TheVariants.{NoMemory};
 ghost use Rattle.encoder.specs.Fragment.{fragment};
 ghost use Rattle.local_object.specs.Doing.{IsDone, give_up_events, gives_up};
-ghost use Rattle.local_object.specs.Resent.{IsResent};
+ghost use Rattle.local_object.specs.Resent.{IsResent, letters_again};
 
 use crate::calls::is_move;
 use crate::coding::is_sendable;
@@ -15,10 +15,11 @@ use tag::{CallId, Refusal};
 
 impl LocalObject {
     /// The requests of the current phase of the call with this id, as they were sent, to the members whose replies are
-    /// not recorded. No letters where no call with this id is open here.
+    /// not recorded, in the order of the members. No letters where no call with this id is open here.
     ///
     /// `NoMemory` is the only refusal.
     pub fn resend(&self, id: CallId) -> Result<Vec<Letter>, Refusal>
+        ensures letters { IfOk result (λ letters. letters.items ≡ letters_again fragment self.now id) }
         ensures resent { IfOk result (λ letters. AllByRecursion (IsResent fragment self.now) letters.items) }
         ensures refused { IfErr result (λ e. e ≡ NoMemory) }
     {
@@ -36,7 +37,7 @@ impl LocalObject {
         missing(self.alloc, &self.places, call, layout)
     }
 
-    /// The read or the write with this id, if one is open here, ends without an answer. A write may still take effect.
+    /// Ends the read or the write with this id without an answer, if one is open here. A write may still take effect.
     /// Returns whether a call was given up. A move goes on until it is answered. It allocates no memory.
     pub fn give_up(&mut self, id: CallId) -> bool
         ensures done { IsDone self.old (give_up_events self.old id) self.new [] }

@@ -13,13 +13,13 @@ use mail::{Body, Message};
 use tag::Refusal;
 
 impl LocalObject {
-    /// A call that the node carries out takes a reply, and goes on as far as it comes: it settles the value that it
-    /// fetched, and begins its next phase or is answered. Nothing changes where the letter is no reply to a call that
-    /// is open here, or its position has no next one in 32 bits.
+    /// A call of the node takes a reply and goes on as far as it can: it settles the value that it fetched, and begins
+    /// its next phase or is answered. Nothing changes if the letter is no reply to a call that is open here, or if
+    /// there is no number in 32 bits for the next position.
     ///
-    /// The call waits, and `give_up` ends it, where it cannot go on: the node has not heard of the layout that it
-    /// needs, or there is no number for its next position, phase or tag, or the pieces that it fetched do not decode.
-    /// None of these happens while all nodes follow the rules.
+    /// If the call cannot go on, it waits, and `give_up` ends it: the node has not heard of the layout that it needs,
+    /// or there is no number for its next position, phase or tag, or the pieces that it fetched do not decode. This
+    /// does not happen while all nodes follow the rules and numbers are left.
     ///
     /// `NoMemory` is the only refusal.
     pub fn take(&mut self, letter: Letter) -> Result<Progress, Refusal>

@@ -1,7 +1,7 @@
 //! Read access to an object.
 
 ghost use Rattle.std.specs.Prelude.{◌≡◌, ◌-◌, ◌^◌, false, length, min};
-ghost use Rattle.local_object.specs.Changing.{IsUnchangedBy, is_changed_by, stored_bytes};
+ghost use Rattle.local_object.specs.Changing.{IsUnchangedBy, is_changed_by, bytes_at_places};
 ghost use Rattle.local_object.specs.Doing.{is_moving, has_move_open};
 
 use crate::calls::is_move;
@@ -41,23 +41,24 @@ impl LocalObject {
         self.places.all()
     }
 
-    /// The number of bytes of all pieces in the node's banks, or `u64::MAX` where it is greater. It takes time linear
-    /// in the number of tags.
+    /// The number of bytes of all pieces in the node's banks, or `u64::MAX` if there are more. It takes time linear in
+    /// the number of tags.
     pub fn bytes_stored(&self) -> u64
-        ensures { result ≡ min (stored_bytes self.now) (2 ^ 64 - 1) }
+        ensures { result ≡ min (bytes_at_places self.now) (2 ^ 64 - 1) }
     {
         self.places.bytes()
     }
 
-    /// Whether serving a letter may change more than what the node has heard of: a letter that is served, and whose
-    /// request raises a pointer, brings a piece, or finalizes a tag that is not the greatest finalized one. Where it is
-    /// false and the node serves the letter, it hears of the layouts in the letter and maybe opens a bank, and nothing
-    /// else changes. It is true of some requests that change nothing: of a pre-write whose piece arrived before, and of
-    /// a request that finalizes a tag which is final and not the greatest one.
+    /// Whether serving a letter may change more than what the node has heard of: the node serves the letter, and its
+    /// request raises a pointer, brings a piece, or finalizes a tag that is not the greatest finalized one. If it is
+    /// false and the node serves the letter, the node hears of the layouts in the letter and may open a bank, and
+    /// nothing else changes. It is also true of some requests that change nothing: a pre-write whose piece came before,
+    /// and a request that finalizes a tag which is finalized already and not the greatest one.
     ///
-    /// So a log need not hold a letter for which it is false. A bank that is not there counts as a newly opened one. A
-    /// node that forgets layouts hears of them again from other letters. Only the node that moves objects must forget
-    /// none, and it hears of none by letters: it made them all, and drops each letter of which it does not know all.
+    /// So a log need not have a letter for which this is false. A bank that is not there counts as a newly opened one.
+    /// A node that has forgotten layouts hears of them again from other letters. Only the node that moves objects must
+    /// forget none. It does not hear of layouts from letters: it made them all, and drops each letter with a layout
+    /// that it does not know.
     pub fn is_changed_by(&self, letter: &Letter) -> bool
         ensures changed { result ≡ is_changed_by self.now letter.now }
         ensures unchanged { result ≡ false → IsUnchangedBy self.now letter.now }

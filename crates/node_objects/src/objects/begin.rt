@@ -20,7 +20,7 @@ impl Objects {
     /// The node begins a read of the object of a name, with an id that no other call of the object has in the whole
     /// cluster. The letters are its requests to the members of position 0.
     ///
-    /// `NotNow` where a call with this id is open at the object, and `NoMemory`.
+    /// `NotNow` if a call with this id is open at the object, and `NoMemory`.
     pub fn begin_read(&mut self, name: &Bytes, id: CallId) -> Result<Vec<Letter>, Refusal>
         ensures done { IfOk result (λ letters.
             IsDoneAt self.old name.now (LocalEvent.BeginRead id ∷ []) self.new letters.items) }
@@ -38,8 +38,8 @@ impl Objects {
     /// The node begins a write of this value to the object of a name, with an id that no other call of the object has
     /// in the whole cluster. The letters are its requests to the members of position 0.
     ///
-    /// `NotNow` where a call with this id is open at the object, `TooLong` where the value has more than
-    /// `LONGEST_VALUE` bytes, and `NoMemory`.
+    /// `NotNow` if a call with this id is open at the object, `TooLong` if the value has more than `LONGEST_VALUE`
+    /// bytes, and `NoMemory`.
     pub fn begin_write(
         &mut self,
         name: &Bytes,
@@ -73,8 +73,8 @@ impl Objects {
     /// The node begins a move of the object of a name, from the last position of which it has heard to a new one with
     /// this layout. The letters are its requests to the members of that last position.
     ///
-    /// `NotNow` where a call with this id is open at the object, `MovePending` where a move is, `Full` where there is
-    /// no number for one more position and its next one, and `NoMemory`.
+    /// `NotNow` if a call with this id is open at the object, `MovePending` if a move is, `Full` if there are no
+    /// numbers for the new position and the one after it, and `NoMemory`.
     pub fn begin_move(
         &mut self,
         name: &Bytes,

@@ -28,15 +28,15 @@ impl Objects {
         self.placement.place(name.as_slice())
     }
 
-    /// How many objects the node has heard of.
+    /// How many objects the map has: those of which the node has heard.
     pub fn count(&self) -> usize
         ensures { result ≡ index_map_len self.now.by_name }
     {
         self.by_name.len()
     }
 
-    /// The number of bytes of all pieces in the node's banks, or `u64::MAX` where it is greater. It takes time linear
-    /// in the number of tags.
+    /// The number of bytes of all pieces in the node's banks, or `u64::MAX` if there are more. It takes time linear in
+    /// the number of tags.
     pub fn bytes_stored(&self) -> u64
         ensures { result ≡ min (bytes_in_banks self.now) (2 ^ 64 - 1) }
     {
@@ -57,8 +57,8 @@ impl Objects {
         }
     }
 
-    /// Whether serving a letter may change more of the object of a name than what the node has heard of. Where it is
-    /// false and the node serves the letter, it hears of the layouts in the letter and maybe opens a bank, and nothing
+    /// Whether serving a letter may change more of the object of a name than what the node has heard of. If it is false
+    /// and the node serves the letter, the node hears of the layouts in the letter and may open a bank, and nothing
     /// else changes.
     ///
     /// `NoMemory` is the only refusal.
@@ -75,7 +75,7 @@ impl Objects {
         }
     }
 
-    /// Whether no layout in a letter about the object of a name is another one than the node has heard of for its
+    /// Whether no layout in a letter about the object of a name differs from the one that the node has heard of for its
     /// position.
     ///
     /// `NoMemory` is the only refusal.

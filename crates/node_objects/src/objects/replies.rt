@@ -11,9 +11,9 @@ use local_object::{Letter, Progress};
 use tag::{CallId, Refusal};
 
 impl Objects {
-    /// A call that the node carries out at the object of a name takes a reply, and goes on as far as it comes: it
-    /// settles the value that it fetched, and begins its next phase or is answered. No object changes where the letter
-    /// is no reply to a call that is open there, or its position has no next one in 32 bits.
+    /// A call of the node at the object of a name takes a reply and goes on as far as it can: it settles the value that
+    /// it fetched, and begins its next phase or is answered. No object changes if the letter is no reply to a call that
+    /// is open there, or if there is no number in 32 bits for the next position.
     ///
     /// `NoMemory` is the only refusal.
     pub fn take(&mut self, name: &Bytes, letter: Letter) -> Result<Progress, Refusal>
@@ -29,9 +29,9 @@ impl Objects {
         }
     }
 
-    /// The read or the write with this id at the object of a name, if one is open there, ends without an answer. A
-    /// write may still take effect. Returns whether a call was given up. A move goes on until it is answered. It
-    /// allocates no memory.
+    /// Ends the read or the write with this id at the object of a name without an answer, if one is open there. A write
+    /// may still take effect. Returns whether a call was given up. A move goes on until it is answered. It allocates no
+    /// memory.
     pub fn give_up(&mut self, name: &Bytes, id: CallId) -> bool
         ensures done { IsDoneAt self.old name.now (give_up_events (objects_of self.old name.now) id) self.new [] }
         ensures given_up { result ≡ gives_up (objects_of self.old name.now) id }

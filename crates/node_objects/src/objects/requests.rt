@@ -4,7 +4,7 @@ ghost use Rattle.std.specs.List.{AllByRecursion};
 ghost use Rattle.tag.specs.declared.refusal.Refusal.TheVariants.{NoMemory};
 ghost use Rattle.encoder.specs.Fragment.{fragment};
 ghost use Rattle.local_object.specs.Doing.{serve_events};
-ghost use Rattle.local_object.specs.Resent.{IsResent};
+ghost use Rattle.local_object.specs.Resent.{IsResent, letters_again};
 ghost use Rattle.node_objects.specs.Doing.{IsDoneAt};
 ghost use Rattle.node_objects.specs.Objects.{objects_of};
 
@@ -14,9 +14,9 @@ use local_object::Letter;
 use tag::{CallId, Refusal};
 
 impl Objects {
-    /// The node serves a request about the object of a name, and its reply is to be sent to the node from which the
-    /// request came. None, and no object changes, where the letter is no request, where its position has no next one in
-    /// 32 bits, or where the node is not the member that it names.
+    /// The node serves a request about the object of a name. The reply has to be sent to the node from which the
+    /// request came. Returns none, and changes no object, if the letter is no request, if there is no number in 32 bits
+    /// for the next position, or if this node is not the member that the letter names.
     ///
     /// `NoMemory` is the only refusal.
     pub fn serve(&mut self, name: &Bytes, letter: Letter) -> Result<Option<Letter>, Refusal>
@@ -33,10 +33,13 @@ impl Objects {
     }
 
     /// The requests of the current phase of the call with this id at the object of a name, as they were sent, to the
-    /// members whose replies are not recorded. No letters where no call with this id is open there.
+    /// members whose replies are not recorded, in their order. No letters where no call with this id is open there.
     ///
     /// `NoMemory` is the only refusal.
     pub fn resend(&self, name: &Bytes, id: CallId) -> Result<Vec<Letter>, Refusal>
+        ensures letters { IfOk result (λ letters.
+            letters.items ≡ letters_again fragment (objects_of self.now name.now) id) }
+
         ensures resent { IfOk result (λ letters.
             AllByRecursion (IsResent fragment (objects_of self.now name.now)) letters.items) }
 

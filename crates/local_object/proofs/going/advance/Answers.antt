@@ -5,7 +5,7 @@ use Rattle.phase.specs.Phase.{Phase}
 use Rattle.record.specs.Sending.{fragment_piece, requests}
 use Rattle.call.specs.Call.{OpenCall as Machine}
 use Rattle.local_object.specs.Coding.{call_value}
-use Rattle.local_object.specs.Going.{Advances}
+use Rattle.local_object.specs.Going.{IsAdvancedIf}
 use Rattle.local_object.specs.Letters.{letter_in}
 use Rattle.local_object.specs.Local.{layout_in, heard_place}
 use Rattle.local_object.specs.Taking.{can_begin}
@@ -26,7 +26,7 @@ returns-then-number-ge4294967295-clause-advanced c = λ call at.
     let calls = c.args.calls.now in
     let read = c.at-call.result.now in
     let items = c.new-then-number-ge4294967295.result.items in
-    subst (λ (m : Machine). Advances (can_begin places m c.args.kind c.args.position) places calls m c.args.index c.args.kind
+    subst (λ (m : Machine). IsAdvancedIf (can_begin places m c.args.kind c.args.position) places calls m c.args.index c.args.kind
     c.args.position calls items) (same_call read call (sym c.at-call.ensures ∙ at))
     (not_advanced places read c.args.kind c.args.position calls calls c.args.index items
     (begin_unnumbered places read c.args.kind c.args.position c.number-number.result
@@ -39,7 +39,7 @@ returns-then-not-is_sendable-clause-advanced c = λ call at.
     let calls = c.args.calls.now in
     let read = c.at-call.result.now in
     let items = c.new-then-not-is_sendable.result.items in
-    subst (λ (m : Machine). Advances (can_begin places m c.args.kind c.args.position) places calls m c.args.index c.args.kind
+    subst (λ (m : Machine). IsAdvancedIf (can_begin places m c.args.kind c.args.position) places calls m c.args.index c.args.kind
     c.args.position calls items) (same_call read call (sym c.at-call.ensures ∙ at))
     (not_advanced places read c.args.kind c.args.position calls calls c.args.index items
     (begin_long places read c.args.kind c.args.position (sym c.is_sendable.ensures ∙ c.if-not-is_sendable.true))
@@ -58,7 +58,7 @@ returns-clause-advanced c = λ call at.
     let number = c.number-number.ensures ∙ ap (λ (p : Phase). p.number) c.phase.ensures.value in
     let next : c.number-number.result + 1 ≡ suc read.phase.number = omega (arith, number) in
     let known = sym (c.in-Some.ensures ∙ ap (λ n. layout_in (heard_place places n)) c.from.ensures) in
-    subst (λ (m : Machine). Advances (can_begin places m kind position) places calls m c.args.index kind position new items)
+    subst (λ (m : Machine). IsAdvancedIf (can_begin places m kind position) places calls m c.args.index kind position new items)
     (same_call read call (sym c.at-call.ensures ∙ at))
     (is_advanced places read kind position calls new c.args.index items
     (begin_can places read kind position layout known

@@ -9,7 +9,8 @@ use Rattle.local_object.specs.Codes.{carried}
 use Rattle.local_object.specs.Doing.{is_client_call}
 use Rattle.local_object.proofs.BeginLemmas.{open_found}
 use Rattle.local_object.proofs.CarriedCallLemmas.{open_none, same_call, without_at}
-use Rattle.local_object.proofs.OpenLemmas.{give_up_done, give_up_may, give_up_none, gives_is, object}
+use Rattle.local_object.proofs.GivenUpCallLemmas.{give_up_done, give_up_may, give_up_none, gives_is}
+use Rattle.local_object.proofs.OpenLemmas.{object}
 use Rattle.local_object.proofs.local_object.LocalObject.give_up.Goals as goal
 
 pub returns-then-is_move-clause-done : goal.returns-then-is_move-clause-done

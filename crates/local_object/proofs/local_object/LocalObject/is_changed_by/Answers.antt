@@ -1,7 +1,7 @@
 use Rattle.std.proofs.Common.{ap, sym, subst, ◌∙◌}
 use Rattle.local_object.specs.Changing.{changes_in_body}
 use Rattle.local_object.specs.Codes.{carried}
-use Rattle.local_object.specs.Distinct.{IsInOrderIfOpen}
+use Rattle.local_object.specs.Distinct.{IsBankInOrderIfOpen}
 use Rattle.local_object.specs.Local.{LocalObject, bank_in, bank_or_opened, heard_place}
 use Rattle.local_object.proofs.ChangingLemmas.{changed_is, unchanged, unserved}
 use Rattle.local_object.proofs.local_object.LocalObject.is_changed_by.Goals as goal
@@ -19,7 +19,7 @@ pub returns-then-is_served-clause-unchanged : goal.returns-then-is_served-clause
 returns-then-is_served-clause-unchanged c = λ e.
     let letter = c.args.letter.now in
     unchanged c.args.self.now letter
-    (subst (λ (l : LocalObject). IsInOrderIfOpen (bank_in (heard_place l.places letter.message.position))) c.self.view_is
+    (subst (λ (l : LocalObject). IsBankInOrderIfOpen (bank_in (heard_place l.places letter.message.position))) c.self.view_is
     c.bank_of.ensures.order)
     (sym (returns-then-is_served-clause-changed c) ∙ e)
 

@@ -1,9 +1,9 @@
 use Rattle.std.proofs.Common.{subst}
-use Rattle.local_object.specs.Distinct.{IsInOrderIfOpen}
+use Rattle.local_object.specs.Distinct.{IsBankInOrderIfOpen}
 use Rattle.local_object.proofs.UnchangedBankLemmas.{kept_in_order}
 use Rattle.local_object.proofs.place.Place.serve.Goals as goal
 
 pub invariant_of-self : goal.invariant_of-self
 invariant_of-self c =
     kept_in_order c.serve.result c.in-Some.bank c.serve.new.self c.args.request.now
-    (subst IsInOrderIfOpen c.in-Some.is c.self.invariant) c.serve.ensures.bank c.serve.ensures.unchanged
+    (subst IsBankInOrderIfOpen c.in-Some.is c.self.invariant) c.serve.ensures.bank c.serve.ensures.unchanged

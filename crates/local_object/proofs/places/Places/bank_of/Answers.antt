@@ -1,5 +1,5 @@
 use Rattle.std.proofs.Common.{ap, sym, subst, ◌∙◌}
-use Rattle.local_object.specs.Distinct.{IsInOrderIfOpen}
+use Rattle.local_object.specs.Distinct.{IsBankInOrderIfOpen}
 use Rattle.local_object.specs.Local.{bank_in, heard_place}
 use Rattle.local_object.proofs.PlaceLemmas.{read_at, unread}
 use Rattle.local_object.proofs.places.Places.bank_of.Goals as goal
@@ -14,7 +14,7 @@ returns-in-Some-clause-bank c =
 
 pub returns-in-Some-clause-order : goal.returns-in-Some-clause-order
 returns-in-Some-clause-order c =
-    subst IsInOrderIfOpen (sym c.bank.ensures.bank ∙ returns-in-Some-clause-bank c) c.bank.ensures.order
+    subst IsBankInOrderIfOpen (sym c.bank.ensures.bank ∙ returns-in-Some-clause-bank c) c.bank.ensures.order
 
 pub returns-in-None-clause-bank : goal.returns-in-None-clause-bank
 returns-in-None-clause-bank c =
@@ -24,4 +24,4 @@ returns-in-None-clause-bank c =
     ∙ ap (λ number. bank_in (heard_place c.args.self.now number)) c.from.ensures
 
 pub returns-in-None-clause-order : goal.returns-in-None-clause-order
-returns-in-None-clause-order c = subst IsInOrderIfOpen (returns-in-None-clause-bank c) tt
+returns-in-None-clause-order c = subst IsBankInOrderIfOpen (returns-in-None-clause-bank c) tt
