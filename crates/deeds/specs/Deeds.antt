@@ -15,7 +15,8 @@ pub data Deed : Type 0 where
   Does : (name : List ℕ) → LocalEvent → Deed
   Resends : (name : List ℕ) → List Letter → Deed
 
--- what the clients of a node see: a read, a write or a move of the object of a name begins, or they are told the answer
+-- what the clients of a node see: a read, a write or a move of the object of a name begins, or a client is told an
+-- answer
 pub data Notice : Type 0 where
   Reads : (name : List ℕ) → (id : ℕ) → Notice
   Writes : (name : List ℕ) → (id : ℕ) → (value : List ℕ) → Notice

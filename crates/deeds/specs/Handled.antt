@@ -9,7 +9,7 @@ use Rattle.deeds.specs.Deeds.{Deed, Notice, after_deeds}
 use Rattle.deeds.specs.May.{AreFed, IsAllowed, MayAllBeDone}
 use Rattle.deeds.specs.Ids.{HaveNextIds}
 
--- the node did some deeds: with these letters, which had come, and with letters that it sent to itself; afterwards it
+-- the node did some deeds with these letters, which had come, and with letters that it sent to itself; afterwards it
 -- keeps this, has sent these letters, and its clients saw these notices
 pub record IsHandled (fragment : Code) (old : KeptNode) (got : List NamedLetter) (new : KeptNode)
     (sent : List NamedLetter) (notices : List Notice) : Type 0 where

@@ -1,12 +1,12 @@
 -- The contracts that docs/trusted.md lists do not depend on this file; other contracts and proofs do.
--- Which ids the calls have that a node begins.
+-- Which ids a node gives to the calls that it begins.
 use Rattle.std.specs.Prelude.{◌≡◌, ◌⊎◌, ◌<◌, ◌≤◌, ℕ, List, [], ◌∷◌, Option, None, Some}
 use Rattle.call_ids.specs.CallId.{CallIds, HasRanges, after_given, next_given_id}
 use Rattle.local_object.specs.Events.{LocalEvent}
 use Rattle.deeds.specs.Deeds.{Deed}
 
--- what gives ids at a later time is this: it has the same node, and a greater epoch, or in the same epoch it gave as
--- many ids or more
+-- the source of ids at a later time: it has the same node, and a greater epoch, or in the same epoch it gave as many
+-- ids or more
 pub record IsLater (before after : CallIds) : Type 0 where
   pub node : after.node ≡ before.node
   pub within : HasRanges after
@@ -24,19 +24,19 @@ abbrev pub deed_id : Deed → Option ℕ
 deed_id (Deed.Does name event) = begun_id event
 deed_id (Deed.Resends name letters) = None
 
--- the id was the next one at some time after the first of these, and before the second
+-- this id was given at some time between `before` and `after`
 pub record IsNextId (before : CallIds) (id : ℕ) (after : CallIds) : Type 0 where
   pub now : CallIds
   pub reached : IsLater before now
   pub next : next_given_id now ≡ Some id
   pub left : after_given now ≡ after
 
--- from the first of these to the second the id is given, if there is one
+-- between `before` and `after` the id was given, if there is one
 abbrev pub IsGiven : (before : CallIds) → Option ℕ → (after : CallIds) → Type 0
 IsGiven before None after = before ≡ after
 IsGiven before (Some id) after = IsNextId before id after
 
--- the calls that these deeds begin have ids that are given between the first and the second of these, in this order
+-- the calls that these deeds begin got ids that were given between `before` and `after`, in this order
 abbrev pub HaveNextIds : (before : CallIds) → List Deed → (after : CallIds) → Type 0
 HaveNextIds before [] after = IsLater before after
 HaveNextIds before (deed ∷ deeds) after =

@@ -1,5 +1,5 @@
 -- The contracts that docs/trusted.md lists do not depend on this file; other contracts and proofs do.
--- The laws: how what a node does is put together.
+-- The laws: how the contract of a node's function is put together.
 use Rattle.std.specs.Prelude.{ℕ, List, [], ◌++◌, map}
 use Rattle.std.specs.List.{AllByRecursion}
 use Rattle.record.specs.Fragments.{Code}
@@ -15,19 +15,20 @@ use Rattle.deeds.specs.May.{IsEventAllowed, IsEventFed}
 use Rattle.deeds.specs.Ids.{HaveNextIds, IsLater}
 use Rattle.deeds.specs.Handled.{IsHandled}
 
--- a node that does nothing but give away ids, or begin an epoch, has handled what came
+-- a node that does nothing but use up ids, or begin an epoch, has handled what came
 abbrev pub NothingIsHandled : Type 0
 NothingIsHandled = (fragment : Code) (node : KeptNode) (got : List NamedLetter) (ids : CallIds) → IsLater node.ids ids →
     IsHandled fragment node got (record node { ids = ids }) [] []
 
--- what a node does twice in a row it does at once: the second time it may use what it sent the first time
+-- what a node handles in two steps it has handled in one: in the second step it may also use the letters that it sent
+-- in the first
 abbrev pub TwoAreOne : Type 0
 TwoAreOne = (fragment : Code) (old : KeptNode) (got : List NamedLetter) (middle : KeptNode) (first : List NamedLetter)
     (seen : List Notice) (new : KeptNode) (second : List NamedLetter) (more : List Notice) →
     IsHandled fragment old got middle first seen → IsHandled fragment middle (got ++ first) new second more →
     IsHandled fragment old got new (first ++ second) (seen ++ more)
 
--- letters that have come and are not needed do no harm
+-- a node that has handled some letters has also handled any list that has these among others
 abbrev pub MoreMayCome : Type 0
 MoreMayCome = (fragment : Code) (old : KeptNode) (got more : List NamedLetter) (new : KeptNode)
     (sent : List NamedLetter) (notices : List Notice) →

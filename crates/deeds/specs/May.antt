@@ -10,7 +10,8 @@ use Rattle.local_object.specs.Resent.{IsResent}
 use Rattle.deeds.specs.Named.{NamedLetter, IsOneOf}
 use Rattle.deeds.specs.Deeds.{Deed, after_deed}
 
--- the deed may be done by what the node keeps: the event may happen at the object, or each letter is of a current phase
+-- the deed may be done according to what the node keeps: the event may happen at the object, or each letter is of a
+-- current phase
 abbrev pub MayBeDone : Code → (objects : List ℕ → LocalObject) → Deed → Type 0
 MayBeDone fragment objects (Deed.Does name event) = MayHappenHere fragment (objects name) event
 MayBeDone fragment objects (Deed.Resends name letters) = AllByRecursion (IsResent fragment (objects name)) letters

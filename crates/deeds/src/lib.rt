@@ -1,4 +1,4 @@
-//! What a node does with all its objects, and how that is put together.
+//! What a node does with all its objects, and how the contracts of its functions are put together.
 //!
 //! The definitions, which a reader has to believe, are in `specs/`. Each law is the contract of a function with an
 //! empty body.

@@ -1,5 +1,5 @@
 -- The contracts that docs/trusted.md lists do not depend on this file; other contracts and proofs do.
--- The history of an object, by what clients saw.
+-- The history of an object, made from what clients saw.
 use Rattle.std.specs.Prelude.{◌≡◌, ◌<◌, ℕ, ◌==◌, if◌then◌else◌, Bool, List, [], ◌∷◌, ◌++◌, map, Option, None, Some}
 use Rattle.std.specs.Prelude.{IsSome, slice_get}
 use Rattle.std.specs.List.{filter}
@@ -26,7 +26,7 @@ pub record TimedNotice : Type 0 where
   pub time : ℕ
   pub notice : Notice
 
--- each notice has a greater time than those before it, and than the one that is given
+-- the times rise from notice to notice, and the first one is greater than the given time
 abbrev pub HaveRisingTimes : (time : ℕ) → List TimedNotice → Type 0
 HaveRisingTimes time [] = Unit {0}
 HaveRisingTimes time (notice ∷ notices) = (time < notice.time) × HaveRisingTimes notice.time notices
@@ -35,7 +35,7 @@ HaveRisingTimes time (notice ∷ notices) = (time < notice.time) × HaveRisingTi
 abbrev pub entry_of_begun : (id : ℕ) → Operation → Option (List ℕ) → (time : ℕ) → Entry
 entry_of_begun id kind value time = record { call = id; kind = kind; called = time; answered = None; value = value }
 
--- the entry, with the answer if it is that of its call
+-- the entry, with the answer if this is its call
 abbrev pub told_entry : Ended → (time : ℕ) → Entry → Entry
 told_entry ended time entry =
     if entry.call == ended.id then record entry { answered = Some time; value = ended.value } else entry
@@ -63,7 +63,7 @@ pub record IsAnswered (history : List Entry) (ended : Ended) : Type 0 where
   pub answered : IsSome entry.answered
   pub value : entry.value ≡ ended.value
 
--- the history is the one of these notices, at rising times, and has each answer that clients were told
+-- the history is that of these notices, at rising times, and has each answer that clients were told
 pub record IsHistoryOf (name : List ℕ) (notices : List Notice) (history : List Entry) : Type 0 where
   pub timed : List TimedNotice
   pub those : map (λ timed. timed.notice) timed ≡ notices_about name notices

@@ -1,5 +1,5 @@
 -- The contracts that docs/trusted.md lists do not depend on this file; other contracts and proofs do.
--- The laws: what nodes do with all their objects, each by what it keeps itself, keeps the promise for each object.
+-- The laws: if each node acts by what it keeps itself, all nodes together keep the promise for each object.
 use Rattle.std.specs.Prelude.{◌≡◌, ℕ, List}
 use Rattle.record.specs.declared.call.Entry.{Entry}
 use Rattle.record.specs.Fragments.{Code, IsCode}
@@ -12,15 +12,15 @@ use Rattle.node_runs.specs.Clusters.{NodeCluster}
 use Rattle.node_runs.specs.Premises.{IsReachedCluster}
 use Rattle.node_runs.specs.Histories.{IsHistoryOf}
 
--- the nodes are those of the cluster for the object of this name: each keeps the same of it, each letter about it is
--- one that they sent, and the history is the one of what clients saw
+-- the system has the cluster's nodes for the object of this name: each node keeps the same of the object, each letter
+-- about it is one that the system's nodes sent, and the history is the one of what clients saw
 pub record IsSystemOf (cluster : NodeCluster) (name : List ℕ) (system : System) : Type 0 where
   pub objects : (number : ℕ) → system.objects number ≡ (cluster.nodes number).objects name
   pub letters : (letter : Letter) → IsOneOf cluster.letters (record { name = name; letter = letter }) →
       WasPosted system letter
   pub history : IsHistoryOf name cluster.notices system.history
 
--- for each name, the nodes of a cluster are nodes of one object, and reached
+-- for each name, there is a reached system of nodes for this object, which are the cluster's nodes
 abbrev pub ClustersHaveSystems : Type 0
 ClustersHaveSystems = (fragment : Code) (cluster : NodeCluster) → IsReachedCluster fragment cluster → (name : List ℕ) →
     (system : System) × IsReachedSystem fragment system × IsSystemOf cluster name system

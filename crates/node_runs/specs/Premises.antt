@@ -1,6 +1,6 @@
 -- The contracts that docs/trusted.md lists do not depend on this file; other contracts and proofs do.
--- The premises of the laws: what is assumed of the network, of disks, and of how nodes are set up. Beside these, each
--- node number is used by one process at a time: a cluster has one node for each number.
+-- The premises of the laws: what is assumed of the network, of disks, and of how nodes are set up. Besides these, only
+-- one process at a time uses a node number: a cluster has one node for each number.
 use Rattle.std.specs.Prelude.{◌≡◌, ◌<◌, ℕ, List, [], ◌∷◌}
 use Rattle.std.specs.List.{AllByRecursion}
 use Rattle.layout.specs.Layout.{IsLawful}
@@ -18,8 +18,8 @@ LettersAreAsSent cluster (ClusterEvent.Handles number got after sent notices) =
     AllByRecursion (IsOneOf cluster.letters) got
 LettersAreAsSent cluster (ClusterEvent.Restarts number after) = Unit {0}
 
--- what a node keeps after it stopped and started again: its cluster file and its number are as before, each object is
--- what a log keeps of it, and its calls' ids begin a later epoch
+-- what a node keeps after it has stopped and started again: its cluster file and its number are as before, of each
+-- object it keeps what a log keeps, and its calls' ids begin a later epoch
 pub record IsRestarted (before after : KeptNode) : Type 0 where
   pub file : after.file ≡ before.file
   pub number : after.ids.node ≡ before.ids.node
@@ -37,20 +37,21 @@ IsKeptByItsLog cluster (ClusterEvent.Restarts number after) = IsRestarted (clust
 abbrev pub HaveOneFile : (files : ℕ → FileOfNames) → Type 0
 HaveOneFile files = (number : ℕ) → files number ≡ files 0
 
--- the node does what a node does with letters that have come
+-- the node handles letters that have come, as `IsHandled` says
 abbrev pub IsNodeEvent : Code → NodeCluster → ClusterEvent → Type 0
 IsNodeEvent fragment cluster (ClusterEvent.Handles number got after sent notices) =
     IsHandled fragment (cluster.nodes number) got after sent notices
 IsNodeEvent fragment cluster (ClusterEvent.Restarts number after) = Unit {0}
 
--- these events happen one after another, each by what nodes do, and as assumed of the network and of disks
+-- these events happen one after another: nodes act as `IsHandled` says, and the premises on the network and on disks
+-- hold
 abbrev pub AreNodeEvents : Code → List ClusterEvent → NodeCluster → Type 0
 AreNodeEvents fragment [] cluster = Unit {0}
 AreNodeEvents fragment (event ∷ events) cluster =
     IsNodeEvent fragment cluster event × LettersAreAsSent cluster event × IsKeptByItsLog cluster event
     × AreNodeEvents fragment events (cluster_after cluster event)
 
--- the nodes come to this from new ones, which have one cluster file with lawful layouts
+-- the nodes have reached this state from new ones, which have one cluster file with lawful layouts
 pub record IsReachedCluster (fragment : Code) (cluster : NodeCluster) : Type 0 where
   pub files : (number : ℕ) → FileOfNames
   pub one : HaveOneFile files

@@ -1,8 +1,8 @@
 //! What each run of a cluster of nodes promises.
 ghost use Rattle.node_runs.specs.Laws.{ClustersAreAtomic, ClustersHaveSystems, ClustersKeepValues};
 
-/// A law: whatever nodes do with all their objects, and however often they stop and start again, for each name it is
-/// what nodes do that keep that object alone.
+/// A law: whatever nodes do with all their objects, and however often they stop and start again, for each name they do
+/// what nodes would do that keep that object alone.
 pub fn clusters_have_systems()
     ensures { ClustersHaveSystems }
 {}

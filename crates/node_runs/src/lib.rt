@@ -1,4 +1,4 @@
-//! What all nodes of a cluster do with all their objects keeps the promise for each object.
+//! What all nodes of a cluster do with all their objects, and that it keeps the promise for each object.
 //!
 //! The definitions, which a reader has to believe, are in `specs/`. Each law is the contract of a function with an
 //! empty body.

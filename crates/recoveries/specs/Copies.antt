@@ -10,8 +10,8 @@ use Rattle.refinement.specs.WellFormed.{NodeCallsDiffer}
 use Rattle.deeds.specs.Kept.{KeptNode}
 use Rattle.recoveries.specs.Records.{LogRecord, Recovers}
 
--- the copy has the cluster file, the number and the epoch of the node, and of each object what a restart has to keep;
--- and of the node itself: no two calls of an object have the same id, and only the node that moves objects moves one
+-- the copy has the cluster file, the number and the epoch of the node, and of each object what a restart has to keep.
+-- In the node itself no two calls of an object have the same id, and only the node that moves objects moves one
 pub record IsCopyOf (node copy : KeptNode) : Type 0 where
   pub file : copy.file ≡ node.file
   pub number : copy.ids.node ≡ node.ids.node
@@ -21,18 +21,18 @@ pub record IsCopyOf (node copy : KeptNode) : Type 0 where
   pub distinct : (name : List ℕ) → NodeCallsDiffer (node.objects name).calls
   pub mover : (name : List ℕ) → is_moving (node.objects name) ≡ true → node.ids.node ≡ node.file.mover
 
--- these records are what a log needs of what the node did: a copy of before that carries them out again is a copy of
--- what the node keeps afterwards
+-- these records are enough for what the node did: if a copy of the old node carries them out again, it is a copy of the
+-- new node
 abbrev pub IsLogged : (old : KeptNode) → List LogRecord → (new : KeptNode) → Type 0
 IsLogged old records new =
     (copy copied : KeptNode) → IsCopyOf old copy → Recovers records copy copied → IsCopyOf new copied
 
--- whatever comes of these records, carried out again by a node that kept the first of these, is a copy of the second
+-- these records are enough for what the node keeps: whatever carrying them out again from `first` gives is a copy of it
 abbrev pub IsRecorded : (first : KeptNode) → List LogRecord → (node : KeptNode) → Type 0
 IsRecorded first records node = (copy : KeptNode) → Recovers records first copy → IsCopyOf node copy
 
--- the node heeds a letter about the object of a name: no layout in it is another one than the node has heard of, and
--- the node that moves objects has heard of each
+-- the node heeds a letter about the object of a name: no layout in it differs from the one that the node has heard of,
+-- and the node that moves objects has heard of every layout in it
 pub record IsHeeded (node : KeptNode) (name : List ℕ) (letter : Letter) : Type 0 where
   pub lawful : IsLawful letter.layout
   pub agrees : agrees (node.objects name) letter ≡ true

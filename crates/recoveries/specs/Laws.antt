@@ -1,5 +1,6 @@
 -- The contracts that docs/trusted.md lists do not depend on this file; other contracts and proofs do.
--- The laws: which records a log needs of what a node does, and that a node starts again from them as it has to.
+-- The laws: which records a log needs of what a node does, and that a node which carries them out again has started
+-- again as it has to.
 use Rattle.std.specs.Prelude.{◌≡◌, ℕ, true, false, List, [], ◌∷◌, ◌++◌, None}
 use Rattle.layout.specs.Layout.{Layout}
 use Rattle.local_object.specs.declared.letter.Letter.{Letter}
@@ -39,11 +40,11 @@ MovesAreLogged = (old new : KeptNode) (name : List ℕ) (id : ℕ) (layout : Lay
 
 -- What needs no record
 
--- nothing happens to an object, and ids may be given away
+-- nothing happens to an object; ids may be used up
 abbrev pub SameNeedsNoRecord : Type 0
 SameNeedsNoRecord = (old new : KeptNode) → IsSame old new → IsLogged old [] new
 
--- a letter that is served, where that changes no bank
+-- a letter that is served and changes no bank
 abbrev pub UnchangedNeedsNoRecord : Type 0
 UnchangedNeedsNoRecord = (old new : KeptNode) (name : List ℕ) (letter : Letter) → IsHeeded old name letter →
     IsUnchangedBy (old.objects name) letter → IsDoneTo old name (serve_events (old.objects name) letter) new →
@@ -72,7 +73,7 @@ GivenUpNeedsNoRecord = (old new : KeptNode) (name : List ℕ) (id : ℕ) →
 
 -- Runs
 
--- the records of what a node does twice in a row are those of the first and then those of the second
+-- records that are enough for one thing, and then records that are enough for the next, are enough for both
 abbrev pub TwoAreLogged : Type 0
 TwoAreLogged = (old middle new : KeptNode) (first second : List LogRecord) → IsLogged old first middle →
     IsLogged middle second new → IsLogged old (first ++ second) new
@@ -81,22 +82,22 @@ TwoAreLogged = (old middle new : KeptNode) (first second : List LogRecord) → I
 abbrev pub NewIsRecorded : Type 0
 NewIsRecorded = (file : FileOfNames) (number : ℕ) → IsRecorded (new_node file number) [] (new_node file number)
 
--- a log to which the records of what the node does are added records what the node keeps then
+-- a log that is enough for what a node keeps still is, once the records of what the node does next are added
 abbrev pub MoreIsRecorded : Type 0
 MoreIsRecorded = (first old new : KeptNode) (records more : List LogRecord) → IsRecorded first records old →
     IsLogged old more new → IsRecorded first (records ++ more) new
 
--- a node of which a copy begins an epoch has started again as it has to
+-- if a copy of a node begins an epoch, the node has started again as it has to
 abbrev pub CopiesRestart : Type 0
 CopiesRestart = (before copy after : KeptNode) → IsCopyOf before copy → IsStarted copy after → IsRestarted before after
 
--- what a node carries out again twice in a row it carries out again at once
+-- carrying out two lists of records one after the other is carrying out the joined list
 abbrev pub TwoAreRecovered : Type 0
 TwoAreRecovered = (old middle new : KeptNode) (first second : List LogRecord) → Recovers first old middle →
     Recovers second middle new → Recovers (first ++ second) old new
 
--- a node that carries out all records again, and then begins an epoch, has started again as it has to; and the log, to
--- which the start is added, records what the node keeps then
+-- a node that carries out all records again, and then begins an epoch, has started again as it has to; and the log,
+-- with the start added, is enough for what the node keeps then
 abbrev pub RecoveredNodesRestart : Type 0
 RecoveredNodesRestart = (first before copy after : KeptNode) (records : List LogRecord) →
     IsRecorded first records before → Recovers records first copy → IsStarted copy after →

@@ -1,5 +1,5 @@
 -- The contracts that docs/trusted.md lists do not depend on this file; other contracts and proofs do.
--- What the log of a node records, and what the node keeps after it carried the records out again.
+-- What the log of a node records, and what the node keeps after it has carried the records out again.
 use Rattle.std.specs.Prelude.{◌≡◌, ◌<◌, ◌^◌, ℕ, suc, List, [], ◌∷◌}
 use Rattle.layout.specs.Layout.{Layout}
 use Rattle.call_ids.specs.CallId.{with_next_epoch}
@@ -12,21 +12,22 @@ use Rattle.local_object.specs.Taking.{IsTaken}
 use Rattle.deeds.specs.Kept.{KeptNode}
 use Rattle.deeds.specs.Named.{with_named}
 
--- what a log records: an epoch of ids began, or the object of a name served a letter, took one, or began a move
+-- what a log records: an epoch of ids began, or an object, which the record names, served a letter, took one, or began
+-- a move
 pub data LogRecord : Type 0 where
   Starts : LogRecord
   Serves : (name : List ℕ) → Letter → LogRecord
   Takes : (name : List ℕ) → Letter → LogRecord
   Moves : (name : List ℕ) → (id : ℕ) → Layout → LogRecord
 
--- a node keeps the same of all objects as another, has the same cluster file and number, and is in the same epoch
+-- a node keeps the same of all objects as before, with the same cluster file and number, in the same epoch
 pub record IsSame (old new : KeptNode) : Type 0 where
   pub file : new.file ≡ old.file
   pub node : new.ids.node ≡ old.ids.node
   pub epoch : new.ids.epoch ≡ old.ids.epoch
   pub objects : (name : List ℕ) → new.objects name ≡ old.objects name
 
--- the node keeps this under a name, and else the same as before, in the same epoch
+-- the node keeps this under a name, and otherwise the same as before, in the same epoch
 pub record IsKeptUnder (old : KeptNode) (name : List ℕ) (local : LocalObject) (new : KeptNode) : Type 0 where
   pub file : new.file ≡ old.file
   pub node : new.ids.node ≡ old.ids.node
@@ -48,7 +49,7 @@ pub record IsTakenBy (old : KeptNode) (name : List ℕ) (letter : Letter) (new :
   pub taken : IsTaken (is_taken (old.objects name) letter) (old.objects name) letter local sent ended
   pub put : IsKeptUnder old name local new
 
--- the node began an epoch, as there was one more
+-- the node began the next epoch, since there was one
 pub record IsStarted (old new : KeptNode) : Type 0 where
   pub file : new.file ≡ old.file
   pub more : suc old.ids.epoch < 2 ^ 24

@@ -1,5 +1,5 @@
 -- The contracts that docs/trusted.md lists do not depend on this file; other contracts and proofs do.
--- A node that stops in the middle of what it does, when its log has only the first of the records.
+-- A node that stops before it has done everything, when its log has only the first of the records.
 use Rattle.std.specs.Prelude.{◌≡◌, List, [], ◌∷◌, ◌++◌}
 use Rattle.record.specs.Fragments.{Code}
 use Rattle.deeds.specs.Deeds.{Notice}
@@ -11,7 +11,7 @@ use Rattle.node_runs.specs.Premises.{IsRestarted}
 use Rattle.recoveries.specs.Copies.{IsLogged, IsRecorded}
 use Rattle.recoveries.specs.Records.{IsStarted, LogRecord, Recovers}
 
--- on its way the node came to something of which these are the records
+-- the node could have reached, on its way, a state for which these records are enough
 pub record IsOnTheWay (fragment : Code) (old : KeptNode) (got : List NamedLetter)
     (records : List LogRecord) : Type 0 where
   pub middle : KeptNode
@@ -20,7 +20,8 @@ pub record IsOnTheWay (fragment : Code) (old : KeptNode) (got : List NamedLetter
   pub handled : IsHandled fragment old got middle sent notices
   pub logged : IsLogged old records middle
 
--- the node handled letters, these are the records of it, and so it is for each first part of the records
+-- the node handled letters, these records are enough for that, and each beginning of the records is enough for a state
+-- that the node could have reached on the way
 pub record IsHandledSafely (fragment : Code) (old : KeptNode) (got : List NamedLetter) (records : List LogRecord)
     (new : KeptNode) (sent : List NamedLetter) (notices : List Notice) : Type 0 where
   pub handled : IsHandled fragment old got new sent notices
@@ -39,7 +40,7 @@ OneRecordIsSafe = (fragment : Code) (old new : KeptNode) (got sent : List NamedL
     (one : LogRecord) → IsLater old.ids old.ids → IsHandled fragment old got new sent notices →
     IsLogged old (one ∷ []) new → IsHandledSafely fragment old got (one ∷ []) new sent notices
 
--- what a node handles safely twice in a row it handles safely at once
+-- two things that a node handles safely, one after the other, it handles safely together
 abbrev pub TwoAreSafe : Type 0
 TwoAreSafe = (fragment : Code) (old middle new : KeptNode) (got first second : List NamedLetter)
     (records more : List LogRecord) (seen later : List Notice) →
@@ -54,8 +55,8 @@ MoreIsSafe = (fragment : Code) (old new : KeptNode) (got more sent : List NamedL
     IsHandledSafely fragment old got records new sent notices →
     IsHandledSafely fragment old more records new sent notices
 
--- a node that stopped on the way, and starts again from the records that its log has, had handled letters up to
--- something from which it has started again as it has to
+-- if a node stopped on the way, and starts again from the records that its log has, it is as if it had handled letters
+-- up to some state, and had started again from there as it has to
 abbrev pub StoppedNodesRestart : Type 0
 StoppedNodesRestart = (fragment : Code) (begin old copy after : KeptNode) (got : List NamedLetter)
     (records first : List LogRecord) → IsRecorded begin records old → IsOnTheWay fragment old got first →

@@ -1,4 +1,4 @@
-//! What the log of a node gives back, and which records it needs for that.
+//! What a node gets back from its log, and which records the log needs for that.
 //!
 //! The definitions, which a reader has to believe, are in `specs/`. Each law is the contract of a function with an
 //! empty body.

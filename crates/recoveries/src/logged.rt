@@ -1,22 +1,22 @@
 //! What a node does that its log has to record.
 ghost use Rattle.recoveries.specs.Laws.{MovesAreLogged, ServedIsLogged, StartsAreLogged, TakenIsLogged};
 
-/// A law: an epoch that begins is recorded.
+/// A law: for an epoch that begins, the record `Starts` is enough.
 pub fn starts_are_logged()
     ensures { StartsAreLogged }
 {}
 
-/// A law: a letter that is served may be recorded, and has to be where it changes a bank.
+/// A law: for a letter that the node heeds and serves, the record `Serves` is enough.
 pub fn served_is_logged()
     ensures { ServedIsLogged }
 {}
 
-/// A law: a reply to an open move is recorded.
+/// A law: for a reply that an open move takes, the record `Takes` is enough.
 pub fn taken_is_logged()
     ensures { TakenIsLogged }
 {}
 
-/// A law: a move that begins is recorded.
+/// A law: for a move that begins, the record `Moves` is enough.
 pub fn moves_are_logged()
     ensures { MovesAreLogged }
 {}

@@ -2,33 +2,35 @@
 ghost use Rattle.recoveries.specs.Laws.{CopiesRestart, MoreIsRecorded, NewIsRecorded, RecoveredNodesRestart};
 ghost use Rattle.recoveries.specs.Laws.{TwoAreLogged, TwoAreRecovered};
 
-/// A law: the records of what a node does twice in a row are those of the first and then those of the second.
+/// A law: records that are enough for one thing that a node does, and then records that are enough for the next, are
+/// enough for both.
 pub fn two_are_logged()
     ensures { TwoAreLogged }
 {}
 
-/// A law: what a node carries out again twice in a row it carries out again at once.
+/// A law: carrying out two lists of records one after the other is carrying out the joined list.
 pub fn two_are_recovered()
     ensures { TwoAreRecovered }
 {}
 
-/// A law: a new node needs no records.
+/// A law: for a new node, the empty log is enough.
 pub fn new_is_recorded()
     ensures { NewIsRecorded }
 {}
 
-/// A law: a log to which the records of what the node does are added records what the node keeps then.
+/// A law: if a log is enough for what a node keeps, it still is after the node does something and adds the records of
+/// that.
 pub fn more_is_recorded()
     ensures { MoreIsRecorded }
 {}
 
-/// A law: a node of which a copy begins an epoch has started again as it has to.
+/// A law: if a copy of a node begins an epoch, the node has started again as `IsRestarted` says.
 pub fn copies_restart()
     ensures { CopiesRestart }
 {}
 
-/// A law: a node that carries out all records of its log again, and then begins an epoch, has started again as it has
-/// to, and its log records what it keeps then.
+/// A law: a node that carries out all records of its log again, and then begins an epoch, has started again as
+/// `IsRestarted` says, and its log is enough for what it keeps then.
 pub fn recovered_nodes_restart()
     ensures { RecoveredNodesRestart }
 {}

@@ -1,4 +1,4 @@
-//! A node that stops in the middle of what it does.
+//! A node that stops before it has done everything.
 ghost use Rattle.recoveries.specs.Stops.{MoreIsSafe, OneRecordIsSafe, StoppedNodesRestart, TwoAreSafe};
 ghost use Rattle.recoveries.specs.Stops.{UnloggedIsSafe};
 
@@ -12,7 +12,7 @@ pub fn one_record_is_safe()
     ensures { OneRecordIsSafe }
 {}
 
-/// A law: what a node handles safely twice in a row it handles safely at once.
+/// A law: two things that a node handles safely, one after the other, it handles safely together.
 pub fn two_are_safe()
     ensures { TwoAreSafe }
 {}
@@ -22,8 +22,8 @@ pub fn more_is_safe()
     ensures { MoreIsSafe }
 {}
 
-/// A law: a node that stopped before all of its records were written starts again as it has to, after it had handled a
-/// part of what came.
+/// A law: if a node stops before all of its records were written, it is as if it had handled a part of what came, and
+/// had then started again as `IsRestarted` says.
 pub fn stopped_nodes_restart()
     ensures { StoppedNodesRestart }
 {}

@@ -2,32 +2,32 @@
 ghost use Rattle.recoveries.specs.Laws.{GivenUpNeedsNoRecord, ReadsNeedNoRecord, SameNeedsNoRecord};
 ghost use Rattle.recoveries.specs.Laws.{TakenNeedsNoRecord, UnchangedNeedsNoRecord, WritesNeedNoRecord};
 
-/// A law: where nothing happens to an object, nothing is recorded, also if ids are given away.
+/// A law: if nothing happens to an object, no record is needed, even if ids are used up.
 pub fn same_needs_no_record()
     ensures { SameNeedsNoRecord }
 {}
 
-/// A law: a letter that is served and changes no bank need not be recorded.
+/// A law: no record is needed for a letter that the node serves, if it changes no bank.
 pub fn unchanged_needs_no_record()
     ensures { UnchangedNeedsNoRecord }
 {}
 
-/// A law: a reply to a read or a write need not be recorded, and neither one to a call that is not open here.
+/// A law: no record is needed for a reply to a read or a write, or to a call that is not open here.
 pub fn taken_needs_no_record()
     ensures { TakenNeedsNoRecord }
 {}
 
-/// A law: a read that begins need not be recorded.
+/// A law: no record is needed for a read that begins.
 pub fn reads_need_no_record()
     ensures { ReadsNeedNoRecord }
 {}
 
-/// A law: a write that begins need not be recorded.
+/// A law: no record is needed for a write that begins.
 pub fn writes_need_no_record()
     ensures { WritesNeedNoRecord }
 {}
 
-/// A law: a call that is given up need not be recorded.
+/// A law: no record is needed for a call that is given up.
 pub fn given_up_needs_no_record()
     ensures { GivenUpNeedsNoRecord }
 {}

@@ -9,8 +9,9 @@ use Rattle.local_object.specs.declared.letter.Letter.{Letter}
 use Rattle.local_object.specs.Local.{LocalObject, layout_here, bank_here}
 
 -- what the node keeps of the object is its part of the world: it has the delta of its cluster file; it has heard of
--- position 0, and the layouts that it has heard of are the world's; each bank that a layout gives to the node is the
--- one it keeps; its calls are those that it carries out; and if it moves objects, it has heard of all positions
+-- position 0, and the layouts that it has heard of are the world's; it keeps each bank that a layout gives it as the
+-- world has it; its calls are those that it carries out in the world; and if it moves objects, it has heard of all
+-- positions
 pub record IsPartOf (world : World) (local : LocalObject) : Type 0 where
   pub delta : local.delta ≡ (world.files local.node).delta
   pub layouts : (position : ℕ) (layout : Layout) → layout_here local position ≡ Some layout →

@@ -1,5 +1,5 @@
 -- The contracts that docs/trusted.md lists do not depend on this file; other contracts and proofs do.
--- Which events of the world a node's event is, and when the world after them is what the node and the others see.
+-- Which events of the world an event at a node is, and when the world after them agrees with what all nodes keep.
 use Rattle.std.specs.Prelude.{slice_get, ◌≡◌, ◌≢◌, ◌+◌, ℕ, List, [], ◌∷◌, ◌++◌, length, map, Option, None, Some, IsSome}
 use Rattle.std.specs.List.{AllByRecursion, filter}
 use Rattle.layout.specs.Layout.{Layout}
@@ -23,8 +23,8 @@ abbrev pub if_carried : Option NodeCall → Event → List Event
 if_carried None event = []
 if_carried (Some call) event = event ∷ []
 
--- the events of the world that a node's event is: one, or none where the node takes a reply to a call, or gives a call
--- up, that it does not carry out
+-- the events of the world that an event at a node is: one; or none if the node takes a reply to a call that it does not
+-- carry out, or gives such a call up
 abbrev pub world_events : LocalObject → LocalEvent → List Event
 world_events local (LocalEvent.BeginRead id) = Event.BeginRead local.node id ∷ []
 world_events local (LocalEvent.BeginWrite id value) = Event.BeginWrite local.node id value ∷ []
@@ -37,7 +37,7 @@ world_events local (LocalEvent.Settle id value) = Event.Settle id value ∷ []
 world_events local (LocalEvent.Answer id) = Event.Answer id ∷ []
 world_events local (LocalEvent.GiveUp id) = if_carried (open_call local.calls id) (Event.GiveUp id)
 
--- what is assumed of an event at a node: a letter came as it was sent, the id of a call is new, and only the node that
+-- what is assumed of an event at a node: a letter is one that was sent, the id of a call is new, and only the node that
 -- moves objects begins a move
 abbrev pub IsPremisedHere : World → LocalObject → LocalEvent → Type 0
 IsPremisedHere world local (LocalEvent.BeginRead id) = IsUnused world id
@@ -75,8 +75,8 @@ history_after local _ now history = history
 
 -- Refinement
 
--- these events may happen in the world, and lead to one that is well formed, in which what the node keeps afterwards is
--- its part, and in which its letters were sent; the parts of other nodes and the letters of before stay what they are
+-- these events may happen in the world, and lead to a well-formed world of which what the node keeps afterwards is its
+-- part, and in which its letters were sent; what other nodes keep and the letters from before remain parts of the world
 pub record IsRefined (fragment : Code) (world : World) (events : List Event) (after : Outcome) : Type 0 where
   pub may : MayHappenInTurn fragment events world
   pub formed : IsWellFormed fragment (world_after fragment events world)
@@ -90,9 +90,9 @@ pub record IsRefined (fragment : Code) (world : World) (events : List Event) (af
 
 -- Restarts
 
--- what a node keeps after it stopped and started again from its log: its moves, the banks that layouts give to it (one
--- that was only opened need not be opened yet), and the layouts of some positions, among them position 0, and of all
--- that it had heard of if it moves objects
+-- what a node keeps after it has stopped and started again from its log: its moves; the banks that layouts give it (one
+-- that was only opened may not be there); and the layouts of some positions, among them position 0 and, if it moves
+-- objects, all that it had heard of
 pub record IsKeptHere (moves : Type 0) (before after : LocalObject) : Type 0 where
   pub node : after.node ≡ before.node
   pub delta : after.delta ≡ before.delta

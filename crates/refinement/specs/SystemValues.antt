@@ -1,5 +1,5 @@
 -- The contracts that docs/trusted.md lists do not depend on this file; other contracts and proofs do.
--- Which values tags have, by the history of the calls, and that the nodes keep and send fragments of these.
+-- Which values tags have according to the history of the calls, and that nodes keep and send fragments of these values.
 use Rattle.std.specs.Prelude.{◌≡◌, ◌<◌, ◌⊎◌, ℕ, List, [], Option, Some, IsSome, slice_get}
 use Rattle.std.specs.List.{AllByRecursion}
 use Rattle.tag.specs.declared.tag.Tag.{Tag}
@@ -25,7 +25,7 @@ pub record IsWriteIn (history : List Entry) (id : ℕ) (value : List ℕ) : Type
   pub kind : entry.kind ≡ operation.Write
   pub writes : entry.value ≡ Some value
 
--- the value of a tag: the empty value for the opening tag, and for a tag with a greater number that of the write with
+-- the value of a tag: the empty value for the opening tag; for a tag with a greater number, the value of the write with
 -- the tag's id
 abbrev pub IsValueIn : List Entry → Tag → List ℕ → Type 0
 IsValueIn history tag value =
@@ -55,7 +55,8 @@ pub record KeepsValuesIn (fragment : Code) (system : System) : Type 0 where
 abbrev pub told_value : NodeCall → Option (List ℕ)
 told_value call = entry_value call.kind (Some 0) call.settled
 
--- the history has the answer of the call at this event, with what the client is told; and so does each entry of its id
+-- the history has the answer of the call at this event, with what the client is told; and each entry with its id has
+-- this answer
 pub record HasAnswer (history : List Entry) (call : NodeCall) (now : ℕ) : Type 0 where
   pub place : ℕ
   pub entry : Entry

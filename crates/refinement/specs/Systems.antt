@@ -1,5 +1,5 @@
 -- The contracts that docs/trusted.md lists do not depend on this file; other contracts and proofs do.
--- All nodes of a cluster for one object, each by what it keeps itself, and what may happen to them.
+-- All nodes of a cluster for one object, each with what it keeps itself, and what may happen to them.
 use Rattle.std.specs.Prelude.{◌≡◌, ◌≢◌, ◌+◌, ℕ, suc, ◌==◌, if◌then◌else◌, Some, slice_get}
 use Rattle.std.specs.Prelude.{List, [], ◌∷◌, ◌++◌, length, map}
 use Rattle.std.specs.List.{AllByRecursion}
@@ -69,7 +69,7 @@ WasPosted system letter = (place : ℕ) × (slice_get system.letters place ≡ S
 abbrev pub IsFree : System → (id : ℕ) → Type 0
 IsFree system id = AllByRecursion (λ entry. entry.call ≢ id) system.history
 
--- what is assumed of an event at a node: a letter came as it was sent, the id of a call is new, and only the node that
+-- what is assumed of an event at a node: a letter is one that was sent, the id of a call is new, and only the node that
 -- moves objects begins a move
 abbrev pub IsPremisedIn : System → (node : ℕ) → LocalEvent → Type 0
 IsPremisedIn system node (LocalEvent.BeginRead id) = IsFree system id
@@ -80,8 +80,8 @@ IsPremisedIn system node (LocalEvent.Serve letter) = WasPosted system letter
 IsPremisedIn system node (LocalEvent.Take letter) = WasPosted system letter
 IsPremisedIn system node _ = Unit {0}
 
--- the event may happen, and is as assumed: a node sends again only letters of the current phases of its calls, and one
--- that starts again keeps what its log keeps
+-- the event may happen, and meets the premises: a node sends again only letters of the current phases of its calls, and
+-- a node that starts again keeps what its log keeps
 abbrev pub MayHappenIn : Code → System → SystemEvent → Type 0
 MayHappenIn fragment system (SystemEvent.Acts node event) =
     MayHappenHere fragment (system.objects node) event × IsPremisedIn system node event
@@ -101,7 +101,7 @@ MayRunIn fragment [] system = Unit {0}
 MayRunIn fragment (event ∷ events) system =
     MayHappenIn fragment system event × MayRunIn fragment events (system_after fragment system event)
 
--- the nodes come to this from an opened system, with one lawful cluster file, by events that may happen
+-- the nodes have reached this state from an opened system with one lawful cluster file, by events that may happen
 pub record IsReachedSystem (fragment : Code) (system : System) : Type 0 where
   pub files : (node : ℕ) → ClusterFile
   pub one : IsOneFile files
@@ -121,14 +121,14 @@ pub record IsWorldOf (world : World) (system : System) : Type 0 where
 
 -- What a node does in a row
 
--- each of these events at a node is as assumed when its turn comes
+-- each of these events at a node meets the premises when its turn comes
 abbrev pub ArePremisedIn : Code → System → (node : ℕ) → List LocalEvent → Type 0
 ArePremisedIn fragment system node [] = Unit {0}
 ArePremisedIn fragment system node (event ∷ events) =
     IsPremisedIn system node event
     × ArePremisedIn fragment (system_after fragment system (SystemEvent.Acts node event)) node events
 
--- the node may do these things one after another, and then it keeps this, these letters are sent beside those of
+-- the node may do these things one after another; then it keeps this, these letters were sent besides those from
 -- before, and other nodes keep what they kept
 pub record IsDoneIn (fragment : Code) (system : System) (node : ℕ) (events : List LocalEvent)
     (after : Outcome) : Type 0 where

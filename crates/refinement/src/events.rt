@@ -1,8 +1,8 @@
 //! Each event at a node is an event of the world.
 ghost use Rattle.refinement.specs.Laws.{LocalEventsAreWorldEvents, ResentLettersWereSent, RestartsAreWorldEvents};
 
-/// A law: what a node does by what it keeps, the events of the world do too, or there is no event and nothing else
-/// changes.
+/// A law: what a node does, by what it keeps itself, is what events of the world do; or there is no event, and nothing
+/// else changes.
 pub fn local_events_are_world_events()
     ensures { LocalEventsAreWorldEvents }
 {}

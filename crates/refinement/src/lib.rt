@@ -1,4 +1,4 @@
-//! What separate nodes do by themselves, each by what it keeps, are events of the world of all nodes.
+//! What separate nodes do, each by what it keeps itself, are events of the world of all nodes.
 //!
 //! The definitions, which a reader has to believe, are in `specs/`. Each law is the contract of a function with an
 //! empty body.

@@ -1,9 +1,9 @@
-//! What each world that is reached promises holds of all nodes.
+//! What worlds promise holds of all nodes together.
 ghost use Rattle.refinement.specs.Laws.{AnsweredReadsHaveValues, AnswersAreInHistory, EventsInARowAreEvents};
 ghost use Rattle.refinement.specs.Laws.{SystemsAreAtomic, SystemsHaveWorlds, SystemsKeepValues};
 
-/// A law: whatever nodes do, and however often they stop and start again, there is a world that is reached, of which
-/// what each node keeps is its part.
+/// A law: whatever nodes do, and however often they stop and start again, there is a reached world of which each node
+/// keeps its part.
 pub fn systems_have_worlds()
     ensures { SystemsHaveWorlds }
 {}
@@ -29,8 +29,8 @@ pub fn answers_are_in_history()
     ensures { AnswersAreInHistory }
 {}
 
-/// A law: what a node does in a row, each thing allowed by what it keeps then, are events of all nodes. They lead to
-/// what the node keeps and sends by itself.
+/// A law: several things that a node does in a row, each allowed by what it keeps at that moment, are events of all
+/// nodes. They lead to what the node itself keeps and sends.
 pub fn events_in_a_row_are_events()
     ensures { EventsInARowAreEvents }
 {}
