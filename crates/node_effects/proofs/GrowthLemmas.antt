@@ -1,5 +1,5 @@
 -- How what a node has to do grows.
-use Rattle.std.proofs.Common.{◌≡◌, List, [], ◌∷◌, ◌++◌, refl, sym, subst, ap, ◌∙◌}
+use Rattle.std.proofs.Common.{◌≡◌, List, ◌++◌, sym, subst, ap, ◌∙◌}
 use Rattle.std.proofs.lemmas.List.{append-nil, append_assoc}
 use Rattle.node_effects.specs.Work.{Growth, IsGrown, both_grown, no_growth}
 use Rattle.node_effects.specs.declared.work.Work.{Work}

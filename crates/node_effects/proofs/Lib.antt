@@ -1,1 +1,2 @@
 pub mod GrowthLemmas
+pub mod ErrorLemmas

@@ -24,18 +24,33 @@ pub enum NodeError {
 }
 
 impl From<AllocError> for NodeError {
+    ghost use Rattle.std.specs.Prelude.{◌≡◌};
+    ghost use Rattle.node_effects.specs.declared.error.NodeError.TheVariants.{NoMemory};
+
+    ghost from_gives = { λ _ error. error ≡ NoMemory };
+
     fn from(_error: AllocError) -> NodeError {
         NodeError::NoMemory
     }
 }
 
 impl<T: Drop> From<AllocFailed<T>> for NodeError {
+    ghost use Rattle.std.specs.Prelude.{◌≡◌};
+    ghost use Rattle.node_effects.specs.declared.error.NodeError.TheVariants.{NoMemory};
+
+    ghost from_gives = { λ _ error. error ≡ NoMemory };
+
     fn from(_error: AllocFailed<T>) -> NodeError {
         NodeError::NoMemory
     }
 }
 
 impl From<MessageError> for NodeError {
+    ghost use Rattle.std.specs.Prelude.{◌≡◌};
+    ghost use Rattle.node_effects.specs.Errors.{error_of_message};
+
+    ghost from_gives = { λ error same. same ≡ error_of_message error };
+
     fn from(error: MessageError) -> NodeError {
         match error {
             MessageError::NoMemory => NodeError::NoMemory,
@@ -45,6 +60,11 @@ impl From<MessageError> for NodeError {
 }
 
 impl From<FrameError> for NodeError {
+    ghost use Rattle.std.specs.Prelude.{◌≡◌};
+    ghost use Rattle.node_effects.specs.Errors.{error_of_frame};
+
+    ghost from_gives = { λ error same. same ≡ error_of_frame error };
+
     fn from(error: FrameError) -> NodeError {
         match error {
             FrameError::NoMemory => NodeError::NoMemory,
@@ -54,6 +74,11 @@ impl From<FrameError> for NodeError {
 }
 
 impl From<Refusal> for NodeError {
+    ghost use Rattle.std.specs.Prelude.{◌≡◌};
+    ghost use Rattle.node_effects.specs.Errors.{error_of_refusal};
+
+    ghost from_gives = { λ refusal same. same ≡ error_of_refusal refusal };
+
     fn from(refusal: Refusal) -> NodeError {
         match refusal {
             Refusal::NoMemory => NodeError::NoMemory,
@@ -83,6 +108,11 @@ pub enum RecoveryError {
 }
 
 impl From<NodeError> for RecoveryError {
+    ghost use Rattle.std.specs.Prelude.{◌≡◌};
+    ghost use Rattle.node_effects.specs.declared.error.RecoveryError.TheVariants.{Stopped};
+
+    ghost from_gives = { λ error same. same ≡ Stopped error };
+
     fn from(error: NodeError) -> RecoveryError {
         RecoveryError::Stopped(error)
     }

@@ -1,9 +1,12 @@
 //! What a node has still to do.
-ghost use Rattle.std.specs.Prelude.{◌≡◌, ◌∷◌, ◌++◌, [], OnOk, IfOk};
-ghost use Rattle.node_log.specs.Entry.{sealed};
+ghost use Rattle.std.specs.Prelude.{◌≡◌, ◌∷◌, ◌++◌, [], IfErr, IfOk, MatchResult, OnOk};
+ghost use Rattle.frames.specs.Frame.{IsFrame};
+ghost use Rattle.node_log.specs.Entry.{IsEntry, sealed};
 ghost use Rattle.node_strings.specs.Arrival.{client_address, node_address};
 ghost use Rattle.node_strings.specs.Record.{record_strings};
 ghost use Rattle.client_commands.specs.Answers.{sent_strings};
+ghost use Rattle.node_effects.specs.Errors.{WritesOrFails};
+ghost use Rattle.node_effects.specs.declared.error.NodeError.TheVariants.{NoMemory, Unwritable};
 ghost use Rattle.node_effects.specs.Work.{IsEmpty, IsGrown, one_due, one_entry, one_notice, one_own};
 ghost use Rattle.node_effects.specs.Work.{to_client, to_node};
 ghost use Rattle.node_effects.specs.Work.{IsDueTaken, IsOwnTaken};
@@ -59,7 +62,8 @@ impl Work {
     /// The entry that records this goes to the log. `NoMemory`, and `Unwritable` where the strings are too many or too
     /// long for an entry.
     pub fn log(&mut self, it: &Record) -> Result<(), NodeError>
-        ensures { OnOk result (IsGrown self.old self.new (one_entry (sealed (record_strings it.now)))) }
+        ensures grown { OnOk result (IsGrown self.old self.new (one_entry (sealed (record_strings it.now)))) }
+        ensures writes { WritesOrFails (IsEntry (record_strings it.now)) result }
     {
         let entry = Entry::new(self.alloc, record_strings(self.alloc, it)?)?;
         self.entries.push(entry)?;
@@ -68,7 +72,8 @@ impl Work {
 
     /// A frame goes to another node. `NoMemory`, and `Unwritable` where the frame has `MOST_STRINGS` strings.
     pub fn send(&mut self, node: u8, frame: Frame) -> Result<(), NodeError>
-        ensures { OnOk result (IsGrown self.old self.new (to_node (node_address node ∷ frame))) }
+        ensures grown { OnOk result (IsGrown self.old self.new (to_node (node_address node ∷ frame))) }
+        ensures writes { WritesOrFails (IsFrame (node_address node ∷ frame)) result }
     {
         let mut strings = frame.into_strings();
         strings.insert(0, node_address(self.alloc, node)?)?;
@@ -77,9 +82,12 @@ impl Work {
         Ok(())
     }
 
-    /// An answer goes to a client. `NoMemory`.
+    /// An answer goes to a client. `NoMemory`, and `Unwritable` where the answer has a value longer than a string of a
+    /// frame.
     pub fn answer(&mut self, client: ConnectionId, answer: Answer) -> Result<(), NodeError>
-        ensures { OnOk result (IsGrown self.old self.new (to_client (client_address client ∷ sent_strings answer))) }
+        ensures grown { OnOk result
+            (IsGrown self.old self.new (to_client (client_address client ∷ sent_strings answer))) }
+        ensures writes { WritesOrFails (IsFrame (client_address client ∷ sent_strings answer)) result }
     {
         let mut strings = Vec::new(self.alloc);
         strings.push(client_address(self.alloc, client)?)?;
@@ -91,18 +99,20 @@ impl Work {
 
     /// The host closes a client's connection, behind what was written. `NoMemory`.
     pub fn close(&mut self, client: ConnectionId) -> Result<(), NodeError>
-        ensures { OnOk result (IsGrown self.old self.new (to_client (client_address client ∷ []))) }
+        ensures grown { OnOk result (IsGrown self.old self.new (to_client (client_address client ∷ []))) }
+        ensures refused { IfErr result (λ e. e ≡ NoMemory) }
     {
-        let mut strings = Vec::new(self.alloc);
-        strings.push(client_address(self.alloc, client)?)?;
-        let frame = frame_of(strings)?;
+        let mut address = Vec::new(self.alloc);
+        address.push(client_address(self.alloc, client)?)?;
+        let frame = frame_of(address)?;
         self.to_clients.push(frame)?;
         Ok(())
     }
 
     /// Clients see this. `NoMemory`.
     pub fn note(&mut self, notice: Notice) -> Result<(), NodeError>
-        ensures { OnOk result (IsGrown self.old self.new (one_notice notice)) }
+        ensures grown { OnOk result (IsGrown self.old self.new (one_notice notice)) }
+        ensures refused { IfErr result (λ e. e ≡ NoMemory) }
     {
         self.notices.push(notice)?;
         Ok(())
@@ -110,7 +120,8 @@ impl Work {
 
     /// A letter of the node to itself waits. `NoMemory`.
     pub fn keep(&mut self, letter: NamedLetter) -> Result<(), NodeError>
-        ensures { OnOk result (IsGrown self.old self.new (one_own letter)) }
+        ensures grown { OnOk result (IsGrown self.old self.new (one_own letter)) }
+        ensures refused { IfErr result (λ e. e ≡ NoMemory) }
     {
         self.own.push_back(letter)?;
         Ok(())
@@ -118,7 +129,8 @@ impl Work {
 
     /// The next command of a connection is due. `NoMemory`.
     pub fn make_due(&mut self, client: ConnectionId) -> Result<(), NodeError>
-        ensures { OnOk result (IsGrown self.old self.new (one_due client)) }
+        ensures grown { OnOk result (IsGrown self.old self.new (one_due client)) }
+        ensures refused { IfErr result (λ e. e ≡ NoMemory) }
     {
         self.due.push_back(client)?;
         Ok(())
@@ -144,6 +156,7 @@ impl Work {
         ensures entries { IfOk result (λ effects. effects.entries.items ≡ self.entries.items) }
         ensures frames { IfOk result (λ effects. effects.frames.items ≡ self.to_nodes.items ++ self.to_clients.items) }
         ensures notices { IfOk result (λ effects. effects.notices.items ≡ self.notices.items) }
+        ensures refused { IfErr result (λ e. e ≡ NoMemory) }
     {
         let Work {
             entries,
@@ -165,7 +178,9 @@ impl Work {
 
 // The frame of these strings.
 fn frame_of(strings: Vec<Bytes>) -> Result<Frame, NodeError>
-    ensures { IfOk result (λ frame. frame ≡ strings.items) }
+    ensures made { IfOk result (λ frame. frame ≡ strings.items) }
+    ensures refused { MatchResult result (λ _. IsFrame strings.items)
+        (λ e. (e ≡ Unwritable) × (IsFrame strings.items → ⊥)) }
 {
     match Frame::new(strings) {
         Ok(frame) => Ok(frame),

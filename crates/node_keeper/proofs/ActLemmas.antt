@@ -22,8 +22,8 @@ use Rattle.node_effects.specs.declared.work.Work.{Work}
 use Rattle.node_effects.proofs.GrowthLemmas.{grown_then}
 use Rattle.node_keeper.specs.Acts.{Acts}
 use Rattle.node_keeper.specs.Keeping.{kept_of}
-use Rattle.node_keeper.specs.Logging.{IsReadBack, entry_of}
-use Rattle.node_keeper.specs.Sendings.{IsAddressed, Sending, letters_of, posted, to_itself}
+use Rattle.node_keeper.specs.Logging.{IsReadBack, log_entry_of}
+use Rattle.node_keeper.specs.Sendings.{IsDirected, Sending, letters_of, posted, to_itself}
 use Rattle.node_keeper.specs.declared.keeper.Keeper.{Keeper}
 use Rattle.node_keeper.proofs.IdLemmas.{handled_within}
 use Rattle.node_keeper.proofs.SendingLemmas.{letters_append, posted_append, to_itself_append}
@@ -82,7 +82,7 @@ acts_rest asker got keeper before after growth grown entries to_nodes own notice
 -- what a node does twice in a row it does at once, where the second time it uses what had come, or what it sent
 pub acts_then : (asker other : ℕ) (got more : List Named) (a b c : Keeper) (u v w : Work) →
     (first : Acts asker got a u b v) → Acts other more b v c w →
-    ((send : Sending) → IsAddressed a.ids.node other send → IsAddressed a.ids.node asker send) →
+    ((send : Sending) → IsDirected a.ids.node other send → IsDirected a.ids.node asker send) →
     ((letter : Named) → IsOneOf more letter → IsOneOf (got ++ letters_of first.sends) letter) →
     Acts asker got a u c w
 acts_then asker other got more a b c u v w first second addressed among =
@@ -94,9 +94,9 @@ acts_then asker other got more a b c u v w first second addressed among =
       growth = both_grown f s;
       grown = grown_then u v w f s first.grown second.grown;
       entries = ap (λ xs. xs ++ s.entries) first.entries
-          ∙ ap (λ xs. map (entry_of a.digest) first.records ++ xs) (second.entries
-          ∙ ap (λ d. map (entry_of d) second.records) first.digest)
-          ∙ sym (map-append (entry_of a.digest) first.records second.records);
+          ∙ ap (λ xs. map (log_entry_of a.digest) first.records ++ xs) (second.entries
+          ∙ ap (λ d. map (log_entry_of d) second.records) first.digest)
+          ∙ sym (map-append (log_entry_of a.digest) first.records second.records);
       read = all_append (IsReadBack a.digest) first.records second.records first.read
           (subst (λ d. AllByRecursion (IsReadBack d) second.records) first.digest second.read);
       to_nodes = ap (λ xs. xs ++ s.to_nodes) first.to_nodes
@@ -106,9 +106,9 @@ acts_then asker other got more a b c u v w first second addressed among =
       own = ap (λ xs. xs ++ s.own) first.own
           ∙ ap (λ xs. to_itself n first.sends ++ xs) (second.own ∙ ap (λ m. to_itself m second.sends) first.node)
           ∙ sym (to_itself_append n first.sends second.sends);
-      addressed = all_append (IsAddressed n asker) first.sends second.sends first.addressed
-          (all_weaker (IsAddressed n other) (IsAddressed n asker) addressed second.sends
-          (subst (λ m. AllByRecursion (IsAddressed m other) second.sends) first.node second.addressed));
+      addressed = all_append (IsDirected n asker) first.sends second.sends first.addressed
+          (all_weaker (IsDirected n other) (IsDirected n asker) addressed second.sends
+          (subst (λ m. AllByRecursion (IsDirected m other) second.sends) first.node second.addressed));
       handled = λ within.
           let fst = first.handled within in
           let ids = handled_within fragment (kept_of a) got (kept_of b) (letters_of first.sends) (all_seen f.notices) fst.handled in

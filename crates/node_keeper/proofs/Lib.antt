@@ -1,8 +1,15 @@
-pub mod SendingLemmas
 pub mod IdLemmas
+pub mod SendingLemmas
 pub mod ActLemmas
+pub mod DoneLemmas
+pub mod EventLogLemmas
+pub mod EpochLemmas
 pub mod BegunLemmas
 pub mod QuietLemmas
 pub mod ResultLemmas
 pub mod LetterLemmas
 pub mod ReadLemmas
+pub mod RequestLemmas
+pub mod FittingLemmas
+pub mod SeenLemmas
+pub mod CallLemmas

@@ -22,7 +22,7 @@ use Rattle.deeds.specs.Ids.{IsLater}
 use Rattle.deeds.specs.May.{IsEventFed}
 use Rattle.deeds.specs.Named.{NamedLetter as Named, with_names}
 use Rattle.deeds.proofs.IdLemmas.{later_same}
-use Rattle.deeds.proofs.ListLemmas.{all_append}
+use Rattle.deeds.proofs.ListLemmas.{all_append, all_weaker}
 use Rattle.deeds.proofs.MethodLemmas.{BeginsNone, if_all, quiet_handled}
 use Rattle.recoveries.specs.Copies.{IsLogged}
 use Rattle.recoveries.specs.Records.{LogRecord}
@@ -32,11 +32,12 @@ use Rattle.node_effects.specs.Work.{Growth, IsGrown}
 use Rattle.node_effects.specs.declared.work.Work.{Work}
 use Rattle.node_keeper.specs.Acts.{Acts}
 use Rattle.node_keeper.specs.Keeping.{kept_of}
-use Rattle.node_keeper.specs.Logging.{IsReadBack, entry_of}
-use Rattle.node_keeper.specs.Sendings.{IsAddressed, Sending, letters_of, posted, to_itself}
+use Rattle.node_keeper.specs.Logging.{IsReadBack, log_entry_of}
+use Rattle.node_keeper.specs.Sendings.{IsDirected, Sending, letters_of, posted, to_itself}
 use Rattle.node_keeper.specs.declared.keeper.Keeper.{Keeper}
 use Rattle.node_keeper.proofs.ActLemmas.{AreFew, few_safe, safe_as}
-use Rattle.node_keeper.proofs.BegunLemmas.{file_same}
+use Rattle.node_keeper.proofs.DoneLemmas.{file_same}
+use Rattle.node_keeper.proofs.RequestLemmas.{ServesNone}
 
 -- the parts of what a node does that say what goes out, what the log gets, and what clients see
 pub record GoesOut (asker : ℕ) (keeper : Keeper) (before after : Work) (records : List LogRecord) (letters : List Named)
@@ -44,11 +45,11 @@ pub record GoesOut (asker : ℕ) (keeper : Keeper) (before after : Work) (record
   pub sends : List Sending
   pub growth : Growth
   pub grown : IsGrown before after growth
-  pub entries : growth.entries ≡ map (entry_of keeper.digest) records
+  pub entries : growth.entries ≡ map (log_entry_of keeper.digest) records
   pub read : AllByRecursion (IsReadBack keeper.digest) records
   pub to_nodes : growth.to_nodes ≡ posted keeper.ids.node keeper.digest sends
   pub own : growth.own ≡ to_itself keeper.ids.node sends
-  pub addressed : AllByRecursion (IsAddressed keeper.ids.node asker) sends
+  pub addressed : AllByRecursion (IsDirected keeper.ids.node asker) sends
   pub those : letters_of sends ≡ letters
   pub told : all_seen growth.notices ≡ seen
 
@@ -81,6 +82,12 @@ quiet_acts asker got old new before after name events local letters records file
       digest = digest;
     }
 
+-- clients are told nothing of an event that tells them nothing, whether it is done or not
+untold_if : (local : LocalObject) (event : LocalEvent) → all_told fragment local (event ∷ []) ≡ [] → (b : Bool) →
+    all_told fragment local (cond b (event ∷ []) []) ≡ []
+untold_if local event untold true = untold
+untold_if local event untold false = refl
+
 -- Serving
 
 module _ (name : List ℕ) (letter : Letter) (local : LocalObject) where
@@ -94,17 +101,13 @@ module _ (name : List ℕ) (letter : Letter) (local : LocalObject) where
   serve_none = if_all BeginsNone (LocalEvent.Serve letter) (is_served local letter) refl
 
   pub serve_told : all_told fragment local (serve_events local letter) ≡ []
-  serve_told = go (is_served local letter)
-    where
-      go : (b : Bool) → all_told fragment local (cond b (LocalEvent.Serve letter ∷ []) []) ≡ []
-      go true = refl
-      go false = refl
+  serve_told = untold_if local (LocalEvent.Serve letter) refl (is_served local letter)
 
 -- Taking
 
--- the event begins no call, and takes no letter but one of these
+-- the event begins no call, takes no letter but one of these, and serves no request
 abbrev IsQuiet : List Named → (name : List ℕ) → LocalEvent → Type 0
-IsQuiet got name event = IsEventFed got name event × BeginsNone event
+IsQuiet got name event = IsEventFed got name event × BeginsNone event × ServesNone event
 
 module _ (got : List Named) (name : List ℕ) where
   step_quiet : (places : List Place) (call : Machine) (step : Next) →
@@ -112,10 +115,10 @@ module _ (got : List Named) (name : List ℕ) where
   step_quiet places call next.Wait = tt
   step_quiet places call next.Settle = tt
   step_quiet places call (next.Restart kind position) =
-      if_all (IsQuiet got name) (LocalEvent.Advance call.id) (can_begin places call kind position) (tt, refl)
+      if_all (IsQuiet got name) (LocalEvent.Advance call.id) (can_begin places call kind position) (tt, refl, tt)
   step_quiet places call (next.Begin kind position) =
-      if_all (IsQuiet got name) (LocalEvent.Advance call.id) (can_begin places call kind position) (tt, refl)
-  step_quiet places call next.Answer = ((tt, refl), tt)
+      if_all (IsQuiet got name) (LocalEvent.Advance call.id) (can_begin places call kind position) (tt, refl, tt)
+  step_quiet places call next.Answer = ((tt, refl, tt), tt)
 
   call_quiet : (places : List Place) (call : Option NodeCall) → AllByRecursion (IsQuiet got name) (call_events places call)
   call_quiet places None = tt
@@ -125,7 +128,7 @@ module _ (got : List Named) (name : List ℕ) where
       AllByRecursion (IsQuiet got name) events
   settle_quiet local id events (inl none) = subst (λ es. AllByRecursion (IsQuiet got name) es) (sym none.0) tt
   settle_quiet local id events (inr one) =
-      subst (λ es. AllByRecursion (IsQuiet got name) es) (sym one.2) ((tt, refl), tt)
+      subst (λ es. AllByRecursion (IsQuiet got name) es) (sym one.2) ((tt, refl, tt), tt)
 
 -- what was done, as its events, with what each of them needs
 pub record IsDoneQuietly (got : List Named) (name : List ℕ) (old local : LocalObject) (letters : List Letter)
@@ -135,14 +138,7 @@ pub record IsDoneQuietly (got : List Named) (name : List ℕ) (old local : Local
   pub told : ended ≡ all_told fragment old events
   pub fed : AllByRecursion (IsEventFed got name) events
   pub none : AllByRecursion BeginsNone events
-
-firsts : (P Q : LocalEvent → Type 0) (events : List LocalEvent) → AllByRecursion (λ e. P e × Q e) events → AllByRecursion P events
-firsts P Q [] all = tt
-firsts P Q (e ∷ es) all = (all.0.0, firsts P Q es all.1)
-
-seconds : (P Q : LocalEvent → Type 0) (events : List LocalEvent) → AllByRecursion (λ e. P e × Q e) events → AllByRecursion Q events
-seconds P Q [] all = tt
-seconds P Q (e ∷ es) all = (all.0.1, seconds P Q es all.1)
+  pub asks : AllByRecursion ServesNone events
 
 by_quietly : (got : List Named) (name : List ℕ) (old local : LocalObject) (letters : List Letter) (ended : List Ended)
     (events : List LocalEvent) → HasDoneBy old events local letters ended → AllByRecursion (IsQuiet got name) events →
@@ -151,8 +147,9 @@ by_quietly got name old local letters ended events by quiet = record {
   events = events;
   done = by.done;
   told = by.told;
-  fed = firsts (IsEventFed got name) BeginsNone events quiet;
-  none = seconds (IsEventFed got name) BeginsNone events quiet;
+  fed = all_weaker (IsQuiet got name) (IsEventFed got name) (λ event is. is.0) events quiet;
+  none = all_weaker (IsQuiet got name) BeginsNone (λ event is. is.1) events quiet;
+  asks = all_weaker (IsQuiet got name) ServesNone (λ event is. is.2) events quiet;
 }
 
 pub taken_quietly : (name : List ℕ) (letter : Letter) (taken : Bool) (old local : LocalObject) (letters : List Letter)
@@ -166,7 +163,7 @@ taken_quietly name letter true old local letters ended goes =
     let last = lead_events (all_done fragment old first).local letter.message.call in
     by_quietly got name old local letters ended (first ++ last) goes.leads
     (all_append (IsQuiet got name) first last (
-      ((0, refl), refl),
+      ((0, refl), refl, tt),
       settle_quiet got name (all_done fragment old (LocalEvent.Take letter ∷ [])).local letter.message.call
           goes.settling goes.settles,
     )
@@ -183,8 +180,4 @@ module _ (got : List Named) (name : List ℕ) (id : ℕ) (local : LocalObject) w
   give_up_none = if_all BeginsNone (LocalEvent.GiveUp id) (gives_up local id) refl
 
   pub give_up_told : all_told fragment local (give_up_events local id) ≡ []
-  give_up_told = go (gives_up local id)
-    where
-      go : (b : Bool) → all_told fragment local (cond b (LocalEvent.GiveUp id ∷ []) []) ≡ []
-      go true = refl
-      go false = refl
+  give_up_told = untold_if local (LocalEvent.GiveUp id) refl (gives_up local id)

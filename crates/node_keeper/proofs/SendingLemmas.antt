@@ -1,5 +1,5 @@
 -- Letters that go out one after another.
-use Rattle.std.proofs.Common.{◌≡◌, inl, ℕ, Bool, true, false, cond, ◌==◌, List, [], ◌∷◌, ◌++◌, refl, sym, ap, ◌∙◌}
+use Rattle.std.proofs.Common.{◌≡◌, ℕ, Bool, true, false, cond, ◌==◌, List, [], ◌∷◌, ◌++◌, refl, sym, ap, ◌∙◌}
 use Rattle.std.proofs.lemmas.List.{map-append}
 use Rattle.std.specs.List.{AllByRecursion}
 use Rattle.deeds.specs.Named.{with_names}
@@ -9,7 +9,9 @@ use Rattle.node_effects.specs.Work.{IsGrown, both_grown, no_growth}
 use Rattle.node_effects.specs.declared.work.Work.{Work}
 use Rattle.node_effects.proofs.GrowthLemmas.{grown_as, grown_then}
 use Rattle.node_effects.specs.declared.letter.NamedLetter.{NamedLetter}
-use Rattle.node_keeper.specs.Sendings.{IsAddressed, Sending, asked, frame_to, letters_of, member_or, posted, sent_growth, to_itself, to_one}
+use Rattle.node_keeper.specs.Sendings.{IsDirected, Sending, asked, frame_to, going, letters_of, member_or, posted, reply_sendings, sending}
+use Rattle.node_keeper.specs.Sendings.{sent_growth, to_itself, to_one}
+use Rattle.node_keeper.proofs.RequestLemmas.{Asks, Replies}
 
 pub letters_append : (xs ys : List Sending) → letters_of (xs ++ ys) ≡ letters_of xs ++ letters_of ys
 letters_append xs ys = map-append (λ (send : Sending). named_of send.it) xs ys
@@ -46,20 +48,26 @@ sent_append number digest xs ys = go _ _ _ _ (posted_append number digest xs ys)
 
 pub asked_append : (number : ℕ) (name : List ℕ) (xs ys : List Letter) →
     asked number name (xs ++ ys) ≡ asked number name xs ++ asked number name ys
-asked_append number name [] ys = refl
-asked_append number name (x ∷ xs) ys =
-    ap (λ zs. record { to = member_or number x; it = record { name = name; letter = x } } ∷ zs) (asked_append number name xs ys)
+asked_append number name xs ys = map-append (λ letter. sending (member_or number letter) (record { name = name; letter = letter })) xs ys
 
-pub asked_letters : (number : ℕ) (name : List ℕ) (letters : List Letter) →
-    letters_of (asked number name letters) ≡ with_names name letters
-asked_letters number name [] = refl
-asked_letters number name (x ∷ xs) =
-    ap (λ zs. record { name = name; letter = x } ∷ zs) (asked_letters number name xs)
+pub going_letters : (to : Letter → ℕ) (name : List ℕ) (letters : List Letter) →
+    letters_of (going to name letters) ≡ with_names name letters
+going_letters to name [] = refl
+going_letters to name (x ∷ xs) = ap (λ zs. record { name = name; letter = x } ∷ zs) (going_letters to name xs)
 
-pub asked_addressed : (number asker : ℕ) (name : List ℕ) (letters : List Letter) →
-    AllByRecursion (IsAddressed number asker) (asked number name letters)
-asked_addressed number asker name [] = tt
-asked_addressed number asker name (x ∷ xs) = (inl refl, asked_addressed number asker name xs)
+-- letters that are requests go to the nodes that they ask
+pub asked_addressed : (number asker : ℕ) (name : List ℕ) (letters : List Letter) → AllByRecursion Asks letters →
+    AllByRecursion (IsDirected number asker) (asked number name letters)
+asked_addressed number asker name [] asks = tt
+asked_addressed number asker name (x ∷ xs) asks =
+    (sym (ap (λ b. cond b (member_or number x) asker) asks.0), asked_addressed number asker name xs asks.1)
+
+-- letters that are replies go to the node that asked
+pub replied_addressed : (number asker : ℕ) (name : List ℕ) (letters : List Letter) → AllByRecursion Replies letters →
+    AllByRecursion (IsDirected number asker) (reply_sendings asker name letters)
+replied_addressed number asker name [] replies = tt
+replied_addressed number asker name (x ∷ xs) replies =
+    (sym (ap (λ b. cond b (member_or number x) asker) replies.0), replied_addressed number asker name xs replies.1)
 
 -- one more letter goes out
 pub asked_more : (number : ℕ) (digest name : List ℕ) (letters : List Letter) (letter : Letter) (before now after : Work) →

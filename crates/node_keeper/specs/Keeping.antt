@@ -1,5 +1,5 @@
 -- The contracts that docs/trusted.md lists do not depend on this file; other contracts and proofs do.
--- What a node keeps, as the definitions of deeds have it.
+-- What a node keeps, as a value of the definitions of `deeds`.
 use Rattle.std.specs.Prelude.{◌==◌, ◌&&◌, ◌||◌, not, Bool, if◌then◌else◌, nat_lt, List, [], ◌∷◌, length}
 use Rattle.cluster_file.specs.File.{FileContents, placement_of}
 use Rattle.placement.specs.Placement.{placed}
@@ -19,8 +19,8 @@ names_of file = record {
 }
 
 -- what the cluster file of a node says, and how it places names
-abbrev pub file_of : Keeper → FileOfNames
-file_of keeper = record {
+abbrev pub names_of_keeper : Keeper → FileOfNames
+names_of_keeper keeper = record {
   delta = keeper.objects.delta;
   mover = keeper.file.fixed.mover;
   first = first_layout_of keeper.objects;
@@ -28,14 +28,14 @@ file_of keeper = record {
 
 -- what the node keeps
 abbrev pub kept_of : Keeper → KeptNode
-kept_of keeper = record { file = file_of keeper; objects = objects_of keeper.objects; ids = keeper.ids }
+kept_of keeper = record { file = names_of_keeper keeper; objects = objects_of keeper.objects; ids = keeper.ids }
 
 -- whether a letter names a member of its layout
 abbrev pub names_member : Letter → Bool
 names_member letter = nat_lt letter.message.member (length letter.layout.members)
 
--- whether the node heeds a letter: it names a member of its layout, no layout in it is another one than the node has
--- heard of, and the node that moves objects has heard of each
+-- whether the node heeds a letter: it names a member of its layout, no layout in it differs from the one that the node
+-- has heard of, and the node that moves objects has heard of every layout in it
 abbrev pub heeds : KeptNode → Named → Bool
 heeds node it =
     names_member it.letter && (agrees (node.objects it.name) it.letter

@@ -1,4 +1,9 @@
 pub mod Keeping
 pub mod Sendings
 pub mod Logging
+pub mod Fitting
+pub mod NextIds
+pub mod Resending
 pub mod Acts
+pub mod Beginning
+pub mod Delivering

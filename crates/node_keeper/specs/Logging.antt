@@ -1,7 +1,6 @@
 -- The contracts that docs/trusted.md lists do not depend on this file; other contracts and proofs do.
 -- The entries of a node's log, and what they record.
 use Rattle.std.specs.Prelude.{◌≡◌, ℕ, List, [], ◌∷◌, Option, None, Some, Result, Ok, Err}
-use Rattle.layout.specs.Layout.{Layout}
 use Rattle.node_log.specs.Entry.{sealed}
 use Rattle.local_object.specs.declared.letter.Letter.{Letter}
 use Rattle.node_messages.specs.Reading.{message_from}
@@ -12,25 +11,12 @@ use Rattle.node_strings.specs.Record.{record_at, record_strings}
 use Rattle.node_strings.specs.declared.record.Record.{Record}
 use Rattle.node_strings.specs.declared.record.Record.TheVariants as record_of
 use Rattle.recoveries.specs.Records.{LogRecord}
-use Rattle.node_effects.specs.Work.{Strings}
-use Rattle.node_effects.specs.declared.letter.NamedLetter.{NamedLetter}
-use Rattle.node_keeper.specs.Sendings.{letter_in, message_of}
+use Rattle.string_parts.specs.Strings.{Strings}
+use Rattle.node_keeper.specs.Sendings.{letter_of_message, message_of}
 
 -- the entry that records that an epoch began
 abbrev pub start_entry : Strings
 start_entry = sealed (record_strings record_of.Start)
-
--- the entry that records a request that is served
-abbrev pub serve_entry : (digest : List ℕ) → NamedLetter → Strings
-serve_entry digest it = sealed (record_strings (record_of.Serve (strings_of (message_of digest it))))
-
--- the entry that records a reply that is taken
-abbrev pub take_entry : (digest : List ℕ) → NamedLetter → Strings
-take_entry digest it = sealed (record_strings (record_of.Take (strings_of (message_of digest it))))
-
--- the entry that records a move that began
-abbrev pub move_entry : (name : List ℕ) → (id : ℕ) → Layout → Strings
-move_entry name id layout = sealed (record_strings (record_of.Move id name layout))
 
 -- the strings of the entry of a record
 abbrev pub strings_for : (digest : List ℕ) → LogRecord → Strings
@@ -42,17 +28,17 @@ strings_for digest (LogRecord.Takes name letter) =
 strings_for digest (LogRecord.Moves name id layout) = record_strings (record_of.Move id name layout)
 
 -- the entry of a record, in the log of a node with the cluster file of this digest
-abbrev pub entry_of : (digest : List ℕ) → LogRecord → Strings
-entry_of digest it = sealed (strings_for digest it)
+abbrev pub log_entry_of : (digest : List ℕ) → LogRecord → Strings
+log_entry_of digest it = sealed (strings_for digest it)
 
 -- What is read from a log
 
 -- what a frame of a log records, if it was read as a message
 abbrev pub letter_records : ((name : List ℕ) → Letter → LogRecord) → Result NodeMessage Fault → List LogRecord
-letter_records recorded (Ok message) = recorded (letter_in message).name (letter_in message).letter ∷ []
+letter_records recorded (Ok message) = recorded (letter_of_message message).name (letter_of_message message).letter ∷ []
 letter_records recorded (Err fault) = []
 
--- what a record of a log says that the node did; that the log is its own is nothing that it did
+-- what a record of a log says that the node did: nothing, if it names the cluster and the node
 abbrev pub deeds_of : Record → List LogRecord
 deeds_of (record_of.Cluster digest node) = []
 deeds_of record_of.Start = LogRecord.Starts ∷ []

@@ -1,13 +1,15 @@
 -- The contracts that docs/trusted.md lists do not depend on this file; other contracts and proofs do.
 -- Letters that go out, and where they go.
-use Rattle.std.specs.Prelude.{◌≡◌, ◌⊎◌, ℕ, ◌==◌, if◌then◌else◌, List, [], ◌∷◌, map, Option, None, Some, slice_get}
+use Rattle.std.specs.Prelude.{◌≡◌, ℕ, ◌==◌, if◌then◌else◌, List, [], ◌∷◌, map, Option, None, Some, slice_get}
 use Rattle.deeds.specs.Named.{NamedLetter as Named}
 use Rattle.local_object.specs.declared.letter.Letter.{Letter}
+use Rattle.local_object.specs.Doing.{is_request}
 use Rattle.node_messages.specs.Strings.{strings_of}
 use Rattle.node_messages.specs.declared.message.NodeMessage.{NodeMessage}
 use Rattle.node_strings.specs.Arrival.{node_address}
 use Rattle.node_effects.specs.Seen.{named_of}
-use Rattle.node_effects.specs.Work.{Growth, Strings, no_growth}
+use Rattle.string_parts.specs.Strings.{Strings}
+use Rattle.node_effects.specs.Work.{Growth, no_growth}
 use Rattle.node_effects.specs.declared.letter.NamedLetter.{NamedLetter}
 
 -- a letter, as a message of a node with the cluster file of this digest
@@ -21,8 +23,8 @@ message_of digest it = record {
 }
 
 -- the letter that a message is, with the name of its object
-abbrev pub letter_in : NodeMessage → NamedLetter
-letter_in message = record {
+abbrev pub letter_of_message : NodeMessage → NamedLetter
+letter_of_message message = record {
   name = message.name;
   letter = record { layout = message.layout; next = message.next; message = message.message };
 }
@@ -36,48 +38,59 @@ pub record Sending : Type 0 where
 abbrev pub letters_of : List Sending → List Named
 letters_of sends = map (λ send. named_of send.it) sends
 
--- the frame in which a letter goes to a node, with the node's address in front
+-- the frame in which a letter goes to a node; its first string is the node's address
 abbrev pub frame_to : (digest : List ℕ) → Sending → Strings
 frame_to digest send = node_address send.to ∷ strings_of (message_of digest send.it)
 
--- the frames that the node of this number sends, where these letters go out: none for a letter to itself
+-- the frames that the node of this number sends when these letters go out: none for a letter to itself
 abbrev pub posted : (number : ℕ) → (digest : List ℕ) → List Sending → List Strings
 posted number digest [] = []
 posted number digest (send ∷ sends) =
     if send.to == number then posted number digest sends else frame_to digest send ∷ posted number digest sends
 
--- those of the letters that the node of this number sends to itself
+-- the letters that the node of this number sends to itself
 abbrev pub to_itself : (number : ℕ) → List Sending → List NamedLetter
 to_itself number [] = []
 to_itself number (send ∷ sends) = if send.to == number then send.it ∷ to_itself number sends else to_itself number sends
 
--- what the node of this number has to do more where these letters go out
+-- what is added to the work of the node of this number when these letters go out
 abbrev pub sent_growth : (number : ℕ) → (digest : List ℕ) → List Sending → Growth
 sent_growth number digest sends =
     record no_growth { to_nodes = posted number digest sends; own = to_itself number sends }
 
--- this one, or the one that is given where there is none
+-- this one, or the given one if there is none
 abbrev pub one_or : ℕ → Option ℕ → ℕ
 one_or other None = other
 one_or other (Some one) = one
 
--- the node that the layout of a letter has as the member that the letter names, or else the node of this number
+-- the node that is the member which a letter names, by the letter's layout; the node of this number if there is none
 abbrev pub member_or : (number : ℕ) → Letter → ℕ
 member_or number letter = one_or number (slice_get letter.layout.members letter.message.member)
 
+-- a letter, to the node of this number
+abbrev pub sending : (to : ℕ) → NamedLetter → Sending
+sending to it = record { to = to; it = it }
+
 -- one letter, to the node of this number
 abbrev pub to_one : (to : ℕ) → NamedLetter → List Sending
-to_one to it = record { to = to; it = it } ∷ []
+to_one to it = sending to it ∷ []
+
+-- letters of the object of a name, each to the node that this says
+abbrev pub going : (to : Letter → ℕ) → (name : List ℕ) → List Letter → List Sending
+going to name letters = map (λ letter. sending (to letter) (record { name = name; letter = letter })) letters
 
 -- letters of the object of a name, each to the node that it asks
 abbrev pub asked : (number : ℕ) → (name : List ℕ) → List Letter → List Sending
-asked number name letters =
-    map (λ letter. let send : Sending = record {
-      to = member_or number letter;
-      it = record { name = name; letter = letter };
-    } in send) letters
+asked number name letters = going (member_or number) name letters
 
--- the letter goes to the node that it asks, or to the one that asked, or to the node of this number itself
-abbrev pub IsAddressed : (number asker : ℕ) → Sending → Type 0
-IsAddressed number asker send =
-    (send.to ≡ member_or number send.it.letter) ⊎ ((send.to ≡ asker) ⊎ (send.to ≡ number))
+-- replies about the object of a name, to the node that asked
+abbrev pub reply_sendings : (asker : ℕ) → (name : List ℕ) → List Letter → List Sending
+reply_sendings asker name letters = going (λ letter. asker) name letters
+
+-- the node to which a letter goes: a request to the node that it asks, and a reply to the one that asked
+abbrev pub addressee : (number asker : ℕ) → Letter → ℕ
+addressee number asker letter = if is_request letter.message.body then member_or number letter else asker
+
+-- the letter goes to the node to which it has to go
+abbrev pub IsDirected : (number asker : ℕ) → Sending → Type 0
+IsDirected number asker send = send.to ≡ addressee number asker send.it.letter

@@ -4,7 +4,7 @@ use tag::{CallId, Refusal};
 /// What became of a letter.
 #[derive(Debug, Drop)]
 pub enum Delivered {
-    /// It was dropped: its layouts are not those that the node has heard of.
+    /// It was dropped, because the node does not heed it.
     Dropped,
     /// It was served or taken, and no call of this node ended.
     Handled,

@@ -25,7 +25,7 @@ impl Model for OwnIds {
 }
 
 impl OwnIds {
-    /// Those of the node of this number, before its first epoch.
+    /// The ids of the node with this number, before its first epoch.
     pub fn new(number: u8) -> OwnIds
         ensures { result ≡ record { node = number; epoch = 0; given = 0 } }
     {
@@ -43,14 +43,14 @@ impl OwnIds {
         self.number
     }
 
-    /// The number of epochs that were begun, below 2^24.
+    /// The number of epochs that have begun, below 2^24.
     pub fn epoch(&self) -> u32
         ensures { result ≡ self.now.epoch }
     {
         self.ids.epoch()
     }
 
-    /// Begins the next epoch, and returns whether there was one more. Where there was none, nothing changes.
+    /// Begins the next epoch, and returns whether there was one. If there was none, nothing changes.
     pub fn begin_epoch(&mut self) -> bool
         ensures more { result ≡ nat_lt (suc self.old.epoch) (2 ^ 24) }
         ensures begun { self.new ≡ with_next_epoch self.old }
@@ -58,7 +58,7 @@ impl OwnIds {
         self.ids.begin_epoch()
     }
 
-    /// The next id, which differs from all that were given before. None where the epoch has given all of its 2^32 ids.
+    /// The next id, which differs from all that were given before. None if the epoch has given all of its 2^32 ids.
     pub fn next_id(&mut self) -> Option<CallId>
         ensures id { result ≡ next_given_id self.old }
         ensures given { self.new ≡ after_given self.old }

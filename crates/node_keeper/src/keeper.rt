@@ -1,4 +1,4 @@
-//! What a node keeps, and what it does by it.
+//! What a node keeps, and what it does with it.
 ghost use Rattle.std.specs.Prelude.{◌≡◌, ◌==◌};
 ghost use Rattle.call_ids.specs.CallId.{HasRanges};
 ghost use Rattle.cluster_file.specs.Digest.{fixed_digest};
@@ -15,10 +15,10 @@ mod letters;
 mod recovery;
 mod send;
 
-/// What a node keeps: its cluster file with its digest, its objects, and what gives its calls their ids.
+/// What a node keeps: its cluster file with its digest, its objects, and the source of its calls' ids.
 ///
-/// Where a function is refused, nothing is said of what the node keeps afterwards: the node stops, and starts again
-/// from its log.
+/// If a function fails, its contract says nothing of what the node keeps, because the node stops and starts again from
+/// its log.
 #[derive(Drop)]
 pub struct Keeper {
     alloc: Global,
@@ -29,7 +29,7 @@ pub struct Keeper {
 }
 
 impl Keeper {
-    /// What the node of this number keeps before it has heard of any object, and before its first epoch.
+    /// What the node with this number keeps before it has heard of any object, and before its first epoch.
     pub fn new(alloc: Global, file: ClusterFile, number: u8) -> Keeper
         ensures kept { kept_of result ≡ new_node (names_of file) number }
         ensures digest { result.digest ≡ fixed_digest file.fixed }

@@ -1,5 +1,5 @@
-//! What a node keeps: its cluster file, its objects and the ids of its calls; and what it does by that, letter by
-//! letter and call by call. It knows of no clients.
+//! What a node keeps: its cluster file, its objects and the source of its calls' ids; and what it does with each letter
+//! and each call. It knows no clients.
 #![tactic(auto)]
 
 pub use delivered::{Begun, Delivered};

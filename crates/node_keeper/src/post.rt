@@ -1,9 +1,11 @@
 //! Letters of an object as messages between nodes, and back.
-ghost use Rattle.std.specs.Prelude.{◌≡◌, IfOk};
+ghost use Rattle.std.specs.Prelude.{◌≡◌, IfErr, IfOk, OnOk};
+ghost use Rattle.frames.specs.Frame.{IsFrame};
 ghost use Rattle.local_object.specs.Doing.{is_request};
 ghost use Rattle.node_messages.specs.Message.{IsMessage};
 ghost use Rattle.node_messages.specs.Strings.{strings_of};
-ghost use Rattle.node_keeper.specs.Sendings.{letter_in, member_or, message_of};
+ghost use Rattle.node_effects.specs.Errors.{IsUnwritten};
+ghost use Rattle.node_keeper.specs.Sendings.{letter_of_message, member_or, message_of};
 
 use bytes::Bytes;
 use cluster_file::DIGEST_LENGTH;
@@ -16,7 +18,7 @@ use std::alloc::Global;
 
 /// The letter of a message, with the name of its object.
 pub fn letter_of(message: NodeMessage) -> NamedLetter
-    ensures { result ≡ letter_in message }
+    ensures { result ≡ letter_of_message message }
 {
     NamedLetter {
         name: message.name,
@@ -28,14 +30,16 @@ pub fn letter_of(message: NodeMessage) -> NamedLetter
     }
 }
 
-/// The frame of a letter, as a message of a node with the cluster file of this digest, and the letter itself.
+/// The frame of a letter, as a message from a node whose cluster file has this digest, and the letter itself.
 pub(crate) fn framed(
     alloc: Global,
     digest: [u8; DIGEST_LENGTH],
     it: NamedLetter,
 ) -> Result<(Frame, NamedLetter), NodeError>
     ensures made { IfOk result (λ r. (r.0 ≡ strings_of (message_of digest it)) × (r.1 ≡ it)) }
-    ensures fits { IfOk result (λ _. IsMessage (message_of digest it)) }
+    ensures fits { OnOk result (IsMessage (message_of digest it)) }
+    ensures refused { IfErr result
+        (IsUnwritten (IsMessage (message_of digest it) × IsFrame (strings_of (message_of digest it)))) }
 {
     let NamedLetter { name, letter } = it;
     let message = NodeMessage {
@@ -59,7 +63,7 @@ pub(crate) fn is_request(letter: &Letter) -> bool
     }
 }
 
-/// The node that the layout of a letter has as the member that the letter names, or else this node.
+/// The node that is the member which the letter names, by the letter's layout; this node if there is no such member.
 pub(crate) fn member_or(number: u8, letter: &Letter) -> u8
     ensures { result ≡ member_or number letter.now }
 {

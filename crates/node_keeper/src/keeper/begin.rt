@@ -1,12 +1,23 @@
-//! Calls that begin, are asked again, and are given up.
-ghost use Rattle.std.specs.Prelude.{◌≡◌, ◌≢◌, ◌<◌, ◌^◌, ◌∷◌, [], ℕ, suc, IfOk, OnOk};
+//! Calls that begin, are sent again, and are given up.
+ghost use Rattle.std.specs.Prelude.{◌≡◌, ◌≢◌, ◌<◌, ◌^◌, ◌∷◌, [], ℕ, suc, IfErr, IfOk, OnOk, Some};
 ghost use Rattle.tag.specs.declared.refusal.Refusal.TheVariants.{NoMemory};
 ghost use Rattle.call_ids.specs.CallId.{with_next_epoch};
-ghost use Rattle.local_object.specs.Doing.{gives_up};
+ghost use Rattle.local_object.specs.Doing.{give_up_events, gives_up};
+ghost use Rattle.node_objects.specs.Doing.{IsDoneAt};
 ghost use Rattle.node_objects.specs.Objects.{objects_of};
+ghost use Rattle.node_effects.specs.Errors.{WritesOrFails};
 ghost use Rattle.node_effects.specs.Work.{IsGrown, one_entry};
+ghost use Rattle.node_effects.specs.declared.error.NodeError.TheVariants.{NoMemory as NoMoreMemory};
 ghost use Rattle.node_effects.specs.declared.work.Work.{Work as Todo};
-ghost use Rattle.node_keeper.specs.Acts.{Acts, GivesId, move_growth};
+ghost use Rattle.node_keeper.specs.Acts.{Acts, GivesId};
+ghost use Rattle.node_keeper.specs.Beginning.{BeginsCall, IsNotBegun};
+ghost use Rattle.node_keeper.specs.NextIds.{IsNoEpoch, IsNoId, next_id_of};
+ghost use Rattle.node_keeper.specs.Resending.{CanResend, sendings_again};
+ghost use Rattle.node_keeper.specs.Sendings.{sent_growth};
+ghost use Rattle.node_keeper.specs.Beginning.{moving_call, opened_growth, reading_call, writing_call};
+ghost use Rattle.node_effects.specs.declared.notice.Notice.TheVariants as notice;
+ghost use Rattle.node_keeper.specs.Delivering.{KeepsRest};
+ghost use Rattle.node_keeper.specs.Fitting.{IsLoggable};
 ghost use Rattle.layout.specs.Layout.{IsLawful};
 ghost use Rattle.recoveries.specs.Records.{LogRecord};
 ghost use Rattle.node_keeper.specs.Logging.{IsReadBack, start_entry};
@@ -21,9 +32,9 @@ use node_strings::Record;
 use tag::{CallId, Refusal};
 
 impl Keeper {
-    /// The node begins an epoch of its calls' ids, and its log gets that.
+    /// Begins an epoch of the calls' ids, and logs it.
     ///
-    /// `NoMoreIds` where it began all epochs, and `NoMemory`.
+    /// `NoMoreIds` if all epochs have begun, and `NoMemory`.
     pub fn begin_epoch(&mut self, work: &mut Work) -> Result<(), NodeError>
         ensures acts { OnOk result ((asker : ℕ) → Acts asker [] self.old work.old self.new work.new) }
         ensures more { OnOk result (suc self.old.ids.epoch < 2 ^ 24) }
@@ -31,15 +42,18 @@ impl Keeper {
         ensures objects { OnOk result (self.new.objects ≡ self.old.objects) }
         ensures file { OnOk result (self.new.file ≡ self.old.file) }
         ensures entry { OnOk result (IsGrown work.old work.new (one_entry start_entry)) }
+        ensures refused { IfErr result (IsNoEpoch self.old.ids) }
     {
         begin_epoch(&mut self.ids, work)
     }
 
-    /// The node begins a read of the object of this name, and sends its first requests.
+    /// Begins a read of the object of this name, and sends its first requests.
     ///
-    /// `NoMoreIds` where there is no id for the call, and `NoMemory`.
+    /// `NoMoreIds` if there is no id for the call, and `NoMemory`.
     pub fn begin_read(&mut self, name: &Bytes, work: &mut Work) -> Result<Begun, NodeError>
         ensures acts { OnOk result ((asker : ℕ) → Acts asker [] self.old work.old self.new work.new) }
+        ensures begins { IfOk result (BeginsCall (reading_call name.now) self.old work.old self.new work.new) }
+        ensures refused { IfErr result (IsNotBegun (reading_call name.now) self.old) }
     {
         let id = next_id(&mut self.ids, work)?;
         match self.objects.begin_read(name, id) {
@@ -55,9 +69,9 @@ impl Keeper {
         }
     }
 
-    /// The node begins a write of a value to the object of this name, and sends its first requests.
+    /// Begins a write of a value to the object of this name, and sends its first requests.
     ///
-    /// `NoMoreIds` where there is no id for the call, and `NoMemory`.
+    /// `NoMoreIds` if there is no id for the call, and `NoMemory`.
     pub fn begin_write(
         &mut self,
         name: &Bytes,
@@ -65,6 +79,8 @@ impl Keeper {
         work: &mut Work,
     ) -> Result<Begun, NodeError>
         ensures acts { OnOk result ((asker : ℕ) → Acts asker [] self.old work.old self.new work.new) }
+        ensures begins { IfOk result (BeginsCall (writing_call name.now value) self.old work.old self.new work.new) }
+        ensures refused { IfErr result (IsNotBegun (writing_call name.now value) self.old) }
     {
         let id = next_id(&mut self.ids, work)?;
         let written = value.clone()?;
@@ -83,10 +99,10 @@ impl Keeper {
         }
     }
 
-    /// The node that moves objects begins a move of the object of this name to a layout, which its log gets, and sends
-    /// its first requests.
+    /// Begins a move of the object of this name to this layout, logs it, and sends its first requests. Only the node
+    /// that moves objects may call this.
     ///
-    /// `NoMoreIds` where there is no id for the call, and `NoMemory`.
+    /// `NoMoreIds` if there is no id for the call, and `NoMemory`.
     pub fn begin_move(
         &mut self,
         name: &Bytes,
@@ -95,6 +111,8 @@ impl Keeper {
     ) -> Result<Begun, NodeError>
         requires { self.old.ids.node ≡ self.old.file.fixed.mover }
         ensures acts { OnOk result ((asker : ℕ) → Acts asker [] self.old work.old self.new work.new) }
+        ensures begins { IfOk result (BeginsCall (moving_call name.now layout) self.old work.old self.new work.new) }
+        ensures refused { IfErr result (IsNotBegun (moving_call name.now layout) self.old) }
     {
         let id = next_id(&mut self.ids, work)?;
         let to = layout.clone()?;
@@ -116,9 +134,12 @@ impl Keeper {
         layout: Layout,
         work: &mut Work,
     ) -> Result<(), NodeError>
-        ensures logged { OnOk result (IsGrown work.old work.new (move_growth name.now id layout)) }
+        ensures logged { OnOk result (IsGrown work.old work.new (opened_growth self.now.digest
+            (LogRecord.Moves name.now id layout ∷ []) (notice.Moves name.now id layout))) }
         ensures read { OnOk result
             (IsLawful layout → IsReadBack self.now.digest (LogRecord.Moves name.now id layout)) }
+
+        ensures writes { WritesOrFails (IsLoggable self.now.digest (LogRecord.Moves name.now id layout)) result }
     {
         work.log(&Record::Move {
             id,
@@ -132,21 +153,29 @@ impl Keeper {
         })
     }
 
-    /// The call with this id at the object of this name asks those again that have not replied, if it is open there.
+    /// Sends the requests of a call's current phase again to the members that have not replied, if the call with this
+    /// id is open at the object of this name.
     ///
     /// `NoMemory`.
     pub fn resend(&self, name: &Bytes, id: CallId, work: &mut Work) -> Result<(), NodeError>
         ensures acts { OnOk result ((asker : ℕ) → Acts asker [] self.now work.old self.now work.new) }
+        ensures sends { OnOk result (IsGrown work.old work.new
+            (sent_growth self.now.ids.node self.now.digest (sendings_again name.now id self.now))) }
+
+        ensures writes { WritesOrFails (CanResend name.now id self.now) result }
     {
         let letters = self.objects.resend(name, id)?;
         self.post(name, letters, work)
     }
 
-    /// The read or the write with this id at the object of this name ends without an answer, if one is open there.
+    /// Ends the read or the write with this id at the object of this name without an answer, if one is open there.
     /// Returns whether one was. A move goes on.
     pub fn give_up(&mut self, name: &Bytes, id: CallId) -> bool
         ensures acts { (asker : ℕ) (work : Todo) → Acts asker [] self.old work self.new work }
         ensures given_up { result ≡ gives_up (objects_of self.old.objects name.now) id }
+        ensures done { IsDoneAt self.old.objects name.now
+            (give_up_events (objects_of self.old.objects name.now) id) self.new.objects [] }
+        ensures rest { KeepsRest self.old self.new }
     {
         self.objects.give_up(name, id)
     }
@@ -155,7 +184,8 @@ impl Keeper {
 // An object refused a call.
 fn refused(refusal: Refusal) -> Result<Begun, NodeError>
     ensures memory { OnOk result (refusal ≢ NoMemory) }
-    ensures begun { IfOk result (λ with_next_epoch. with_next_epoch ≡ Begun.Refused refusal) }
+    ensures begun { IfOk result (λ begun. begun ≡ Begun.Refused refusal) }
+    ensures failed { IfErr result (λ e. e ≡ NoMoreMemory) }
 {
     match refusal {
         Refusal::NoMemory => Err(NodeError::NoMemory),
@@ -165,7 +195,9 @@ fn refused(refusal: Refusal) -> Result<Begun, NodeError>
 
 // The id of a call that begins. Where the epoch has no more, the next epoch begins, and the log gets that.
 fn next_id(ids: &mut OwnIds, work: &mut Work) -> Result<CallId, NodeError>
-    ensures { IfOk result (λ id. GivesId ids.old id ids.new work.old work.new) }
+    ensures gives { IfOk result (λ id. GivesId ids.old id ids.new work.old work.new) }
+    ensures next { IfOk result (λ id. next_id_of ids.old ≡ Some id) }
+    ensures refused { IfErr result (IsNoId ids.old) }
 {
     if let Some(id) = ids.next_id() {
         return Ok(id);
@@ -182,6 +214,7 @@ fn begin_epoch(ids: &mut OwnIds, work: &mut Work) -> Result<(), NodeError>
     ensures more { OnOk result (suc ids.old.epoch < 2 ^ 24) }
     ensures begun { OnOk result (ids.new ≡ with_next_epoch ids.old) }
     ensures entry { OnOk result (IsGrown work.old work.new (one_entry start_entry)) }
+    ensures refused { IfErr result (IsNoEpoch ids.old) }
 {
     if !ids.begin_epoch() {
         return Err(NodeError::NoMoreIds);

@@ -1,15 +1,19 @@
 //! Letters that have come.
-ghost use Rattle.std.specs.Prelude.{◌≡◌, ◌∷◌, [], ℕ, true, false, IfOk, OnOk};
+ghost use Rattle.std.specs.Prelude.{◌≡◌, ◌∷◌, [], ℕ, true, false, IfErr, IfOk, OnOk, Option};
+ghost use Rattle.std.specs.List.{AllByRecursion};
 ghost use Rattle.layout.specs.Layout.{IsLawful};
 ghost use Rattle.local_object.specs.Changing.{IsUnchangedBy, is_changed_by};
 ghost use Rattle.node_objects.specs.Objects.{objects_of};
-ghost use Rattle.local_object.specs.Doing.{has_move_open};
 ghost use Rattle.recoveries.specs.Copies.{IsHeeded};
-ghost use Rattle.recoveries.specs.Records.{LogRecord};
-ghost use Rattle.node_keeper.specs.Logging.{IsReadBack};
+ghost use Rattle.local_object.specs.declared.progress.Ended.{Ended as ToldCall};
+ghost use Rattle.node_effects.specs.Errors.{IsUnwritten, WritesOrFails};
+ghost use Rattle.node_effects.specs.declared.error.NodeError.TheVariants.{NoMemory};
+ghost use Rattle.node_keeper.specs.Delivering.{CanDeliver, CanServe, CanTake, DeliversLetter, ServesRequest};
+ghost use Rattle.node_keeper.specs.Delivering.{TakesReply, delivered_of, served_records, taken_records, tell_growth};
+ghost use Rattle.node_keeper.specs.Fitting.{IsLoggable};
 ghost use Rattle.node_effects.specs.Seen.{named_of};
 ghost use Rattle.node_effects.specs.Work.{IsGrown};
-ghost use Rattle.node_keeper.specs.Acts.{Acts, serve_growth, take_growth, tell_growth};
+ghost use Rattle.node_keeper.specs.Acts.{Acts, logged_growth};
 ghost use Rattle.node_keeper.specs.Keeping.{heeds, if_heeded, kept_of};
 
 use super::Keeper;
@@ -21,11 +25,11 @@ use node_effects::{NamedLetter, NodeError, Notice, Work};
 use node_strings::Record;
 
 impl Keeper {
-    /// A letter has come from the node of this number, which may be this node itself. It is served or taken, unless its
-    /// layouts are not those that the node has heard of, or it names no member. What may change a bank, and what an
-    /// open move takes, goes to the log first.
+    /// A letter has come from the node with this number, which may be this node itself. The node serves or takes the
+    /// letter, unless the letter names no member or its layouts contradict those of which the node has heard. It logs a
+    /// request that may change a bank, and a reply that an open move takes, before it does so.
     ///
-    /// `NoMemory`. `Unwritable` where the letter is no message.
+    /// `NoMemory`. `Unwritable` if the letter is no message.
     pub fn deliver(
         &mut self,
         sender: u8,
@@ -34,6 +38,8 @@ impl Keeper {
     ) -> Result<Delivered, NodeError>
         ensures acts { OnOk result
             (Acts sender (if_heeded (kept_of self.old) (named_of it)) self.old work.old self.new work.new) }
+        ensures delivers { IfOk result (DeliversLetter sender it self.old work.old self.new work.new) }
+        ensures refused { IfErr result (IsUnwritten (CanDeliver sender it self.old)) }
     {
         if !self.heeds(&it)? {
             return Ok(Delivered::Dropped);
@@ -50,6 +56,7 @@ impl Keeper {
     fn heeds(&self, it: &NamedLetter) -> Result<bool, NodeError>
         ensures heeds { IfOk result (λ is. is ≡ heeds (kept_of self.now) (named_of it.now)) }
         ensures lawful { IfOk result (λ is. is ≡ true → IsLawful it.now.letter.layout) }
+        ensures refused { IfErr result (λ e. e ≡ NoMemory) }
     {
         if it.letter.message.member >= it.letter.layout.n() {
             return Ok(false);
@@ -73,6 +80,10 @@ impl Keeper {
         requires { IsHeeded (kept_of self.old) it.name it.letter }
         ensures acts { OnOk result
             (Acts sender (named_of it ∷ []) self.old work.old self.new work.new) }
+
+        ensures serves { OnOk result (ServesRequest sender it self.old work.old self.new work.new) }
+        ensures handled { IfOk result (λ served. served ≡ Delivered.Handled) }
+        ensures refused { IfErr result (IsUnwritten (CanServe sender it self.old)) }
     {
         let it = self.log_serve(it, work)?;
         let NamedLetter { name, letter } = it;
@@ -91,6 +102,11 @@ impl Keeper {
         requires { IsHeeded (kept_of self.old) it.name it.letter }
         ensures acts { OnOk result
             ((asker : ℕ) → Acts asker (named_of it ∷ []) self.old work.old self.new work.new) }
+
+        ensures takes { IfOk result (λ taken. (ended : Option ToldCall)
+            × (taken ≡ delivered_of ended) × TakesReply it self.old work.old self.new work.new ended) }
+
+        ensures refused { IfErr result (IsUnwritten (CanTake it self.old)) }
     {
         let it = self.log_take(it, work)?;
         let NamedLetter { name, letter } = it;
@@ -102,12 +118,13 @@ impl Keeper {
     // A request goes to the log, if it may change a bank. Returns the same letter.
     fn log_serve(&self, it: NamedLetter, work: &mut Work) -> Result<NamedLetter, NodeError>
         ensures same { IfOk result (λ same. same ≡ it) }
-        ensures logged { OnOk result (IsGrown work.old work.new (serve_growth self.now it)) }
+        ensures logged { OnOk result
+            (IsGrown work.old work.new (logged_growth self.now.digest (served_records self.now it))) }
         ensures unchanged { OnOk result (is_changed_by (objects_of self.now.objects it.name) it.letter ≡ false
             → IsUnchangedBy (objects_of self.now.objects it.name) it.letter) }
 
-        ensures read { OnOk result (is_changed_by (objects_of self.now.objects it.name) it.letter ≡ true
-            → IsReadBack self.now.digest (LogRecord.Serves it.name it.letter)) }
+        ensures writes { WritesOrFails
+            (AllByRecursion (IsLoggable self.now.digest) (served_records self.now it)) result }
     {
         if !self.objects.is_changed_by(&it.name, &it.letter)? {
             return Ok(it);
@@ -120,9 +137,10 @@ impl Keeper {
     // A reply goes to the log, if its call is an open move. Returns the same letter.
     fn log_take(&self, it: NamedLetter, work: &mut Work) -> Result<NamedLetter, NodeError>
         ensures same { IfOk result (λ same. same ≡ it) }
-        ensures logged { OnOk result (IsGrown work.old work.new (take_growth self.now it)) }
-        ensures read { OnOk result (has_move_open (objects_of self.now.objects it.name) it.letter.message.call ≡ true
-            → IsReadBack self.now.digest (LogRecord.Takes it.name it.letter)) }
+        ensures logged { OnOk result
+            (IsGrown work.old work.new (logged_growth self.now.digest (taken_records self.now it))) }
+        ensures writes { WritesOrFails
+            (AllByRecursion (IsLoggable self.now.digest) (taken_records self.now it)) result }
     {
         if !self.objects.is_open_move(&it.name, it.letter.message.call) {
             return Ok(it);
@@ -135,7 +153,9 @@ impl Keeper {
 
 // A reply about the object of this name was taken. Where it answered a call, clients see that.
 fn tell(name: Bytes, ended: Option<Ended>, work: &mut Work) -> Result<Delivered, NodeError>
-    ensures { OnOk result (IsGrown work.old work.new (tell_growth name ended)) }
+    ensures grown { OnOk result (IsGrown work.old work.new (tell_growth name ended)) }
+    ensures told { IfOk result (λ told. told ≡ delivered_of ended) }
+    ensures refused { IfErr result (λ e. e ≡ NoMemory) }
 {
     let Some(ended) = ended else {
         return Ok(Delivered::Handled);
@@ -147,7 +167,8 @@ fn tell(name: Bytes, ended: Option<Ended>, work: &mut Work) -> Result<Delivered,
 
 // The same once more.
 fn copy_of(ended: &Ended) -> Result<Ended, NodeError>
-    ensures { IfOk result (λ copy. copy ≡ ended.now) }
+    ensures copied { IfOk result (λ copy. copy ≡ ended.now) }
+    ensures refused { IfErr result (λ e. e ≡ NoMemory) }
 {
     let value = match &ended.value {
         Some(value) => Some(value.clone()?),

@@ -1,9 +1,13 @@
 //! What is carried out again from the log. Nothing is sent, and clients see nothing.
-ghost use Rattle.std.specs.Prelude.{◌≡◌, ◌∷◌, [], true, OnOk};
-ghost use Rattle.local_object.specs.Doing.{serve_events};
+ghost use Rattle.std.specs.Prelude.{◌≡◌, ◌⊎◌, ◌∷◌, ◌^◌, [], true, false, nat_lt, suc};
+ghost use Rattle.std.specs.Prelude.{IfErr, IfOk, OnOk, option_to_list};
+ghost use Rattle.local_object.specs.Doing.{move_refusal, serve_events};
 ghost use Rattle.local_object.specs.Events.{LocalEvent};
-ghost use Rattle.node_objects.specs.Objects.{objects_of};
+ghost use Rattle.node_objects.specs.Objects.{AreSame, objects_of};
 ghost use Rattle.recoveries.specs.Records.{IsDoneTo, IsStarted, IsTakenBy};
+ghost use Rattle.node_effects.specs.Errors.{IsByRefusal};
+ghost use Rattle.node_effects.specs.declared.error.NodeError.TheVariants.{NoMemory};
+ghost use Rattle.node_keeper.specs.Delivering.{KeepsRest, first_id};
 ghost use Rattle.node_keeper.specs.Keeping.{kept_of};
 
 use super::Keeper;
@@ -14,36 +18,51 @@ use node_effects::{NamedLetter, NodeError};
 use tag::CallId;
 
 impl Keeper {
-    /// An epoch begins again. Returns whether there was one more.
+    /// Begins an epoch again. Returns whether there was one.
     pub fn start_again(&mut self) -> bool
-        ensures { result ≡ true → IsStarted (kept_of self.old) (kept_of self.new) }
+        ensures more { result ≡ nat_lt (suc self.old.ids.epoch) (2 ^ 24) }
+        ensures started { result ≡ true → IsStarted (kept_of self.old) (kept_of self.new) }
+        ensures ended { result ≡ false → self.new ≡ self.old }
+        ensures digest { self.new.digest ≡ self.old.digest }
     {
         self.ids.begin_epoch()
     }
 
-    /// A request is served again. `NoMemory`.
+    /// Serves a request again. `NoMemory`.
     pub fn serve_again(&mut self, it: NamedLetter) -> Result<(), NodeError>
-        ensures { OnOk result (IsDoneTo (kept_of self.old) it.name
+        ensures served { OnOk result (IsDoneTo (kept_of self.old) it.name
             (serve_events (objects_of self.old.objects it.name) it.letter) (kept_of self.new)) }
+
+        ensures rest { OnOk result (KeepsRest self.old self.new) }
+        ensures refused { IfErr result (λ e. e ≡ NoMemory) }
     {
         let NamedLetter { name, letter } = it;
         let _reply = self.objects.serve(&name, letter)?;
         Ok(())
     }
 
-    /// A reply is taken again. Returns the call that it answers, if it answers one. `NoMemory`.
+    /// Takes a reply again. Returns the call that it answers, if it answers one. `NoMemory`.
     pub fn take_again(&mut self, it: NamedLetter) -> Result<Option<CallId>, NodeError>
-        ensures { OnOk result (IsTakenBy (kept_of self.old) it.name it.letter (kept_of self.new)) }
+        ensures taken { IfOk result (λ id.
+            (taken : IsTakenBy (kept_of self.old) it.name it.letter (kept_of self.new))
+            × (id ≡ first_id taken.ended)) }
+
+        ensures rest { OnOk result (KeepsRest self.old self.new) }
+        ensures refused { IfErr result (λ e. e ≡ NoMemory) }
     {
         let NamedLetter { name, letter } = it;
         let progress = self.objects.take(&name, letter)?;
         Ok(id_of(progress.ended))
     }
 
-    /// A move begins again. `Refused` where the object refuses it, and `NoMemory`.
+    /// Begins a move again. `Refused` if the object refuses it, and `NoMemory`.
     pub fn move_again(&mut self, name: &Bytes, id: CallId, layout: Layout) -> Result<(), NodeError>
-        ensures { OnOk result (IsDoneTo (kept_of self.old) name.now (LocalEvent.BeginMove id layout ∷ [])
+        ensures begun { OnOk result (IsDoneTo (kept_of self.old) name.now (LocalEvent.BeginMove id layout ∷ [])
             (kept_of self.new)) }
+
+        ensures rest { KeepsRest self.old self.new }
+        ensures cause { IsByRefusal (move_refusal (objects_of self.old.objects name.now) id) result }
+        ensures unchanged { IfErr result (λ e. (e ≡ NoMemory) ⊎ AreSame self.old.objects self.new.objects) }
     {
         let _letters = self.objects.begin_move(name, id, layout)?;
         Ok(())
@@ -51,7 +70,9 @@ impl Keeper {
 }
 
 // The id of a call that was answered, if one was.
-fn id_of(ended: Option<Ended>) -> Option<CallId> {
+fn id_of(ended: Option<Ended>) -> Option<CallId>
+    ensures { result ≡ first_id (option_to_list ended) }
+{
     match ended {
         Some(ended) => Some(ended.id),
         None => None,

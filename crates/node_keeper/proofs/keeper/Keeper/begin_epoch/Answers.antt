@@ -1,5 +1,5 @@
 use Rattle.std.proofs.Common.{refl}
-use Rattle.node_keeper.proofs.BegunLemmas.{epoch_acts}
+use Rattle.node_keeper.proofs.EpochLemmas.{epoch_acts}
 use Rattle.node_keeper.proofs.ResultLemmas.{ok_three}
 use Rattle.node_keeper.proofs.keeper.Keeper.begin_epoch.Goals as goal
 

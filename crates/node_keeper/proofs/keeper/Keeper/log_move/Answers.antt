@@ -7,4 +7,4 @@ pub returns-clause-read : goal.returns-clause-read
 returns-clause-read c =
     let range : c.args.id < 2 ^ 64 = omega arith in
     on_ok_weaker c.note.result (λ noted lawful. move_read c.args.self.now.digest c.args.name.now c.args.id c.args.layout range lawful)
-    c.note.ensures
+    c.note.ensures.grown

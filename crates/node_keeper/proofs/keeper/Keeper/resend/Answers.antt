@@ -1,10 +1,30 @@
+use Rattle.std.proofs.Common.{List, subst}
+use Rattle.std.specs.List.{AllByRecursion}
 use Rattle.std.proofs.lemmas.Result.{on_ok_weaker}
+use Rattle.local_object.specs.declared.letter.Letter.{Letter}
+use Rattle.node_effects.specs.Errors.{WritesOrFails}
+use Rattle.node_effects.specs.Work.{IsGrown}
+use Rattle.node_keeper.specs.Fitting.{IsSendable}
+use Rattle.node_keeper.specs.Sendings.{asked, sent_growth}
 use Rattle.node_keeper.proofs.BegunLemmas.{resent_acts}
 use Rattle.node_keeper.proofs.keeper.Keeper.resend.Goals as goal
 
-pub returns : goal.returns
-returns c = record {
-  acts = on_ok_weaker c.post.result
-      (λ sent asker. resent_acts asker c.args.self.now c.args.work.now c.post.new.work c.args.name.now c.in_ok-letters.letters.items
-      c.in_ok-letters.ensures.resent sent) c.post.ensures;
-}
+pub returns-clause-acts : goal.returns-clause-acts
+returns-clause-acts c =
+    on_ok_weaker c.post.result
+    (λ sent asker. resent_acts asker c.args.self.now c.args.work.now c.post.new.work c.args.name.now c.in_ok-letters.letters.items
+    c.in_ok-letters.ensures.resent sent) c.post.ensures.grown
+
+pub returns-clause-sends : goal.returns-clause-sends
+returns-clause-sends c =
+    let n = c.args.self.now.ids.node in
+    on_ok_weaker c.post.result
+    (λ sent. subst (λ (letters : List Letter). IsGrown c.args.work.now c.post.new.work
+    (sent_growth n c.args.self.now.digest (asked n c.args.name.now letters))) c.in_ok-letters.ensures.letters sent)
+    c.post.ensures.grown
+
+pub returns-clause-writes : goal.returns-clause-writes
+returns-clause-writes c =
+    let n = c.args.self.now.ids.node in
+    subst (λ (letters : List Letter). WritesOrFails (AllByRecursion (IsSendable n c.args.self.now.digest)
+    (asked n c.args.name.now letters)) c.post.result) c.in_ok-letters.ensures.letters c.post.ensures.writes

@@ -1,55 +1,80 @@
-use Rattle.std.proofs.Common.{◌≡◌, true, false, [], ◌∷◌, inr, inl, option_to_list, refl, subst, sym}
-use Rattle.local_object.specs.Changing.{IsUnchangedBy, is_changed_by}
+use Rattle.std.proofs.Common.{[], option_to_list, refl, subst, ◌∷◌}
 use Rattle.local_object.specs.Doing.{serve_events}
 use Rattle.node_objects.specs.Doing.{IsDoneAt}
 use Rattle.node_objects.specs.Objects.{objects_of}
-use Rattle.recoveries.specs.Copies.{IsHeeded}
-use Rattle.recoveries.specs.Records.{LogRecord}
-use Rattle.node_effects.specs.Seen.{named_of}
-use Rattle.node_effects.specs.Work.{IsGrown}
+use Rattle.node_effects.specs.Work.{IsGrown, no_growth}
 use Rattle.node_effects.specs.declared.letter.NamedLetter.{NamedLetter}
-use Rattle.node_effects.proofs.GrowthLemmas.{grown_none}
-use Rattle.node_keeper.specs.Acts.{Acts, serve_growth}
-use Rattle.node_keeper.specs.Keeping.{kept_of}
-use Rattle.node_keeper.specs.Logging.{IsReadBack}
-use Rattle.node_keeper.specs.Sendings.{to_one}
-use Rattle.node_keeper.specs.declared.keeper.Keeper.{Keeper}
+use Rattle.node_effects.proofs.GrowthLemmas.{grown_none, grown_then}
+use Rattle.node_keeper.specs.Fitting.{IsSendable}
+use Rattle.node_keeper.specs.Sendings.{sending, sent_growth, to_one}
+use Rattle.node_effects.specs.Errors.{IsUnwritten}
+use Rattle.node_keeper.proofs.FittingLemmas.{serve_unsent}
 use Rattle.node_keeper.proofs.LetterLemmas.{served_acts}
+use Rattle.node_keeper.proofs.ResultLemmas.{err_same}
 use Rattle.node_keeper.proofs.keeper.Keeper.serve.Goals as goal
 
-pub returns-in_ok-send-in-Some : goal.returns-in_ok-send-in-Some
-returns-in_ok-send-in-Some c =
+pub returns-in_ok-send-in-Some-clause-serves : goal.returns-in_ok-send-in-Some-clause-serves
+returns-in_ok-send-in-Some-clause-serves c =
     let old = c.args.self.now in
-    let it = c.in_ok-it.it in
-    let same : c.args.it ≡ it = sym c.in_ok-it.ensures.same in
-    let new : Keeper = record old { objects = c.serve.new.self } in record {
-      acts = subst (λ i. Acts c.args.sender (named_of i ∷ []) old c.args.work.now new c.send.new.work) c.in_ok-it.ensures.same
-          (served_acts old new c.args.work.now c.log_serve.new.work it refl refl refl
-          (subst (λ (i : NamedLetter). IsHeeded (kept_of old) i.name i.letter) same c.requires) c.args.sender c.send.new.work
-          (c.in-Some.reply ∷ []) (to_one c.args.sender (record { name = it.name; letter = c.in-Some.reply }))
-          (subst (λ o. IsDoneAt old.objects it.name (serve_events (objects_of old.objects it.name) it.letter) c.serve.new.self
-          (option_to_list o)) c.in-Some.is c.in_ok-reply.ensures.done) refl (inr (inl refl), tt) c.in_ok-send-in-Some.ensures
-          (subst (λ i. IsGrown c.args.work.now c.log_serve.new.work (serve_growth old i)) same c.in_ok-it.ensures.logged)
-          (subst (λ (i : NamedLetter). is_changed_by (objects_of old.objects i.name) i.letter ≡ false →
-          IsUnchangedBy (objects_of old.objects i.name) i.letter) same c.in_ok-it.ensures.unchanged)
-          (subst (λ (i : NamedLetter). is_changed_by (objects_of old.objects i.name) i.letter ≡ true →
-          IsReadBack old.digest (LogRecord.Serves i.name i.letter)) same c.in_ok-it.ensures.read));
+    let asker = c.args.sender in
+    let same = c.in_ok-it.ensures.same in
+    let reply = c.in-Some.reply in record {
+      replies = reply ∷ [];
+      done = subst (λ o. IsDoneAt old.objects c.args.it.name (serve_events (objects_of old.objects c.args.it.name) c.args.it.letter)
+          c.serve.new.self (option_to_list o)) c.in-Some.is
+          (subst (λ (i : NamedLetter). IsDoneAt old.objects i.name (serve_events (objects_of old.objects i.name) i.letter)
+          c.serve.new.self (option_to_list c.in_ok-reply.field-0)) same c.in_ok-reply.ensures.done);
+      grown = grown_then c.args.work.now c.log_serve.new.work c.send.new.work _ _ c.in_ok-it.ensures.logged
+          (subst (λ (i : NamedLetter). IsGrown c.log_serve.new.work c.send.new.work
+          (sent_growth old.ids.node old.digest (to_one asker (record { name = i.name; letter = reply }))))
+          same c.in_ok-send-in-Some.ensures.grown);
+      fits = record {
+        logged = c.in_ok-it.ensures.writes;
+        sent = (
+          subst (λ (i : NamedLetter). IsSendable old.ids.node old.digest (sending asker (record { name = i.name; letter = reply })))
+              same c.in_ok-send-in-Some.ensures.writes,
+          tt,
+        );
+      };
+      rest = record { file = refl; digest = refl; ids = refl };
     }
 
-pub returns-in-None : goal.returns-in-None
-returns-in-None c =
+pub returns-in-None-clause-serves : goal.returns-in-None-clause-serves
+returns-in-None-clause-serves c =
     let old = c.args.self.now in
-    let it = c.in_ok-it.it in
-    let same : c.args.it ≡ it = sym c.in_ok-it.ensures.same in
-    let new : Keeper = record old { objects = c.serve.new.self } in record {
-      acts = subst (λ i. Acts c.args.sender (named_of i ∷ []) old c.args.work.now new c.log_serve.new.work) c.in_ok-it.ensures.same
-          (served_acts old new c.args.work.now c.log_serve.new.work it refl refl refl
-          (subst (λ (i : NamedLetter). IsHeeded (kept_of old) i.name i.letter) same c.requires) c.args.sender c.log_serve.new.work
-          [] [] (subst (λ o. IsDoneAt old.objects it.name (serve_events (objects_of old.objects it.name) it.letter)
-          c.serve.new.self (option_to_list o)) c.in-None.is c.in_ok-reply.ensures.done) refl tt (grown_none c.log_serve.new.work)
-          (subst (λ i. IsGrown c.args.work.now c.log_serve.new.work (serve_growth old i)) same c.in_ok-it.ensures.logged)
-          (subst (λ (i : NamedLetter). is_changed_by (objects_of old.objects i.name) i.letter ≡ false →
-          IsUnchangedBy (objects_of old.objects i.name) i.letter) same c.in_ok-it.ensures.unchanged)
-          (subst (λ (i : NamedLetter). is_changed_by (objects_of old.objects i.name) i.letter ≡ true →
-          IsReadBack old.digest (LogRecord.Serves i.name i.letter)) same c.in_ok-it.ensures.read));
+    let same = c.in_ok-it.ensures.same in record {
+      replies = [];
+      done = subst (λ o. IsDoneAt old.objects c.args.it.name (serve_events (objects_of old.objects c.args.it.name) c.args.it.letter)
+          c.serve.new.self (option_to_list o)) c.in-None.is
+          (subst (λ (i : NamedLetter). IsDoneAt old.objects i.name (serve_events (objects_of old.objects i.name) i.letter)
+          c.serve.new.self (option_to_list c.in_ok-reply.field-0)) same c.in_ok-reply.ensures.done);
+      grown = grown_then c.args.work.now c.log_serve.new.work c.log_serve.new.work _ no_growth c.in_ok-it.ensures.logged
+          (grown_none c.log_serve.new.work);
+      fits = record { logged = c.in_ok-it.ensures.writes; sent = tt };
+      rest = record { file = refl; digest = refl; ids = refl };
     }
+
+pub returns-in_ok-send-in-Some-clause-acts : goal.returns-in_ok-send-in-Some-clause-acts
+returns-in_ok-send-in-Some-clause-acts c =
+    served_acts c.args.sender c.args.it c.args.self.now _ c.args.work.now c.send.new.work
+    (returns-in_ok-send-in-Some-clause-serves c) c.requires c.in_ok-it.ensures.unchanged
+
+pub returns-in-None-clause-acts : goal.returns-in-None-clause-acts
+returns-in-None-clause-acts c =
+    served_acts c.args.sender c.args.it c.args.self.now _ c.args.work.now c.log_serve.new.work
+    (returns-in-None-clause-serves c) c.requires c.in_ok-it.ensures.unchanged
+
+pub returns-in_err-send-in-Some-clause-refused : goal.returns-in_err-send-in-Some-clause-refused
+returns-in_err-send-in-Some-clause-refused c =
+    let old = c.args.self.now in
+    let same = c.in_ok-it.ensures.same in
+    let reply = c.in-Some.reply in
+    let done = subst (λ o. IsDoneAt old.objects c.args.it.name (serve_events (objects_of old.objects c.args.it.name) c.args.it.letter)
+    c.serve.new.self (option_to_list o)) c.in-Some.is
+    (subst (λ (i : NamedLetter). IsDoneAt old.objects i.name (serve_events (objects_of old.objects i.name) i.letter)
+    c.serve.new.self (option_to_list c.in_ok-reply.field-0)) same c.in_ok-reply.ensures.done) in
+    err_same _ c.from_residual-in_err-send-in-Some.result c.in_err-send-in-Some.field-0.0 c.from_residual-in_err-send-in-Some.ensures.1
+    (serve_unsent c.args.sender c.args.it old c.serve.new.self reply done c.in_err-send-in-Some.field-0.0
+    (subst (λ (i : NamedLetter). IsUnwritten (IsSendable old.ids.node old.digest
+    (sending c.args.sender (record { name = i.name; letter = reply }))) c.in_err-send-in-Some.field-0.0)
+    same c.in_err-send-in-Some.ensures.writes))

@@ -1,0 +1,152 @@
+-- Which letters are requests, and which are replies.
+use Rattle.std.proofs.Common.{◌≡◌, ℕ, suc, Bool, true, false, cond, List, [], ◌∷◌, ◌++◌, map, Option, None, Some}
+use Rattle.std.proofs.Common.{zero, slice_get, refl, sym, subst}
+use Rattle.std.specs.List.{AllByRecursion}
+use Rattle.bank.specs.Bank.{empty_piece}
+use Rattle.bank.specs.declared.kind.Kind.{Kind}
+use Rattle.bank.specs.declared.kind.Kind.TheVariants.{Next, Spread}
+use Rattle.bank.specs.declared.status.Status.TheVariants.{Pending}
+use Rattle.encoder.specs.Fragment.{fragment}
+use Rattle.layout.specs.Layout.{Layout}
+use Rattle.mail.specs.declared.message.Body.{Body}
+use Rattle.mail.specs.declared.message.Body.TheVariants as body
+use Rattle.network.specs.Worlds.{NodeCall, due_phase, open_call}
+use Rattle.piece.specs.declared.piece.Piece.{Piece}
+use Rattle.record.specs.declared.call.CallKind.{CallKind}
+use Rattle.record.specs.declared.call.CallKind.TheVariants.{Read, Write, Move}
+use Rattle.record.specs.declared.stage.Stage.{Stage}
+use Rattle.record.specs.Legal.{first_stage}
+use Rattle.record.specs.PhaseOrder.{begun_at}
+use Rattle.record.specs.Sending.{requests}
+use Rattle.local_object.specs.declared.letter.Letter.{Letter}
+use Rattle.local_object.specs.Doing.{IsDone, is_request, is_served, serve_events}
+use Rattle.local_object.specs.Events.{LocalEvent, advanced_at, advanced_here, all_done, begun_here, done_here, learnt_from, letter_of}
+use Rattle.local_object.specs.Events.{on_open_call, pieces_here, served_here, silent}
+use Rattle.local_object.specs.Local.{LocalObject, last_position, layout_here, with_heard}
+use Rattle.local_object.specs.Resent.{IsResent, current_letters}
+use Rattle.deeds.specs.Ids.{begun_id}
+use Rattle.deeds.proofs.ListLemmas.{all_append, all_weaker}
+
+-- the letter is a request
+abbrev pub Asks : Letter → Type 0
+Asks letter = is_request letter.message.body ≡ true
+
+-- the letter is a reply
+abbrev pub Replies : Letter → Type 0
+Replies letter = is_request letter.message.body ≡ false
+
+-- the event serves no request
+abbrev pub ServesNone : LocalEvent → Type 0
+ServesNone (LocalEvent.Serve letter) = ⊥
+ServesNone event = Unit {0}
+
+requests_ask : (local : LocalObject) (layout : Layout) (call number : ℕ) (kind : Kind) (position : ℕ) (members : List ℕ)
+    (member : ℕ) (piece : ℕ → Piece) →
+    AllByRecursion Asks (map (letter_of local layout) (requests call number kind position members member piece))
+requests_ask local layout call number kind position [] member piece = tt
+requests_ask local layout call number kind position (server ∷ servers) member piece =
+    (refl, requests_ask local layout call number kind position servers (suc member) piece)
+
+begun_asks : (local : LocalObject) (id : ℕ) (call_kind : CallKind) (stage : Stage) (kind : Kind) (position : ℕ)
+    (layout : Option Layout) → AllByRecursion Asks (begun_here local id call_kind stage kind position layout).sent
+begun_asks local id call_kind stage kind position None = tt
+begun_asks local id call_kind stage kind position (Some layout) =
+    requests_ask local layout id 1 kind position layout.members 0 empty_piece
+
+advanced_asks : (local : LocalObject) (call : NodeCall) (next : Kind × ℕ) (layout : Option Layout) →
+    AllByRecursion Asks (advanced_at fragment local call next layout).sent
+advanced_asks local call next None = tt
+advanced_asks local call next (Some layout) =
+    requests_ask local layout call.id (suc call.phase.number) next.0 next.1 layout.members 0 (pieces_here fragment layout call)
+
+due_asks : (local : LocalObject) (call : NodeCall) (next : Option (Kind × ℕ)) →
+    AllByRecursion Asks (advanced_here fragment local call next).sent
+due_asks local call None = tt
+due_asks local call (Some next) = advanced_asks local call next (layout_here local next.1)
+
+open_asks : (local : LocalObject) (call : Option NodeCall) →
+    AllByRecursion Asks (on_open_call local call (λ c. advanced_here fragment local c (due_phase c))).sent
+open_asks local None = tt
+open_asks local (Some call) = due_asks local call (due_phase call)
+
+silent_asks : (local : LocalObject) (call : Option NodeCall) (change : NodeCall → LocalObject) →
+    AllByRecursion Asks (on_open_call local call (λ c. silent (change c))).sent
+silent_asks local None change = tt
+silent_asks local (Some call) change = tt
+
+-- all letters of an event that serves no request are requests
+event_asks : (local : LocalObject) (event : LocalEvent) → ServesNone event →
+    AllByRecursion Asks (done_here fragment local event).sent
+event_asks local (LocalEvent.BeginRead id) none =
+    begun_asks local id Read (begun_at (first_stage Read 0) 0) Next 0 (layout_here local 0)
+event_asks local (LocalEvent.BeginWrite id value) none =
+    begun_asks local id (Write value) (begun_at (first_stage (Write value) 0) 0) Next 0 (layout_here local 0)
+event_asks local (LocalEvent.BeginMove id layout) none =
+    let last = last_position local in
+    let next = with_heard local (suc last) layout in
+    begun_asks next id Move (first_stage Move last) (Spread Pending) last (layout_here next last)
+event_asks local (LocalEvent.Advance id) none = open_asks local (open_call local.calls id)
+event_asks local (LocalEvent.Serve letter) none = absurd none
+event_asks local (LocalEvent.Take letter) none =
+    let next = learnt_from local letter in silent_asks next (open_call next.calls letter.message.call) _
+event_asks local (LocalEvent.Settle id value) none = silent_asks local (open_call local.calls id) _
+event_asks local (LocalEvent.Answer id) none = tt
+event_asks local (LocalEvent.GiveUp id) none = tt
+
+all_ask : (local : LocalObject) (events : List LocalEvent) → AllByRecursion ServesNone events →
+    AllByRecursion Asks (all_done fragment local events).sent
+all_ask local [] none = tt
+all_ask local (event ∷ events) none =
+    let first = done_here fragment local event in
+    all_append Asks first.sent (all_done fragment first.local events).sent (event_asks local event none.0)
+    (all_ask first.local events none.1)
+
+pub done_asks : (old new : LocalObject) (events : List LocalEvent) (letters : List Letter) → IsDone old events new letters →
+    AllByRecursion ServesNone events → AllByRecursion Asks letters
+done_asks old new events letters done none =
+    subst (λ (ls : List Letter). AllByRecursion Asks ls) (sym done.letters) (all_ask old events none)
+
+-- an event that begins a call serves no request
+pub begins_serve_none : (event : LocalEvent) (id : ℕ) → begun_id event ≡ Some id → ServesNone event
+begins_serve_none (LocalEvent.BeginRead id) other is = tt
+begins_serve_none (LocalEvent.BeginWrite id value) other is = tt
+begins_serve_none (LocalEvent.BeginMove id layout) other is = tt
+begins_serve_none (LocalEvent.Advance id) other is = tt
+begins_serve_none (LocalEvent.Serve letter) other is = absurd (cc)
+begins_serve_none (LocalEvent.Take letter) other is = tt
+begins_serve_none (LocalEvent.Settle id value) other is = tt
+begins_serve_none (LocalEvent.Answer id) other is = tt
+begins_serve_none (LocalEvent.GiveUp id) other is = tt
+
+-- Letters that are sent again
+
+all_at : (P : Letter → Type 0) (letters : List Letter) → AllByRecursion P letters → (i : ℕ) (letter : Letter) →
+    slice_get letters i ≡ Some letter → P letter
+all_at P [] all i letter at = absurd (cc)
+all_at P (first ∷ letters) all zero letter at = let same : first ≡ letter = cc in subst P same all.0
+all_at P (first ∷ letters) all (suc i) letter at = all_at P letters all.1 i letter at
+
+pub resent_ask : (local : LocalObject) (letters : List Letter) → AllByRecursion (IsResent fragment local) letters →
+    AllByRecursion Asks letters
+resent_ask local letters resent =
+    all_weaker (IsResent fragment local) Asks
+    (λ letter is. all_at Asks (current_letters fragment local is.call is.layout)
+    (requests_ask local is.layout is.call.id is.call.phase.number is.call.phase.kind is.call.phase.position
+    is.layout.members 0 (pieces_here fragment is.layout is.call))
+    is.place letter is.at) letters resent
+
+-- Replies
+
+served_replies : (local : LocalObject) (letter : Letter) (message : Body) →
+    AllByRecursion Replies ((served_here local letter message).sent ++ [])
+served_replies local letter (body.Request asked) = (refl, tt)
+served_replies local letter (body.Reply kind made) = tt
+
+pub all_reply : (local new : LocalObject) (letter : Letter) (replies : List Letter) →
+    IsDone local (serve_events local letter) new replies → AllByRecursion Replies replies
+all_reply local new letter replies done =
+    subst (λ (ls : List Letter). AllByRecursion Replies ls) (sym done.letters) (go (is_served local letter))
+  where
+    go : (b : Bool) → AllByRecursion Replies (all_done fragment local (cond b (LocalEvent.Serve letter ∷ []) [])).sent
+    go true = served_replies (learnt_from local letter) letter letter.message.body
+    go false = tt

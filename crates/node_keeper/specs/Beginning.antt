@@ -1,0 +1,123 @@
+-- The contracts that docs/trusted.md lists do not depend on this file; other contracts and proofs do.
+-- Calls that begin at an object, or are refused by it.
+use Rattle.std.specs.Prelude.{◌≡◌, ⊤, ℕ, List, [], ◌∷◌, Option, None, Some}
+use Rattle.encoder.specs.Fragment.{fragment}
+use Rattle.layout.specs.Layout.{Layout}
+use Rattle.tag.specs.declared.refusal.Refusal.{Refusal}
+use Rattle.local_object.specs.declared.letter.Letter.{Letter}
+use Rattle.local_object.specs.Doing.{move_refusal, read_refusal, write_refusal}
+use Rattle.local_object.specs.Events.{LocalEvent, done_here}
+use Rattle.local_object.specs.Local.{LocalObject}
+use Rattle.node_objects.specs.Doing.{IsDoneAt}
+use Rattle.node_objects.specs.Objects.{AreSame, objects_of}
+use Rattle.recoveries.specs.Records.{LogRecord}
+use Rattle.node_effects.specs.Work.{Growth, IsGrown, both_grown}
+use Rattle.node_effects.specs.declared.error.NodeError.{NodeError}
+use Rattle.node_effects.specs.declared.error.NodeError.TheVariants as errors
+use Rattle.node_effects.specs.declared.notice.Notice.{Notice}
+use Rattle.node_effects.specs.declared.notice.Notice.TheVariants as notice
+use Rattle.node_effects.specs.declared.work.Work.{Work}
+use Rattle.node_keeper.specs.declared.delivered.Begun.{Begun}
+use Rattle.node_keeper.specs.declared.delivered.Begun.TheVariants as begun
+use Rattle.node_keeper.specs.Acts.{GivesId, logged_growth}
+use Rattle.node_keeper.specs.NextIds.{next_id_of}
+use Rattle.node_keeper.specs.Fitting.{CanBeWritten}
+use Rattle.node_keeper.specs.Sendings.{asked, sent_growth}
+use Rattle.node_keeper.specs.declared.keeper.Keeper.{Keeper}
+
+-- a call that is to begin at the object of a name, by the id that it gets: what begins it, why the object refuses it,
+-- what clients see of it, and what the log gets
+pub record Beginning : Type 0 where
+  pub name : List ℕ
+  pub event : (id : ℕ) → LocalEvent
+  pub refusal : LocalObject → (id : ℕ) → Option Refusal
+  pub notice : (id : ℕ) → Notice
+  pub records : (id : ℕ) → List LogRecord
+
+-- a read of the object of a name
+abbrev pub reading_call : (name : List ℕ) → Beginning
+reading_call name = record {
+  name = name;
+  event = λ id. LocalEvent.BeginRead id;
+  refusal = read_refusal;
+  notice = λ id. notice.Reads name id;
+  records = λ id. [];
+}
+
+-- a write of a value to the object of a name
+abbrev pub writing_call : (name value : List ℕ) → Beginning
+writing_call name value = record {
+  name = name;
+  event = λ id. LocalEvent.BeginWrite id value;
+  refusal = λ local id. write_refusal local id value;
+  notice = λ id. notice.Writes name id value;
+  records = λ id. [];
+}
+
+-- a move of the object of a name to a layout
+abbrev pub moving_call : (name : List ℕ) → Layout → Beginning
+moving_call name layout = record {
+  name = name;
+  event = λ id. LocalEvent.BeginMove id layout;
+  refusal = move_refusal;
+  notice = λ id. notice.Moves name id layout;
+  records = λ id. LogRecord.Moves name id layout ∷ [];
+}
+
+-- what a node has to do more as a call begins, before its letters go out: the log gets its records, and clients see it
+abbrev pub opened_growth : (digest : List ℕ) → List LogRecord → Notice → Growth
+opened_growth digest records seen = record (logged_growth digest records) { notices = seen ∷ [] }
+
+-- what a node has to do more as a call begins
+abbrev pub begun_growth : Beginning → (id : ℕ) → Keeper → List Letter → Growth
+begun_growth call id keeper letters =
+    both_grown (opened_growth keeper.digest (call.records id) (call.notice id))
+    (sent_growth keeper.ids.node keeper.digest (asked keeper.ids.node call.name letters))
+
+-- the call began with this id, which was the next one
+pub record IsCallBegun (call : Beginning) (id : ℕ) (old : Keeper) (before : Work) (new : Keeper)
+    (after : Work) : Type 0 where
+  pub given : Work
+  pub gives : GivesId old.ids id new.ids before given
+  pub cause : call.refusal (objects_of old.objects call.name) id ≡ None
+  pub letters : List Letter
+  pub done : IsDoneAt old.objects call.name (call.event id ∷ []) new.objects letters
+  pub grown : IsGrown given after (begun_growth call id old letters)
+  pub fits : CanBeWritten old.ids.node old.digest (call.records id) (asked old.ids.node call.name letters)
+  pub file : new.file ≡ old.file
+  pub digest : new.digest ≡ old.digest
+
+-- the object refused the call, for which the next id was given, and no object changed
+pub record IsCallRefused (call : Beginning) (refusal : Refusal) (old : Keeper) (before : Work) (new : Keeper)
+    (after : Work) : Type 0 where
+  pub id : ℕ
+  pub gives : GivesId old.ids id new.ids before after
+  pub cause : call.refusal (objects_of old.objects call.name) id ≡ Some refusal
+  pub same : AreSame old.objects new.objects
+  pub file : new.file ≡ old.file
+  pub digest : new.digest ≡ old.digest
+
+-- what became of a call that was to begin
+abbrev pub BeginsCall : Beginning → (old : Keeper) → (before : Work) → (new : Keeper) → (after : Work) → Begun → Type 0
+BeginsCall call old before new after (begun.Open id) = IsCallBegun call id old before new after
+BeginsCall call old before new after (begun.Refused refusal) = IsCallRefused call refusal old before new after
+
+-- what clients see of a call that was to begin
+abbrev pub seen_of_begun : (ℕ → Notice) → Begun → List Notice
+seen_of_begun seen (begun.Open id) = seen id ∷ []
+seen_of_begun seen (begun.Refused refusal) = []
+
+-- all can be written that the call with this id needs as it begins
+abbrev pub CanBegin : Beginning → (id : ℕ) → Keeper → Type 0
+CanBegin call id keeper =
+    CanBeWritten keeper.ids.node keeper.digest (call.records id) (asked keeper.ids.node call.name
+    (done_here fragment (objects_of keeper.objects call.name) (call.event id)).sent)
+
+-- why a node cannot go on where a call was to begin: memory is refused, there is no id and no further epoch, or what
+-- the call needs cannot be written
+abbrev pub IsNotBegun : Beginning → Keeper → NodeError → Type 0
+IsNotBegun call keeper errors.NoMemory = ⊤
+IsNotBegun call keeper errors.NoMoreIds = next_id_of keeper.ids ≡ None
+IsNotBegun call keeper errors.Unwritable =
+    (id : ℕ) × (next_id_of keeper.ids ≡ Some id) × (CanBegin call id keeper → ⊥)
+IsNotBegun call keeper (errors.Refused refusal) = ⊥

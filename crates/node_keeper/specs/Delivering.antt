@@ -1,0 +1,140 @@
+-- The contracts that docs/trusted.md lists do not depend on this file; other contracts and proofs do.
+-- What becomes of a letter that has come.
+use Rattle.std.specs.Prelude.{◌≡◌, ℕ, Bool, true, false, if◌then◌else◌, List, [], ◌∷◌}
+use Rattle.std.specs.Prelude.{Option, None, Some, option_to_list}
+use Rattle.std.specs.List.{AllByRecursion}
+use Rattle.encoder.specs.Fragment.{fragment}
+use Rattle.local_object.specs.declared.letter.Letter.{Letter}
+use Rattle.local_object.specs.declared.progress.Ended.{Ended}
+use Rattle.local_object.specs.Changing.{is_changed_by}
+use Rattle.local_object.specs.Doing.{has_move_open, is_request, serve_events}
+use Rattle.local_object.specs.Events.{all_done}
+use Rattle.node_objects.specs.Doing.{IsDoneAt, IsTakenAt}
+use Rattle.node_objects.specs.declared.objects.Objects.{Objects}
+use Rattle.node_objects.specs.Objects.{objects_of}
+use Rattle.recoveries.specs.Records.{LogRecord}
+use Rattle.node_effects.specs.Seen.{named_of}
+use Rattle.node_effects.specs.Work.{Growth, IsGrown, both_grown, no_growth}
+use Rattle.node_effects.specs.declared.letter.NamedLetter.{NamedLetter}
+use Rattle.node_effects.specs.declared.notice.Notice.{Notice}
+use Rattle.node_effects.specs.declared.notice.Notice.TheVariants as notice
+use Rattle.node_effects.specs.declared.work.Work.{Work}
+use Rattle.node_keeper.specs.declared.delivered.Delivered.{Delivered}
+use Rattle.node_keeper.specs.declared.delivered.Delivered.TheVariants as delivered
+use Rattle.node_keeper.specs.Acts.{logged_growth}
+use Rattle.node_keeper.specs.Fitting.{CanBeWritten, IsLoggable, IsSendable}
+use Rattle.node_keeper.specs.Keeping.{heeds, kept_of}
+use Rattle.node_keeper.specs.Sendings.{asked, reply_sendings, sent_growth}
+use Rattle.node_keeper.specs.declared.keeper.Keeper.{Keeper}
+
+-- what the log gets before a request is served: its record, if it may change a bank
+abbrev pub served_records : Keeper → NamedLetter → List LogRecord
+served_records keeper it =
+    if is_changed_by (objects_of keeper.objects it.name) it.letter then LogRecord.Serves it.name it.letter ∷ [] else []
+
+-- what the log gets before a reply is taken: its record, if its call is an open move
+abbrev pub taken_records : Keeper → NamedLetter → List LogRecord
+taken_records keeper it =
+    if has_move_open (objects_of keeper.objects it.name) it.letter.message.call
+    then LogRecord.Takes it.name it.letter ∷ [] else []
+
+-- what clients see of a reply that was taken: the answer of its call, if it answered one
+abbrev pub notices_of : (name : List ℕ) → Option Ended → List Notice
+notices_of name None = []
+notices_of name (Some ended) = notice.Tells name ended ∷ []
+
+-- what a node has to do more after a reply was taken
+abbrev pub tell_growth : (name : List ℕ) → Option Ended → Growth
+tell_growth name ended = record no_growth { notices = notices_of name ended }
+
+-- the node keeps everything but its objects as it was
+pub record KeepsRest (old new : Keeper) : Type 0 where
+  pub file : new.file ≡ old.file
+  pub digest : new.digest ≡ old.digest
+  pub ids : new.ids ≡ old.ids
+
+-- a request was served: its record went to the log, and the reply, if there is one, to the node that asked
+pub record ServesRequest (asker : ℕ) (it : NamedLetter) (old : Keeper) (before : Work) (new : Keeper)
+    (after : Work) : Type 0 where
+  pub replies : List Letter
+  pub done : IsDoneAt old.objects it.name (serve_events (objects_of old.objects it.name) it.letter) new.objects replies
+  pub grown : IsGrown before after (both_grown (logged_growth old.digest (served_records old it))
+      (sent_growth old.ids.node old.digest (reply_sendings asker it.name replies)))
+  pub fits : CanBeWritten old.ids.node old.digest (served_records old it) (reply_sendings asker it.name replies)
+  pub rest : KeepsRest old new
+
+-- a reply was taken: its record went to the log, its call sent these letters, and clients see its answer, if it ended
+pub record TakesReply (it : NamedLetter) (old : Keeper) (before : Work) (new : Keeper) (after : Work)
+    (ended : Option Ended) : Type 0 where
+  pub letters : List Letter
+  pub done : IsTakenAt old.objects it.name it.letter new.objects letters (option_to_list ended)
+  pub grown : IsGrown before after (both_grown (logged_growth old.digest (taken_records old it))
+      (both_grown (sent_growth old.ids.node old.digest (asked old.ids.node it.name letters))
+      (tell_growth it.name ended)))
+  pub fits : CanBeWritten old.ids.node old.digest (taken_records old it) (asked old.ids.node it.name letters)
+  pub rest : KeepsRest old new
+
+-- what became of a letter that was taken
+abbrev pub delivered_of : Option Ended → Delivered
+delivered_of None = delivered.Handled
+delivered_of (Some ended) = delivered.Ended ended
+
+-- what became of a letter, by whether the node heeds it, and whether it is a request
+abbrev pub DeliversAs : (heeded asks : Bool) → (asker : ℕ) → NamedLetter → (old : Keeper) → (before : Work) →
+    (new : Keeper) → (after : Work) → Delivered → Type 0
+DeliversAs false asks asker it old before new after result =
+    (result ≡ delivered.Dropped) × (new ≡ old) × IsGrown before after no_growth
+DeliversAs true true asker it old before new after result =
+    (result ≡ delivered.Handled) × ServesRequest asker it old before new after
+DeliversAs true false asker it old before new after result =
+    (ended : Option Ended) × (result ≡ delivered_of ended) × TakesReply it old before new after ended
+
+-- what became of a letter that has come from the node of number `asker`
+abbrev pub DeliversLetter : (asker : ℕ) → NamedLetter → (old : Keeper) → (before : Work) → (new : Keeper) →
+    (after : Work) → Delivered → Type 0
+DeliversLetter asker it old before new after result =
+    DeliversAs (heeds (kept_of old) (named_of it)) (is_request it.letter.message.body)
+    asker it old before new after result
+
+-- what clients see of a letter of which this became
+abbrev pub told_by : (name : List ℕ) → Delivered → List Notice
+told_by name delivered.Dropped = []
+told_by name delivered.Handled = []
+told_by name (delivered.Ended ended) = notice.Tells name ended ∷ []
+
+-- whether a letter was dropped
+abbrev pub was_dropped : Delivered → Bool
+was_dropped delivered.Dropped = true
+was_dropped delivered.Handled = false
+was_dropped (delivered.Ended ended) = false
+
+-- all can be written that is to be written as a request is served
+abbrev pub CanServe : (asker : ℕ) → NamedLetter → Keeper → Type 0
+CanServe asker it keeper =
+    let local = objects_of keeper.objects it.name in
+    CanBeWritten keeper.ids.node keeper.digest (served_records keeper it)
+    (reply_sendings asker it.name (all_done fragment local (serve_events local it.letter)).sent)
+
+-- all can be written that is to be written as a reply is taken
+abbrev pub CanTake : NamedLetter → Keeper → Type 0
+CanTake it keeper =
+    AllByRecursion (IsLoggable keeper.digest) (taken_records keeper it)
+    × ((new : Objects) (letters : List Letter) (ended : List Ended) →
+    IsTakenAt keeper.objects it.name it.letter new letters ended →
+    AllByRecursion (IsSendable keeper.ids.node keeper.digest) (asked keeper.ids.node it.name letters))
+
+-- the same of a letter, by whether the node heeds it, and whether it is a request
+abbrev pub CanDeliverAs : (heeded asks : Bool) → (asker : ℕ) → NamedLetter → Keeper → Type 0
+CanDeliverAs false asks asker it keeper = Unit {0}
+CanDeliverAs true true asker it keeper = CanServe asker it keeper
+CanDeliverAs true false asker it keeper = CanTake it keeper
+
+-- the same of a letter that has come from the node of number `asker`
+abbrev pub CanDeliver : (asker : ℕ) → NamedLetter → Keeper → Type 0
+CanDeliver asker it keeper =
+    CanDeliverAs (heeds (kept_of keeper) (named_of it)) (is_request it.letter.message.body) asker it keeper
+
+-- the id of the first of these calls, if there is one
+abbrev pub first_id : List Ended → Option ℕ
+first_id [] = None
+first_id (ended ∷ more) = Some ended.id
