@@ -13,10 +13,10 @@ abbrev pub IsNodeWord : Word → ℕ → Type 0
 IsNodeWord word number = IsNumber word number × (number ≤ 255)
 
 -- the words after the program's name ask for this: `--help`, `--version`, or FILE NODE FOLDER
-abbrev pub AskFor : List Word → Request → Type 0
-AskFor words asks.Help = words ≡ codes "--help" ∷ []
-AskFor words asks.Version = words ≡ codes "--version" ∷ []
-AskFor words (asks.Run file number folder) =
+abbrev pub Spells : List Word → Request → Type 0
+Spells words asks.Help = words ≡ codes "--help" ∷ []
+Spells words asks.Version = words ≡ codes "--version" ∷ []
+Spells words (asks.Run file number folder) =
     (word : Word) × (words ≡ file.now ∷ word ∷ folder.now ∷ []) × IsNodeWord word number
 
 -- why the words ask for nothing: they are not `--help`, not `--version` and not three words; or the second of three
@@ -31,4 +31,4 @@ IsFaultOf words _ = ⊥
 
 -- what the words ask for, or why they ask for nothing
 abbrev pub ParsesTo : List Word → Result Request Fault → Type 0
-ParsesTo words result = MatchResult result (AskFor words) (IsFaultOf words)
+ParsesTo words result = MatchResult result (Spells words) (IsFaultOf words)

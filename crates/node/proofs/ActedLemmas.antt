@@ -1,7 +1,7 @@
 -- What a node has done so far, as it handles a frame.
-use Rattle.std.proofs.Common.{◌≡◌, ◌⊎◌, inl, inr, ℕ, zero, suc, Bool, true, false, cond, ◌==◌, List, [], ◌∷◌, ◌++◌, map}
+use Rattle.std.proofs.Common.{◌≡◌, ℕ, zero, suc, Bool, true, false, cond, ◌==◌, List, [], ◌∷◌, ◌++◌, map}
 use Rattle.std.proofs.Common.{None, Some, slice_get, refl, sym, subst, ap, ◌∙◌}
-use Rattle.std.proofs.lemmas.List.{map-append}
+use Rattle.std.proofs.lemmas.List.{append-nil, append_assoc, map-append}
 use Rattle.std.specs.List.{AllByRecursion}
 use Rattle.encoder.specs.Fragment.{fragment}
 use Rattle.call_ids.specs.CallId.{HasRanges}
@@ -11,15 +11,17 @@ use Rattle.deeds.proofs.NameLemmas.{one_of_first, one_of_second}
 use Rattle.node_strings.specs.Arrival.{arrival_at}
 use Rattle.recoveries.specs.Stops.{IsHandledSafely}
 use Rattle.recoveries.proofs.StopLemmas.{more_safe, two_safe}
+use Rattle.node_clients.specs.Desk.{NoneWaits}
 use Rattle.node_effects.specs.Seen.{all_seen, named_of, seen_of}
-use Rattle.node_effects.specs.Work.{IsDueTaken, IsEmpty, IsOwnTaken, Strings}
+use Rattle.string_parts.specs.Strings.{Strings}
+use Rattle.node_effects.specs.Work.{IsDueTaken, IsEmpty, IsOwnTaken}
 use Rattle.node_effects.specs.declared.effects.Effects.{Effects}
 use Rattle.node_effects.specs.declared.letter.NamedLetter.{NamedLetter}
 use Rattle.node_effects.specs.declared.work.Work.{Work}
 use Rattle.node_keeper.specs.Acts.{Acts}
 use Rattle.node_keeper.specs.Keeping.{heeds, if_heeded, kept_of}
-use Rattle.node_keeper.specs.Logging.{IsReadBack, entry_of}
-use Rattle.node_keeper.specs.Sendings.{IsAddressed, Sending, letters_of, posted, to_itself}
+use Rattle.node_keeper.specs.Logging.{IsReadBack, log_entry_of}
+use Rattle.node_keeper.specs.Sendings.{IsDirected, Sending, letters_of, posted, to_itself}
 use Rattle.node_keeper.specs.declared.keeper.Keeper.{Keeper}
 use Rattle.node_keeper.proofs.ActLemmas.{safe_as}
 use Rattle.node_keeper.proofs.IdLemmas.{handled_within}
@@ -27,6 +29,7 @@ use Rattle.node_keeper.proofs.SendingLemmas.{letters_append, posted_append}
 use Rattle.node.specs.declared.node.Node.{Node}
 use Rattle.node.specs.Frames.{letters_in, sender_or}
 use Rattle.node.specs.Handles.{Handles, HasActed}
+use Rattle.node.specs.Serving.{ServedSince}
 
 -- a letter of the node to itself is one of those that it sent
 abbrev pub WasSent : List Sending → NamedLetter → Type 0
@@ -72,7 +75,13 @@ acted_first asker got a b u v within empty acts =
       read = acts.read;
       to_nodes = acts.grown.to_nodes ∙ ap (λ xs. xs ++ g.to_nodes) empty.to_nodes ∙ acts.to_nodes;
       own = subst (λ xs. AllByRecursion (WasSent acts.sends) xs) (sym own) (own_were_sent a.ids.node acts.sends);
-      addressed = acts.addressed;
+      addressed = record {
+        first = acts.sends;
+        rest = [];
+        all = sym (append-nil acts.sends);
+        asked = acts.addressed;
+        own = tt;
+      };
       node = acts.node;
       digest = acts.digest;
     }
@@ -82,11 +91,12 @@ pub acted_then : (asker other : ℕ) (got more : List Named) (a b c : Keeper) (v
     (done : HasActed asker got a b v) → w.entries.items ≡ v.entries.items → w.notices.items ≡ v.notices.items →
     w.to_nodes.items ≡ v.to_nodes.items →
     AllByRecursion (WasSent done.sends) w.own.items → Acts other more b w c x →
-    ((send : Sending) → IsAddressed a.ids.node other send → IsAddressed a.ids.node asker send) →
+    other ≡ a.ids.node →
     ((letter : Named) → IsOneOf more letter → IsOneOf (got ++ letters_of done.sends) letter) →
     HasActed asker got a c x
-acted_then asker other got more a b c v w x done entries notices to_nodes own acts addressed among =
+acted_then asker other got more a b c v w x done entries notices to_nodes own acts itself among =
     let n = a.ids.node in
+    let sent = done.addressed in
     let g = acts.growth in
     let noted : x.notices.items ≡ v.notices.items ++ g.notices = acts.grown.notices ∙ ap (λ xs. xs ++ g.notices) notices in
     let within = handled_within fragment (kept_of a) got (kept_of b) (letters_of done.sends) (all_seen v.notices.items)
@@ -102,9 +112,9 @@ acted_then asker other got more a b c v w x done entries notices to_nodes own ac
           acts.records (all_seen v.notices.items) (all_seen g.notices) done.handled next)
           (letters_append done.sends acts.sends) (ap all_seen noted ∙ map-append seen_of v.notices.items g.notices);
       entries = acts.grown.entries ∙ ap (λ xs. xs ++ g.entries) (entries ∙ done.entries)
-          ∙ ap (λ xs. map (entry_of a.digest) done.records ++ xs) (acts.entries
-          ∙ ap (λ d. map (entry_of d) acts.records) done.digest)
-          ∙ sym (map-append (entry_of a.digest) done.records acts.records);
+          ∙ ap (λ xs. map (log_entry_of a.digest) done.records ++ xs) (acts.entries
+          ∙ ap (λ d. map (log_entry_of d) acts.records) done.digest)
+          ∙ sym (map-append (log_entry_of a.digest) done.records acts.records);
       read = all_append (IsReadBack a.digest) done.records acts.records done.read
           (subst (λ d. AllByRecursion (IsReadBack d) acts.records) done.digest acts.read);
       to_nodes = acts.grown.to_nodes ∙ ap (λ xs. xs ++ g.to_nodes) (to_nodes ∙ done.to_nodes)
@@ -117,9 +127,15 @@ acted_then asker other got more a b c v w x done entries notices to_nodes own ac
           (all_weaker (WasSent done.sends) (WasSent (done.sends ++ acts.sends)) (sent_before done.sends acts.sends) w.own.items own)
           (all_weaker (WasSent acts.sends) (WasSent (done.sends ++ acts.sends)) (sent_after done.sends acts.sends)
           (to_itself b.ids.node acts.sends) (own_were_sent b.ids.node acts.sends)));
-      addressed = all_append (IsAddressed n asker) done.sends acts.sends done.addressed
-          (all_weaker (IsAddressed n other) (IsAddressed n asker) addressed acts.sends
-          (subst (λ m. AllByRecursion (IsAddressed m other) acts.sends) done.node acts.addressed));
+      addressed = record {
+        first = sent.first;
+        rest = sent.rest ++ acts.sends;
+        all = ap (λ xs. xs ++ acts.sends) sent.all ∙ append_assoc sent.first sent.rest acts.sends;
+        asked = sent.asked;
+        own = all_append (IsDirected n n) sent.rest acts.sends sent.own
+            (subst (λ m. AllByRecursion (IsDirected n m) acts.sends) itself
+            (subst (λ m. AllByRecursion (IsDirected m other) acts.sends) done.node acts.addressed));
+      };
       node = acts.node ∙ done.node;
       digest = acts.digest ∙ done.digest;
     }
@@ -163,13 +179,6 @@ sent_one got sends it letter sent is =
     only zero e = cc
     only (suc i) e = absurd (cc)
 
--- an answer of the node to itself goes to itself
-pub own_addressed : (number asker own : ℕ) (send : Sending) → own ≡ number → IsAddressed number own send →
-    IsAddressed number asker send
-own_addressed number asker own send same (inl member) = inl member
-own_addressed number asker own send same (inr (inl to)) = inr (inr (to ∙ same))
-own_addressed number asker own send same (inr (inr to)) = inr (inr to)
-
 module _ (asker : ℕ) (got : List Named) (first b : Keeper) where
   -- a letter of the node to itself is handled
   pub own_handled : (number : ℕ) (c : Keeper) (v w x : Work) (it : NamedLetter) → number ≡ b.ids.node →
@@ -179,7 +188,7 @@ module _ (asker : ℕ) (got : List Named) (first b : Keeper) where
       let all : AllByRecursion (WasSent done.sends) (it ∷ w.own.items) =
       subst (λ xs. AllByRecursion (WasSent done.sends) xs) taken.own done.own in
       acted_then asker number got (if_heeded (kept_of b) (named_of it)) first b c v w x done taken.entries taken.notices
-      taken.to_nodes all.1 acts (λ send. own_addressed first.ids.node asker number send (same ∙ done.node))
+      taken.to_nodes all.1 acts (same ∙ done.node)
       (λ letter is. sent_one got done.sends it letter all.0 (heeded_is b (named_of it) letter is))
 
   -- no letter of the node to itself waits, and no connection is due
@@ -197,8 +206,8 @@ module _ (asker : ℕ) (got : List Named) (first b : Keeper) where
       ((asker : ℕ) → Acts asker [] b w c x) → HasActed asker got first b v → HasActed asker got first c x
   due_handled c v u w x client own due acts done =
       let before = none_own v u own done in
-      acted_then asker asker got [] first b c u w x before due.entries due.notices due.to_nodes
-      (subst (λ xs. AllByRecursion (WasSent before.sends) xs) (sym due.own) before.own) (acts asker) (λ send is. is)
+      acted_then asker first.ids.node got [] first b c u w x before due.entries due.notices due.to_nodes
+      (subst (λ xs. AllByRecursion (WasSent before.sends) xs) (sym due.own) before.own) (acts first.ids.node) refl
       (λ letter is. absurd (none is.0 is.1))
     where
       none : {letter : Named} (i : ℕ) → slice_get [] i ≡ Some letter → ⊥
@@ -207,9 +216,11 @@ module _ (asker : ℕ) (got : List Named) (first b : Keeper) where
 -- what was done with a frame
 pub handles_of : (old new : Node) (frame : Strings) (work : Work) (effects : Effects) →
     HasActed (sender_or old.keeper.ids.node (arrival_at frame)) (letters_in old.keeper frame) old.keeper new.keeper work →
+    ServedSince (arrival_at frame) old new work.to_clients.items work.notices.items →
     effects.entries.items ≡ work.entries.items → effects.frames.items ≡ work.to_nodes.items ++ work.to_clients.items →
-    effects.notices.items ≡ work.notices.items → Handles old frame effects new
-handles_of old new frame work effects done entries frames notices = record {
+    effects.notices.items ≡ work.notices.items → (NoneWaits old.desk.clients [] → NoneWaits new.desk.clients []) →
+    Handles old frame effects new
+handles_of old new frame work effects done served entries frames notices waits = record {
   sends = done.sends;
   records = done.records;
   answers = work.to_clients.items;
@@ -219,4 +230,6 @@ handles_of old new frame work effects done entries frames notices = record {
   read = done.read;
   frames = frames ∙ ap (λ xs. xs ++ work.to_clients.items) done.to_nodes;
   addressed = done.addressed;
+  served = subst (λ ns. ServedSince (arrival_at frame) old new work.to_clients.items ns) (sym notices) served;
+  waits = waits;
 }

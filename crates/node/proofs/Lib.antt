@@ -1,3 +1,9 @@
 pub mod TellLemmas
+pub mod ServingLemmas
+pub mod CommandLemmas
+pub mod ArrivalLemmas
+pub mod KeeperLemmas
+pub mod TickLemmas
+pub mod LeftLemmas
 pub mod ActedLemmas
 pub mod StartLemmas

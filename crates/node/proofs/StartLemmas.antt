@@ -1,5 +1,5 @@
 -- How a node starts.
-use Rattle.std.proofs.Common.{◌≡◌, ◌<◌, ◌^◌, ℕ, suc, Bool, true, false, List, [], ◌∷◌, ◌++◌, refl, sym, subst, ap, ◌∙◌}
+use Rattle.std.proofs.Common.{◌≡◌, ◌<◌, ◌^◌, ℕ, suc, Bool, true, false, List, [], ◌∷◌, ◌++◌, ap, ◌∙◌}
 use Rattle.call_ids.specs.CallId.{with_next_epoch}
 use Rattle.recoveries.specs.Records.{IsStarted}
 use Rattle.node_effects.specs.Work.{IsEmpty, IsGrown, one_entry}
@@ -7,7 +7,7 @@ use Rattle.node_effects.specs.declared.work.Work.{Work}
 use Rattle.node_keeper.specs.Keeping.{kept_of}
 use Rattle.node_keeper.specs.Logging.{start_entry}
 use Rattle.node_keeper.specs.declared.keeper.Keeper.{Keeper}
-use Rattle.node_keeper.proofs.BegunLemmas.{file_same}
+use Rattle.node_keeper.proofs.DoneLemmas.{file_same}
 use Rattle.node.specs.Starts.{growth_unless}
 
 pub started_of : (old new : Keeper) → suc old.ids.epoch < 2 ^ 24 → new.ids ≡ with_next_epoch old.ids →

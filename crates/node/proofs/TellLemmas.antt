@@ -1,5 +1,5 @@
 -- Answers to clients, as what a node does.
-use Rattle.std.proofs.Common.{ℕ, List, [], refl}
+use Rattle.std.proofs.Common.{ℕ, List, refl}
 use Rattle.deeds.specs.Named.{NamedLetter as Named}
 use Rattle.node_effects.specs.Work.{no_growth}
 use Rattle.node_effects.specs.declared.work.Work.{Work}

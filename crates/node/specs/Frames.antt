@@ -1,6 +1,6 @@
 -- The contracts that docs/trusted.md lists do not depend on this file; other contracts and proofs do.
 -- The letters that frames carry.
-use Rattle.std.specs.Prelude.{◌≡◌, ℕ, ◌||◌, ◌&&◌, Bool, if◌then◌else◌, List, [], ◌∷◌}
+use Rattle.std.specs.Prelude.{◌≡◌, ℕ, ◌||◌, ◌&&◌, Bool, if◌then◌else◌, List, []}
 use Rattle.std.specs.Prelude.{Option, None, Some, Result, Ok, Err}
 use Rattle.std.specs.Str.{bytes_eq}
 use Rattle.layout.specs.Quorum.{has}
@@ -12,13 +12,13 @@ use Rattle.node_strings.specs.Arrival.{arrival_at}
 use Rattle.node_strings.specs.declared.arrival.Arrival.{Arrival}
 use Rattle.node_strings.specs.declared.arrival.Arrival.TheVariants as came
 use Rattle.node_effects.specs.Seen.{named_of}
-use Rattle.node_effects.specs.Work.{Strings}
+use Rattle.string_parts.specs.Strings.{Strings}
 use Rattle.node_effects.specs.declared.letter.NamedLetter.{NamedLetter}
 use Rattle.node_keeper.specs.Keeping.{if_heeded, kept_of}
-use Rattle.node_keeper.specs.Sendings.{letter_in}
+use Rattle.node_keeper.specs.Sendings.{letter_of_message}
 use Rattle.node_keeper.specs.declared.keeper.Keeper.{Keeper}
 
--- whether a message from the node of this number is one of a node of the cluster, with the same cluster file
+-- whether a message comes from a node of the cluster with the same cluster file
 abbrev pub is_from_cluster : Keeper → (sender : ℕ) → NodeMessage → Bool
 is_from_cluster keeper sender message =
     (has keeper.file.fixed.nodes sender || has keeper.file.later sender) && bytes_eq message.digest keeper.digest
@@ -26,11 +26,12 @@ is_from_cluster keeper sender message =
 -- the letter of a message from the node of this number, if the message is from the cluster and the node heeds it
 abbrev pub letter_from : Keeper → (sender : ℕ) → NodeMessage → List Named
 letter_from keeper sender message =
-    if is_from_cluster keeper sender message then if_heeded (kept_of keeper) (named_of (letter_in message)) else []
+    if is_from_cluster keeper sender message
+    then if_heeded (kept_of keeper) (named_of (letter_of_message message)) else []
 
--- the letter is that of a message which a frame is
+-- the frame is a message, and this is the letter of that message
 abbrev pub IsLetterOf : Strings → NamedLetter → Type 0
-IsLetterOf frame it = (message : NodeMessage) × (message_from frame ≡ Ok message) × (it ≡ letter_in message)
+IsLetterOf frame it = (message : NodeMessage) × (message_from frame ≡ Ok message) × (it ≡ letter_of_message message)
 
 -- the letter of a message that was read, if one was
 abbrev pub letter_if_read : Keeper → (sender : ℕ) → Result NodeMessage Fault → List Named
@@ -51,7 +52,7 @@ letter_if_any keeper (Some arrival) = letter_of_arrival keeper arrival
 abbrev pub letters_in : Keeper → Strings → List Named
 letters_in keeper frame = letter_if_any keeper (arrival_at frame)
 
--- the node from which something has come, or the one that is given
+-- the node from which something has come, or the given one if it did not come from a node
 abbrev pub sender_of : ℕ → Arrival → ℕ
 sender_of number (came.Message sender frame) = sender
 sender_of number arrival = number

@@ -1,3 +1,6 @@
 pub mod Frames
+pub mod Replies
+pub mod Serving
 pub mod Handles
+pub mod Recovering
 pub mod Starts

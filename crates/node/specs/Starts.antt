@@ -1,26 +1,41 @@
 -- The contracts that docs/trusted.md lists do not depend on this file; other contracts and proofs do.
--- What the log of a node gets as the node starts.
-use Rattle.std.specs.Prelude.{ℕ, Bool, if◌then◌else◌, List, [], ◌∷◌, ◌++◌}
-use Rattle.node_log.specs.Entry.{sealed}
+-- What the log of a node gets when the node starts.
+use Rattle.std.specs.Prelude.{◌^◌, ◌<◌, ⊤, suc, ℕ, Bool, if◌then◌else◌, List, [], ◌∷◌, ◌++◌}
+use Rattle.call_ids.specs.CallId.{CallIds}
+use Rattle.node_log.specs.Entry.{IsEntry, sealed}
 use Rattle.node_strings.specs.Record.{record_strings}
 use Rattle.node_strings.specs.declared.record.Record.TheVariants as record_of
 use Rattle.node_effects.specs.Work.{Growth, no_growth, one_entry}
+use Rattle.node_effects.specs.declared.error.NodeError.{NodeError}
+use Rattle.node_effects.specs.declared.error.NodeError.TheVariants as errors
 use Rattle.node_keeper.specs.Logging.{start_entry}
 use Rattle.node.specs.declared.node.Node.{Node}
 
+-- the strings of the entry that names the cluster and the node
+abbrev pub cluster_strings : (digest : List ℕ) → (number : ℕ) → List (List ℕ)
+cluster_strings digest number = record_strings (record_of.Cluster digest number)
+
 -- the entry that names the cluster and the node
 abbrev pub cluster_entry : (digest : List ℕ) → (number : ℕ) → List (List ℕ)
-cluster_entry digest number = sealed (record_strings (record_of.Cluster digest number))
+cluster_entry digest number = sealed (cluster_strings digest number)
 
 -- the entry that names the cluster and the node, if the log has none yet
 abbrev pub growth_unless : (is_named : Bool) → (digest : List ℕ) → (number : ℕ) → Growth
 growth_unless is_named digest number = if is_named then no_growth else one_entry (cluster_entry digest number)
 
--- what a node has to do more before it starts
+-- what is added to a node's work before it starts
 abbrev pub name_growth : Node → Growth
 name_growth node = growth_unless node.is_named node.keeper.digest node.keeper.ids.node
 
--- what the log gets as the node starts: the entry that names the cluster and the node, if it has none yet, and that an
--- epoch began
+-- what the log gets when the node starts: the entry that names the cluster and the node, if it has none yet, and the
+-- entry of a new epoch
 abbrev pub start_entries : Node → List (List (List ℕ))
 start_entries node = (name_growth node).entries ++ start_entry ∷ []
+
+-- why a node of this number, with the cluster file of this digest, does not start: there is no memory, it has begun all
+-- epochs, or the entry that names the cluster and the node is too long
+abbrev pub IsNotStarted : (digest : List ℕ) → CallIds → NodeError → Type 0
+IsNotStarted digest ids errors.NoMemory = ⊤
+IsNotStarted digest ids errors.NoMoreIds = suc ids.epoch < 2 ^ 24 → ⊥
+IsNotStarted digest ids errors.Unwritable = IsEntry (cluster_strings digest ids.node) → ⊥
+IsNotStarted digest ids (errors.Refused refusal) = ⊥

@@ -1,17 +1,23 @@
 //! A node, and what it does with a frame.
-ghost use Rattle.std.specs.Prelude.{◌≡◌, [], ℕ, List, IfOk, OnOk};
+ghost use Rattle.std.specs.Prelude.{◌≡◌, [], ℕ, false, List, IfErr, IfOk, OnOk, Option, Some};
 ghost use Rattle.cluster_file.specs.Digest.{fixed_digest};
 ghost use Rattle.deeds.specs.Kept.{new_node};
 ghost use Rattle.deeds.specs.Named.{NamedLetter as Named};
 ghost use Rattle.node_strings.specs.Arrival.{arrival_at};
+ghost use Rattle.node_strings.specs.declared.arrival.Arrival.{Arrival as Came};
 ghost use Rattle.recoveries.specs.Records.{IsStarted};
+ghost use Rattle.node_clients.specs.Desk.{NoneWaits};
+ghost use Rattle.node_log.specs.Entry.{IsEntry};
+ghost use Rattle.node_effects.specs.Errors.{IsUnwritten};
 ghost use Rattle.node_effects.specs.Work.{IsGrown};
 ghost use Rattle.node_keeper.specs.Acts.{Acts};
 ghost use Rattle.node_keeper.specs.Keeping.{kept_of, names_of};
 ghost use Rattle.node_keeper.specs.declared.keeper.Keeper.{Keeper as Kept};
 ghost use Rattle.node.specs.Frames.{letter_of_arrival, letters_in, sender_of, sender_or};
 ghost use Rattle.node.specs.Handles.{HasActed};
-ghost use Rattle.node.specs.Starts.{name_growth, start_entries};
+ghost use Rattle.node.specs.Serving.{ServedSince, ServesArrival};
+ghost use Rattle.node.specs.declared.node.Node.{Node as Was};
+ghost use Rattle.node.specs.Starts.{IsNotStarted, cluster_strings, name_growth, start_entries};
 
 use cluster_file::ClusterFile;
 use frames::Frame;
@@ -30,7 +36,7 @@ mod ticks;
 
 /// A node of a cluster: what it keeps of each object, the calls that it carries out, and its clients.
 ///
-/// A node never waits and never asks for the time. It is handed one frame after another, and says what is to be done.
+/// A node never waits and never asks for the time. It gets one frame after another, and returns what is to be done.
 #[derive(Drop)]
 pub struct Node {
     alloc: Global,
@@ -41,8 +47,8 @@ pub struct Node {
 }
 
 impl Node {
-    /// The node of this number, which keeps nothing, and whose log is empty. The cluster file has a node of this
-    /// number.
+    /// The node with this number, which keeps nothing and whose log is empty. The cluster file should have a node of
+    /// this number.
     pub fn new(alloc: Global, file: ClusterFile, number: u8) -> Node
         ensures kept { kept_of result.keeper ≡ new_node (names_of file) number }
         ensures digest { result.keeper.digest ≡ fixed_digest file.fixed }
@@ -55,14 +61,16 @@ impl Node {
         }
     }
 
-    /// The node starts, behind what its log says: its calls' ids begin a new epoch. It sends nothing.
+    /// Starts the node, after it has carried out its log again: the ids of its calls begin a new epoch. It sends
+    /// nothing.
     ///
-    /// `NoMoreIds` where it began all epochs, and `NoMemory`.
+    /// `NoMoreIds` if all epochs have begun, and `NoMemory`.
     pub fn start(&mut self) -> Result<Effects, NodeError>
         ensures started { OnOk result (IsStarted (kept_of self.old.keeper) (kept_of self.new.keeper)) }
         ensures entries { IfOk result (λ effects. effects.entries.items ≡ start_entries self.old) }
         ensures frames { IfOk result (λ effects. effects.frames.items ≡ []) }
         ensures notices { IfOk result (λ effects. effects.notices.items ≡ []) }
+        ensures refused { IfErr result (IsNotStarted self.old.keeper.digest self.old.keeper.ids) }
     {
         let mut work = Work::new(self.alloc);
         self.name_log(&mut work)?;
@@ -75,22 +83,32 @@ impl Node {
     fn name_log(&mut self, work: &mut Work) -> Result<(), NodeError>
         ensures grown { OnOk result (IsGrown work.old work.new (name_growth self.old)) }
         ensures keeper { self.new.keeper ≡ self.old.keeper }
+        ensures refused { IfErr result (IsUnwritten
+            (IsEntry (cluster_strings self.old.keeper.digest self.old.keeper.ids.node))) }
     {
         if self.is_named {
             return Ok(());
         }
-        work.log(&Record::Cluster {
+        let it = Record::Cluster {
             digest: self.keeper.digest,
             node: self.keeper.number(),
-        })?;
-        self.is_named = true;
-        Ok(())
+        };
+        match work.log(&it) {
+            Ok(()) => {
+                self.is_named = true;
+                Ok(())
+            }
+            Err(error) => Err(error),
+        }
     }
 
     // What the node does with a frame. Its letters to itself wait.
     fn take_frame(&mut self, frame: Frame, work: &mut Work) -> Result<(), NodeError>
-        ensures { OnOk result (Acts (sender_or self.old.keeper.ids.node (arrival_at frame))
+        ensures acts { OnOk result (Acts (sender_or self.old.keeper.ids.node (arrival_at frame))
             (letters_in self.old.keeper frame) self.old.keeper work.old self.new.keeper work.new) }
+        ensures serves { OnOk result (ServesArrival (arrival_at frame) self.old work.old self.new work.new) }
+        ensures waits { OnOk result (NoneWaits self.old.desk.clients work.old.due.items
+            → NoneWaits self.new.desk.clients work.new.due.items) }
     {
         match read_arrival(frame) {
             Some(arrival) => self.take_arrival(arrival, work),
@@ -103,8 +121,11 @@ impl Node {
 
     // What the node does with what has come.
     fn take_arrival(&mut self, arrival: Arrival, work: &mut Work) -> Result<(), NodeError>
-        ensures { OnOk result (Acts (sender_of self.old.keeper.ids.node arrival)
+        ensures acts { OnOk result (Acts (sender_of self.old.keeper.ids.node arrival)
             (letter_of_arrival self.old.keeper arrival) self.old.keeper work.old self.new.keeper work.new) }
+        ensures serves { OnOk result (ServesArrival (Some arrival) self.old work.old self.new work.new) }
+        ensures waits { OnOk result (NoneWaits self.old.desk.clients work.old.due.items
+            → NoneWaits self.new.desk.clients work.new.due.items) }
     {
         match arrival {
             Arrival::Command(client, frame) => {
@@ -121,18 +142,24 @@ impl Node {
     }
 
     // The node of this number handles its letters to itself, and the next commands of the connections whose command was
-    // answered, until none is left.
+    // answered, until none is left. After 2^64 - 1 of these, the error is `NoMemory`.
     fn finish(&mut self, number: u8, work: &mut Work) -> Result<(), NodeError>
         requires { number ≡ self.old.keeper.ids.node }
-        ensures { OnOk result ((asker : ℕ) (got : List Named) (first : Kept)
+        ensures acted { OnOk result ((asker : ℕ) (got : List Named) (first : Kept)
             → HasActed asker got first self.old.keeper work.old → HasActed asker got first self.new.keeper work.new) }
+        ensures served { OnOk result ((came : Option Came) (first : Was)
+            → ServedSince came first self.old work.old.to_clients.items work.old.notices.items
+            → ServedSince came first self.new work.new.to_clients.items work.new.notices.items) }
+        ensures own { OnOk result (work.new.own.items ≡ []) }
+        ensures waits { OnOk result (NoneWaits self.old.desk.clients work.old.due.items
+            → NoneWaits self.new.desk.clients []) }
     {
         for _ in 0..u64::MAX {
             if !self.go_a_step(number, work)? {
-                break;
+                return Ok(());
             }
         }
-        Ok(())
+        Err(NodeError::NoMemory)
     }
 
     // The node of this number handles its oldest letter to itself, or else the next command of the connection that has
@@ -141,7 +168,13 @@ impl Node {
         requires { number ≡ self.old.keeper.ids.node }
         ensures acted { OnOk result ((asker : ℕ) (got : List Named) (first : Kept)
             → HasActed asker got first self.old.keeper work.old → HasActed asker got first self.new.keeper work.new) }
-
+        ensures served { OnOk result ((came : Option Came) (first : Was)
+            → ServedSince came first self.old work.old.to_clients.items work.old.notices.items
+            → ServedSince came first self.new work.new.to_clients.items work.new.notices.items) }
+        ensures own { IfOk result (λ more. more ≡ false → work.new.own.items ≡ []) }
+        ensures due { IfOk result (λ more. more ≡ false → work.new.due.items ≡ []) }
+        ensures waits { OnOk result (NoneWaits self.old.desk.clients work.old.due.items
+            → NoneWaits self.new.desk.clients work.new.due.items) }
         ensures number { OnOk result (self.new.keeper.ids.node ≡ self.old.keeper.ids.node) }
     {
         if let Some(it) = work.next_own() {

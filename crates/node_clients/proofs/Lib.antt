@@ -1,1 +1,3 @@
 pub mod TellLemmas
+pub mod ServedLemmas
+pub mod WaitLemmas

@@ -1,5 +1,5 @@
 -- Answers to clients, as what a node has to do more.
-use Rattle.std.proofs.Common.{ℕ, Bool, true, false, [], ◌∷◌, Option, None, Some}
+use Rattle.std.proofs.Common.{ℕ, Bool, true, false, [], ◌∷◌}
 use Rattle.client_commands.specs.declared.answer.Answer.{Answer}
 use Rattle.node_effects.specs.Work.{IsGrown}
 use Rattle.node_effects.specs.declared.work.Work.{Work}

@@ -29,19 +29,19 @@ abbrev pub quit_growth : (client : ℕ) → Growth
 quit_growth client =
     record no_growth { to_clients = answer_frame client answer.Ok ∷ (client_address client ∷ []) ∷ [] }
 
--- what a node has to do more is to send frames to clients, and to go on with connections, and nothing else
+-- the work grew by frames to clients and by connections whose next command is due, and by nothing else
 pub record TellsClients (before after : Work) : Type 0 where
   pub frames : List (List (List ℕ))
   pub due : List ℕ
   pub grown : IsGrown before after (record no_growth { to_clients = frames; due = due })
 
--- the answer to a call of this kind with this value: a read is answered the value, or the empty one where none was ever
--- written; a write and a move are answered `OK`
+-- the answer to a call of this kind with this value: for a read the value, or the empty one if nothing was ever
+-- written; for a write and a move `OK`
 abbrev pub kind_answer : Operation → Option (List ℕ) → Answer
 kind_answer operation.Read value = answer.Value (value_or_empty value)
 kind_answer operation.Write value = answer.Ok
 kind_answer operation.Move value = answer.Ok
 
--- what the client of a call is told that was answered
+-- the answer that the client of an answered call gets
 abbrev pub ended_answer : Ended → Answer
 ended_answer ended = kind_answer ended.kind ended.value

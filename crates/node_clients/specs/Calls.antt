@@ -1,6 +1,7 @@
 -- The contracts that docs/trusted.md lists do not depend on this file; other contracts and proofs do.
 -- The calls that are open at a node.
-use Rattle.std.specs.Prelude.{ℕ, ◌+◌, ◌-◌, ◌^◌, min, nat_eq, nat_lt, Option, None, Some}
+use Rattle.std.specs.Prelude.{ℕ, ◌+◌, ◌-◌, ◌%◌, ◌^◌, ◌==◌, ◌||◌, Bool, false, min, nat_eq, nat_lt}
+use Rattle.std.specs.Prelude.{Option, None, Some}
 use Rattle.indexmap.specs.IndexMap.{IndexMap, get}
 use Rattle.node_clients.specs.declared.open_call.OpenCall.{OpenCall}
 use Rattle.node_clients.specs.declared.open_call.Aged.{Aged}
@@ -23,20 +24,42 @@ abbrev pub with_nobody : Option OpenCall → Option OpenCall
 with_nobody None = None
 with_nobody (Some call) = Some (record call { client = None })
 
--- a call that is older by a tick, where 2^32 - 1 is the greatest age
+-- whether a call of this age asks those again that have not replied: at 1, 2, 4, 8, 16 and 32, and at each multiple
+-- of 64
+abbrev pub asks_at : (age : ℕ) → Bool
+asks_at age =
+    (age == 1) || ((age == 2) || ((age == 4) || ((age == 8) || ((age == 16) || ((age == 32) || (age % 64 == 0))))))
+
+-- a call that is older by a tick; the greatest age is 2^32 - 1
 abbrev pub older_of : OpenCall → OpenCall
 older_of call = record call { age = min (call.age + 1) (2 ^ 32 - 1) }
 
--- what is said of a call that gets older by a tick: its name, and whether it is then older than this number of ticks
+-- what is said of a call that gets older by a tick: its name, whether it is a move, whether it is then older than this
+-- number of ticks, and whether it asks again
 abbrev pub aged_of : (ticks : ℕ) → OpenCall → Aged
-aged_of ticks call = record { name = call.name; is_late = nat_lt ticks (older_of call).age }
+aged_of ticks call = record {
+  name = call.name;
+  is_move = call.is_move;
+  is_late = nat_lt ticks (older_of call).age;
+  asks_again = asks_at (older_of call).age;
+}
 
 -- the call, if it is open, is older by a tick
 abbrev pub older_call : Option OpenCall → Option OpenCall
 older_call None = None
 older_call (Some call) = Some (older_of call)
 
--- what is said of a call, if it is open, that gets older by a tick
+-- what is returned of a call that gets older by a tick, if it is open
 abbrev pub aged_call : (ticks : ℕ) → Option OpenCall → Option Aged
 aged_call ticks None = None
 aged_call ticks (Some call) = Some (aged_of ticks call)
+
+-- whether a call, if it is open, is late as it gets older by a tick
+abbrev pub becomes_late : (ticks : ℕ) → Option OpenCall → Bool
+becomes_late ticks None = false
+becomes_late ticks (Some call) = (aged_of ticks call).is_late
+
+-- whether a call is open, and a move
+abbrev pub is_move_open : Option OpenCall → Bool
+is_move_open None = false
+is_move_open (Some call) = call.is_move

@@ -1,9 +1,10 @@
 -- The contracts that docs/trusted.md lists do not depend on this file; other contracts and proofs do.
 -- Which clients are told, and what a node counts.
-use Rattle.std.specs.Prelude.{◌≡◌, ◌≢◌, ℕ, ◌+◌, ◌-◌, ◌^◌, min, nat_eq, Bool, false, if◌then◌else◌}
-use Rattle.std.specs.Prelude.{Option, None, Some, is_some}
+use Rattle.std.specs.Prelude.{◌≡◌, ◌≢◌, ◌⊎◌, ℕ, ◌+◌, ◌-◌, ◌^◌, min, nat_eq, Bool, true, false, if◌then◌else◌}
+use Rattle.std.specs.Prelude.{List, [], ◌∷◌, Option, None, Some, is_some}
 use Rattle.indexmap.specs.IndexMap.{get}
-use Rattle.connections.specs.Connections.{doing, waiting_on}
+use Rattle.connections.specs.Connections.{doing, has_next, waiting_on}
+use Rattle.connections.specs.declared.connection.Connection.{Connection}
 use Rattle.connections.specs.declared.connection.State.TheVariants.{Idle}
 use Rattle.connections.specs.declared.connections.Connections.{Connections}
 use Rattle.client_commands.specs.declared.answer.Answer.{Answer}
@@ -12,32 +13,42 @@ use Rattle.node_clients.specs.Answers.{answer_growth}
 use Rattle.node_clients.specs.declared.counts.Counts.{Counts}
 use Rattle.node_clients.specs.declared.desk.Desk.{Desk}
 
+-- the connection of a client, if it is there
+abbrev pub connection_of : Desk → (client : ℕ) → Option Connection
+connection_of desk client = get nat_eq desk.clients.by_number client
+
 -- whether the connection of a client is there
 abbrev pub is_connected : Desk → (client : ℕ) → Bool
-is_connected desk client = is_some (get nat_eq desk.clients.by_number client)
+is_connected desk client = is_some (connection_of desk client)
 
 -- whether a client waits whose connection is there
 abbrev pub has_listener : Desk → (client : Option ℕ) → Bool
 has_listener desk None = false
 has_listener desk (Some client) = is_connected desk client
 
--- the client that waits, if one does and its connection is there, is sent an answer
+-- the client that waits, if one does and its connection is there
+abbrev pub listener : Desk → (client : Option ℕ) → Option ℕ
+listener desk None = None
+listener desk (Some client) = if is_connected desk client then Some client else None
+
+-- what is sent to the client that waits: the answer, if one waits and its connection is there
 abbrev pub growth_for : Desk → (client : Option ℕ) → Answer → Growth
 growth_for desk None answer = no_growth
 growth_for desk (Some client) answer = answer_growth (is_connected desk client) client answer
 
 -- the connection of a client is idle, with the commands that waited on it, and all others are as they were
 pub record IsIdleAgain (old : Connections) (client : ℕ) (new : Connections) : Type 0 where
+  pub stays : is_some (get nat_eq new.by_number client) ≡ is_some (get nat_eq old.by_number client)
   pub state : doing (get nat_eq new.by_number client) ≡ Idle
   pub waiting : waiting_on (get nat_eq new.by_number client) ≡ waiting_on (get nat_eq old.by_number client)
   pub others : (other : ℕ) → other ≢ client → get nat_eq new.by_number other ≡ get nat_eq old.by_number other
 
--- the same of the client that waits, if one does; otherwise all connections are as they were
+-- the same for the client that waits, if one does; otherwise all connections are as they were
 abbrev pub IsIdleFor : (old : Connections) → (client : Option ℕ) → (new : Connections) → Type 0
 IsIdleFor old None new = new ≡ old
 IsIdleFor old (Some client) new = IsIdleAgain old client new
 
--- one more, where 2^64 - 1 is the greatest count
+-- one more, up to 2^64 - 1
 abbrev pub one_more_counted : ℕ → ℕ
 one_more_counted count = min (count + 1) (2 ^ 64 - 1)
 
@@ -45,7 +56,7 @@ one_more_counted count = min (count + 1) (2 ^ 64 - 1)
 abbrev pub none_counted : Counts
 none_counted = record { answered = 0; given_up = 0; dropped = 0; log_bytes = 0 }
 
--- one more command was answered, if it was
+-- the counts with one more answered command, if it was answered
 abbrev pub with_told : (is_answered : Bool) → Counts → Counts
 with_told is_answered counts =
     if is_answered then record counts { answered = one_more_counted counts.answered } else counts
@@ -57,3 +68,12 @@ with_give_up counts = record counts { given_up = one_more_counted counts.given_u
 -- one more frame was dropped
 abbrev pub with_drop : Counts → Counts
 with_drop counts = record counts { dropped = one_more_counted counts.dropped }
+
+-- the connection of a client is one of those that are due
+abbrev pub IsDue : (due : List ℕ) → (client : ℕ) → Type 0
+IsDue [] client = ⊥
+IsDue (first ∷ due) client = (client ≡ first) ⊎ IsDue due client
+
+-- no command waits that may be carried out, but on connections that are due
+abbrev pub NoneWaits : Connections → (due : List ℕ) → Type 0
+NoneWaits clients due = (client : ℕ) → has_next (get nat_eq clients.by_number client) ≡ true → IsDue due client

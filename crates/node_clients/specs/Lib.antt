@@ -1,3 +1,5 @@
 pub mod Answers
 pub mod Calls
 pub mod Desk
+pub mod Services
+pub mod Served

@@ -1,7 +1,7 @@
 //! The clients of a node, and the calls that it carries out.
-ghost use Rattle.std.specs.Prelude.{◌≡◌, ◌≢◌, [], ℕ, nat_eq, IsSome, OnOk};
+ghost use Rattle.std.specs.Prelude.{◌≡◌, ◌≢◌, [], ℕ, nat_eq, is_some, IsSome, OnOk};
 ghost use Rattle.indexmap.specs.IndexMap.{get};
-ghost use Rattle.connections.specs.Connections.{doing};
+ghost use Rattle.connections.specs.Connections.{doing, waiting_on};
 ghost use Rattle.connections.specs.declared.connection.State.TheVariants.{Quit};
 ghost use Rattle.node_effects.specs.Work.{IsGrown};
 ghost use Rattle.node_clients.specs.Answers.{TellsClients, quit_growth};
@@ -21,9 +21,9 @@ mod answers;
 mod calls;
 mod endings;
 
-/// The clients of a node, and the calls that it carries out.
+/// The connections of a node's clients, and the calls that the node carries out.
 ///
-/// Where a function is refused, nothing is said of what it has sent: the node stops.
+/// If a function fails, its contract says nothing of what was sent, because the node stops.
 #[derive(Drop)]
 pub struct Desk {
     alloc: Global,
@@ -36,7 +36,7 @@ pub struct Desk {
 }
 
 impl Desk {
-    /// No clients and no calls, and nothing is counted yet. It allocates no memory.
+    /// A desk without clients and calls, with all counts 0. It allocates no memory.
     pub fn new(alloc: Global) -> Desk
         ensures clients { result.clients.by_number.entries ≡ [] }
         ensures calls { result.calls.entries ≡ [] }
@@ -50,12 +50,16 @@ impl Desk {
         }
     }
 
-    /// The client of a connection has quit: it is answered, and the host closes the connection. `NoMemory`.
+    /// A client quits: it gets `OK`, and the host closes the connection. `NoMemory`.
     pub fn quit(&mut self, client: ConnectionId, work: &mut Work) -> Result<(), NodeError>
         ensures grown { OnOk result (IsGrown work.old work.new (quit_growth client)) }
         ensures tells { OnOk result (TellsClients work.old work.new) }
         ensures state { OnOk result (IsSome (get nat_eq self.old.clients.by_number client)
             → doing (get nat_eq self.new.clients.by_number client) ≡ Quit) }
+        ensures waiting { OnOk result (waiting_on (get nat_eq self.new.clients.by_number client)
+            ≡ waiting_on (get nat_eq self.old.clients.by_number client)) }
+        ensures stays { OnOk result (is_some (get nat_eq self.new.clients.by_number client)
+            ≡ is_some (get nat_eq self.old.clients.by_number client)) }
         ensures others { OnOk result ((other : ℕ) → other ≢ client
             → get nat_eq self.new.clients.by_number other ≡ get nat_eq self.old.clients.by_number other) }
         ensures calls { self.new.calls ≡ self.old.calls }
@@ -67,7 +71,7 @@ impl Desk {
         Ok(())
     }
 
-    /// A frame came in that is not for this node to handle.
+    /// Counts a frame that the node dropped.
     pub fn drop_frame(&mut self)
         ensures clients { self.new.clients ≡ self.old.clients }
         ensures calls { self.new.calls ≡ self.old.calls }

@@ -1,4 +1,4 @@
-//! The clients of a node, and the calls that it carries out for them: who is told what, and when.
+//! The clients of a node, and the calls that it carries out for them: which client gets which answer, and when.
 #![tactic(auto)]
 
 pub use counts::Counts;

@@ -1,7 +1,7 @@
 //! A call that a node carries out.
 ghost use Rattle.std.specs.Prelude.{◌≡◌, IfErr, IfOk, OnOk};
 ghost use Rattle.node_effects.specs.declared.error.NodeError.TheVariants.{NoMemory};
-ghost use Rattle.node_clients.specs.Calls.{aged_of, older_of};
+ghost use Rattle.node_clients.specs.Calls.{aged_of, asks_at, older_of};
 
 use bytes::Bytes;
 use node_effects::NodeError;
@@ -14,6 +14,8 @@ pub struct OpenCall {
     pub name: Bytes,
     /// The connection that waits for its answer, if one does.
     pub client: Option<ConnectionId>,
+    /// Whether it is a move, which is never given up.
+    pub is_move: bool,
     /// The number of ticks since it began, of at most 2^32 - 1.
     pub age: u32,
 }
@@ -23,13 +25,17 @@ pub struct OpenCall {
 pub struct Aged {
     /// The name of its object.
     pub name: Bytes,
+    /// Whether it is a move.
+    pub is_move: bool,
     /// Whether it has been open for too many ticks.
     pub is_late: bool,
+    /// Whether it is to ask those again that have not replied.
+    pub asks_again: bool,
 }
 
 impl OpenCall {
-    /// The call is older by a tick. It is late where it is older than this number of ticks. `NoMemory`, and nothing
-    /// changes.
+    /// The call is older by a tick. It is late where it is older than this number of ticks, and asks again after 1, 2,
+    /// 4, 8, 16, 32 and 64 ticks, and then at each 64th tick. `NoMemory`, and nothing changes.
     pub(crate) fn grow_older(&mut self, ticks: u32) -> Result<Aged, NodeError>
         ensures older { OnOk result (self.new ≡ older_of self.old) }
         ensures aged { IfOk result (λ aged. aged ≡ aged_of ticks self.old) }
@@ -41,6 +47,19 @@ impl OpenCall {
         };
         self.age = self.age.saturating_add(1);
         let is_late = self.age > ticks;
-        Ok(Aged { name, is_late })
+        let asks_again = asks_at(self.age);
+        Ok(Aged {
+            name,
+            is_move: self.is_move,
+            is_late,
+            asks_again,
+        })
     }
+}
+
+// Whether a call of this age asks again.
+fn asks_at(age: u32) -> bool
+    ensures { result ≡ asks_at age }
+{
+    age == 1 || age == 2 || age == 4 || age == 8 || age == 16 || age == 32 || age % 64 == 0
 }

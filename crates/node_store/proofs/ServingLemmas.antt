@@ -1,109 +1,38 @@
 -- A machine that handles one frame after another.
-use Rattle.std.proofs.Common.{◌≡◌, ℕ, Bool, true, false, List, [], ◌∷◌, ◌++◌, Option, Some, None, Result, Ok, Err, MatchOption}
-use Rattle.std.proofs.Common.{sym, ap, subst, ◌∙◌, refl, inl, inr, append_assoc, append-nil}
+use Rattle.std.proofs.Common.{◌≡◌, ℕ, Bool, true, false, List, [], ◌∷◌, ◌++◌, Some, Result, Ok, Err}
+use Rattle.std.proofs.Common.{sym, ap, subst, ◌∙◌, refl, append_assoc, append-nil}
 use Rattle.std.specs.List.{flat_map, FoldsTo}
-use Rattle.std.specs.Io.KnownBytes.{Appends, Consumes, IsAtEnd}
+use Rattle.std.specs.Io.KnownBytes.{Appends, Consumes}
 use Rattle.std.proofs.lemmas.Grind.{flat_map-append}
 use Rattle.frames.specs.Frame.{frame_bytes}
-use Rattle.frames.specs.Reading.{frame_at, Returns}
-use Rattle.frames.proofs.ReadSequenceLemmas.{fails}
-use Rattle.frames.specs.declared.error.FrameError.{FrameError}
-use Rattle.frames.specs.declared.error.FrameError.TheVariants as errors
 use Rattle.frames.specs.Writing.{Writes}
-use Rattle.frames.specs.declared.error.Fault.{Fault}
-use Rattle.frames.specs.declared.error.Fault.TheVariants.{UnexpectedEnd}
-use Rattle.node_log.specs.Reading.{HadLeft, IsEnd}
+use Rattle.node_log.specs.Reading.{HadLeft}
 use Rattle.node_effects.specs.declared.effects.Effects.{Effects}
 use Rattle.node_store.specs.Logs.{Grows}
-use Rattle.node_store.specs.Serving.{Event, Notes, Handles, read_by, logged_by, sent_by, BeginsWithFrames, ReadsFrames, StopsServing}
-use Rattle.node_store.specs.Serving.{IsPushed, IsHandled, AppendsFront, AppendsAtLeast, Happens, StopsBehind, HandlesArrived}
-use Rattle.node_store.specs.Serving.{StopsEarly, ServesSome}
+use Rattle.node_store.specs.Serving.{LoopEvent, Notes, Handles, read_by, logged_by, written_by, BeginsWithFrames, StopsServing}
+use Rattle.node_store.specs.Serving.{IsFrameHandled, AppendsFront, AppendsAtLeast, Happens, StopsBehind, HandlesArrived}
+use Rattle.node_store.specs.Serving.{StopsEarly, ServesSome, IsInputEnd}
 use Rattle.node_store.specs.declared.batch.Batch.{Batch}
 use Rattle.node_store.specs.declared.stop.ServeError.{ServeError}
-use Rattle.node_store.specs.declared.stop.ServeError.TheVariants as stops
-use Rattle.node_store.proofs.GrowthLemmas.{Known, appends_then, appends_none, consumes_then, consumes_none, left_behind}
-use Rattle.node_store.proofs.GrowthLemmas.{folds_then, left_any, left_weaker}
-
--- frames that were read, and what holds of the bytes behind them
-pub frames_behind : (P : List ℕ → Type 0) (events more : List Event) (had left : Known) → Consumes had left (flat_map read_by events)
-    → HadLeft (BeginsWithFrames more P) left → HadLeft (BeginsWithFrames (events ++ more) P) had
-frames_behind P events more None left took p = tt
-frames_behind P events more (Some xs) None took p = absurd took
-frames_behind P events more (Some xs) (Some ys) took p = (
-  p.0,
-  took ∙ ap (λ (t : List ℕ). flat_map read_by events ++ t) p.1
-      ∙ sym (append_assoc (flat_map read_by events) (flat_map read_by more) p.0)
-      ∙ ap (λ (t : List ℕ). t ++ p.0) (sym (flat_map-append read_by events more)),
-  p.2,
-)
-
-pub frames_then : (events more : List Event) (had mid left : Known) (goes_on : Bool) → ReadsFrames had mid events true
-    → ReadsFrames mid left more goes_on → ReadsFrames had left (events ++ more) goes_on
-frames_then events more had mid left true p q =
-    subst (Consumes had left) (sym (flat_map-append read_by events more))
-    (consumes_then had mid left (flat_map read_by events) (flat_map read_by more) p q)
-frames_then events more had mid left false p q = frames_behind IsEnd events more had mid p q
-
--- what was read stands at the front, whether the input goes on or not
-pub frames_stood : (P : List ℕ → Type 0) (events : List Event) (had left : Known) (goes_on : Bool) → ((bytes : List ℕ) → P bytes)
-    → ReadsFrames had left events goes_on → HadLeft (BeginsWithFrames events P) had
-frames_stood P events None left true any p = tt
-frames_stood P events (Some xs) None true any p = absurd p
-frames_stood P events (Some xs) (Some ys) true any p = (ys, p, any ys)
-frames_stood P events None left false any p = tt
-frames_stood P events (Some xs) left false any p = (p.0, p.1, any p.0)
-
--- ---- what was read
-
--- a frame, or none, as a reader gives it
-abbrev pub Found : Type 0
-Found = Option (List (List ℕ))
-
-pub found_frame : (had left : Known) (found : Found) (frame : List (List ℕ)) → found ≡ Some frame
-    → MatchOption found (IsAtEnd had) (λ strings. Consumes had left (frame_bytes strings)) → Consumes had left (frame_bytes frame)
-found_frame had left found frame same p =
-    subst (λ (o : Found). MatchOption o (IsAtEnd had) (λ strings. Consumes had left (frame_bytes strings))) same p
-
-fault_at : (had left : Known) (fault : Fault) → Returns frame_at had left (fails Found (errors.Fault fault))
-    → HadLeft (λ bytes. (rest : List ℕ) × (frame_at bytes ≡ Err (fault, rest))) had
-fault_at None left fault p = tt
-fault_at (Some xs) None fault p = absurd p
-fault_at (Some xs) (Some ys) fault p = (ys, p)
-
-fault_from : (had left : Known) (error : FrameError) (fault : Fault) → error ≡ errors.Fault fault
-    → Returns frame_at had left (fails Found error) → HadLeft (λ bytes. (rest : List ℕ) × (frame_at bytes ≡ Err (fault, rest))) had
-fault_from had left error fault same p =
-    fault_at had left fault (subst (λ (e : FrameError). Returns frame_at had left (fails Found e)) same p)
-
--- the input ends within a frame
-pub end_from : (had left : Known) (error : FrameError) (fault : Fault) → error ≡ errors.Fault fault → fault ≡ UnexpectedEnd
-    → Returns frame_at had left (fails Found error) → HadLeft IsEnd had
-end_from had left error fault same early p =
-    left_weaker had (λ bytes h. inr h)
-    (fault_from had left error UnexpectedEnd (same ∙ ap (λ (f : Fault). errors.Fault f) early) p)
-
--- what comes in is no frame
-pub no_frame_from : (had left : Known) (error : FrameError) (fault : Fault) → error ≡ errors.Fault fault
-    → (fault ≡ UnexpectedEnd → ⊥) → Returns frame_at had left (fails Found error)
-    → HadLeft (StopsServing (stops.NoFrame fault)) had
-no_frame_from had left error fault same late p =
-    left_weaker had (λ bytes h. (late, h)) (fault_from had left error fault same p)
+use Rattle.node_store.proofs.GrowthLemmas.{Known, appends_then, appends_none, consumes_none}
+use Rattle.node_store.proofs.GrowthLemmas.{folds_then, left_weaker}
+use Rattle.node_store.proofs.FrameReadingLemmas.{frames_behind, frames_then, frames_stood}
 
 -- ---- one thing behind another
 
 -- bytes that wait behind others
-pub waits_then : (f : Event → List ℕ) (events more : List Event) (a b c : List ℕ) → b ≡ a ++ flat_map f events
+pub waits_then : (f : LoopEvent → List ℕ) (events more : List LoopEvent) (a b c : List ℕ) → b ≡ a ++ flat_map f events
     → c ≡ b ++ flat_map f more → c ≡ a ++ flat_map f (events ++ more)
 waits_then f events more a b c p q =
     q ∙ ap (λ (t : List ℕ). t ++ flat_map f more) p ∙ append_assoc a (flat_map f events) (flat_map f more)
     ∙ ap (λ (t : List ℕ). a ++ t) (sym (flat_map-append f events more))
 
-pub grows_then : (f : Event → List ℕ) (events more : List Event) (a b c : Known) → Appends a b (flat_map f events)
+pub grows_then : (f : LoopEvent → List ℕ) (events more : List LoopEvent) (a b c : Known) → Appends a b (flat_map f events)
     → Appends b c (flat_map f more) → Appends a c (flat_map f (events ++ more))
 grows_then f events more a b c p q =
     subst (Appends a c) (sym (flat_map-append f events more)) (appends_then a b c (flat_map f events) (flat_map f more) p q)
 
-pub at_least_then : (events more : List Event) (a b c : Known) → Appends a b (flat_map logged_by events)
+pub at_least_then : (events more : List LoopEvent) (a b c : Known) → Appends a b (flat_map logged_by events)
     → AppendsAtLeast b c (flat_map logged_by more) → AppendsAtLeast a c (flat_map logged_by (events ++ more))
 at_least_then events more a b c p q =
     let one = flat_map logged_by events in
@@ -114,14 +43,14 @@ at_least_then events more a b c p q =
           (appends_then a b c one (two ++ q.0) p q.1),
     )
 
-pub front_then : (events more : List Event) (a b c : Known) → Appends a b (flat_map sent_by events)
-    → AppendsFront b c (flat_map sent_by more) → AppendsFront a c (flat_map sent_by (events ++ more))
+pub front_then : (events more : List LoopEvent) (a b c : Known) → Appends a b (flat_map written_by events)
+    → AppendsFront b c (flat_map written_by more) → AppendsFront a c (flat_map written_by (events ++ more))
 front_then events more a b c p q =
-    let one = flat_map sent_by events in
-    let two = flat_map sent_by more in (
+    let one = flat_map written_by events in
+    let two = flat_map written_by more in (
       one ++ q.0,
       q.1,
-      flat_map-append sent_by events more ∙ ap (λ (t : List ℕ). one ++ t) q.2 ∙ sym (append_assoc one q.0 q.1),
+      flat_map-append written_by events more ∙ ap (λ (t : List ℕ). one ++ t) q.2 ∙ sym (append_assoc one q.0 q.1),
       appends_then a b c one q.0 p q.3,
     )
 
@@ -143,22 +72,22 @@ module _ {M : Type 0} (handles : M → List (List ℕ) → Effects → M → Typ
   arrived_none old had batch =
       ([], refl, consumes_none had, sym (append-nil batch.log.items), sym (append-nil batch.output.items))
 
-  pub arrived_end : (old : M) (had left : Known) (batch : Batch) → HadLeft IsEnd had
+  pub arrived_end : (old : M) (had left : Known) (batch : Batch) → HadLeft IsInputEnd had
       → HandlesArrived handles notes old old had left batch batch (Ok false)
   arrived_end old had left batch end =
       ([], refl, left_weaker had (λ bytes h. (bytes, refl, h)) end, sym (append-nil batch.log.items), sym (append-nil batch.output.items))
 
   pub arrived_one : (old new : M) (frame : List (List ℕ)) (had left : Known) (before after : Batch)
-      → Consumes had left (frame_bytes frame) → IsHandled handles notes old new frame before after
+      → Consumes had left (frame_bytes frame) → IsFrameHandled handles notes old new frame before after
       → HandlesArrived handles notes old new had left before after (Ok true)
   arrived_one old new frame had left before after took handled =
       let (effects, does, pushed) = handled in
-      let event : Event = Handles frame effects in (
+      let event : LoopEvent = Handles frame effects in (
         event ∷ [],
         (new, does, refl),
         subst (Consumes had left) (sym (append-nil (read_by event))) took,
         pushed.log ∙ ap (λ (t : List ℕ). before.log.items ++ t) (sym (append-nil (logged_by event))),
-        pushed.output ∙ ap (λ (t : List ℕ). before.output.items ++ t) (sym (append-nil (sent_by event))),
+        pushed.output ∙ ap (λ (t : List ℕ). before.output.items ++ t) (sym (append-nil (written_by event))),
       )
 
   pub arrived_stop : (old : M) (had : Known) (error : ServeError) → HadLeft (StopsServing error) had
@@ -174,7 +103,7 @@ module _ {M : Type 0} (handles : M → List (List ℕ) → Effects → M → Typ
     folds_then (Happens handles notes) a p.0 b q.0 c p.1 q.1,
     frames_then p.0 q.0 had mid left goes_on p.2 q.2,
     waits_then logged_by p.0 q.0 one.log.items two.log.items three.log.items p.3 q.3,
-    waits_then sent_by p.0 q.0 one.output.items two.output.items three.output.items p.4 q.4,
+    waits_then written_by p.0 q.0 one.output.items two.output.items three.output.items p.4 q.4,
   )
   arrived_then a b c had mid left one two three (Err error) p q = (
     p.0 ++ q.0,
@@ -220,12 +149,12 @@ module _ {M : Type 0} (handles : M → List (List ℕ) → Effects → M → Typ
       → StopsEarly handles notes old had kept keeps held holds error
   serves_unsent old new had left one two kept keeps held holds goes_on error cause any p no_log no_output logged wrote =
       let log : two.log.items ≡ flat_map logged_by p.0 = p.3 ∙ ap (λ (t : List ℕ). t ++ flat_map logged_by p.0) no_log in
-      let output : two.output.items ≡ flat_map sent_by p.0 = p.4 ∙ ap (λ (t : List ℕ). t ++ flat_map sent_by p.0) no_output in (
+      let output : two.output.items ≡ flat_map written_by p.0 = p.4 ∙ ap (λ (t : List ℕ). t ++ flat_map written_by p.0) no_output in (
         p.0,
         [],
         new,
-        subst (λ (events : List Event). FoldsTo (Happens handles notes) old events new) (sym (append-nil p.0)) p.1,
-        subst (λ (events : List Event). HadLeft (BeginsWithFrames events (StopsServing error)) had) (sym (append-nil p.0))
+        subst (λ (events : List LoopEvent). FoldsTo (Happens handles notes) old events new) (sym (append-nil p.0)) p.1,
+        subst (λ (events : List LoopEvent). HadLeft (BeginsWithFrames events (StopsServing error)) had) (sym (append-nil p.0))
             (frames_stood (StopsServing error) p.0 had left goes_on any p.2),
         ([], subst (Appends kept keeps) (log ∙ sym (append-nil (flat_map logged_by p.0))) logged),
         (wrote.0, wrote.1, sym output ∙ wrote.2, wrote.3),
@@ -241,7 +170,7 @@ module _ {M : Type 0} (handles : M → List (List ℕ) → Effects → M → Typ
     p.1,
     p.2,
     subst (Appends kept keeps) (p.3 ∙ ap (λ (t : List ℕ). t ++ flat_map logged_by p.0) no_log) logged,
-    subst (Appends held holds) (p.4 ∙ ap (λ (t : List ℕ). t ++ flat_map sent_by p.0) no_output) wrote,
+    subst (Appends held holds) (p.4 ∙ ap (λ (t : List ℕ). t ++ flat_map written_by p.0) no_output) wrote,
   )
 
   -- ---- one batch after another
@@ -262,16 +191,16 @@ module _ {M : Type 0} (handles : M → List (List ℕ) → Effects → M → Typ
     folds_then (Happens handles notes) a p.0 b q.0 c p.1 q.1,
     frames_then p.0 q.0 had mid left goes_on p.2 q.2,
     grows_then logged_by p.0 q.0 k0 k1 k2 p.3 q.3,
-    grows_then sent_by p.0 q.0 h0 h1 h2 p.4 q.4,
+    grows_then written_by p.0 q.0 h0 h1 h2 p.4 q.4,
   )
   serves_then a b c had mid left k0 k1 k2 h0 h1 h2 (Err error) p q =
       let together : p.0 ++ (q.0 ++ q.1) ≡ (p.0 ++ q.0) ++ q.1 = sym (append_assoc p.0 q.0 q.1) in (
         p.0 ++ q.0,
         q.1,
         q.2,
-        subst (λ (events : List Event). FoldsTo (Happens handles notes) a events q.2) together
+        subst (λ (events : List LoopEvent). FoldsTo (Happens handles notes) a events q.2) together
             (folds_then (Happens handles notes) a p.0 b (q.0 ++ q.1) q.2 p.1 q.3),
-        subst (λ (events : List Event). HadLeft (BeginsWithFrames events (StopsServing error)) had) together
+        subst (λ (events : List LoopEvent). HadLeft (BeginsWithFrames events (StopsServing error)) had) together
             (frames_behind (StopsServing error) p.0 (q.0 ++ q.1) had mid p.2 q.4),
         at_least_then p.0 q.0 k0 k1 k2 p.3 q.5,
         front_then p.0 q.0 h0 h1 h2 p.4 q.6,
@@ -297,12 +226,12 @@ module _ {M : Type 0} (handles : M → List (List ℕ) → Effects → M → Typ
       → StopsEarly handles notes old had kept keeps held holds error
   serves_idle old new had left kept keeps held holds error any p =
       let logged = flat_map logged_by p.0 in
-      let sent = flat_map sent_by p.0 in (
+      let sent = flat_map written_by p.0 in (
         p.0,
         [],
         new,
-        subst (λ (events : List Event). FoldsTo (Happens handles notes) old events new) (sym (append-nil p.0)) p.1,
-        subst (λ (events : List Event). HadLeft (BeginsWithFrames events (StopsServing error)) had) (sym (append-nil p.0))
+        subst (λ (events : List LoopEvent). FoldsTo (Happens handles notes) old events new) (sym (append-nil p.0)) p.1,
+        subst (λ (events : List LoopEvent). HadLeft (BeginsWithFrames events (StopsServing error)) had) (sym (append-nil p.0))
             (frames_stood (StopsServing error) p.0 had left true any p.2),
         ([], subst (Appends kept keeps) (sym (append-nil logged)) p.3),
         (sent, [], sym (append-nil sent), p.4),

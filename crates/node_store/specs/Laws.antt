@@ -1,16 +1,19 @@
 -- The contracts that docs/trusted.md lists do not depend on this file; other contracts and proofs do.
 -- What holds of every log.
-use Rattle.std.specs.Prelude.{◌≡◌, ◌++◌, ℕ, List, take}
+use Rattle.std.specs.Prelude.{◌≡◌, ◌++◌, ℕ, List, take, replicate}
 use Rattle.std.specs.List.{AllByRecursion}
-use Rattle.node_log.specs.Reading.{IsEnd}
+use Rattle.node_log.specs.Reading.{HasEntry, IsEnd}
 use Rattle.node_store.specs.Recovery.{IsWholeEntry, log_bytes, BeginsWith}
 
--- what is left of a log that is cut anywhere: the bytes of its first entries, and the end of a log behind them
+-- what is left of a log that is cut anywhere, also with zeros behind the cut: the bytes of its first entries, and the
+-- end of a log behind them
 abbrev pub CutLogIsFront : Type 0
-CutLogIsFront = (entries : List (List (List ℕ))) (front back : List ℕ) → AllByRecursion IsWholeEntry entries
-    → log_bytes entries ≡ front ++ back → (count : ℕ) × BeginsWith (take count entries) IsEnd front
+CutLogIsFront = (entries : List (List (List ℕ))) (front back : List ℕ) (zeros : ℕ) → AllByRecursion IsWholeEntry entries
+    → log_bytes entries ≡ front ++ back
+    → (count : ℕ) × BeginsWith (take count entries) IsEnd (front ++ replicate zeros 0)
 
--- where two lists of entries begin the same bytes, and the log ends behind both, they are the same entries
+-- where two lists of entries begin the same bytes, and no further entry stands behind either, they are the same entries
 abbrev pub LogIsReadOnce : Type 0
 LogIsReadOnce = (es fs : List (List (List ℕ))) (x y : List ℕ) → AllByRecursion IsWholeEntry es
-    → AllByRecursion IsWholeEntry fs → log_bytes es ++ x ≡ log_bytes fs ++ y → IsEnd x → IsEnd y → (es ≡ fs) × (x ≡ y)
+    → AllByRecursion IsWholeEntry fs → log_bytes es ++ x ≡ log_bytes fs ++ y
+    → (HasEntry x → ⊥) → (HasEntry y → ⊥) → (es ≡ fs) × (x ≡ y)

@@ -1,6 +1,6 @@
 //! The log at a node's start.
 ghost use Rattle.std.specs.Prelude.{◌≡◌, ◌+◌, length, IfOk, MatchResult};
-ghost use Rattle.frames.specs.Frame.{frame_bytes};
+ghost use Rattle.node_log.specs.Entry.{entry_bytes};
 ghost use Rattle.node_store.specs.Recovery.{HasRecovered, HasReadNext, IsRefusedAt};
 
 use crate::error::{StoreError, StoreFault};
@@ -13,8 +13,9 @@ use std::io::Read;
 /// Has the machine carry out each entry of the log again, one after another, and returns how many bytes the entries
 /// have.
 ///
-/// Behind these bytes the log ends, or it has an entry that is cut short: the process stopped while it wrote that
-/// entry, and sent nothing that depends on it. Whoever calls this cuts the file there. Any other bytes are damage.
+/// Behind these bytes the log ends, or it has an entry that is cut short, maybe with zeros behind the cut: the process
+/// or the machine stopped while that entry was written, and nothing that depends on it was sent. Whoever calls this
+/// cuts the file there. Any other bytes are damage.
 /// Then, and where memory is refused, reading fails, or the machine cannot carry out an entry, the error says at
 /// which byte.
 pub fn recover_machine<R: Read, M: Machine>(
@@ -70,7 +71,7 @@ fn carry_out<M: Machine>(
     at: u64,
 ) -> Result<u64, StoreFault>
     ensures { MatchResult result
-        (λ end. M.carries_out machine.old entry machine.new × (end ≡ at + length (frame_bytes entry)))
+        (λ end. M.carries_out machine.old entry machine.new × (end ≡ at + length (entry_bytes entry)))
         (λ fault. IsRefusedAt at entry fault) }
 {
     let Ok(length) = entry_length(alloc, &entry) else {
@@ -87,7 +88,7 @@ fn carry_out<M: Machine>(
 
 // The number of bytes of an entry in a log. It writes the entry to memory, and fails only where that is refused.
 fn entry_length(alloc: Global, entry: &Entry) -> io::Result<usize>
-    ensures { IfOk result (λ len. len ≡ length (frame_bytes entry.now)) }
+    ensures { IfOk result (λ len. len ≡ length (entry_bytes entry.now)) }
 {
     let mut bytes = Vec::new(alloc);
     write_entry(&mut bytes, entry)?;

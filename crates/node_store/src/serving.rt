@@ -2,7 +2,7 @@
 ghost use Rattle.std.specs.Prelude.{◌≡◌, [], OnOk, IfOk};
 ghost use Rattle.std.specs.Io.Buffered.{reader_remaining};
 ghost use Rattle.frames.specs.Writing.{Writes};
-ghost use Rattle.node_store.specs.Serving.{Serves, ServesSome, HandlesArrived, IsHandled};
+ghost use Rattle.node_store.specs.Serving.{ServesAll, ServesSome, HandlesArrived, IsFrameHandled};
 
 use crate::batch::Batch;
 use crate::log::Log;
@@ -32,7 +32,7 @@ pub fn serve_frames<M: Machine, I: Read + Drop, O: Write, L: Log>(
     length: u64,
 ) -> Result<(), ServeError>
     requires { L.kept log.old ≡ L.written log.old }
-    ensures { Serves M.handles M.notes machine.old machine.new (reader_remaining I.remaining input.old)
+    ensures { ServesAll M.handles M.notes machine.old machine.new (reader_remaining I.remaining input.old)
         (L.kept log.old) (L.kept log.new) (O.contents output.old) (O.contents output.new) result }
 {
     let mut length = length;
@@ -126,7 +126,7 @@ fn handle_next<M: Machine, I: Read + Drop>(
 
 // Handles a frame, and adds what the machine wants done to the batch.
 fn handle<M: Machine>(machine: &mut M, frame: Frame, batch: &mut Batch) -> Result<(), NodeError>
-    ensures { OnOk result (IsHandled M.handles M.notes machine.old machine.new frame batch.old batch.new) }
+    ensures { OnOk result (IsFrameHandled M.handles M.notes machine.old machine.new frame batch.old batch.new) }
 {
     match machine.handle(frame) {
         Ok(effects) => match batch.push(&effects) {

@@ -1,4 +1,4 @@
-//! What a node says of itself.
+//! What a node tells about itself.
 use super::Node;
 use bytes::Bytes;
 use node_effects::NodeError;

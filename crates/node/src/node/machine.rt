@@ -6,22 +6,27 @@ use node_log::Entry;
 use node_strings::read_record;
 
 impl Machine for Node {
-    ghost use Rattle.node.specs.Handles.{Notes, CarriesOut, Handles};
+    ghost use Rattle.node.specs.Handles.{Handles};
+    ghost use Rattle.std.specs.Prelude.{IfErr, OnOk};
+    ghost use Rattle.node.specs.Recovering.{CarriesOutEntry, Notes, RefusesEntry};
 
-    ghost carries_out = { CarriesOut };
+    ghost carries_out = { CarriesOutEntry };
 
     ghost handles = { Handles };
 
     ghost notes = { Notes };
 
-    /// Carries out the next entry of the node's log again. What was sent then is not sent again.
+    /// Carries out the next entry of the node's log again, and sends nothing.
     ///
-    /// After all entries, the node has the banks and the open moves that it had, and none of its reads and writes. It
-    /// may have forgotten layouts of which letters told it that are not in the log; the mover has forgotten none.
+    /// After all entries, the node has its banks and its open moves again, and none of its reads and writes. It may
+    /// have forgotten layouts of which only letters told it that are not in the log; the mover has forgotten none.
     ///
-    /// `NoCluster` where the first entry names no cluster, `OtherCluster` and `OtherNode` where it names another one,
-    /// `NoEntry` where no node makes such an entry, and `Stopped` with `NoMemory` or `NoMoreIds`.
-    fn recover(&mut self, entry: Entry) -> Result<(), RecoveryError> {
+    /// `NoCluster` if the first entry names no cluster, `OtherCluster` or `OtherNode` if it names another one,
+    /// `NoEntry` if no node writes such an entry, and `Stopped` with `NoMemory`, `NoMoreIds` or the refusal of a move.
+    fn recover(&mut self, entry: Entry) -> Result<(), RecoveryError>
+        ensures carried_out { OnOk result (CarriesOutEntry self.old entry self.new) }
+        ensures refused { IfErr result (RefusesEntry self.old entry) }
+    {
         let Ok(strings) = Frame::new(entry.into_strings()) else {
             return Err(RecoveryError::NoEntry);
         };
@@ -31,10 +36,10 @@ impl Machine for Node {
         }
     }
 
-    /// What the node does with a frame that has come to it, with its address in front. Its letters to itself are
-    /// handled before it returns.
+    /// Handles a frame that has come, whose first string is its address. The node handles its letters to itself before
+    /// this returns.
     ///
-    /// `NoMemory`, or `NoMoreIds` where a call has no id. Another error is a fault of this program.
+    /// `NoMemory`, or `NoMoreIds` if there is no id for a call. Any other error is a fault of this program.
     fn handle(&mut self, frame: Frame) -> Result<Effects, NodeError> {
         let number = self.keeper.number();
         let mut work = Work::new(self.alloc);
@@ -44,7 +49,7 @@ impl Machine for Node {
         Ok(effects)
     }
 
-    /// The program says how long the log is, in bytes, for `INFO`.
+    /// Notes the length of the log, in bytes, for `INFO`.
     fn note_log(&mut self, bytes: u64) {
         self.desk.counts.log_bytes = bytes;
     }

@@ -5,6 +5,7 @@ ghost use Rattle.node_messages.specs.Reading.{message_from};
 ghost use Rattle.node_effects.specs.Seen.{named_of};
 ghost use Rattle.node_keeper.specs.Keeping.{if_heeded, kept_of};
 ghost use Rattle.node.specs.Frames.{is_from_cluster, letter_from, letter_if_read};
+ghost use Rattle.node.specs.Serving.{ServesMore};
 
 use super::Node;
 use frames::Frame;
@@ -13,16 +14,17 @@ use node_keeper::{Delivered, letter_of};
 use node_messages::{MessageError, NodeMessage, read_message};
 
 impl Node {
-    /// A frame of another node has come. What is no message, what comes from no node, and what another cluster file
-    /// sends is dropped and counted.
+    /// Handles a frame that another node sent. The node drops and counts what is no message, what comes from no node of
+    /// the cluster, and what a node with another cluster file sent.
     pub(super) fn receive(
         &mut self,
         sender: u8,
         frame: Frame,
         work: &mut Work,
     ) -> Result<(), NodeError>
-        ensures { OnOk result (Acts sender (letter_if_read self.old.keeper sender (message_from frame))
+        ensures acts { OnOk result (Acts sender (letter_if_read self.old.keeper sender (message_from frame))
             self.old.keeper work.old self.new.keeper work.new) }
+        ensures serves { OnOk result (ServesMore self.old work.old self.new work.new) }
     {
         match read_message(self.alloc, frame) {
             Ok(message) => self.admit(sender, message, work),
@@ -36,8 +38,9 @@ impl Node {
 
     // A message has come, which is dropped unless it is one from a node of this cluster.
     fn admit(&mut self, sender: u8, message: NodeMessage, work: &mut Work) -> Result<(), NodeError>
-        ensures { OnOk result (Acts sender (letter_from self.old.keeper sender message)
+        ensures acts { OnOk result (Acts sender (letter_from self.old.keeper sender message)
             self.old.keeper work.old self.new.keeper work.new) }
+        ensures serves { OnOk result (ServesMore self.old work.old self.new work.new) }
     {
         if !self.is_from_cluster(sender, &message) {
             self.desk.drop_frame();
@@ -53,15 +56,16 @@ impl Node {
         self.keeper.file.has_node(sender) && message.digest == self.keeper.digest
     }
 
-    /// A letter has come from the node of this number, which may be this node itself.
+    /// Handles a letter from the node with this number, which may be this node itself.
     pub(super) fn deliver(
         &mut self,
         sender: u8,
         it: NamedLetter,
         work: &mut Work,
     ) -> Result<(), NodeError>
-        ensures { OnOk result (Acts sender (if_heeded (kept_of self.old.keeper) (named_of it))
+        ensures acts { OnOk result (Acts sender (if_heeded (kept_of self.old.keeper) (named_of it))
             self.old.keeper work.old self.new.keeper work.new) }
+        ensures serves { OnOk result (ServesMore self.old work.old self.new work.new) }
     {
         match self.keeper.deliver(sender, it, work)? {
             Delivered::Dropped => {

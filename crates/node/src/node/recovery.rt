@@ -1,10 +1,15 @@
-//! What a node has again from its log.
-ghost use Rattle.std.specs.Prelude.{◌≡◌, ◌∷◌, [], IfOk, OnOk};
+//! What a node gets back from its log.
+ghost use Rattle.std.specs.Prelude.{◌≡◌, ◌∷◌, [], true, IfErr, IfOk, OnOk};
+ghost use Rattle.local_object.specs.Doing.{serve_events};
 ghost use Rattle.local_object.specs.Events.{LocalEvent};
-ghost use Rattle.recoveries.specs.Records.{IsDoneTo, IsStarted, IsTakenBy, Recovers};
+ghost use Rattle.node_objects.specs.Objects.{objects_of};
+ghost use Rattle.node_effects.specs.declared.error.NodeError.TheVariants.{NoMemory};
+ghost use Rattle.node_effects.specs.declared.error.RecoveryError.TheVariants.{Stopped};
+ghost use Rattle.node_strings.specs.declared.record.Record.TheVariants as record_of;
+ghost use Rattle.recoveries.specs.Records.{IsDoneTo, IsStarted, IsTakenBy};
 ghost use Rattle.node_keeper.specs.Keeping.{kept_of};
-ghost use Rattle.node_keeper.specs.Logging.{deeds_of};
 ghost use Rattle.node.specs.Frames.{IsLetterOf};
+ghost use Rattle.node.specs.Recovering.{CarriesOutRecord, KeepsDesk, RefusesLetter, RefusesOwn, RefusesRecord};
 
 use super::Node;
 use bytes::Bytes;
@@ -20,7 +25,8 @@ use tag::CallId;
 impl Node {
     /// Carries out again what an entry records.
     pub(super) fn recover_record(&mut self, it: Record) -> Result<(), RecoveryError>
-        ensures { OnOk result (Recovers (deeds_of it) (kept_of self.old.keeper) (kept_of self.new.keeper)) }
+        ensures done { OnOk result (CarriesOutRecord self.old it self.new) }
+        ensures refused { IfErr result (RefusesRecord self.old.is_named self.old.keeper it) }
     {
         match it {
             Record::Cluster { digest, node } => self.recover_cluster(digest, node),
@@ -35,7 +41,9 @@ impl Node {
         digest: [u8; DIGEST_LENGTH],
         number: u8,
     ) -> Result<(), RecoveryError>
-        ensures { self.new.keeper ≡ self.old.keeper }
+        ensures done { OnOk result (CarriesOutRecord self.old (record_of.Cluster digest number) self.new) }
+        ensures refused { IfErr result
+            (RefusesRecord self.old.is_named self.old.keeper (record_of.Cluster digest number)) }
     {
         if self.is_named {
             return Err(RecoveryError::NoEntry);
@@ -52,27 +60,30 @@ impl Node {
 
     // What the node did is done again.
     fn recover_deed(&mut self, it: Record) -> Result<(), RecoveryError>
-        ensures { OnOk result (Recovers (deeds_of it) (kept_of self.old.keeper) (kept_of self.new.keeper)) }
+        requires { self.old.is_named ≡ true }
+        ensures done { OnOk result (CarriesOutRecord self.old it self.new) }
+        ensures refused { IfErr result (RefusesOwn self.old.keeper it) }
     {
         match it {
             Record::Cluster { digest: _, node: _ } => Err(RecoveryError::NoEntry),
             Record::Start => self.recover_start(),
-            Record::Serve(frame) => {
-                let it = self.recover_letter(frame)?;
-                self.keeper.serve_again(it)?;
-                Ok(())
-            }
-            Record::Take(frame) => {
-                let it = self.recover_letter(frame)?;
-                self.take_again(it)
-            }
+            Record::Serve(frame) => match self.recover_letter(frame) {
+                Ok(it) => self.serve_again(it),
+                Err(error) => Err(error),
+            },
+            Record::Take(frame) => match self.recover_letter(frame) {
+                Ok(it) => self.take_again(it),
+                Err(error) => Err(error),
+            },
             Record::Move { id, name, layout } => self.recover_move(id, name, layout),
         }
     }
 
     // An epoch begins again.
     fn recover_start(&mut self) -> Result<(), RecoveryError>
-        ensures { OnOk result (IsStarted (kept_of self.old.keeper) (kept_of self.new.keeper)) }
+        ensures started { OnOk result (IsStarted (kept_of self.old.keeper) (kept_of self.new.keeper)) }
+        ensures rest { KeepsDesk self.old self.new }
+        ensures refused { IfErr result (RefusesOwn self.old.keeper record_of.Start) }
     {
         if self.keeper.start_again() {
             Ok(())
@@ -83,7 +94,8 @@ impl Node {
 
     // The letter of a message that the log has.
     fn recover_letter(&self, frame: Frame) -> Result<NamedLetter, RecoveryError>
-        ensures { IfOk result (IsLetterOf frame) }
+        ensures read { IfOk result (IsLetterOf frame) }
+        ensures refused { IfErr result (RefusesLetter frame) }
     {
         match read_message(self.alloc, frame) {
             Ok(message) => Ok(letter_of(message)),
@@ -92,24 +104,49 @@ impl Node {
         }
     }
 
+    // A request is served again.
+    fn serve_again(&mut self, it: NamedLetter) -> Result<(), RecoveryError>
+        ensures served { OnOk result (IsDoneTo (kept_of self.old.keeper) it.name
+            (serve_events (objects_of self.old.keeper.objects it.name) it.letter) (kept_of self.new.keeper)) }
+        ensures rest { KeepsDesk self.old self.new }
+        ensures refused { IfErr result (λ e. e ≡ Stopped NoMemory) }
+    {
+        match self.keeper.serve_again(it) {
+            Ok(()) => Ok(()),
+            Err(error) => Err(RecoveryError::Stopped(error)),
+        }
+    }
+
     // A reply is taken again. A call that it answers is open no more, and nobody is told again.
     fn take_again(&mut self, it: NamedLetter) -> Result<(), RecoveryError>
-        ensures { OnOk result
+        ensures taken { OnOk result
             (IsTakenBy (kept_of self.old.keeper) it.name it.letter (kept_of self.new.keeper)) }
+        ensures rest { KeepsDesk self.old self.new }
+        ensures refused { IfErr result (λ e. e ≡ Stopped NoMemory) }
     {
-        if let Some(id) = self.keeper.take_again(it)? {
-            let _client = self.desk.closed(id);
+        match self.keeper.take_again(it) {
+            Ok(Some(id)) => {
+                let _client = self.desk.closed(id);
+                Ok(())
+            }
+            Ok(None) => Ok(()),
+            Err(error) => Err(RecoveryError::Stopped(error)),
         }
-        Ok(())
     }
 
     // A move begins again. No client waits for it.
     fn recover_move(&mut self, id: CallId, name: Bytes, layout: Layout) -> Result<(), RecoveryError>
-        ensures { OnOk result (IsDoneTo (kept_of self.old.keeper) name (LocalEvent.BeginMove id layout ∷ [])
+        ensures begun { OnOk result (IsDoneTo (kept_of self.old.keeper) name (LocalEvent.BeginMove id layout ∷ [])
             (kept_of self.new.keeper)) }
+        ensures rest { KeepsDesk self.old self.new }
+        ensures refused { IfErr result (RefusesOwn self.old.keeper (record_of.Move id name layout)) }
     {
-        self.keeper.move_again(&name, id, layout)?;
-        self.desk.open(id, name, None)?;
-        Ok(())
+        match self.keeper.move_again(&name, id, layout) {
+            Ok(()) => match self.desk.open(id, name, None, true) {
+                Ok(()) => Ok(()),
+                Err(error) => Err(RecoveryError::Stopped(error)),
+            },
+            Err(error) => Err(RecoveryError::Stopped(error)),
+        }
     }
 }

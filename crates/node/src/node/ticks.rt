@@ -1,18 +1,20 @@
 //! What a node does as time passes.
-ghost use Rattle.std.specs.Prelude.{[], ℕ, OnOk};
+ghost use Rattle.std.specs.Prelude.{[], ◌∷◌, ℕ, OnOk};
+ghost use Rattle.indexmap.specs.IndexMap.{keys};
 ghost use Rattle.node_keeper.specs.Acts.{Acts};
+ghost use Rattle.node.specs.Serving.{SeesNothing, ServesLate, ServesTicks};
 
 use super::Node;
-use bytes::Bytes;
 use node_clients::Aged;
 use node_effects::{NodeError, Work};
 use tag::CallId;
 
 impl Node {
-    /// Time has passed. Each open call asks again those that have not replied. A read or a write is given up after the
-    /// cluster file's number of ticks. A move goes on, but its client is told that no quorum has answered.
+    /// Time has passed. Open calls ask again those that have not replied, ever more rarely. A read or a write is given
+    /// up after the cluster file's number of ticks. A move goes on, but its client is told that no quorum has answered.
     pub(super) fn tick(&mut self, work: &mut Work) -> Result<(), NodeError>
-        ensures { OnOk result ((asker : ℕ) → Acts asker [] self.old.keeper work.old self.new.keeper work.new) }
+        ensures acts { OnOk result ((asker : ℕ) → Acts asker [] self.old.keeper work.old self.new.keeper work.new) }
+        ensures serves { OnOk result (ServesTicks (keys self.old.desk.calls) self.old work.old self.new work.new) }
     {
         let ids = self.desk.open_ids()?;
         for id in ids {
@@ -23,33 +25,39 @@ impl Node {
 
     // An open call is older by a tick.
     fn tick_call(&mut self, id: CallId, work: &mut Work) -> Result<(), NodeError>
-        ensures { OnOk result ((asker : ℕ) → Acts asker [] self.old.keeper work.old self.new.keeper work.new) }
+        ensures acts { OnOk result ((asker : ℕ) → Acts asker [] self.old.keeper work.old self.new.keeper work.new) }
+        ensures serves { OnOk result (ServesTicks (id ∷ []) self.old work.old self.new work.new) }
     {
-        match self.desk.aged(id, self.keeper.file.ticks())? {
-            Some(
-                Aged {
-                    name,
-                    is_late: true,
-                },
-            ) => self.be_late(id, &name, work),
-            Some(
-                Aged {
-                    name,
-                    is_late: false,
-                },
-            ) => self.keeper.resend(&name, id, work),
-            None => Ok(()),
+        let Some(call) = self.desk.aged(id, self.keeper.file.ticks())? else {
+            return Ok(());
+        };
+        if call.is_late {
+            return self.be_late(id, call, work);
         }
+        self.ask_again(id, &call, work)
     }
 
     // A call has been open for too many ticks.
-    fn be_late(&mut self, id: CallId, name: &Bytes, work: &mut Work) -> Result<(), NodeError>
-        ensures { OnOk result ((asker : ℕ) → Acts asker [] self.old.keeper work.old self.new.keeper work.new) }
+    fn be_late(&mut self, id: CallId, call: Aged, work: &mut Work) -> Result<(), NodeError>
+        ensures acts { OnOk result ((asker : ℕ) → Acts asker [] self.old.keeper work.old self.new.keeper work.new) }
+        ensures late { OnOk result (ServesLate id call.is_move self.old work.old self.new work.new) }
     {
-        if self.keeper.give_up(name, id) {
-            return self.desk.give_up(id, work);
+        if call.is_move {
+            self.desk.release(id, work)?;
+            return self.ask_again(id, &call, work);
         }
-        self.desk.release(id, work)?;
-        self.keeper.resend(name, id, work)
+        let _was_open = self.keeper.give_up(&call.name, id);
+        self.desk.give_up(id, work)
+    }
+
+    // A call asks those again that have not replied, if it is of an age for that.
+    fn ask_again(&self, id: CallId, call: &Aged, work: &mut Work) -> Result<(), NodeError>
+        ensures acts { OnOk result ((asker : ℕ) → Acts asker [] self.now.keeper work.old self.now.keeper work.new) }
+        ensures seen { OnOk result (SeesNothing work.old work.new) }
+    {
+        if !call.asks_again {
+            return Ok(());
+        }
+        self.keeper.resend(&call.name, id, work)
     }
 }

@@ -12,30 +12,36 @@ use node_strings::ConnectionId;
 use tag::CallId;
 
 impl Desk {
-    /// A call begins: it is open from now on, and this client waits for its answer, if one is given. `NoMemory`, and
-    /// nothing changes.
+    /// A call begins, which is a move or none: it is open from now on, and this client waits for its answer, if one is
+    /// given. `NoMemory`, and nothing changes.
     pub fn open(
         &mut self,
         id: CallId,
         name: Bytes,
         client: Option<ConnectionId>,
+        is_move: bool,
     ) -> Result<(), NodeError>
         ensures opened { OnOk result (call_under self.new.calls id
-            ≡ Some (record { name = name; client = client; age = 0 })) }
+            ≡ Some (record { name = name; client = client; is_move = is_move; age = 0 })) }
         ensures others { (other : ℕ) → other ≢ id → call_under self.new.calls other ≡ call_under self.old.calls other }
         ensures unchanged { IfErr result (λ e. call_under self.new.calls id ≡ call_under self.old.calls id) }
         ensures clients { self.new.clients ≡ self.old.clients }
         ensures counts { self.new.counts ≡ self.old.counts }
         ensures refused { IfErr result (λ e. e ≡ NoMemory) }
     {
-        let age = 0;
-        match self.calls.insert(id, OpenCall { name, client, age }) {
+        let call = OpenCall {
+            name,
+            client,
+            is_move,
+            age: 0,
+        };
+        match self.calls.insert(id, call) {
             Ok(_) => Ok(()),
             Err(_) => Err(NodeError::NoMemory),
         }
     }
 
-    /// A call is open no more. Returns the connection that waits for its answer, if one does.
+    /// Removes a call. Returns the connection that waits for its answer, if one does.
     pub fn closed(&mut self, id: CallId) -> Option<ConnectionId>
         ensures client { result ≡ waiting_for self.old.calls id }
         ensures gone { call_under self.new.calls id ≡ None }
@@ -49,7 +55,7 @@ impl Desk {
         }
     }
 
-    /// The client of a call waits for it no more. Returns the connection that waited, if one did.
+    /// The client of a call no longer waits for it. Returns the connection that waited, if one did.
     pub(super) fn released(&mut self, id: CallId) -> Option<ConnectionId>
         ensures client { result ≡ waiting_for self.old.calls id }
         ensures released { call_under self.new.calls id ≡ with_nobody (call_under self.old.calls id) }
@@ -79,8 +85,8 @@ impl Desk {
         Ok(ids)
     }
 
-    /// An open call is older by a tick. It is late where it is then older than this number of ticks. None, and nothing
-    /// changes, where no call with this id is open. `NoMemory`, and nothing changes.
+    /// Makes an open call older by a tick. It is late if it is then older than this number of ticks. Returns none, and
+    /// changes nothing, if no call with this id is open. `NoMemory`, and then nothing changes.
     pub fn aged(&mut self, id: CallId, ticks: u32) -> Result<Option<Aged>, NodeError>
         ensures aged { IfOk result (λ aged. aged ≡ aged_call ticks (call_under self.old.calls id)) }
         ensures older { OnOk result (call_under self.new.calls id ≡ older_call (call_under self.old.calls id)) }

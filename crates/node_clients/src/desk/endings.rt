@@ -1,4 +1,4 @@
-//! What the client of a call is told as the call ends.
+//! What clients are told when their calls end.
 ghost use Rattle.std.specs.Prelude.{◌≡◌, ◌≢◌, ℕ, None, OnOk};
 ghost use Rattle.client_commands.specs.declared.answer.Answer.TheVariants as answers;
 ghost use Rattle.client_commands.specs.declared.answer.AnswerError.TheVariants.{NoQuorum};
@@ -16,8 +16,8 @@ use record::Operation;
 use tag::CallId;
 
 impl Desk {
-    /// A call was answered: it is open no more, and the client that waits for it is told, if its connection is there.
-    /// It fails where `Work::answer` does.
+    /// Removes a call that was answered, and tells the client that waits for it, if its connection is there. It fails
+    /// if `Work::answer` does.
     pub fn end(&mut self, ended: Ended, work: &mut Work) -> Result<(), NodeError>
         ensures told { OnOk result (IsGrown work.old work.new
             (growth_for self.old (waiting_for self.old.calls ended.id) (ended_answer ended))) }
@@ -33,8 +33,8 @@ impl Desk {
         self.close(id, ended_answer(ended), work)
     }
 
-    /// A call was given up: it is open no more, and the client that waits for it is told that no quorum has answered,
-    /// if its connection is there. It fails where `Work::answer` does.
+    /// Removes a call that was given up, and tells the client that waits for it that no quorum answered, if its
+    /// connection is there. It fails if `Work::answer` does.
     pub fn give_up(&mut self, id: CallId, work: &mut Work) -> Result<(), NodeError>
         ensures told { OnOk result (IsGrown work.old work.new
             (growth_for self.old (waiting_for self.old.calls id) (answers.Error NoQuorum))) }
@@ -49,8 +49,8 @@ impl Desk {
         self.close(id, Answer::Error(AnswerError::NoQuorum), work)
     }
 
-    /// The client of a call waits for it no more, and is told that no quorum has answered, if its connection is there.
-    /// The call stays open. It fails where `Work::answer` does.
+    /// Tells the client that waits for a call that no quorum answered, if its connection is there. The client no longer
+    /// waits, and the call stays open. It fails if `Work::answer` does.
     pub fn release(&mut self, id: CallId, work: &mut Work) -> Result<(), NodeError>
         ensures told { OnOk result (IsGrown work.old work.new
             (growth_for self.old (waiting_for self.old.calls id) (answers.Error NoQuorum))) }

@@ -2,7 +2,8 @@ use Rattle.std.proofs.Common.{◌≡◌, rules}
 use Rattle.std.specs.Io.Buffered.{reader_remaining}
 use Rattle.frames.specs.declared.error.Fault.TheVariants.{UnexpectedEnd}
 use Rattle.node_store.specs.declared.stop.ServeError.TheVariants.{NoFrame}
-use Rattle.node_store.proofs.ServingLemmas.{found_frame, end_from, no_frame_from, arrived_one, arrived_end, arrived_stop}
+use Rattle.node_store.proofs.FrameReadingLemmas.{found_frame, end_from, no_frame_from}
+use Rattle.node_store.proofs.ServingLemmas.{arrived_one, arrived_end, arrived_stop}
 use Rattle.node_store.proofs.serving.handle_next.Goals as goal
 
 pub returns-in-Ok : goal.returns-in-Ok

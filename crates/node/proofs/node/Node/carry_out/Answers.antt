@@ -1,19 +1,29 @@
-use Rattle.std.proofs.Common.{[]}
+use Rattle.std.proofs.Common.{[], refl, sym, subst}
 use Rattle.std.proofs.lemmas.Result.{on_ok_weaker}
+use Rattle.client_commands.specs.declared.answer.Answer.TheVariants as answers
+use Rattle.client_commands.specs.declared.answer.AnswerError.TheVariants as errors
+use Rattle.node.specs.Replies.{IsReplyTo}
+use Rattle.node.proofs.CommandLemmas.{answer_is_sent, answered_now, replied}
 use Rattle.node.proofs.TellLemmas.{tells_acts}
 use Rattle.node.proofs.node.Node.carry_out.Goals as goal
 
-pub returns-in-Ok-Quit : goal.returns-in-Ok-Quit
-returns-in-Ok-Quit c =
-    on_ok_weaker c.quit.result
-    (λ tells asker. tells_acts asker [] c.args.self.now.keeper c.args.work.now c.quit.new.work tells) c.quit.ensures.tells
+pub returns-in-Ok-clause-serves : goal.returns-in-Ok-clause-serves
+returns-in-Ok-clause-serves c =
+    on_ok_weaker c.obey.result (λ serves. serves c.args.frame (sym c.in-Ok.ensures.exact)) c.obey.ensures.serves
 
-pub returns-in_ok-answer-in-Ok : goal.returns-in_ok-answer-in-Ok
-returns-in_ok-answer-in-Ok c =
-    on_ok_weaker c.answer.result
-    (λ tells asker. tells_acts asker [] c.args.self.now.keeper c.args.work.now c.answer.new.work tells) c.answer.ensures.tells
-
-pub returns-in-Err : goal.returns-in-Err
-returns-in-Err c =
+pub returns-in-Err-clause-acts : goal.returns-in-Err-clause-acts
+returns-in-Err-clause-acts c =
     on_ok_weaker c.refuse.result
     (λ tells asker. tells_acts asker [] c.args.self.now.keeper c.args.work.now c.refuse.new.work tells) c.refuse.ensures.tells
+
+pub returns-in-Err-clause-serves : goal.returns-in-Err-clause-serves
+returns-in-Err-clause-serves c =
+    let old = c.args.self.now in
+    let client = c.args.client in
+    let answer = answers.Error (errors.Fault c.in-Err.fault) in
+    on_ok_weaker c.refuse.result
+    (λ grown. replied client c.args.frame answer old (record old { desk = c.refuse.new.self }) c.args.work.now c.refuse.new.work
+    (answered_now old.desk c.refuse.new.self client c.requires c.refuse.ensures.idle c.refuse.ensures.calls c.refuse.ensures.counts)
+    (answer_is_sent old.desk client answer c.args.work.now c.refuse.new.work c.requires grown)
+    (subst (λ r. IsReplyTo old.keeper.ids.node old.keeper.file client r answer) c.in-Err.ensures.exact refl) refl refl)
+    c.refuse.ensures.grown

@@ -1,16 +1,48 @@
-use Rattle.std.proofs.Common.{[]}
+use Rattle.std.proofs.Common.{[], refl, subst}
 use Rattle.std.proofs.lemmas.Result.{on_ok_weaker}
 use Rattle.node_effects.specs.Seen.{named_of}
 use Rattle.node_keeper.specs.Keeping.{if_heeded, kept_of}
 use Rattle.node_keeper.proofs.ActLemmas.{acts_more}
 use Rattle.node.proofs.TellLemmas.{tells_acts}
+use Rattle.node_keeper.specs.Delivering.{DeliversLetter}
+use Rattle.node.specs.declared.node.Node.{Node}
+use Rattle.node.proofs.KeeperLemmas.{dropped_served, ended_served, handled_served}
 use Rattle.node.proofs.node.Node.deliver.Goals as goal
 
-pub returns-in-Ended : goal.returns-in-Ended
-returns-in-Ended c =
+pub returns-in-Ended-clause-acts : goal.returns-in-Ended-clause-acts
+returns-in-Ended-clause-acts c =
     let old = c.args.self.now.keeper in
     let new = c.deliver.new.self in
     on_ok_weaker c.end.result
     (λ tells. acts_more c.args.sender (if_heeded (kept_of old) (named_of c.args.it)) old new new c.args.work.now c.deliver.new.work
     c.end.new.work c.in_ok-deliver.ensures.acts (tells_acts c.args.sender [] new c.deliver.new.work c.end.new.work tells))
     c.end.ensures.tells
+
+pub returns-in-Dropped-clause-serves : goal.returns-in-Dropped-clause-serves
+returns-in-Dropped-clause-serves c =
+    let old = c.args.self.now in
+    let new : Node = record old { keeper = c.deliver.new.self; desk = c.drop_frame.new.self } in
+    dropped_served c.args.sender c.args.it old new c.args.work.now c.deliver.new.work c.in_ok-deliver.ensures.acts.node
+    (subst (λ result. DeliversLetter c.args.sender c.args.it old.keeper c.args.work.now c.deliver.new.self c.deliver.new.work result)
+    c.in-Dropped.is c.in_ok-deliver.ensures.delivers)
+    (c.drop_frame.ensures.clients, c.drop_frame.ensures.calls, c.drop_frame.ensures.counts)
+
+pub returns-in-Handled-clause-serves : goal.returns-in-Handled-clause-serves
+returns-in-Handled-clause-serves c =
+    let old = c.args.self.now in
+    let new : Node = record old { keeper = c.deliver.new.self } in
+    handled_served c.args.sender c.args.it old new c.args.work.now c.deliver.new.work c.in_ok-deliver.ensures.acts.node
+    (subst (λ result. DeliversLetter c.args.sender c.args.it old.keeper c.args.work.now c.deliver.new.self c.deliver.new.work result)
+    c.in-Handled.is c.in_ok-deliver.ensures.delivers) refl
+
+pub returns-in-Ended-clause-serves : goal.returns-in-Ended-clause-serves
+returns-in-Ended-clause-serves c =
+    let old = c.args.self.now in
+    let new : Node = record old { keeper = c.deliver.new.self; desk = c.end.new.self } in
+    on_ok_weaker c.end.result
+    (λ grown. ended_served c.args.sender c.args.it old new c.args.work.now c.deliver.new.work c.in_ok-deliver.ensures.acts.node
+    c.in-Ended.ended c.end.new.work
+    (subst (λ result. DeliversLetter c.args.sender c.args.it old.keeper c.args.work.now c.deliver.new.self c.deliver.new.work result)
+    c.in-Ended.is c.in_ok-deliver.ensures.delivers)
+    grown (record { who = refl; gone = c.end.ensures.gone; others = c.end.ensures.others; idle = c.end.ensures.idle })
+    c.end.ensures.counts) c.end.ensures.told

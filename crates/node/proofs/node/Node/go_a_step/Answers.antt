@@ -1,16 +1,51 @@
+use Rattle.std.proofs.Common.{◌∙◌, subst, sym}
 use Rattle.node.proofs.ActedLemmas.{due_handled, own_handled}
+use Rattle.node.proofs.ArrivalLemmas.{since_then}
+use Rattle.node_clients.specs.Desk.{NoneWaits}
+use Rattle.node.proofs.LeftLemmas.{more_waits}
 use Rattle.node.proofs.node.Node.go_a_step.Goals as goal
 
 pub returns-in-Some-clause-acted : goal.returns-in-Some-clause-acted
 returns-in-Some-clause-acted c =
     λ asker got first. own_handled asker got first c.args.self.now.keeper c.args.number c.deliver.new.self.keeper c.args.work.now
-    c.next_own.new.self c.deliver.new.work c.in-Some.it c.requires c.in-Some.ensures c.in_ok-deliver.ensures
+    c.next_own.new.self c.deliver.new.work c.in-Some.it c.requires c.in-Some.ensures c.in_ok-deliver.ensures.acts
+
+pub returns-in-Some-clause-served : goal.returns-in-Some-clause-served
+returns-in-Some-clause-served c =
+    let work = c.args.work.now in
+    λ came first since. since_then came first c.args.self.now c.deliver.new.self work.to_clients.items work.notices.items
+    c.next_own.new.self c.deliver.new.work c.in-Some.ensures.to_clients c.in-Some.ensures.notices since
+    c.in_ok-deliver.ensures.serves
 
 pub returns-in-Some-next_due-clause-acted : goal.returns-in-Some-next_due-clause-acted
 returns-in-Some-next_due-clause-acted c =
     λ asker got first. due_handled asker got first c.args.self.now.keeper c.go_on.new.self.keeper c.args.work.now
     c.next_own.new.self c.next_due.new.self c.go_on.new.work c.in-Some-next_due.client c.in_default.ensures
-    c.in-Some-next_due.ensures c.in_ok-go_on.ensures
+    c.in-Some-next_due.ensures c.in_ok-go_on.ensures.acts
+
+pub returns-in-Some-next_due-clause-served : goal.returns-in-Some-next_due-clause-served
+returns-in-Some-next_due-clause-served c =
+    let work = c.args.work.now in
+    λ came first since. since_then came first c.args.self.now c.go_on.new.self work.to_clients.items work.notices.items
+    c.next_due.new.self c.go_on.new.work (c.in-Some-next_due.ensures.to_clients ∙ c.in_default.ensures.to_clients)
+    (c.in-Some-next_due.ensures.notices ∙ c.in_default.ensures.notices) since c.in_ok-go_on.ensures.serves
 
 pub returns-in-Some-next_due-clause-number : goal.returns-in-Some-next_due-clause-number
-returns-in-Some-next_due-clause-number c = (c.in_ok-go_on.ensures 0).node
+returns-in-Some-next_due-clause-number c = (c.in_ok-go_on.ensures.acts 0).node
+
+pub returns-in-Some-clause-waits : goal.returns-in-Some-clause-waits
+returns-in-Some-clause-waits c =
+    let old = c.args.self.now in
+    λ waits. more_waits old c.deliver.new.self c.next_own.new.self c.deliver.new.work c.in_ok-deliver.ensures.serves
+    (subst (λ xs. NoneWaits old.desk.clients xs) (sym c.in-Some.ensures.due) waits)
+
+pub returns-in-Some-next_due-clause-waits : goal.returns-in-Some-next_due-clause-waits
+returns-in-Some-next_due-clause-waits c =
+    let old = c.args.self.now in
+    λ waits. c.in_ok-go_on.ensures.waits
+    (subst (λ xs. NoneWaits old.desk.clients xs) (sym c.in_default.ensures.due ∙ c.in-Some-next_due.ensures.due) waits)
+
+pub returns-clause-waits : goal.returns-clause-waits
+returns-clause-waits c =
+    let left = c.in_default-next_due.ensures.due in
+    subst (λ xs. NoneWaits c.args.self.now.desk.clients xs) (sym c.in_default.ensures.due ∙ left.0 ∙ sym left.1)

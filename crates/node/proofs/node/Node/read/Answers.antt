@@ -1,13 +1,26 @@
-use Rattle.std.proofs.Common.{[]}
+use Rattle.std.proofs.Common.{[], refl}
 use Rattle.std.proofs.lemmas.Result.{on_ok_weaker}
 use Rattle.node_keeper.proofs.ActLemmas.{acts_more}
 use Rattle.node.proofs.TellLemmas.{tells_acts}
+use Rattle.client_commands.specs.declared.command.Command.TheVariants as ask
+use Rattle.node_keeper.specs.Beginning.{reading_call}
+use Rattle.node.specs.declared.node.Node.{Node}
+use Rattle.node.proofs.KeeperLemmas.{call_served}
 use Rattle.node.proofs.node.Node.read.Goals as goal
 
-pub returns : goal.returns
-returns c =
+pub returns-clause-acts : goal.returns-clause-acts
+returns-clause-acts c =
     let old = c.args.self.now.keeper in
     let new = c.begin_read.new.self in
     on_ok_weaker c.wait.result
     (λ tells asker. acts_more asker [] old new new c.args.work.now c.begin_read.new.work c.wait.new.work
-    (c.in_ok-begun.ensures.acts asker) (tells_acts asker [] new c.begin_read.new.work c.wait.new.work tells)) c.wait.ensures
+    (c.in_ok-begun.ensures.acts asker) (tells_acts asker [] new c.begin_read.new.work c.wait.new.work tells)) c.wait.ensures.tells
+
+pub returns-clause-serves : goal.returns-clause-serves
+returns-clause-serves c =
+    let old = c.args.self.now in
+    let new : Node = record old { keeper = c.begin_read.new.self; desk = c.wait.new.desk } in
+    on_ok_weaker c.wait.result
+    (λ awaited frame asks. call_served c.args.client frame (ask.Get c.args.name) (reading_call c.args.name) old new c.args.work.now
+    c.begin_read.new.work c.wait.new.work c.in_ok-begun.begun asks (λ id. refl) (λ local id why e. (local, id, why, e, refl)) tt
+    c.in_ok-begun.ensures.begins (c.in_ok-begun.ensures.acts 0).node awaited) c.wait.ensures.awaited

@@ -1,4 +1,4 @@
-use Rattle.std.proofs.Common.{◌++◌, [], ap, subst, ◌∙◌}
+use Rattle.std.proofs.Common.{◌++◌, ap, subst, ◌∙◌}
 use Rattle.recoveries.specs.Records.{IsStarted}
 use Rattle.node_keeper.specs.Keeping.{kept_of}
 use Rattle.node.proofs.StartLemmas.{started_of, starts}
@@ -16,4 +16,5 @@ returns c =
       frames = c.in_ok-effects.ensures.frames ∙ ap (λ xs. xs ++ c.begin_epoch.new.work.to_clients.items) done.to_nodes
           ∙ done.to_clients;
       notices = c.in_ok-effects.ensures.notices ∙ done.notices;
+      refused = tt;
     }

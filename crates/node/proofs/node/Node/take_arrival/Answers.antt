@@ -1,8 +1,112 @@
+use Rattle.std.proofs.Common.{Some, [], ◌∷◌, refl, subst, sym}
+use Rattle.std.proofs.lemmas.Result.{on_ok_weaker}
+use Rattle.indexmap.specs.IndexMap.{keys}
+use Rattle.node_strings.specs.declared.arrival.Arrival.TheVariants as came
+use Rattle.node_clients.specs.Served.{IsArrived, IsGone}
+use Rattle.node_clients.specs.Services.{Service}
+use Rattle.node_clients.proofs.WaitLemmas.{arrival_waits}
 use Rattle.node.specs.Frames.{letter_of_arrival, sender_of}
+use Rattle.node.specs.Serving.{ServesArrival}
+use Rattle.node.specs.declared.node.Node.{Node}
+use Rattle.node.proofs.LeftLemmas.{more_waits, serves_wait, ticks_wait}
+use Rattle.node.proofs.ArrivalLemmas.{arrival_alone, arrival_more, arrival_then}
+use Rattle.node.proofs.ServingLemmas.{unsent_one}
 use Rattle.node.proofs.TellLemmas.{idle}
 use Rattle.node.proofs.node.Node.take_arrival.Goals as goal
 
-pub returns-in-Left : goal.returns-in-Left
-returns-in-Left c =
+pub returns-in-Left-clause-acts : goal.returns-in-Left-clause-acts
+returns-in-Left-clause-acts c =
     let old = c.args.self.now.keeper in
     idle (sender_of old.ids.node c.args.arrival) (letter_of_arrival old c.args.arrival) old c.args.work.now
+
+pub returns-in-Left-clause-serves : goal.returns-in-Left-clause-serves
+returns-in-Left-clause-serves c =
+    let old = c.args.self.now in
+    let new : Node = record old { desk = record old.desk { clients = c.leave.new.self } } in
+    let work = c.args.work.now in
+    let client = c.in-Left.client in
+    let gone : IsGone old.desk client new.desk =
+    record { gone = c.leave.ensures.gone; others = c.leave.ensures.others; calls = refl; counts = refl } in
+    subst (λ a. ServesArrival (Some a) old work new work) (sym c.in-Left.is)
+    (arrival_alone (Some (came.Left client)) old new work work (Service.Leaves client ∷ []) refl
+    (unsent_one old new work (Service.Leaves client) gone refl refl refl tt refl))
+
+pub returns-in-Left-clause-waits : goal.returns-in-Left-clause-waits
+returns-in-Left-clause-waits c =
+    let old = c.args.self.now in
+    let new : Node = record old { desk = record old.desk { clients = c.leave.new.self } } in
+    let work = c.args.work.now in
+    let client = c.in-Left.client in
+    let gone : IsGone old.desk client new.desk =
+    record { gone = c.leave.ensures.gone; others = c.leave.ensures.others; calls = refl; counts = refl } in
+    serves_wait old new work work (Service.Leaves client ∷ [])
+    (unsent_one old new work (Service.Leaves client) gone refl refl refl tt refl) (tt, tt)
+
+pub returns-in_ok-push-in-Command-clause-serves : goal.returns-in_ok-push-in-Command-clause-serves
+returns-in_ok-push-in-Command-clause-serves c =
+    let old = c.args.self.now in
+    let between : Node = record old { desk = record old.desk { clients = c.push.new.self } } in
+    let new = c.go_on.new.self in
+    let work = c.args.work.now in
+    let client = c.in-Command.client in
+    let frame = c.in-Command.frame in
+    let arrived : IsArrived old.desk client frame between.desk = record {
+      there = c.in_ok-push-in-Command.ensures.there;
+      state = c.in_ok-push-in-Command.ensures.state;
+      waiting = c.in_ok-push-in-Command.ensures.waiting;
+      others = c.in_ok-push-in-Command.ensures.others;
+      calls = refl;
+      counts = refl;
+    } in
+    on_ok_weaker c.go_on.result
+    (λ more. subst (λ a. ServesArrival (Some a) old work new c.go_on.new.work) (sym c.in-Command.is)
+    (arrival_then (Some (came.Command client frame)) old between new work work c.go_on.new.work (Service.Arrives client frame)
+    refl (unsent_one old between work (Service.Arrives client frame) arrived refl refl refl tt refl) more)) c.go_on.ensures.serves
+
+pub returns-in_ok-push-in-Command-clause-waits : goal.returns-in_ok-push-in-Command-clause-waits
+returns-in_ok-push-in-Command-clause-waits c =
+    let old = c.args.self.now in
+    let between : Node = record old { desk = record old.desk { clients = c.push.new.self } } in
+    let client = c.in-Command.client in
+    let frame = c.in-Command.frame in
+    let arrived : IsArrived old.desk client frame between.desk = record {
+      there = c.in_ok-push-in-Command.ensures.there;
+      state = c.in_ok-push-in-Command.ensures.state;
+      waiting = c.in_ok-push-in-Command.ensures.waiting;
+      others = c.in_ok-push-in-Command.ensures.others;
+      calls = refl;
+      counts = refl;
+    } in
+    on_ok_weaker c.go_on.result
+    (λ goes waits. goes (arrival_waits old.desk between.desk client frame c.args.work.now.due.items arrived waits))
+    c.go_on.ensures.waits
+
+pub returns-in-Message-clause-serves : goal.returns-in-Message-clause-serves
+returns-in-Message-clause-serves c =
+    let old = c.args.self.now in
+    let new = c.receive.new.self in
+    let work = c.args.work.now in
+    on_ok_weaker c.receive.result
+    (λ more. subst (λ a. ServesArrival (Some a) old work new c.receive.new.work) (sym c.in-Message.is)
+    (arrival_more (Some (came.Message c.in-Message.sender c.in-Message.frame)) old new work c.receive.new.work refl more))
+    c.receive.ensures.serves
+
+pub returns-in-Message-clause-waits : goal.returns-in-Message-clause-waits
+returns-in-Message-clause-waits c =
+    on_ok_weaker c.receive.result
+    (λ more. more_waits c.args.self.now c.receive.new.self c.args.work.now c.receive.new.work more) c.receive.ensures.serves
+
+pub returns-in-Tick-clause-serves : goal.returns-in-Tick-clause-serves
+returns-in-Tick-clause-serves c =
+    let old = c.args.self.now in
+    let new = c.tick.new.self in
+    let work = c.args.work.now in
+    on_ok_weaker c.tick.result
+    (λ serves. subst (λ a. ServesArrival (Some a) old work new c.tick.new.work) (sym c.in-Tick.is)
+    (arrival_alone (Some came.Tick) old new work c.tick.new.work serves.services serves.ticks serves.serves)) c.tick.ensures.serves
+
+pub returns-in-Tick-clause-waits : goal.returns-in-Tick-clause-waits
+returns-in-Tick-clause-waits c =
+    let old = c.args.self.now in
+    on_ok_weaker c.tick.result
+    (λ serves. ticks_wait (keys old.desk.calls) old c.tick.new.self c.args.work.now c.tick.new.work serves) c.tick.ensures.serves

@@ -1,17 +1,40 @@
-use Rattle.std.proofs.Common.{OnOk, subst}
+use Rattle.std.proofs.Common.{OnOk, [], ◌∷◌, refl, subst, sym}
 use Rattle.node_strings.specs.Arrival.{arrival_at}
 use Rattle.node_keeper.specs.Acts.{Acts}
+use Rattle.node_clients.specs.Services.{Service}
 use Rattle.node.specs.Frames.{letter_if_any, letters_in, sender_or}
+use Rattle.node.specs.Serving.{ServesArrival}
+use Rattle.node.proofs.ArrivalLemmas.{arrival_alone}
+use Rattle.node.proofs.ServingLemmas.{drops_one}
 use Rattle.node.proofs.TellLemmas.{idle}
+use Rattle.node_clients.specs.Desk.{NoneWaits}
 use Rattle.node.proofs.node.Node.take_frame.Goals as goal
 
-pub returns-in-Some : goal.returns-in-Some
-returns-in-Some c =
+pub returns-in-Some-clause-acts : goal.returns-in-Some-clause-acts
+returns-in-Some-clause-acts c =
     let old = c.args.self.now.keeper in
     subst (λ came. OnOk c.take_arrival.result (Acts (sender_or old.ids.node came) (letter_if_any old came) old c.args.work.now
-    c.take_arrival.new.self.keeper c.take_arrival.new.work)) c.in-Some.ensures.exact c.take_arrival.ensures
+    c.take_arrival.new.self.keeper c.take_arrival.new.work)) c.in-Some.ensures.exact c.take_arrival.ensures.acts
 
-pub returns-in-None : goal.returns-in-None
-returns-in-None c =
+pub returns-in-Some-clause-serves : goal.returns-in-Some-clause-serves
+returns-in-Some-clause-serves c =
+    subst (λ came. OnOk c.take_arrival.result (ServesArrival came c.args.self.now c.args.work.now c.take_arrival.new.self
+    c.take_arrival.new.work)) c.in-Some.ensures.exact c.take_arrival.ensures.serves
+
+pub returns-in-None-clause-acts : goal.returns-in-None-clause-acts
+returns-in-None-clause-acts c =
     let old = c.args.self.now.keeper in
     idle (sender_or old.ids.node (arrival_at c.args.frame)) (letters_in old c.args.frame) old c.args.work.now
+
+pub returns-in-None-clause-serves : goal.returns-in-None-clause-serves
+returns-in-None-clause-serves c =
+    let old = c.args.self.now in
+    let new = record old { desk = c.drop_frame.new.self } in
+    let work = c.args.work.now in
+    subst (λ came. ServesArrival came old work new work) c.in-None.ensures.exact
+    (arrival_alone _ old new work work (Service.Drops ∷ []) refl
+    (drops_one old new work (c.drop_frame.ensures.clients, c.drop_frame.ensures.calls, c.drop_frame.ensures.counts) refl))
+
+pub returns-in-None-clause-waits : goal.returns-in-None-clause-waits
+returns-in-None-clause-waits c =
+    λ waits. subst (λ clients. NoneWaits clients c.args.work.now.due.items) (sym c.drop_frame.ensures.clients) waits

@@ -1,12 +1,19 @@
-use Rattle.std.proofs.Common.{[]}
+use Rattle.std.proofs.Common.{[], ◌∷◌}
 use Rattle.node_keeper.proofs.ActLemmas.{acts_more}
+use Rattle.node.proofs.TickLemmas.{no_ticks, ticks_then}
 use Rattle.node.proofs.TellLemmas.{idle}
 use Rattle.node.proofs.node.Node.tick.Goals as goal
 
 pub loop-id-init : goal.loop-id-init
-loop-id-init c = λ asker. idle asker [] c.args.self.now.keeper c.args.work.now
+loop-id-init c = record {
+  acts = λ asker. idle asker [] c.args.self.now.keeper c.args.work.now;
+  serves = no_ticks c.args.self.now c.args.work.now;
+}
 
 pub loop-id-preserved : goal.loop-id-preserved
-loop-id-preserved c =
-    λ asker. acts_more asker [] c.args.self.now.keeper c.loop-id.self.keeper c.tick_call.new.self.keeper c.args.work.now
-    c.loop-id.work c.tick_call.new.work (c.loop-id.invariant asker) (c.in_ok-tick_call.ensures asker)
+loop-id-preserved c = record {
+  acts = λ asker. acts_more asker [] c.args.self.now.keeper c.loop-id.self.keeper c.tick_call.new.self.keeper c.args.work.now
+      c.loop-id.work c.tick_call.new.work (c.loop-id.invariant.acts asker) (c.in_ok-tick_call.ensures.acts asker);
+  serves = ticks_then c.loop-id.yielded (c.in-Some.id ∷ []) c.args.self.now c.loop-id.self c.tick_call.new.self c.args.work.now
+      c.loop-id.work c.tick_call.new.work c.loop-id.invariant.serves c.in_ok-tick_call.ensures.serves;
+}

@@ -1,6 +1,65 @@
-use Rattle.std.proofs.Common.{[]}
+use Rattle.std.proofs.Common.{◌≡◌, [], refl, subst, sym, false, true, None, Some, ◌∙◌}
+use Rattle.std.proofs.lemmas.Result.{on_ok_weaker}
+use Rattle.node_clients.specs.Calls.{aged_call, becomes_late, call_under}
+use Rattle.node_clients.specs.Served.{IsOlder}
+use Rattle.node.specs.declared.node.Node.{Node}
 use Rattle.node.proofs.TellLemmas.{idle}
+use Rattle.node.proofs.TickLemmas.{call_ages, call_is_late, none_late, some_late, some_move}
 use Rattle.node.proofs.node.Node.tick_call.Goals as goal
 
-pub returns-in-None : goal.returns-in-None
-returns-in-None c = λ asker. idle asker [] c.args.self.now.keeper c.args.work.now
+pub returns-in_default-clause-acts : goal.returns-in_default-clause-acts
+returns-in_default-clause-acts c = λ asker. idle asker [] c.args.self.now.keeper c.args.work.now
+
+pub returns-in_default-clause-serves : goal.returns-in_default-clause-serves
+returns-in_default-clause-serves c =
+    let old = c.args.self.now in
+    let new : Node = record old { desk = c.aged.new.self } in
+    let call = call_under old.desk.calls c.args.id in
+    let none : None ≡ aged_call c.ticks.result call = sym c.in_default.is ∙ c.in_ok-call.ensures.aged in
+    let late : becomes_late old.keeper.file.ticks call ≡ false =
+    subst (λ n. becomes_late n call ≡ false) c.ticks.ensures (none_late c.ticks.result call none) in
+    let older : IsOlder old.desk c.args.id new.desk = record {
+      older = c.in_ok-call.ensures.older;
+      others = c.aged.ensures.others;
+      clients = c.aged.ensures.clients;
+      counts = c.aged.ensures.counts;
+    } in
+    call_ages c.args.id old new c.args.work.now c.args.work.now late older refl
+    (record { told = refl; due = refl; notices = refl })
+
+pub returns-then-call-clause-serves : goal.returns-then-call-clause-serves
+returns-then-call-clause-serves c =
+    let old = c.args.self.now in
+    let between : Node = record old { desk = c.aged.new.self } in
+    let call = call_under old.desk.calls c.args.id in
+    let some : Some c.in-Some.call ≡ aged_call c.ticks.result call = sym c.in-Some.is ∙ c.in_ok-call.ensures.aged in
+    let late : becomes_late old.keeper.file.ticks call ≡ true =
+    subst (λ n. becomes_late n call ≡ true) c.ticks.ensures
+    (some_late c.ticks.result call c.in-Some.call some ∙ c.if-call.true) in
+    let older : IsOlder old.desk c.args.id between.desk = record {
+      older = c.in_ok-call.ensures.older;
+      others = c.aged.ensures.others;
+      clients = c.aged.ensures.clients;
+      counts = c.aged.ensures.counts;
+    } in
+    on_ok_weaker c.be_late.result
+    (λ serves. call_is_late c.args.id c.in-Some.call.is_move old between c.be_late.new.self c.args.work.now c.be_late.new.work late
+    (some_move c.ticks.result call c.in-Some.call some) older refl serves) c.be_late.ensures.late
+
+pub returns-clause-serves : goal.returns-clause-serves
+returns-clause-serves c =
+    let old = c.args.self.now in
+    let new : Node = record old { desk = c.aged.new.self } in
+    let call = call_under old.desk.calls c.args.id in
+    let some : Some c.in-Some.call ≡ aged_call c.ticks.result call = sym c.in-Some.is ∙ c.in_ok-call.ensures.aged in
+    let late : becomes_late old.keeper.file.ticks call ≡ false =
+    subst (λ n. becomes_late n call ≡ false) c.ticks.ensures
+    (some_late c.ticks.result call c.in-Some.call some ∙ c.if-call.false) in
+    let older : IsOlder old.desk c.args.id new.desk = record {
+      older = c.in_ok-call.ensures.older;
+      others = c.aged.ensures.others;
+      clients = c.aged.ensures.clients;
+      counts = c.aged.ensures.counts;
+    } in
+    on_ok_weaker c.ask_again.result
+    (λ seen. call_ages c.args.id old new c.args.work.now c.ask_again.new.work late older refl seen) c.ask_again.ensures.seen

@@ -1,5 +1,26 @@
+use Rattle.std.proofs.Common.{OnOk, Some, subst, sym}
+use Rattle.std.proofs.lemmas.Result.{on_ok_weaker}
+use Rattle.client_commands.specs.declared.answer.Answer.TheVariants as answers
+use Rattle.client_commands.specs.declared.answer.AnswerError.TheVariants as errors
 use Rattle.node_clients.proofs.TellLemmas.{tells_nobody}
+use Rattle.node.specs.Serving.{IsAwaited}
+use Rattle.node.proofs.CommandLemmas.{answer_is_sent, answered_now}
 use Rattle.node.proofs.node.commands.wait.Goals as goal
 
-pub returns-in_ok-open-in-Open : goal.returns-in_ok-open-in-Open
-returns-in_ok-open-in-Open c = tells_nobody c.args.work.now
+pub returns-in_ok-open-in-Open-clause-tells : goal.returns-in_ok-open-in-Open-clause-tells
+returns-in_ok-open-in-Open-clause-tells c = tells_nobody c.args.work.now
+
+pub returns-in-Refused-clause-awaited : goal.returns-in-Refused-clause-awaited
+returns-in-Refused-clause-awaited c =
+    let old = c.args.desk.now in
+    let client = c.args.client in
+    subst (λ begun. OnOk c.refuse.result (IsAwaited old c.args.work.now client
+    (Some (record { name = c.args.name; client = Some client; is_move = c.args.is_move; age = 0 })) begun c.refuse.new.self
+    c.refuse.new.work)) (sym c.in-Refused.is)
+    (on_ok_weaker c.refuse.result
+    (λ grown. (
+      answered_now old c.refuse.new.self client c.requires c.refuse.ensures.idle c.refuse.ensures.calls
+          c.refuse.ensures.counts,
+      answer_is_sent old client (answers.Error (errors.Refused c.in-Refused.refusal)) c.args.work.now c.refuse.new.work c.requires
+          grown,
+    )) c.refuse.ensures.grown)

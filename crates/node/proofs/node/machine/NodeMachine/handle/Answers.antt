@@ -1,16 +1,26 @@
-use Rattle.node_effects.specs.Work.{IsEmpty}
+use Rattle.std.proofs.Common.{subst, sym}
+use Rattle.node_clients.specs.Desk.{NoneWaits}
 use Rattle.node_strings.specs.Arrival.{arrival_at}
 use Rattle.node.specs.Frames.{letters_in, sender_or}
 use Rattle.node.proofs.ActedLemmas.{acted_first, handles_of}
+use Rattle.node.proofs.ArrivalLemmas.{since_first}
 use Rattle.node.proofs.node.machine.NodeMachine.handle.Goals as goal
 
 pub returns : goal.returns
 returns c =
     let old = c.args.self.now in
-    let asker = sender_or old.keeper.ids.node (arrival_at c.args.frame) in
+    let came = arrival_at c.args.frame in
+    let asker = sender_or old.keeper.ids.node came in
     let got = letters_in old.keeper c.args.frame in
+    let empty = c.new-work.result in
+    let taken = c.take_frame.new.work in
     handles_of old c.finish.new.self c.args.frame c.finish.new.work c.in_ok-effects.effects
-    (c.in_ok-finish.ensures asker got old.keeper
-    (acted_first asker got old.keeper c.take_frame.new.self.keeper c.new-work.result c.take_frame.new.work c.number-number.ensures.within
-    c.new-work.ensures c.in_ok-take_frame.ensures))
+    (c.in_ok-finish.ensures.acted asker got old.keeper
+    (acted_first asker got old.keeper c.take_frame.new.self.keeper empty taken c.number-number.ensures.within
+    c.new-work.ensures c.in_ok-take_frame.ensures.acts))
+    (c.in_ok-finish.ensures.served came old
+    (since_first came old c.take_frame.new.self empty taken c.new-work.ensures.to_clients c.new-work.ensures.notices
+    c.in_ok-take_frame.ensures.serves))
     c.in_ok-effects.ensures.entries c.in_ok-effects.ensures.frames c.in_ok-effects.ensures.notices
+    (λ waits. c.in_ok-finish.ensures.waits (c.in_ok-take_frame.ensures.waits
+    (subst (λ xs. NoneWaits old.desk.clients xs) (sym c.new-work.ensures.due) waits)))

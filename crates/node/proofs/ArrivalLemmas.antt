@@ -1,0 +1,97 @@
+-- What has come to a node, and all that it does with it for its clients.
+use Rattle.std.proofs.Common.{◌≡◌, List, [], ◌∷◌, ◌++◌, Option}
+use Rattle.std.proofs.Common.{sym, subst, ap, ◌∙◌}
+use Rattle.std.proofs.lemmas.List.{append-nil, append_assoc}
+use Rattle.std.specs.List.{AllByRecursion}
+use Rattle.cluster_file.specs.File.{FileContents}
+use Rattle.deeds.proofs.ListLemmas.{all_append}
+use Rattle.node_strings.specs.declared.arrival.Arrival.{Arrival}
+use Rattle.string_parts.specs.Strings.{Strings}
+use Rattle.node_effects.specs.declared.notice.Notice.{Notice}
+use Rattle.node_effects.specs.declared.work.Work.{Work}
+use Rattle.node_clients.specs.Served.{AreServicesDone, HasServed}
+use Rattle.node_clients.specs.Services.{Service, all_frames, all_notices}
+use Rattle.node_clients.proofs.ServedLemmas.{frames_append, notices_append}
+use Rattle.node_clients.proofs.ServedLemmas.{served_then}
+use Rattle.node.specs.Replies.{IsRight}
+use Rattle.node.specs.Serving.{FollowsUp, IsComing, ServedSince, ServesClients, ServesArrival}
+use Rattle.node.specs.Serving.{ServesMore}
+use Rattle.node.specs.declared.node.Node.{Node}
+use Rattle.node.proofs.ServingLemmas.{all_right, serves_then}
+
+-- something comes, and some things follow up
+pub arrival_then : (came : Option Arrival) (a b c : Node) (u v w : Work) (service : Service) →
+    IsComing a.desk came (service ∷ []) → ServesClients a u (service ∷ []) b v → ServesMore b v c w → ServesArrival came a u c w
+arrival_then came a b c u v w service comes first more = record {
+  coming = service ∷ [];
+  more = more.services;
+  comes = comes;
+  follows = more.follows;
+  serves = serves_then a b c u v w (service ∷ []) more.services first more.serves;
+}
+
+-- something comes, and nothing follows up
+pub arrival_alone : (came : Option Arrival) (a b : Node) (u v : Work) (services : List Service) →
+    IsComing a.desk came services → ServesClients a u services b v → ServesArrival came a u b v
+arrival_alone came a b u v services comes serves = record {
+  coming = services;
+  more = [];
+  comes = comes;
+  follows = tt;
+  serves = subst (λ ss. ServesClients a u ss b v) (sym (append-nil services)) serves;
+}
+
+-- nothing comes for clients, and some things follow up
+pub arrival_more : (came : Option Arrival) (a b : Node) (u v : Work) → IsComing a.desk came [] → ServesMore a u b v →
+    ServesArrival came a u b v
+arrival_more came a b u v comes more = record {
+  coming = [];
+  more = more.services;
+  comes = comes;
+  follows = more.follows;
+  serves = more.serves;
+}
+
+-- All that was done with a frame
+
+pub since_first : (came : Option Arrival) (a b : Node) (u v : Work) → u.to_clients.items ≡ [] → u.notices.items ≡ [] →
+    ServesArrival came a u b v → ServedSince came a b v.to_clients.items v.notices.items
+since_first came a b u v told seen s = record {
+  coming = s.coming;
+  more = s.more;
+  comes = s.comes;
+  follows = s.follows;
+  served = s.serves.has.served;
+  right = s.serves.right;
+  answers = s.serves.has.told ∙ ap (λ xs. xs ++ all_frames (s.coming ++ s.more)) told;
+  notices = s.serves.has.notices ∙ ap (λ xs. xs ++ all_notices (s.coming ++ s.more)) seen;
+  file = s.serves.file;
+  number = s.serves.number;
+}
+
+-- some things follow up, where what there is to do may have been taken in between
+pub since_then : (came : Option Arrival) (a b c : Node) (answers : List Strings) (notices : List Notice) (v w : Work) →
+    v.to_clients.items ≡ answers → v.notices.items ≡ notices → ServedSince came a b answers notices →
+    ServesMore b v c w → ServedSince came a c w.to_clients.items w.notices.items
+since_then came a b c answers notices v w told seen s m =
+    let before = s.coming ++ s.more in
+    let all : (s.coming ++ s.more) ++ m.services ≡ s.coming ++ (s.more ++ m.services) =
+    append_assoc s.coming s.more m.services in
+    let has = subst (λ (f : FileContents). HasServed f.ticks b.desk v m.services c.desk w) s.file m.serves.has in
+    record {
+      coming = s.coming;
+      more = s.more ++ m.services;
+      comes = s.comes;
+      follows = all_append FollowsUp s.more m.services s.follows m.follows;
+      served = subst (λ ss. AreServicesDone a.keeper.file.ticks a.desk ss c.desk) all
+          (served_then a.keeper.file.ticks a.desk b.desk c.desk before m.services s.served has.served);
+      right = subst (λ ss. AllByRecursion (IsRight a.keeper.ids.node a.keeper.file) ss) all
+          (all_append (IsRight a.keeper.ids.node a.keeper.file) before m.services s.right
+          (all_right a.keeper.ids.node b.keeper.ids.node a.keeper.file b.keeper.file m.services s.number s.file m.serves.right));
+      answers = m.serves.has.told ∙ ap (λ xs. xs ++ all_frames m.services) (told ∙ s.answers)
+          ∙ sym (frames_append before m.services) ∙ ap all_frames all;
+      notices = m.serves.has.notices ∙ ap (λ xs. xs ++ all_notices m.services) (seen ∙ s.notices)
+          ∙ sym (notices_append before m.services) ∙ ap all_notices all;
+      file = m.serves.file ∙ s.file;
+      number = m.serves.number ∙ s.number;
+    }

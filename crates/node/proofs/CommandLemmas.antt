@@ -1,0 +1,178 @@
+-- Commands that are taken and carried out, as what a node does for its clients.
+use Rattle.std.proofs.Common.{◌≡◌, ℕ, true, List, [], ◌∷◌, Option, None, Some, Ok, is_some}
+use Rattle.std.proofs.Common.{Result, Err, IsSome, OnOk, refl, sym, subst, ap, ◌∙◌}
+use Rattle.cluster_file.specs.File.{FileContents}
+use Rattle.connections.specs.Connections.{TakesNextAt, doing, gives_next_of, has_next, waiting_on}
+use Rattle.connections.specs.declared.connection.Connection.{Connection}
+use Rattle.connections.specs.declared.connection.State.{State}
+use Rattle.connections.specs.declared.connection.State.TheVariants.{Busy, Idle, Quit}
+use Rattle.client_commands.specs.Reading.{command_at}
+use Rattle.client_commands.specs.declared.answer.Answer.{Answer}
+use Rattle.client_commands.specs.declared.command.Command.{Command}
+use Rattle.client_commands.specs.declared.command.Command.TheVariants as ask
+use Rattle.layout.specs.Layout.{Layout}
+use Rattle.string_parts.specs.Strings.{Strings}
+use Rattle.node_effects.specs.Work.{IsGrown}
+use Rattle.node_effects.specs.declared.error.NodeError.{NodeError}
+use Rattle.node_effects.specs.declared.work.Work.{Work}
+use Rattle.node_clients.specs.Answers.{answer_growth, answer_sent, quit_growth}
+use Rattle.node_clients.specs.Desk.{IsIdleAgain, connection_of, is_connected, with_told}
+use Rattle.node_clients.specs.Served.{HasQuit, IsClientAnswered, IsOpened, IsServiceDone, IsCommandTaken}
+use Rattle.node_clients.specs.Served.{KeepsOthers, call_begun}
+use Rattle.node_clients.specs.Services.{Service}
+use Rattle.node_clients.specs.declared.desk.Desk.{Desk}
+use Rattle.node_clients.proofs.ServedLemmas.{busy_is_there}
+use Rattle.node_keeper.specs.declared.keeper.Keeper.{Keeper}
+use Rattle.node.specs.Replies.{IsPlainReply, IsReplyTo, IsRight}
+use Rattle.node.specs.Serving.{FollowsUp, IsCommandDone}
+use Rattle.node.specs.Serving.{ServesCommand, ServesMore}
+use Rattle.node.specs.declared.node.Node.{Node}
+use Rattle.node.proofs.ServingLemmas.{more_one, serves_one}
+
+-- a connection that has a next command gives it
+pub no_next : (old new : Option Connection) → has_next old ≡ true → TakesNextAt old new None → ⊥
+no_next None new has taken = absurd (cc)
+no_next (Some connection) new has taken = go connection.state connection.waiting.items has taken.0
+  where
+    go : (state : State) (waiting : List Strings) → gives_next_of state waiting ≡ true → (state ≡ Idle → waiting ≡ []) → ⊥
+    go Idle [] has none = absurd (cc)
+    go Idle (command ∷ waiting) has none = let e : command ∷ waiting ≡ [] = none refl in absurd (cc)
+    go Busy waiting has none = absurd (cc)
+    go Quit waiting has none = absurd (cc)
+
+-- a command is taken, and then carried out
+pub command_served : (ticks : ℕ) (a b c : Desk) (client : ℕ) (frame : Strings) (service : Service) →
+    IsCommandTaken a client frame b → IsCommandDone b client frame service c → IsServiceDone ticks a service c
+command_served ticks a b c client frame (Service.Begins other command id) taken done = (
+  frame,
+  done.1,
+  b,
+  subst (λ n. IsCommandTaken a n frame b) (sym done.0) taken,
+  subst (λ n. IsOpened b (call_begun n command) id c) (sym done.0) done.2,
+)
+command_served ticks a b c client frame (Service.Replies other command answer) taken done = (
+  b,
+  subst (λ n. IsCommandTaken a n command b) (sym done.0) (subst (λ f. IsCommandTaken a client f b) (sym done.1) taken),
+  subst (λ n. IsClientAnswered b n c) (sym done.0) done.2,
+)
+command_served ticks a b c client frame (Service.Quits other) taken done = (
+  frame,
+  done.1,
+  b,
+  subst (λ n. IsCommandTaken a n frame b) (sym done.0) taken,
+  subst (λ n. HasQuit b n c) (sym done.0) done.2,
+)
+command_served ticks a b c client frame (Service.Arrives other command) taken done = absurd done
+command_served ticks a b c client frame (Service.Leaves other) taken done = absurd done
+command_served ticks a b c client frame (Service.Ends name ended told) taken done = absurd done
+command_served ticks a b c client frame (Service.Ages id) taken done = absurd done
+command_served ticks a b c client frame (Service.GivesUp id told) taken done = absurd done
+command_served ticks a b c client frame (Service.Releases id told) taken done = absurd done
+command_served ticks a b c client frame Service.Drops taken done = absurd done
+
+-- what is done with a command follows up
+command_follows : (old new : Desk) (client : ℕ) (frame : Strings) (service : Service) →
+    IsCommandDone old client frame service new → FollowsUp service
+command_follows old new client frame (Service.Begins other command id) done = tt
+command_follows old new client frame (Service.Replies other command answer) done = tt
+command_follows old new client frame (Service.Quits other) done = tt
+command_follows old new client frame (Service.Arrives other command) done = absurd done
+command_follows old new client frame (Service.Leaves other) done = absurd done
+command_follows old new client frame (Service.Ends name ended told) done = absurd done
+command_follows old new client frame (Service.Ages id) done = absurd done
+command_follows old new client frame (Service.GivesUp id told) done = absurd done
+command_follows old new client frame (Service.Releases id told) done = absurd done
+command_follows old new client frame Service.Drops done = absurd done
+
+-- the next command of a client is taken, and carried out
+pub taken_served : (a b c : Node) (u v : Work) (client : ℕ) (frame : Strings) → b.keeper ≡ a.keeper →
+    IsCommandTaken a.desk client frame b.desk → ServesCommand client frame b u c v → ServesMore a u c v
+taken_served a b c u v client frame same taken s =
+    more_one a c u v s.service (command_follows b.desk c.desk client frame s.service s.done)
+    (serves_one a c u v s.service
+    (command_served a.keeper.file.ticks a.desk b.desk c.desk client frame s.service taken s.done) s.told s.due s.notices
+    (subst (λ (k : Keeper). IsRight k.ids.node k.file s.service) same s.right)
+    (s.file ∙ ap (λ (k : Keeper). k.file) same) (s.number ∙ ap (λ (k : Keeper). k.ids.node) same))
+
+-- a busy connection is there: its client is sent the answer
+pub answer_is_sent : (desk : Desk) (client : ℕ) (answer : Answer) (u v : Work) → doing (connection_of desk client) ≡ Busy →
+    IsGrown u v (answer_growth (is_connected desk client) client answer) → IsGrown u v (answer_sent client answer)
+answer_is_sent desk client answer u v busy grown =
+    subst (λ b. IsGrown u v (answer_growth b client answer)) (busy_is_there (connection_of desk client) busy) grown
+
+pub answered_now : (old new : Desk) (client : ℕ) → doing (connection_of old client) ≡ Busy →
+    IsIdleAgain old.clients client new.clients → new.calls ≡ old.calls →
+    new.counts ≡ with_told (is_connected old client) old.counts → IsClientAnswered old client new
+answered_now old new client busy idle calls counts = record {
+  idle = idle;
+  calls = calls;
+  counts = counts ∙ ap (λ b. with_told b old.counts) (busy_is_there (connection_of old client) busy);
+}
+
+-- a command is answered at once
+pub replied : (client : ℕ) (frame : Strings) (answer : Answer) (old new : Node) (u v : Work) →
+    IsClientAnswered old.desk client new.desk → IsGrown u v (answer_sent client answer) →
+    IsReplyTo old.keeper.ids.node old.keeper.file client (command_at frame) answer → new.keeper.file ≡ old.keeper.file →
+    new.keeper.ids.node ≡ old.keeper.ids.node → ServesCommand client frame old u new v
+replied client frame answer old new u v answered grown reply file number = record {
+  service = Service.Replies client frame answer;
+  done = (refl, refl, answered);
+  right = reply;
+  told = grown.to_clients;
+  due = grown.due;
+  notices = grown.notices;
+  file = file;
+  number = number;
+}
+
+pub is_there : (connection : Option Connection) → doing connection ≡ Busy → IsSome connection
+is_there None e = absurd (cc)
+is_there (Some connection) e = refl
+
+-- a client quits, whose connection is busy
+pub quits : (client : ℕ) (command : Command) (old new : Node) (u v : Work) (result : Result (Unit {0}) NodeError) →
+    command ≡ ask.Quit → doing (connection_of old.desk client) ≡ Busy → OnOk result (IsGrown u v (quit_growth client)) →
+    OnOk result (IsSome (connection_of old.desk client) → doing (connection_of new.desk client) ≡ Quit) →
+    OnOk result (waiting_on (connection_of new.desk client) ≡ waiting_on (connection_of old.desk client)) →
+    OnOk result (is_some (connection_of new.desk client) ≡ is_some (connection_of old.desk client)) →
+    OnOk result (KeepsOthers old.desk client new.desk) → new.desk.calls ≡ old.desk.calls →
+    new.desk.counts ≡ old.desk.counts → new.keeper ≡ old.keeper →
+    OnOk result ((frame : Strings) → command_at frame ≡ Ok command → ServesCommand client frame old u new v)
+quits client command old new u v (Ok done) is busy grown state waiting stays others calls counts same = λ frame asks. record {
+  service = Service.Quits client;
+  done = (
+    refl,
+    asks ∙ ap Ok is,
+    record {
+      stays = stays;
+      state = state (is_there (connection_of old.desk client) busy);
+      waiting = waiting;
+      others = others;
+      calls = calls;
+      counts = counts;
+    },
+  );
+  right = tt;
+  told = grown.to_clients;
+  due = grown.due;
+  notices = grown.notices;
+  file = ap (λ (k : Keeper). k.file) same;
+  number = ap (λ (k : Keeper). k.ids.node) same;
+}
+quits client command old new u v (Err error) is busy grown state waiting stays others calls counts same = tt
+
+-- the plain answer to a command that is no call and no QUIT
+pub plain_is_reply : (number : ℕ) (file : FileContents) (client : ℕ) (command : Command) (answer : Answer) →
+    ((name : List ℕ) → command ≡ ask.Get name → ⊥) → ((name value : List ℕ) → command ≡ ask.Set name value → ⊥) →
+    ((name : List ℕ) (layout : Layout) → command ≡ ask.Move name layout → ⊥) → (command ≡ ask.Quit → ⊥) →
+    IsPlainReply client command answer → IsReplyTo number file client (Ok command) answer
+plain_is_reply number file client (ask.Get name) answer get set move quit is = absurd (get name refl)
+plain_is_reply number file client (ask.Set name value) answer get set move quit is = absurd (set name value refl)
+plain_is_reply number file client (ask.Move name layout) answer get set move quit is = absurd (move name layout refl)
+plain_is_reply number file client ask.Info answer get set move quit is = is
+plain_is_reply number file client (ask.Ping text) answer get set move quit is = is
+plain_is_reply number file client (ask.Echo text) answer get set move quit is = is
+plain_is_reply number file client ask.ListCommands answer get set move quit is = is
+plain_is_reply number file client ask.ClientId answer get set move quit is = is
+plain_is_reply number file client ask.DescribeClient answer get set move quit is = is
+plain_is_reply number file client ask.Quit answer get set move quit is = absurd (quit refl)

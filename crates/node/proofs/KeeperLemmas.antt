@@ -1,0 +1,131 @@
+-- Calls that begin at what a node keeps, and letters that come, as what the node does for its clients.
+use Rattle.std.proofs.Common.{◌≡◌, ℕ, Bool, true, false, [], ◌∷◌, ◌++◌, Some, Ok}
+use Rattle.std.proofs.Common.{refl, sym, subst, ap, ◌∙◌}
+use Rattle.std.proofs.lemmas.List.{append-nil}
+use Rattle.tag.specs.declared.refusal.Refusal.{Refusal}
+use Rattle.local_object.specs.Local.{LocalObject}
+use Rattle.local_object.specs.declared.progress.Ended.{Ended}
+use Rattle.client_commands.specs.Reading.{command_at}
+use Rattle.client_commands.specs.declared.answer.Answer.TheVariants as answers
+use Rattle.client_commands.specs.declared.answer.AnswerError.TheVariants as errors
+use Rattle.client_commands.specs.declared.command.Command.{Command}
+use Rattle.node_objects.specs.Objects.{objects_of}
+use Rattle.local_object.specs.Doing.{is_request}
+use Rattle.node_effects.specs.Seen.{named_of}
+use Rattle.string_parts.specs.Strings.{Strings}
+use Rattle.node_effects.specs.Work.{IsGrown}
+use Rattle.node_effects.specs.declared.letter.NamedLetter.{NamedLetter}
+use Rattle.node_effects.specs.declared.work.Work.{Work}
+use Rattle.node_clients.specs.Answers.{answer_frame, ended_answer}
+use Rattle.node_clients.specs.Calls.{waiting_for}
+use Rattle.node_clients.specs.Desk.{growth_for, has_listener, listener, with_told}
+use Rattle.node_clients.specs.Served.{IsCallClosed, IsServiceDone, call_begun}
+use Rattle.node_clients.specs.Services.{Service, begun_notices}
+use Rattle.node_clients.proofs.ServedLemmas.{growth_dues, growth_frames, growth_notices}
+use Rattle.node_keeper.specs.Beginning.{Beginning, BeginsCall}
+use Rattle.node_keeper.specs.Delivering.{DeliversLetter, DeliversAs}
+use Rattle.node_keeper.specs.Keeping.{heeds, kept_of}
+use Rattle.node_keeper.specs.declared.delivered.Begun.{Begun}
+use Rattle.node_keeper.specs.declared.delivered.Begun.TheVariants as begun
+use Rattle.node_keeper.specs.declared.delivered.Delivered.{Delivered}
+use Rattle.node_keeper.specs.declared.delivered.Delivered.TheVariants as delivered
+use Rattle.node_keeper.specs.declared.keeper.Keeper.{Keeper}
+use Rattle.node_keeper.proofs.SeenLemmas.{begins_leaves, begins_seen, delivers_leaves, delivers_seen}
+use Rattle.node.specs.Replies.{IsReplyTo, MayBegin}
+use Rattle.node.specs.Serving.{IsAwaited, ServesCommand, ServesMore}
+use Rattle.node.specs.declared.node.Node.{Node}
+use Rattle.node.proofs.ServingLemmas.{more_none, more_one, serves_none, serves_one}
+
+begins_file : (call : Beginning) (old new : Keeper) (u v : Work) (begun : Begun) → BeginsCall call old u new v begun →
+    new.file ≡ old.file
+begins_file call old new u v (begun.Open id) is = is.file
+begins_file call old new u v (begun.Refused why) is = is.file
+
+-- the command of a client was to begin a call, which waits now, or was refused
+pub call_served : (client : ℕ) (frame : Strings) (command : Command) (call : Beginning) (old new : Node) (u v w : Work)
+    (begun : Begun) → command_at frame ≡ Ok command →
+    ((id : ℕ) → begun_notices command id ≡ call.notice id ∷ []) →
+    ((local : LocalObject) (id : ℕ) (why : Refusal) → call.refusal local id ≡ Some why →
+    IsReplyTo old.keeper.ids.node old.keeper.file client (Ok command) (answers.Error (errors.Refused why))) →
+    MayBegin old.keeper.ids.node old.keeper.file command → BeginsCall call old.keeper u new.keeper v begun →
+    new.keeper.ids.node ≡ old.keeper.ids.node →
+    IsAwaited old.desk v client (call_begun client command) begun new.desk w → ServesCommand client frame old u new w
+call_served client frame command call old new u v w (begun.Open id) asks notices refusals may begins number awaited =
+    let clients = begins_leaves call old.keeper new.keeper u v (begun.Open id) begins in
+    let seen = begins_seen call old.keeper new.keeper u v (begun.Open id) begins in
+    let same = awaited.1 in record {
+      service = Service.Begins client command id;
+      done = (refl, asks, awaited.0);
+      right = may;
+      told = ap (λ (x : Work). x.to_clients.items) same ∙ clients.to_clients ∙ sym (append-nil u.to_clients.items);
+      due = ap (λ (x : Work). x.due.items) same ∙ clients.due ∙ sym (append-nil u.due.items);
+      notices = ap (λ (x : Work). x.notices.items) same ∙ seen ∙ ap (λ ns. u.notices.items ++ ns) (sym (notices id));
+      file = begins_file call old.keeper new.keeper u v (begun.Open id) begins;
+      number = number;
+    }
+call_served client frame command call old new u v w (begun.Refused why) asks notices refusals may begins number awaited =
+    let clients = begins_leaves call old.keeper new.keeper u v (begun.Refused why) begins in
+    let seen = begins_seen call old.keeper new.keeper u v (begun.Refused why) begins in
+    let answer = answers.Error (errors.Refused why) in
+    let grown = awaited.1 in record {
+      service = Service.Replies client frame answer;
+      done = (refl, refl, awaited.0);
+      right = subst (λ r. IsReplyTo old.keeper.ids.node old.keeper.file client r answer) (sym asks)
+          (refusals (objects_of old.keeper.objects call.name) begins.id why begins.cause);
+      told = grown.to_clients ∙ ap (λ xs. xs ++ (answer_frame client answer ∷ [])) clients.to_clients;
+      due = grown.due ∙ ap (λ xs. xs ++ (client ∷ [])) clients.due;
+      notices = grown.notices ∙ append-nil v.notices.items ∙ seen;
+      file = begins_file call old.keeper new.keeper u v (begun.Refused why) begins;
+      number = number;
+    }
+
+delivers_file : (heeded asks : Bool) (asker : ℕ) (it : NamedLetter) (old new : Keeper) (u v : Work) (result : Delivered) →
+    DeliversAs heeded asks asker it old u new v result → new.file ≡ old.file
+delivers_file false asks asker it old new u v result is = ap (λ (k : Keeper). k.file) is.1
+delivers_file true true asker it old new u v result is = is.1.rest.file
+delivers_file true false asker it old new u v result is = is.2.rest.file
+
+module _ (asker : ℕ) (it : NamedLetter) (old new : Node) (u v : Work) (number : new.keeper.ids.node ≡ old.keeper.ids.node) where
+  file_after : (result : Delivered) → DeliversLetter asker it old.keeper u new.keeper v result → new.keeper.file ≡ old.keeper.file
+  file_after result is =
+      delivers_file (heeds (kept_of old.keeper) (named_of it)) (is_request it.letter.message.body) asker it old.keeper new.keeper
+      u v result is
+
+  -- a letter was dropped
+  pub dropped_served : DeliversLetter asker it old.keeper u new.keeper v delivered.Dropped →
+      IsServiceDone old.keeper.file.ticks old.desk Service.Drops new.desk → ServesMore old u new v
+  dropped_served is dropped =
+      let clients = delivers_leaves asker it old.keeper new.keeper u v delivered.Dropped is in
+      more_one old new u v Service.Drops tt
+      (serves_one old new u v Service.Drops dropped (clients.to_clients ∙ sym (append-nil u.to_clients.items))
+      (clients.due ∙ sym (append-nil u.due.items)) (delivers_seen asker it old.keeper new.keeper u v delivered.Dropped is) tt
+      (file_after delivered.Dropped is) number)
+
+  -- a letter was handled, and no call ended
+  pub handled_served : DeliversLetter asker it old.keeper u new.keeper v delivered.Handled → new.desk ≡ old.desk →
+      ServesMore old u new v
+  handled_served is same =
+      let clients = delivers_leaves asker it old.keeper new.keeper u v delivered.Handled is in
+      more_none old new u v (serves_none old new u v same clients.to_clients clients.due
+      (delivers_seen asker it old.keeper new.keeper u v delivered.Handled is ∙ append-nil u.notices.items)
+      (file_after delivered.Handled is) number)
+
+  -- a letter was taken, and a call ended
+  pub ended_served : (ended : Ended) (w : Work) → DeliversLetter asker it old.keeper u new.keeper v (delivered.Ended ended) →
+      IsGrown v w (growth_for old.desk (waiting_for old.desk.calls ended.id) (ended_answer ended)) →
+      IsCallClosed old.desk ended.id (listener old.desk (waiting_for old.desk.calls ended.id)) new.desk →
+      new.desk.counts ≡ with_told (has_listener old.desk (waiting_for old.desk.calls ended.id)) old.desk.counts →
+      ServesMore old u new w
+  ended_served ended w is grown closed counts =
+      let who = waiting_for old.desk.calls ended.id in
+      let service = Service.Ends it.name ended (listener old.desk who) in
+      let clients = delivers_leaves asker it old.keeper new.keeper u v (delivered.Ended ended) is in
+      more_one old new u w service tt
+      (serves_one old new u w service (closed, counts)
+      (grown.to_clients ∙ ap (λ xs. xs ++ (growth_for old.desk who (ended_answer ended)).to_clients) clients.to_clients
+      ∙ ap (λ xs. u.to_clients.items ++ xs) (growth_frames old.desk who (ended_answer ended)))
+      (grown.due ∙ ap (λ xs. xs ++ (growth_for old.desk who (ended_answer ended)).due) clients.due
+      ∙ ap (λ xs. u.due.items ++ xs) (growth_dues old.desk who (ended_answer ended)))
+      (grown.notices ∙ ap (λ xs. v.notices.items ++ xs) (growth_notices old.desk who (ended_answer ended))
+      ∙ append-nil v.notices.items ∙ delivers_seen asker it old.keeper new.keeper u v (delivered.Ended ended) is) tt
+      (file_after (delivered.Ended ended) is) number)

@@ -1,0 +1,94 @@
+-- What a node does for its clients, one thing after another.
+use Rattle.std.proofs.Common.{◌≡◌, ℕ, List, [], ◌∷◌, ◌++◌}
+use Rattle.std.proofs.Common.{refl, sym, subst, ap, ◌∙◌}
+use Rattle.std.proofs.lemmas.List.{append-nil}
+use Rattle.std.specs.List.{AllByRecursion}
+use Rattle.cluster_file.specs.File.{FileContents}
+use Rattle.deeds.proofs.ListLemmas.{all_append}
+use Rattle.node_effects.specs.declared.work.Work.{Work}
+use Rattle.node_clients.specs.Served.{HasServed, IsServiceDone}
+use Rattle.node_clients.specs.Services.{Service, service_dues, service_frames, service_notices}
+use Rattle.node_clients.proofs.ServedLemmas.{has_served_then, one_served}
+use Rattle.node_keeper.specs.declared.keeper.Keeper.{Keeper}
+use Rattle.node.specs.Replies.{IsRight}
+use Rattle.node.specs.Serving.{FollowsUp, ServesClients}
+use Rattle.node.specs.Serving.{ServesMore}
+use Rattle.node.specs.declared.node.Node.{Node}
+
+-- nothing is done for clients
+pub serves_none : (old new : Node) (u v : Work) → new.desk ≡ old.desk → v.to_clients.items ≡ u.to_clients.items →
+    v.due.items ≡ u.due.items → v.notices.items ≡ u.notices.items → new.keeper.file ≡ old.keeper.file →
+    new.keeper.ids.node ≡ old.keeper.ids.node → ServesClients old u [] new v
+serves_none old new u v desk told due notices file number = record {
+  has = record {
+    served = desk;
+    told = told ∙ sym (append-nil u.to_clients.items);
+    due = due ∙ sym (append-nil u.due.items);
+    notices = notices ∙ sym (append-nil u.notices.items);
+  };
+  right = tt;
+  file = file;
+  number = number;
+}
+
+-- one thing is done
+pub serves_one : (old new : Node) (u v : Work) (service : Service) →
+    IsServiceDone old.keeper.file.ticks old.desk service new.desk →
+    v.to_clients.items ≡ u.to_clients.items ++ service_frames service → v.due.items ≡ u.due.items ++ service_dues service →
+    v.notices.items ≡ u.notices.items ++ service_notices service → IsRight old.keeper.ids.node old.keeper.file service →
+    new.keeper.file ≡ old.keeper.file → new.keeper.ids.node ≡ old.keeper.ids.node → ServesClients old u (service ∷ []) new v
+serves_one old new u v service served told due notices right file number = record {
+  has = one_served old.keeper.file.ticks old.desk new.desk u v service served told due notices;
+  right = (right, tt);
+  file = file;
+  number = number;
+}
+
+pub all_right : (number same : ℕ) (file also : FileContents) (services : List Service) → same ≡ number → also ≡ file →
+    AllByRecursion (IsRight same also) services → AllByRecursion (IsRight number file) services
+all_right number same file also services e f is =
+    subst (λ n. AllByRecursion (IsRight n file) services) e
+    (subst (λ g. AllByRecursion (IsRight same g) services) f is)
+
+-- one thing after another, and then more
+pub serves_then : (a b c : Node) (u v w : Work) (first second : List Service) → ServesClients a u first b v →
+    ServesClients b v second c w → ServesClients a u (first ++ second) c w
+serves_then a b c u v w first second f s = record {
+  has = has_served_then a.keeper.file.ticks a.desk b.desk c.desk u v w first second f.has
+      (subst (λ (file : FileContents). HasServed file.ticks b.desk v second c.desk w) f.file s.has);
+  right = all_append (IsRight a.keeper.ids.node a.keeper.file) first second f.right
+      (all_right a.keeper.ids.node b.keeper.ids.node a.keeper.file b.keeper.file second f.number f.file s.right);
+  file = s.file ∙ f.file;
+  number = s.number ∙ f.number;
+}
+
+-- nothing follows up
+pub more_none : (old new : Node) (u v : Work) → ServesClients old u [] new v → ServesMore old u new v
+more_none old new u v serves = record { services = []; serves = serves; follows = tt }
+
+-- one thing follows up
+pub more_one : (old new : Node) (u v : Work) (service : Service) → FollowsUp service →
+    ServesClients old u (service ∷ []) new v → ServesMore old u new v
+more_one old new u v service follows serves =
+    record { services = service ∷ []; serves = serves; follows = (follows, tt) }
+
+-- something happens at the desk alone: nobody is sent anything, nothing is seen, and no connection is idle again
+pub unsent_one : (old new : Node) (work : Work) (service : Service) →
+    IsServiceDone old.keeper.file.ticks old.desk service new.desk → service_frames service ≡ [] → service_dues service ≡ [] →
+    service_notices service ≡ [] → IsRight old.keeper.ids.node old.keeper.file service → new.keeper ≡ old.keeper →
+    ServesClients old work (service ∷ []) new work
+unsent_one old new work service served frames dues notices right same =
+    serves_one old new work work service served
+    (sym (append-nil work.to_clients.items) ∙ ap (λ xs. work.to_clients.items ++ xs) (sym frames))
+    (sym (append-nil work.due.items) ∙ ap (λ xs. work.due.items ++ xs) (sym dues))
+    (sym (append-nil work.notices.items) ∙ ap (λ xs. work.notices.items ++ xs) (sym notices))
+    right (ap (λ (k : Keeper). k.file) same) (ap (λ (k : Keeper). k.ids.node) same)
+
+-- a frame is dropped
+pub drops_one : (old new : Node) (work : Work) → IsServiceDone old.keeper.file.ticks old.desk Service.Drops new.desk →
+    new.keeper ≡ old.keeper → ServesClients old work (Service.Drops ∷ []) new work
+drops_one old new work served same = unsent_one old new work Service.Drops served refl refl refl tt same
+
+pub drops_more : (old new : Node) (work : Work) → IsServiceDone old.keeper.file.ticks old.desk Service.Drops new.desk →
+    new.keeper ≡ old.keeper → ServesMore old work new work
+drops_more old new work served same = more_one old new work work Service.Drops tt (drops_one old new work served same)

@@ -1,0 +1,113 @@
+-- The contracts that docs/trusted.md lists do not depend on this file; other contracts and proofs do.
+-- What a node has again from an entry of its log, and which entries it refuses.
+use Rattle.std.specs.Prelude.{◌≡◌, ◌≢◌, ◌⊎◌, ◌^◌, ⊤, ℕ, suc, nat_lt, Bool, true, false, Option, None, Some, Ok, Err}
+use Rattle.std.specs.Prelude.{Result}
+use Rattle.frames.specs.Frame.{IsFrame}
+use Rattle.tag.specs.declared.refusal.Refusal.{Refusal}
+use Rattle.local_object.specs.Doing.{move_refusal}
+use Rattle.node_objects.specs.Objects.{objects_of}
+use Rattle.recoveries.specs.Records.{Recovers}
+use Rattle.node_log.specs.Entry.{sealed}
+use Rattle.node_messages.specs.Reading.{message_from}
+use Rattle.node_messages.specs.declared.error.Fault.{Fault}
+use Rattle.node_messages.specs.declared.message.NodeMessage.{NodeMessage}
+use Rattle.node_strings.specs.Record.{record_at}
+use Rattle.node_strings.specs.declared.record.Record.{Record}
+use Rattle.node_strings.specs.declared.record.Record.TheVariants as record_of
+use Rattle.string_parts.specs.Strings.{Strings}
+use Rattle.node_effects.specs.declared.error.NodeError.TheVariants as errors
+use Rattle.node_effects.specs.declared.error.RecoveryError.{RecoveryError}
+use Rattle.node_effects.specs.declared.error.RecoveryError.TheVariants as refusals
+use Rattle.node_keeper.specs.Keeping.{kept_of}
+use Rattle.node_keeper.specs.Logging.{deeds_of}
+use Rattle.node_keeper.specs.declared.keeper.Keeper.{Keeper}
+use Rattle.node.specs.declared.node.Node.{Node}
+
+-- the log is known to be that of this node, or this record says so
+abbrev pub IsOwnLog : Record → Node → Type 0
+IsOwnLog (record_of.Cluster digest number) node =
+    (node.is_named ≡ false) × (digest ≡ node.keeper.digest) × (number ≡ node.keeper.ids.node)
+IsOwnLog it node = node.is_named ≡ true
+
+-- a frame was read as a message
+abbrev pub IsRead : Result NodeMessage Fault → Type 0
+IsRead (Ok message) = ⊤
+IsRead (Err fault) = ⊥
+
+-- the letter that a record has, if it has one, is a message
+abbrev pub HasItsLetter : Record → Type 0
+HasItsLetter (record_of.Serve frame) = IsRead (message_from frame)
+HasItsLetter (record_of.Take frame) = IsRead (message_from frame)
+HasItsLetter it = ⊤
+
+-- the node's clients are as they were, and so is whether its log is known to be its own
+pub record KeepsDesk (old new : Node) : Type 0 where
+  pub named : new.is_named ≡ old.is_named
+  pub clients : new.desk.clients ≡ old.desk.clients
+
+-- the node carried out a record of its own log again
+pub record CarriesOutRecord (old : Node) (it : Record) (new : Node) : Type 0 where
+  pub own : IsOwnLog it old
+  pub named : new.is_named ≡ true
+  pub letter : HasItsLetter it
+  pub recovers : Recovers (deeds_of it) (kept_of old.keeper) (kept_of new.keeper)
+  pub clients : new.desk.clients ≡ old.desk.clients
+
+-- a node carried out an entry of its log again: what the entry records
+pub record CarriesOutEntry (old : Node) (entry : Strings) (new : Node) : Type 0 where
+  pub strings : Strings
+  pub whole : entry ≡ sealed strings
+  pub it : Record
+  pub read : record_at strings ≡ Some it
+  pub done : CarriesOutRecord old it new
+
+-- Refusals
+
+-- a frame is no message
+abbrev pub IsUnread : Result NodeMessage Fault → Type 0
+IsUnread (Ok message) = ⊥
+IsUnread (Err fault) = ⊤
+
+-- why a node refuses a record with a letter: there is no memory, or its frame is no message
+abbrev pub RefusesLetter : (frame : Strings) → RecoveryError → Type 0
+RefusesLetter frame error = (error ≡ refusals.Stopped errors.NoMemory)
+    ⊎ ((error ≡ refusals.NoEntry) × IsUnread (message_from frame))
+
+-- why a node refuses a record of a log that is its own: one more that names a cluster, a start where all epochs have
+-- begun, a letter that is none, a move that its object refuses, or there is no memory
+abbrev pub RefusesOwn : Keeper → Record → RecoveryError → Type 0
+RefusesOwn keeper (record_of.Cluster digest number) error = error ≡ refusals.NoEntry
+RefusesOwn keeper record_of.Start error =
+    (error ≡ refusals.Stopped errors.NoMoreIds) × (nat_lt (suc keeper.ids.epoch) (2 ^ 24) ≡ false)
+RefusesOwn keeper (record_of.Serve frame) error = RefusesLetter frame error
+RefusesOwn keeper (record_of.Take frame) error = RefusesLetter frame error
+RefusesOwn keeper (record_of.Move id name layout) error = (error ≡ refusals.Stopped errors.NoMemory)
+    ⊎ ((why : Refusal) × (move_refusal (objects_of keeper.objects name) id ≡ Some why)
+    × (error ≡ refusals.Stopped (errors.Refused why)))
+
+-- why a node refuses the first record of a log: it names no cluster, another one, or another node
+abbrev pub RefusesFirst : Keeper → Record → RecoveryError → Type 0
+RefusesFirst keeper (record_of.Cluster digest number) error =
+    ((digest ≢ keeper.digest) × (error ≡ refusals.OtherCluster digest))
+    ⊎ ((digest ≡ keeper.digest) × (number ≢ keeper.ids.node) × (error ≡ refusals.OtherNode number))
+RefusesFirst keeper it error = error ≡ refusals.NoCluster
+
+-- why a node refuses a record, by whether its log is known to be its own
+abbrev pub RefusesRecord : (is_named : Bool) → Keeper → Record → RecoveryError → Type 0
+RefusesRecord true keeper it error = RefusesOwn keeper it error
+RefusesRecord false keeper it error = RefusesFirst keeper it error
+
+-- why a node refuses strings: they are no record, or the record is refused
+abbrev pub RefusesStrings : Node → Option Record → RecoveryError → Type 0
+RefusesStrings old None error = error ≡ refusals.NoEntry
+RefusesStrings old (Some it) error = RefusesRecord old.is_named old.keeper it error
+
+-- why a node refuses an entry of its log: its strings are no frame, or they are refused
+abbrev pub RefusesEntry : Node → (entry : Strings) → RecoveryError → Type 0
+RefusesEntry old entry error = (strings : Strings) × (entry ≡ sealed strings)
+    × (((error ≡ refusals.NoEntry) × (IsFrame strings → ⊥)) ⊎ RefusesStrings old (record_at strings) error)
+
+-- a node that was told how long its log is says so from now on, and is else as before
+abbrev pub Notes : Node → (bytes : ℕ) → Node → Type 0
+Notes old bytes new =
+    new ≡ record old { desk = record old.desk { counts = record old.desk.counts { log_bytes = bytes } } }

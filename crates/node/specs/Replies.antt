@@ -1,0 +1,79 @@
+-- The contracts that docs/trusted.md lists do not depend on this file; other contracts and proofs do.
+-- Which commands begin a call, and how the others are answered.
+use Rattle.std.specs.Prelude.{◌≡◌, ◌<◌, ◌⊎◌, ⊤, ℕ, Bool, true, false, ◌==◌, ◌||◌, List, length, slice_index}
+use Rattle.std.specs.Prelude.{Option, None, Some, Ok, Err}
+use Rattle.cluster_file.specs.File.{FileContents}
+use Rattle.layout.specs.Layout.{Layout}
+use Rattle.layout.specs.Quorum.{has}
+use Rattle.tag.specs.declared.refusal.Refusal.{Refusal}
+use Rattle.tag.specs.declared.refusal.Refusal.TheVariants.{BadLayout}
+use Rattle.local_object.specs.Doing.{move_refusal, read_refusal, write_refusal}
+use Rattle.local_object.specs.Local.{LocalObject}
+use Rattle.client_commands.specs.Reading.{Found, command_at}
+use Rattle.client_commands.specs.declared.answer.Answer.{Answer}
+use Rattle.client_commands.specs.declared.answer.Answer.TheVariants as answers
+use Rattle.client_commands.specs.declared.answer.AnswerError.TheVariants as errors
+use Rattle.client_commands.specs.declared.command.Command.{Command}
+use Rattle.client_commands.specs.declared.command.Command.TheVariants as ask
+use Rattle.node_clients.specs.Services.{Service}
+
+-- whether this is the number of the node that moves objects
+abbrev pub moves_objects : (number : ℕ) → FileContents → Bool
+moves_objects number file = number == file.fixed.mover
+
+-- whether this is the number of a node of the cluster
+abbrev pub is_node : FileContents → (number : ℕ) → Bool
+is_node file number = has file.fixed.nodes number || has file.later number
+
+-- all members of a layout are nodes of the cluster
+abbrev pub HasOnlyNodes : FileContents → Layout → Type 0
+HasOnlyNodes file layout = (i : ℕ) → i < length layout.members → is_node file (slice_index layout.members i) ≡ true
+
+-- the answer says why an object refuses a call, by what the object has and by the id of the call
+abbrev pub IsRefusedBy : (LocalObject → (id : ℕ) → Option Refusal) → Answer → Type 0
+IsRefusedBy refusal answer =
+    (local : LocalObject) × (id : ℕ) × (why : Refusal) × (refusal local id ≡ Some why)
+    × (answer ≡ answers.Error (errors.Refused why))
+
+-- a move is refused at any node but the one that moves objects, where a member of its layout is no node of the cluster,
+-- and where the object refuses it
+abbrev pub IsMoveRefused : (moves : Bool) → FileContents → Layout → Answer → Type 0
+IsMoveRefused false file layout answer = answer ≡ answers.Error errors.NotMover
+IsMoveRefused true file layout answer =
+    ((HasOnlyNodes file layout → ⊥) × (answer ≡ answers.Error (errors.Refused BadLayout)))
+    ⊎ (HasOnlyNodes file layout × IsRefusedBy move_refusal answer)
+
+-- how a command is answered that concerns no name, and is no QUIT: INFO by some lines, and each other one by its only
+-- answer; of the other commands nothing is said
+abbrev pub IsPlainReply : (client : ℕ) → Command → Answer → Type 0
+IsPlainReply client ask.Info answer = (lines : List ℕ) × (answer ≡ answers.Value lines)
+IsPlainReply client (ask.Ping None) answer = answer ≡ answers.Pong
+IsPlainReply client (ask.Ping (Some text)) answer = answer ≡ answers.Value text
+IsPlainReply client (ask.Echo text) answer = answer ≡ answers.Value text
+IsPlainReply client ask.ListCommands answer = answer ≡ answers.NoCommands
+IsPlainReply client ask.ClientId answer = answer ≡ answers.Number client
+IsPlainReply client ask.DescribeClient answer = answer ≡ answers.Ok
+IsPlainReply client command answer = ⊤
+
+-- how a command is answered that begins no call: the fault of what is none, why a call was refused, or the plain
+-- answer. A QUIT is not answered so.
+abbrev pub IsReplyTo : (number : ℕ) → FileContents → (client : ℕ) → Found → Answer → Type 0
+IsReplyTo number file client (Err fault) answer = answer ≡ answers.Error (errors.Fault fault)
+IsReplyTo number file client (Ok (ask.Get name)) answer = IsRefusedBy read_refusal answer
+IsReplyTo number file client (Ok (ask.Set name value)) answer =
+    IsRefusedBy (λ local id. write_refusal local id value) answer
+IsReplyTo number file client (Ok (ask.Move name layout)) answer =
+    IsMoveRefused (moves_objects number file) file layout answer
+IsReplyTo number file client (Ok ask.Quit) answer = ⊥
+IsReplyTo number file client (Ok command) answer = IsPlainReply client command answer
+
+-- a move begins only at the node that moves objects, and only to nodes of the cluster
+abbrev pub MayBegin : (number : ℕ) → FileContents → Command → Type 0
+MayBegin number file (ask.Move name layout) = (moves_objects number file ≡ true) × HasOnlyNodes file layout
+MayBegin number file command = ⊤
+
+-- what the node of this number does at once with a command is right: the answer that it gives, or that it begins a call
+abbrev pub IsRight : (number : ℕ) → FileContents → Service → Type 0
+IsRight number file (Service.Replies client command answer) = IsReplyTo number file client (command_at command) answer
+IsRight number file (Service.Begins client command id) = MayBegin number file command
+IsRight number file service = ⊤

@@ -1,0 +1,162 @@
+-- The contracts that docs/trusted.md lists do not depend on this file; other contracts and proofs do.
+-- What a node does for its clients with what has come.
+use Rattle.std.specs.Prelude.{◌≡◌, ⊤, ℕ, Bool, true, false, List, [], ◌∷◌, ◌++◌, Option, None, Some, Ok}
+use Rattle.std.specs.List.{AllByRecursion}
+use Rattle.indexmap.specs.IndexMap.{keys}
+use Rattle.node_strings.specs.declared.arrival.Arrival.{Arrival}
+use Rattle.node_strings.specs.declared.arrival.Arrival.TheVariants as came
+use Rattle.client_commands.specs.Reading.{command_at}
+use Rattle.client_commands.specs.declared.answer.Answer.TheVariants as answers
+use Rattle.client_commands.specs.declared.answer.AnswerError.TheVariants as errors
+use Rattle.client_commands.specs.declared.command.Command.TheVariants as ask
+use Rattle.string_parts.specs.Strings.{Strings}
+use Rattle.node_effects.specs.Work.{IsGrown}
+use Rattle.node_effects.specs.declared.notice.Notice.{Notice}
+use Rattle.node_effects.specs.declared.work.Work.{Work}
+use Rattle.node_clients.specs.Answers.{answer_sent}
+use Rattle.node_clients.specs.Calls.{waiting_for}
+use Rattle.node_clients.specs.Desk.{has_listener, with_give_up, with_told}
+use Rattle.node_clients.specs.Served.{AreServicesDone, HasQuit, HasServed, IsCallClosed, IsClientAnswered}
+use Rattle.node_clients.specs.Served.{IsOpened, IsReleased, call_begun}
+use Rattle.node_clients.specs.Services.{Service, all_frames, all_notices, service_dues, service_frames, service_notices}
+use Rattle.node_clients.specs.Services.{told_clients, told_frames}
+use Rattle.node_clients.specs.declared.desk.Desk.{Desk}
+use Rattle.node_clients.specs.declared.open_call.OpenCall.{OpenCall}
+use Rattle.node_keeper.specs.declared.delivered.Begun.{Begun}
+use Rattle.node_keeper.specs.declared.delivered.Begun.TheVariants as begun
+use Rattle.node.specs.Replies.{IsRight}
+use Rattle.node.specs.declared.node.Node.{Node}
+
+-- what a node does for its clients behind what has come: the next commands of connections are carried out, calls are
+-- answered, and letters are dropped that the node does not heed
+abbrev pub FollowsUp : Service → Type 0
+FollowsUp (Service.Begins client command id) = ⊤
+FollowsUp (Service.Replies client command answer) = ⊤
+FollowsUp (Service.Quits client) = ⊤
+FollowsUp (Service.Ends name ended told) = ⊤
+FollowsUp Service.Drops = ⊤
+FollowsUp service = ⊥
+
+-- the call of this id is older by a tick
+abbrev pub IsTickOf : (id : ℕ) → Service → Type 0
+IsTickOf id (Service.Ages other) = other ≡ id
+IsTickOf id (Service.GivesUp other told) = other ≡ id
+IsTickOf id (Service.Releases other told) = other ≡ id
+IsTickOf id service = ⊥
+
+-- each of these calls, one after another, is older by a tick
+abbrev pub AreTicksOf : (ids : List ℕ) → List Service → Type 0
+AreTicksOf [] [] = ⊤
+AreTicksOf [] (service ∷ services) = ⊥
+AreTicksOf (id ∷ ids) [] = ⊥
+AreTicksOf (id ∷ ids) (service ∷ services) = IsTickOf id service × AreTicksOf ids services
+
+-- what has come for the clients of a node: a command, the end of a connection, a tick for each open call, or something
+-- that is dropped; a message of a node is nothing that comes for clients
+abbrev pub IsComing : Desk → Option Arrival → List Service → Type 0
+IsComing desk None services = services ≡ Service.Drops ∷ []
+IsComing desk (Some (came.Command client command)) services = services ≡ Service.Arrives client command ∷ []
+IsComing desk (Some (came.Left client)) services = services ≡ Service.Leaves client ∷ []
+IsComing desk (Some (came.Message sender frame)) services = services ≡ []
+IsComing desk (Some came.Tick) services = AreTicksOf (keys desk.calls) services
+
+-- What the node did for its clients: these things, and nothing else is different at its desk. What there is to do grew
+-- by the frames that clients are sent for them, by the connections that are idle again, and by what clients see of
+-- them. The cluster file stays.
+pub record ServesClients (old : Node) (before : Work) (services : List Service) (new : Node)
+    (after : Work) : Type 0 where
+  pub has : HasServed old.keeper.file.ticks old.desk before services new.desk after
+  pub right : AllByRecursion (IsRight old.keeper.ids.node old.keeper.file) services
+  pub file : new.keeper.file ≡ old.keeper.file
+  pub number : new.keeper.ids.node ≡ old.keeper.ids.node
+
+-- the node did some things that follow up
+pub record ServesMore (old : Node) (before : Work) (new : Node) (after : Work) : Type 0 where
+  pub services : List Service
+  pub serves : ServesClients old before services new after
+  pub follows : AllByRecursion FollowsUp services
+
+-- the node did what came for its clients, and then some things that follow up
+pub record ServesArrival (came : Option Arrival) (old : Node) (before : Work) (new : Node) (after : Work) : Type 0 where
+  pub coming : List Service
+  pub more : List Service
+  pub comes : IsComing old.desk came coming
+  pub follows : AllByRecursion FollowsUp more
+  pub serves : ServesClients old before (coming ++ more) new after
+
+-- the same since the node was this one, with all frames that clients are sent, and all that they see
+pub record ServedSince (came : Option Arrival) (first now : Node) (frames : List Strings)
+    (seen : List Notice) : Type 0 where
+  pub coming : List Service
+  pub more : List Service
+  pub comes : IsComing first.desk came coming
+  pub follows : AllByRecursion FollowsUp more
+  pub served : AreServicesDone first.keeper.file.ticks first.desk (coming ++ more) now.desk
+  pub right : AllByRecursion (IsRight first.keeper.ids.node first.keeper.file) (coming ++ more)
+  pub answers : frames ≡ all_frames (coming ++ more)
+  pub notices : seen ≡ all_notices (coming ++ more)
+  pub file : now.keeper.file ≡ first.keeper.file
+  pub number : now.keeper.ids.node ≡ first.keeper.ids.node
+
+-- Commands
+
+-- how the desk changes with the command of a client, whose connection is busy with it
+abbrev pub IsCommandDone : (old : Desk) → (client : ℕ) → (frame : Strings) → Service → (new : Desk) → Type 0
+IsCommandDone old client frame (Service.Begins other command id) new =
+    (other ≡ client) × (command_at frame ≡ Ok command) × IsOpened old (call_begun client command) id new
+IsCommandDone old client frame (Service.Replies other command answer) new =
+    (other ≡ client) × (command ≡ frame) × IsClientAnswered old client new
+IsCommandDone old client frame (Service.Quits other) new =
+    (other ≡ client) × (command_at frame ≡ Ok ask.Quit) × HasQuit old client new
+IsCommandDone old client frame service new = ⊥
+
+-- the node carried out the command of a client, whose connection is busy with it: one thing happened at its desk
+pub record ServesCommand (client : ℕ) (frame : Strings) (old : Node) (before : Work) (new : Node)
+    (after : Work) : Type 0 where
+  pub service : Service
+  pub done : IsCommandDone old.desk client frame service new.desk
+  pub right : IsRight old.keeper.ids.node old.keeper.file service
+  pub told : after.to_clients.items ≡ before.to_clients.items ++ service_frames service
+  pub due : after.due.items ≡ before.due.items ++ service_dues service
+  pub notices : after.notices.items ≡ before.notices.items ++ service_notices service
+  pub file : new.keeper.file ≡ old.keeper.file
+  pub number : new.keeper.ids.node ≡ old.keeper.ids.node
+
+-- what the desk does for a client of whose command this became: the call waits for its answer, or it was refused, and
+-- the client is told
+abbrev pub IsAwaited : (old : Desk) → (before : Work) → (client : ℕ) → Option OpenCall → Begun → (new : Desk) →
+    (after : Work) → Type 0
+IsAwaited old before client call (begun.Open id) new after = IsOpened old call id new × (after ≡ before)
+IsAwaited old before client call (begun.Refused why) new after =
+    IsClientAnswered old client new
+    × IsGrown before after (answer_sent client (answers.Error (errors.Refused why)))
+
+-- Ticks
+
+-- clients are sent nothing and see nothing, and no connection is idle again
+pub record SeesNothing (before after : Work) : Type 0 where
+  pub told : after.to_clients.items ≡ before.to_clients.items
+  pub due : after.due.items ≡ before.due.items
+  pub notices : after.notices.items ≡ before.notices.items
+
+-- how the desk changes for a call that is late: a move goes on without its client, and any other call ends
+abbrev pub IsLate : (is_move : Bool) → (old : Desk) → (id : ℕ) → (told : Option ℕ) → (new : Desk) → Type 0
+IsLate true old id told new = IsReleased old id told new
+IsLate false old id told new = IsCallClosed old id told new
+    × (new.counts ≡ with_told (has_listener old (waiting_for old.calls id)) (with_give_up old.counts))
+
+-- the node did what it does for a call that is late: the client that waited, if one did, is told
+pub record ServesLate (id : ℕ) (is_move : Bool) (old : Node) (before : Work) (new : Node) (after : Work) : Type 0 where
+  pub who : Option ℕ
+  pub late : IsLate is_move old.desk id who new.desk
+  pub told : after.to_clients.items ≡ before.to_clients.items ++ told_frames who (answers.Error errors.NoQuorum)
+  pub due : after.due.items ≡ before.due.items ++ told_clients who
+  pub notices : after.notices.items ≡ before.notices.items
+  pub file : new.keeper.file ≡ old.keeper.file
+  pub number : new.keeper.ids.node ≡ old.keeper.ids.node
+
+-- these calls are older by a tick, one after another
+pub record ServesTicks (ids : List ℕ) (old : Node) (before : Work) (new : Node) (after : Work) : Type 0 where
+  pub services : List Service
+  pub ticks : AreTicksOf ids services
+  pub serves : ServesClients old before services new after

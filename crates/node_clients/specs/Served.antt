@@ -1,0 +1,148 @@
+-- The contracts that docs/trusted.md lists do not depend on this file; other contracts and proofs do.
+-- How the desk of a node changes with each thing that it does for its clients.
+use Rattle.std.specs.Prelude.{◌≡◌, ◌≢◌, ℕ, true, false, List, [], ◌∷◌, ◌++◌, Option, None, Some, is_some, IsSome, Ok}
+use Rattle.connections.specs.Connections.{TakesNextAt, doing, waiting_on}
+use Rattle.connections.specs.declared.connection.State.TheVariants.{Quit}
+use Rattle.client_commands.specs.Reading.{command_at}
+use Rattle.client_commands.specs.declared.command.Command.{Command}
+use Rattle.client_commands.specs.declared.command.Command.TheVariants as ask
+use Rattle.string_parts.specs.Strings.{Strings}
+use Rattle.node_effects.specs.declared.work.Work.{Work}
+use Rattle.node_clients.specs.Calls.{becomes_late, call_under, is_move_open, older_call, waiting_for, with_nobody}
+use Rattle.node_clients.specs.Desk.{IsIdleAgain, IsIdleFor, connection_of, has_listener, listener}
+use Rattle.node_clients.specs.Desk.{with_drop, with_give_up, with_told}
+use Rattle.node_clients.specs.Services.{Service, all_dues, all_frames, all_notices}
+use Rattle.node_clients.specs.declared.desk.Desk.{Desk}
+use Rattle.node_clients.specs.declared.open_call.OpenCall.{OpenCall}
+
+-- all connections but that of this client are as they were
+abbrev pub KeepsOthers : (old : Desk) → (client : ℕ) → (new : Desk) → Type 0
+KeepsOthers old client new = (other : ℕ) → other ≢ client → connection_of new other ≡ connection_of old other
+
+-- all open calls but the one of this id are as they were
+abbrev pub KeepsOtherCalls : (old : Desk) → (id : ℕ) → (new : Desk) → Type 0
+KeepsOtherCalls old id new = (other : ℕ) → other ≢ id → call_under new.calls other ≡ call_under old.calls other
+
+-- Commands
+
+-- a command waits on a client's connection, behind those that waited there; a connection that was not there is made
+pub record IsArrived (old : Desk) (client : ℕ) (command : Strings) (new : Desk) : Type 0 where
+  pub there : IsSome (connection_of new client)
+  pub state : doing (connection_of new client) ≡ doing (connection_of old client)
+  pub waiting : waiting_on (connection_of new client) ≡ waiting_on (connection_of old client) ++ command ∷ []
+  pub others : KeepsOthers old client new
+  pub calls : new.calls ≡ old.calls
+  pub counts : new.counts ≡ old.counts
+
+-- a client's connection is there no more
+pub record IsGone (old : Desk) (client : ℕ) (new : Desk) : Type 0 where
+  pub gone : connection_of new client ≡ None
+  pub others : KeepsOthers old client new
+  pub calls : new.calls ≡ old.calls
+  pub counts : new.counts ≡ old.counts
+
+-- this was the oldest command that waited on a client's connection, which was idle; it is taken, and the connection is
+-- busy
+pub record IsCommandTaken (old : Desk) (client : ℕ) (command : Strings) (new : Desk) : Type 0 where
+  pub taken : TakesNextAt (connection_of old client) (connection_of new client) (Some command)
+  pub others : KeepsOthers old client new
+  pub calls : new.calls ≡ old.calls
+  pub counts : new.counts ≡ old.counts
+
+-- the call that a command begins, for which its client waits, if it begins one
+abbrev pub call_begun : (client : ℕ) → Command → Option OpenCall
+call_begun client (ask.Get name) = Some (record { name = name; client = Some client; is_move = false; age = 0 })
+call_begun client (ask.Set name value) = Some (record { name = name; client = Some client; is_move = false; age = 0 })
+call_begun client (ask.Move name layout) = Some (record { name = name; client = Some client; is_move = true; age = 0 })
+call_begun client command = None
+
+-- this call is open
+pub record IsOpened (old : Desk) (call : Option OpenCall) (id : ℕ) (new : Desk) : Type 0 where
+  pub some : IsSome call
+  pub opened : call_under new.calls id ≡ call
+  pub others : KeepsOtherCalls old id new
+  pub clients : new.clients ≡ old.clients
+  pub counts : new.counts ≡ old.counts
+
+-- a client's connection is idle again
+pub record IsClientAnswered (old : Desk) (client : ℕ) (new : Desk) : Type 0 where
+  pub idle : IsIdleAgain old.clients client new.clients
+  pub calls : new.calls ≡ old.calls
+  pub counts : new.counts ≡ with_told true old.counts
+
+-- a client has quit: no further command of its connection is taken
+pub record HasQuit (old : Desk) (client : ℕ) (new : Desk) : Type 0 where
+  pub stays : is_some (connection_of new client) ≡ is_some (connection_of old client)
+  pub state : doing (connection_of new client) ≡ Quit
+  pub waiting : waiting_on (connection_of new client) ≡ waiting_on (connection_of old client)
+  pub others : KeepsOthers old client new
+  pub calls : new.calls ≡ old.calls
+  pub counts : new.counts ≡ old.counts
+
+-- Calls
+
+-- a call is open no more, and the connection of the client that waited for it, if it is there, is idle again
+pub record IsCallClosed (old : Desk) (id : ℕ) (told : Option ℕ) (new : Desk) : Type 0 where
+  pub who : told ≡ listener old (waiting_for old.calls id)
+  pub gone : call_under new.calls id ≡ None
+  pub others : KeepsOtherCalls old id new
+  pub idle : IsIdleFor old.clients (waiting_for old.calls id) new.clients
+
+-- the client of a call waits for it no more, and its connection, if it is there, is idle again
+pub record IsReleased (old : Desk) (id : ℕ) (told : Option ℕ) (new : Desk) : Type 0 where
+  pub who : told ≡ listener old (waiting_for old.calls id)
+  pub released : call_under new.calls id ≡ with_nobody (call_under old.calls id)
+  pub others : KeepsOtherCalls old id new
+  pub idle : IsIdleFor old.clients (waiting_for old.calls id) new.clients
+  pub counts : new.counts ≡ with_told (has_listener old (waiting_for old.calls id)) old.counts
+
+-- a call, if it is open, is older by a tick
+pub record IsOlder (old : Desk) (id : ℕ) (new : Desk) : Type 0 where
+  pub older : call_under new.calls id ≡ older_call (call_under old.calls id)
+  pub others : KeepsOtherCalls old id new
+  pub clients : new.clients ≡ old.clients
+  pub counts : new.counts ≡ old.counts
+
+-- What happens
+
+-- How the desk changes with each of these. A call is late where it gets older than this number of ticks. A call that is
+-- late is given up, unless it is a move.
+abbrev pub IsServiceDone : (ticks : ℕ) → (old : Desk) → Service → (new : Desk) → Type 0
+IsServiceDone ticks old (Service.Arrives client command) new = IsArrived old client command new
+IsServiceDone ticks old (Service.Leaves client) new = IsGone old client new
+IsServiceDone ticks old (Service.Begins client command id) new =
+    (frame : Strings) × (command_at frame ≡ Ok command) × (taken : Desk) × IsCommandTaken old client frame taken
+    × IsOpened taken (call_begun client command) id new
+IsServiceDone ticks old (Service.Replies client frame answer) new =
+    (taken : Desk) × IsCommandTaken old client frame taken × IsClientAnswered taken client new
+IsServiceDone ticks old (Service.Quits client) new =
+    (frame : Strings) × (command_at frame ≡ Ok ask.Quit) × (taken : Desk) × IsCommandTaken old client frame taken
+    × HasQuit taken client new
+IsServiceDone ticks old (Service.Ends name ended told) new = IsCallClosed old ended.id told new
+    × (new.counts ≡ with_told (has_listener old (waiting_for old.calls ended.id)) old.counts)
+IsServiceDone ticks old (Service.Ages id) new =
+    (becomes_late ticks (call_under old.calls id) ≡ false) × IsOlder old id new
+IsServiceDone ticks old (Service.GivesUp id told) new =
+    (becomes_late ticks (call_under old.calls id) ≡ true) × (is_move_open (call_under old.calls id) ≡ false)
+    × (older : Desk) × IsOlder old id older × IsCallClosed older id told new
+    × (new.counts ≡ with_told (has_listener older (waiting_for older.calls id)) (with_give_up older.counts))
+IsServiceDone ticks old (Service.Releases id told) new =
+    (becomes_late ticks (call_under old.calls id) ≡ true) × (is_move_open (call_under old.calls id) ≡ true)
+    × (older : Desk) × IsOlder old id older × IsReleased older id told new
+IsServiceDone ticks old Service.Drops new =
+    (new.clients ≡ old.clients) × (new.calls ≡ old.calls) × (new.counts ≡ with_drop old.counts)
+
+-- the desk after these, one after another
+abbrev pub AreServicesDone : (ticks : ℕ) → (old : Desk) → List Service → (new : Desk) → Type 0
+AreServicesDone ticks old [] new = new ≡ old
+AreServicesDone ticks old (service ∷ services) new =
+    (between : Desk) × IsServiceDone ticks old service between × AreServicesDone ticks between services new
+
+-- the desk did these things, one after another, and what there is to do grew by the frames that clients are sent for
+-- them, by the connections that are idle again, and by what clients see of them
+pub record HasServed (ticks : ℕ) (old : Desk) (before : Work) (services : List Service) (new : Desk)
+    (after : Work) : Type 0 where
+  pub served : AreServicesDone ticks old services new
+  pub told : after.to_clients.items ≡ before.to_clients.items ++ all_frames services
+  pub due : after.due.items ≡ before.due.items ++ all_dues services
+  pub notices : after.notices.items ≡ before.notices.items ++ all_notices services
