@@ -1,3 +1,4 @@
 pub mod Arguments
 pub mod Command
+pub mod FirstWord
 pub mod Line

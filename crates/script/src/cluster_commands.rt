@@ -10,14 +10,14 @@ use crate::command::Command;
 use crate::error::LineError;
 use std::alloc::Global;
 
-pub(crate) fn servers(words: &[&str]) -> Result<Command<'static>, LineError>
+pub(crate) fn servers<'a>(words: &[&'a str]) -> Result<Command<'a>, LineError>
     ensures { ParsesToCommand (codes "servers" ∷ map (λ w. w.now) words.now) result }
 {
     let count = servers_count(words)?;
     Ok(Command::Servers { count })
 }
 
-pub(crate) fn layout(alloc: Global, words: &[&str]) -> Result<Command<'static>, LineError>
+pub(crate) fn layout<'a>(alloc: Global, words: &[&'a str]) -> Result<Command<'a>, LineError>
     ensures { ParsesToCommand (codes "layout" ∷ map (λ w. w.now) words.now) result }
 {
     let (k, members) = number_and_members(alloc, words)?;
@@ -42,21 +42,21 @@ pub(crate) fn retire<'a>(words: &[&'a str]) -> Result<Command<'a>, LineError>
     Ok(Command::Change(Change::Retire { name, position }))
 }
 
-pub(crate) fn down(words: &[&str]) -> Result<Command<'static>, LineError>
+pub(crate) fn down<'a>(words: &[&'a str]) -> Result<Command<'a>, LineError>
     ensures { ParsesToCommand (codes "down" ∷ map (λ w. w.now) words.now) result }
 {
     let server = one_number(words)?;
     Ok(Command::Change(Change::Down { server }))
 }
 
-pub(crate) fn up(words: &[&str]) -> Result<Command<'static>, LineError>
+pub(crate) fn up<'a>(words: &[&'a str]) -> Result<Command<'a>, LineError>
     ensures { ParsesToCommand (codes "up" ∷ map (λ w. w.now) words.now) result }
 {
     let server = one_number(words)?;
     Ok(Command::Change(Change::Up { server }))
 }
 
-pub(crate) fn account(words: &[&str]) -> Result<Command<'static>, LineError>
+pub(crate) fn account<'a>(words: &[&'a str]) -> Result<Command<'a>, LineError>
     ensures { ParsesToCommand (codes "account" ∷ map (λ w. w.now) words.now) result }
 {
     no_words(words)?;

@@ -1,6 +1,7 @@
 //! The commands of a script, and the words that spell them.
-ghost use Rattle.std.specs.Prelude.{map};
+ghost use Rattle.std.specs.Prelude.{◌∷◌, map};
 ghost use Rattle.script.specs.Command.{ParsesToCommand};
+ghost use Rattle.script.specs.FirstWord.{IsNoneOf, call_words, cluster_words, mail_words};
 
 use crate::change::Change;
 use crate::error::LineError;
@@ -58,13 +59,39 @@ pub fn parse_command<'a>(alloc: Global, words: &[&'a str]) -> Result<Command<'a>
     let Some((first, rest)) = words.split_first() else {
         return Err(LineError::Bad);
     };
-    match *first {
+    parse_cluster_command(alloc, first, rest)
+}
+
+// Each of the functions below goes on where the first word begins no command of the groups before. One `match` of all
+// words would take far longer to prove.
+fn parse_cluster_command<'a>(
+    alloc: Global,
+    first: &'a str,
+    rest: &[&'a str],
+) -> Result<Command<'a>, LineError>
+    ensures { ParsesToCommand (first.entry.now ∷ map (λ w. w.now) rest.entry.now) result }
+{
+    match first {
         "servers" => cluster_commands::servers(rest),
         "layout" => cluster_commands::layout(alloc, rest),
         "object" => cluster_commands::object(rest),
         "retire" => cluster_commands::retire(rest),
         "down" => cluster_commands::down(rest),
         "up" => cluster_commands::up(rest),
+        "account" => cluster_commands::account(rest),
+        _ => parse_call_command(alloc, first, rest),
+    }
+}
+
+fn parse_call_command<'a>(
+    alloc: Global,
+    first: &'a str,
+    rest: &[&'a str],
+) -> Result<Command<'a>, LineError>
+    requires { IsNoneOf cluster_words first.now }
+    ensures { ParsesToCommand (first.entry.now ∷ map (λ w. w.now) rest.entry.now) result }
+{
+    match first {
         "call" => call_commands::call(alloc, rest),
         "advance" => call_commands::advance(rest),
         "supply" => call_commands::supply(rest),
@@ -73,19 +100,47 @@ pub fn parse_command<'a>(alloc: Global, words: &[&'a str]) -> Result<Command<'a>
         "post" => call_commands::post(rest),
         "again" => call_commands::again(rest),
         "answer" => call_commands::answer(rest),
+        "show" => call_commands::show(rest),
+        _ => parse_mail_command(alloc, first, rest),
+    }
+}
+
+fn parse_mail_command<'a>(
+    alloc: Global,
+    first: &'a str,
+    rest: &[&'a str],
+) -> Result<Command<'a>, LineError>
+    requires cluster { IsNoneOf cluster_words first.now }
+    requires calls { IsNoneOf call_words first.now }
+    ensures { ParsesToCommand (first.entry.now ∷ map (λ w. w.now) rest.entry.now) result }
+{
+    match first {
         "serve" => mail_commands::serve(rest),
         "take" => mail_commands::take(rest),
         "lose" => mail_commands::lose(rest),
         "repeat" => mail_commands::repeat(rest),
         "deliver" => mail_commands::deliver(rest),
+        "mail" => mail_commands::mail(rest),
+        "bank" => mail_commands::bank(rest),
+        _ => parse_object_command(alloc, first, rest),
+    }
+}
+
+fn parse_object_command<'a>(
+    alloc: Global,
+    first: &'a str,
+    rest: &[&'a str],
+) -> Result<Command<'a>, LineError>
+    requires cluster { IsNoneOf cluster_words first.now }
+    requires calls { IsNoneOf call_words first.now }
+    requires mail { IsNoneOf mail_words first.now }
+    ensures { ParsesToCommand (first.entry.now ∷ map (λ w. w.now) rest.entry.now) result }
+{
+    match first {
         "read" => object_commands::read(rest),
         "write" => object_commands::write(alloc, rest),
         "move" => object_commands::move_to(rest),
         "resume" => object_commands::resume(rest),
-        "show" => call_commands::show(rest),
-        "mail" => mail_commands::mail(rest),
-        "bank" => mail_commands::bank(rest),
-        "account" => cluster_commands::account(rest),
         "history" => object_commands::history(rest),
         "sequence" => object_commands::sequence(rest),
         "check" => object_commands::check(alloc, rest),

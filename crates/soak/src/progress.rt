@@ -23,8 +23,10 @@ impl fmt::Display for Progress {
     ghost output = { λ progress. Some (progress_text progress) };
 
     fn fmt<W: fmt::Write>(&self, f: &mut fmt::Formatter<W>) -> fmt::Result {
-        write!(f, "calls {} of {}, ", self.calls, self.all_calls)?;
-        write!(f, "moves {} of {}, ", self.moves, self.all_moves)?;
-        write!(f, "{} s", self.seconds)
+        write!(
+            f,
+            "calls {} of {}, moves {} of {}, {} s",
+            self.calls, self.all_calls, self.moves, self.all_moves, self.seconds
+        )
     }
 }

@@ -17,10 +17,19 @@ pub fn make_setting(alloc: Global) -> Result<Cluster, Refusal>
     ensures refused { IfErr result (λ r. r ≡ NoMemory) }
 {
     let mut cluster = Cluster::new(alloc, SERVERS);
-    add_layouts(&mut cluster)?;
-    cluster.create("a", 0)?;
-    cluster.create("b", 0)?;
+    fill(&mut cluster)?;
     Ok(cluster)
+}
+
+// Adds the layouts and the objects of a soak.
+fn fill(cluster: &mut Cluster) -> Result<(), Refusal>
+    requires { cluster.old ≡ five_servers }
+    ensures filled { OnOk result (cluster.new ≡ setting) }
+    ensures refused { IfErr result (λ r. r ≡ NoMemory) }
+{
+    add_layouts(cluster)?;
+    cluster.create("a", 0)?;
+    cluster.create("b", 0)
 }
 
 // Adds the three layouts of a soak.

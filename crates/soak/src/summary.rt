@@ -78,11 +78,11 @@ impl fmt::Display for Summary {
     ghost output = { λ summary. Some (summary_text summary) };
 
     fn fmt<W: fmt::Write>(&self, f: &mut fmt::Formatter<W>) -> fmt::Result {
-        writeln!(f, "calls {}", self.calls)?;
-        writeln!(f, "receipts {}", self.receipts)?;
-        writeln!(f, "moves {}", self.moves)?;
-        writeln!(f, "check {}", self.check)?;
-        write!(f, "accounts {}", self.accounts)
+        write!(
+            f,
+            "calls {}\nreceipts {}\nmoves {}\ncheck {}\naccounts {}",
+            self.calls, self.receipts, self.moves, self.check, self.accounts
+        )
     }
 }
 
