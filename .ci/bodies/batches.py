@@ -5,7 +5,7 @@ import subprocess
 import tempfile
 from dataclasses import dataclass, replace
 
-from copies import Copy, copies_of, copy_proofs, leave_open
+from copies import Copy, copies_of, copy_proofs, leave_open, without_bodies
 from edits import edited_texts, read
 from kit import ABOVE, rtlib, words_above
 from verdicts import Report, Verdict
@@ -30,6 +30,14 @@ def batches_of(edits):
         else:
             room.append(edit)
     return batches
+
+
+def words_for(crate, edits):
+    """The words by which a check takes apart the functions with edits and those that they call, and no others. Without
+    edits it checks the whole crate."""
+    functions = dict.fromkeys(function for edit in edits for function in edit.functions)
+    names = [f"--only={'::'.join([crate.name, *it.place()])}" for it in functions]
+    return [*names, "--allow-holes"] if edits else []
 
 
 class Trial:
@@ -64,7 +72,7 @@ class Trial:
         given, it proves the whole crate."""
         with tempfile.TemporaryDirectory(prefix="wrong-bodies-") as room, tempfile.TemporaryFile() as said:
             self.prepare(room, texts, edits)
-            words = [*words_above(self.crate, self.jobs), *(["--allow-holes"] if edits else [])]
+            words = words_above(self.crate, self.jobs) + words_for(self.crate, edits)
             whole = [*rtlib.guarded(), rtlib.RATTLE, "check", *words, "--incremental", self.kept]
             run = subprocess.Popen(whole, cwd=room, stdin=subprocess.DEVNULL, stdout=said, stderr=subprocess.STDOUT)
             _, status, used = os.wait4(run.pid, 0)
@@ -83,7 +91,7 @@ class Trial:
 
     def try_batch(self, edits):
         """Tries the edits by one check. Returns the results, and the edits that have to be tried alone."""
-        texts = edited_texts(self.crate.folder, edits)
+        texts = edited_texts(self.crate.folder, [*edits, without_bodies(self.crate.folder, self.without_edit(edits))])
         report = self.check(texts, edits)
         if not report.reached_the_prover() or report.unread(texts):
             has_copies = any(isinstance(it, Copy) for it in edits)
@@ -93,7 +101,8 @@ class Trial:
                 return [], edits
             results, alone = self.try_batch(good)
             return results, alone + bad
-        if report.fails_alone([*self.without_edit(edits), *(function for it in edits for function in it.functions)]):
+        known = [*self.without_edit(edits), *(function for it in edits for function in it.functions)]
+        if report.fails_alone(known) or report.refuses_lemmas(known):
             return [], edits
         results, alone = [], []
         for edit in edits:
@@ -121,6 +130,11 @@ class Trial:
         return told, [it for it in alone if not isinstance(it, Copy)], left
 
     def try_alone(self, edit):
+        """Tries an edit by a check that has no other one, and where that can't tell, by one of the whole crate."""
+        results, _ = self.try_batch([edit]) if edit.is_inside else ([], [])
+        return results[0] if results else self.try_with_all(edit)
+
+    def try_with_all(self, edit):
         """Tries an edit by a check of the whole crate, with all proofs."""
         texts = edited_texts(self.crate.folder, [edit])
         report = self.check(texts, [])
@@ -134,18 +148,28 @@ class Trial:
         told = next((row for row in report.lines if "error" in row), report.lines[-1])
         return Result(edit, verdict or Verdict.UNJUDGED, told)
 
+    def try_batches(self, edits):
+        """Tries the edits by as few checks as have no two of one function. Returns what `try_batch` does."""
+        results, alone = [], []
+        for some in batches_of(edits):
+            judged, left = self.try_batch(some)
+            results += judged
+            alone += left
+        return results, alone
+
     def try_inside(self, edits):
         """The results of edits that lie in functions."""
-        results, alone = [], []
+        results, alone, left = [], [], edits
         batches = batches_of(edits)
         if len(batches) > 1:
             further = [it for some in batches[1:] for it in some]
             results, alone, left = self.try_with_copies(batches[0], further)
-            batches = batches_of(left)
-        for some in batches:
-            judged, left = self.try_batch(some)
-            results += judged
-            alone += left
+        more, others = self.try_batches(left)
+        results, alone = results + more, alone + others
+        if 1 < len(alone) < len(edits):
+            # Most of these call a function whose edit stood in the same check, and which has no body in the next one.
+            more, alone = self.try_batches(alone)
+            results += more
         return results + [self.try_alone(it) for it in alone]
 
     def try_all(self, edits):

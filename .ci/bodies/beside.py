@@ -28,6 +28,9 @@ class Built:
     def share(self):
         return 0.85
 
+    def lanes(self, most):
+        return most
+
 
 class Beside:
     """A run of `rt ci`, whose output goes into a file."""
@@ -55,6 +58,11 @@ class Beside:
         """The part of the free memory that trials may take: as long as `rt ci` runs, it counts on it too."""
         self.look_again()
         return 0.85 if self.has_ended else 0.45
+
+    def lanes(self, most):
+        """How many trials may run at a time: as long as `rt ci` runs, half of the most, since it uses processors too."""
+        self.look_again()
+        return most if self.has_ended else max(1, most // 2)
 
     def wait_for(self, crate):
         """Waits a little, where nothing can be tried, or ends the program where `rt ci` will not prove what is lacking."""

@@ -25,13 +25,17 @@ class Function:
         """The end of the function's name, as a check prints it, behind the modules."""
         return f"{self.owner}::{self.name}" if self.owner else "::".join([*self.module, self.name])
 
+    def place(self):
+        """The modules, the type and the function, as its proofs and a check name them."""
+        return [*self.home, *([self.owner] if self.owner else []), self.name]
+
     def proofs(self):
         """The folder of the function's own proofs."""
-        return "/".join(["proofs", *self.home, *([self.owner] if self.owner else []), self.name])
+        return "/".join(["proofs", *self.place()])
 
     def module_of_proofs(self):
         """The name of the module of the function's proofs, below that of the crate's."""
-        return self.proofs().removeprefix("proofs/").replace("/", ".")
+        return ".".join(self.place())
 
     def is_named(self, crate, printed):
         """Whether a check that prints this name speaks of the function, or of a closure in it."""
@@ -231,3 +235,7 @@ def functions_of(crate):
         ]
         for path, some in tokens.items()
     }
+
+
+def all_functions(crate):
+    return [it for some in functions_of(crate).values() for it in some]

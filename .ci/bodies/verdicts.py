@@ -45,7 +45,7 @@ class Report:
                 rows.append(row)
 
     def reached_the_prover(self):
-        return bool(re.match(r"(logic|holes)=", self.lines[-1])) and not rt.rtlib.STALE.search(self.text)
+        return bool(re.match(r"(logic|only)=", self.lines[-1])) and not rt.rtlib.STALE.search(self.text)
 
     def unread(self, texts):
         """The files of the edited texts that hold a line which the prover could not read."""
@@ -73,6 +73,12 @@ class Report:
         """The functions whose own proof fails besides those known, which have an edit or a hole for their proof."""
         names = {name for it in known for name in self.names_of(it)}
         return [it for it, kind in self.of_functions.items() if kind is Line.FAILS and it not in names]
+
+    def refuses_lemmas(self, known):
+        """Whether a file of definitions or lemmas has an error. Then functions may fail only because they cite it."""
+        rows = re.findall(r"(?m)^(?:\./)?((?:specs|proofs)/\S+?):\d+:\d+: (?:error|`\S+` is not admitted)", self.text)
+        own = tuple(f"{it.proofs()}/" for it in known)
+        return any(not it.startswith(own) for it in rows)
 
     def reasons(self, edit):
         """The lines that say why the edit's functions fail, those that name more than what went away first."""
