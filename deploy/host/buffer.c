@@ -6,9 +6,6 @@
 #include <string.h>
 #include <unistd.h>
 
-/* The room that an empty buffer may keep. */
-enum { KEPT_ROOM = 1 << 18 };
-
 static bool make_room(struct buffer *buffer, size_t count) {
     size_t length = buffer_length(buffer);
     if (count <= buffer->room - buffer->end)

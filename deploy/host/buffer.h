@@ -6,6 +6,9 @@
 #include <stddef.h>
 #include <sys/types.h>
 
+/* The room that an empty buffer may keep. */
+enum { KEPT_ROOM = 1 << 18 };
+
 /* The bytes from `start` to `end` wait. All zeros is an empty buffer. */
 struct buffer {
     char *bytes;

@@ -11,12 +11,16 @@
 enum {
     MOST_UNSENT = 32 << 20,       /* with so many bytes waiting for NATS, frames to nodes are dropped */
     MOST_FOR_CHILD = 32 << 20,    /* with so many bytes waiting for the child, frames from nodes are dropped */
+    FULL_BUNDLE = 64 << 10,       /* with so many bytes for a node, they are sent */
     LONGEST_SUBJECT = 128,
     READ_SIZE = 256 << 10
 };
 
+/* Wakes the loop, where another thread calls this. */
 static void wake(struct bus *bus) {
     uint64_t one = 1;
+    if (pthread_equal(pthread_self(), bus->loop))
+        return;
     if (write(bus->wake, &one, sizeof one) < 0)
         return;  /* the counter is full, so that the loop wakes anyhow */
 }
@@ -119,7 +123,10 @@ static natsStatus secure(natsOptions *to, const struct bus_options *from) {
     return status;
 }
 
-/* Connections that are lost are tried again for ever; one that is silent for some seconds counts as lost. */
+/*
+ * Connections that are lost are tried again for ever; one that is silent for some seconds counts as lost. Without
+ * SendAsap a thread of the library waits for a millisecond before it sends, which each message of a call would pay.
+ */
 static natsStatus set_options(struct bus *bus, const struct bus_options *from) {
     natsOptions *to = bus->options;
     natsStatus status = natsOptions_SetServers(to, (const char *[]){from->url}, 1);
@@ -131,6 +138,8 @@ static natsStatus set_options(struct bus *bus, const struct bus_options *from) {
         status = natsOptions_SetPingInterval(to, 2000);
     if (status == NATS_OK)
         status = natsOptions_SetIOBufSize(to, READ_SIZE);
+    if (status == NATS_OK)
+        status = natsOptions_SetSendAsap(to, true);
     if (status == NATS_OK)
         status = natsOptions_SetRetryOnFailedConnect(to, true, connected, bus);
     if (status == NATS_OK)
@@ -151,6 +160,7 @@ bool bus_open(struct bus *bus, const struct bus_options *options, const char *no
     bus->prefix = options->prefix;
     bus->node = node;
     bus->socket = -1;
+    bus->loop = pthread_self();
     bus->wake = eventfd(0, EFD_NONBLOCK | EFD_CLOEXEC);
     pthread_mutex_init(&bus->lock, NULL);
     natsStatus status = natsOptions_Create(&bus->options);
@@ -179,23 +189,34 @@ void bus_poll(struct bus *bus, struct pollfd *polled) {
     pthread_mutex_unlock(&bus->lock);
 }
 
-/* Hands a message to the child, with the node in its subject as its address. Drops it where it is no frame. */
+/* Hands the frames of a message to the child, with the node in its subject as their address. Drops what is no frame. */
 static bool take_message(struct bus *bus, natsMsg *message, struct child *child) {
     const char *from = natsMsg_GetSubject(message) + strlen(bus->prefix) + 1;
-    size_t length = (size_t)natsMsg_GetDataLength(message);
-    const char *frame = natsMsg_GetData(message);
-    struct scanner scanner = {0};
+    size_t length = (size_t)natsMsg_GetDataLength(message), at = 0;
     char address[LONGEST_ADDRESS];
     uint64_t node;
-    bool good = read_number(from, strcspn(from, "."), &node)
-        && scan(&scanner, frame, length, MOST_STRINGS - 1) == FRAME && scanner.at == length
-        && buffer_length(&child->out) <= MOST_FOR_CHILD;
-    if (!good) {
-        bus->lost++;
-        return true;
+    bool good = length > 0 && read_number(from, strcspn(from, "."), &node);
+    if (good)
+        snprintf(address, sizeof address, "node %" PRIu64, node);
+    while (good && at < length) {
+        const char *frame = natsMsg_GetData(message) + at;
+        struct scanner found = {0};
+        good = scan(&found, frame, length - at, MOST_STRINGS - 1) == FRAME
+            && buffer_length(&child->out) <= MOST_FOR_CHILD;
+        if (good && !child_send(child, address, found.count, frame + found.body, found.at - found.body))
+            return false;
+        at += found.at;
     }
-    snprintf(address, sizeof address, "node %" PRIu64, node);
-    return child_send(child, address, scanner.count, frame + scanner.body, length - scanner.body);
+    if (!good)
+        bus->lost++;
+    return true;
+}
+
+static bool has_unsent(struct bus *bus) {
+    pthread_mutex_lock(&bus->lock);
+    bool writes = bus->writes;
+    pthread_mutex_unlock(&bus->lock);
+    return writes;
 }
 
 bool bus_serve(struct bus *bus, struct child *child, const struct pollfd *polled) {
@@ -206,7 +227,7 @@ bool bus_serve(struct bus *bus, struct child *child, const struct pollfd *polled
         return false;
     if (polled[1].revents & (POLLIN | POLLHUP | POLLERR))
         natsConnection_ProcessReadEvent(bus->connection);
-    if (polled[1].revents & POLLOUT)
+    if (has_unsent(bus))
         natsConnection_ProcessWriteEvent(bus->connection);
     while (taken && natsSubscription_NextMsg(&message, bus->subscription, 0) == NATS_OK) {
         taken = take_message(bus, message, child);
@@ -218,16 +239,55 @@ bool bus_serve(struct bus *bus, struct child *child, const struct pollfd *polled
     return taken && open;
 }
 
-void bus_send(struct bus *bus, uint64_t node, size_t count, const char *body, size_t length) {
+/* Sends the frames that wait for a node as one message, or drops them. */
+static void publish(struct bus *bus, struct bundle *bundle) {
     char subject[LONGEST_SUBJECT];
-    snprintf(subject, sizeof subject, "%s.%s.%" PRIu64, bus->prefix, bus->node, node);
-    bool sent = natsConnection_Buffered(bus->connection) <= MOST_UNSENT && add_head(&bus->message, count, NULL)
-        && buffer_add(&bus->message, body, length)
-        && natsConnection_Publish(bus->connection, subject, buffer_front(&bus->message),
-                                  (int)buffer_length(&bus->message)) == NATS_OK;
-    buffer_drop(&bus->message, buffer_length(&bus->message));
+    struct buffer *frames = &bundle->frames;
+    snprintf(subject, sizeof subject, "%s.%s.%" PRIu64, bus->prefix, bus->node, bundle->node);
+    bool sent = natsConnection_Buffered(bus->connection) <= MOST_UNSENT
+        && natsConnection_Publish(bus->connection, subject, buffer_front(frames), (int)buffer_length(frames)) == NATS_OK;
     if (!sent)
-        bus->lost++;
+        bus->lost += bundle->count;
+    buffer_drop(frames, buffer_length(frames));
+    bundle->count = 0;
+}
+
+void bus_flush(struct bus *bus) {
+    for (size_t place = 0; place < MOST_BUNDLES; place++) {
+        if (bus->bundles[place].count > 0)
+            publish(bus, &bus->bundles[place]);
+    }
+}
+
+/* The frames that wait for a node, or an empty bundle for it. */
+static struct bundle *bundle_for(struct bus *bus, uint64_t node) {
+    struct bundle *empty = NULL;
+    for (size_t place = 0; place < MOST_BUNDLES; place++) {
+        struct bundle *bundle = &bus->bundles[place];
+        if (bundle->count > 0 && bundle->node == node)
+            return bundle;
+        if (bundle->count == 0)
+            empty = bundle;
+    }
+    if (empty == NULL) {
+        bus_flush(bus);
+        empty = &bus->bundles[0];
+    }
+    empty->node = node;
+    return empty;
+}
+
+void bus_send(struct bus *bus, uint64_t node, size_t count, const char *body, size_t length) {
+    struct bundle *bundle = bundle_for(bus, node);
+    size_t before = buffer_length(&bundle->frames);
+    if (before > 0 && before + length > FULL_BUNDLE)
+        publish(bus, bundle);
+    bundle->count++;
+    if (!add_head(&bundle->frames, count, NULL) || !buffer_add(&bundle->frames, body, length)) {
+        bus->lost += bundle->count;
+        bundle->count = 0;
+        buffer_free(&bundle->frames);
+    }
 }
 
 void bus_report(struct bus *bus) {
@@ -243,7 +303,8 @@ void bus_close(struct bus *bus) {
     natsConnection_Destroy(bus->connection);
     natsOptions_Destroy(bus->options);
     nats_CloseAndWait(1000);
-    buffer_free(&bus->message);
+    for (size_t place = 0; place < MOST_BUNDLES; place++)
+        buffer_free(&bus->bundles[place].frames);
     close(bus->wake);
     pthread_mutex_destroy(&bus->lock);
 }

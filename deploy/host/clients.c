@@ -75,7 +75,7 @@ static bool takes_more(const struct client *client, const struct child *child) {
 nfds_t clients_poll(struct clients *clients, const struct child *child, struct pollfd *polled) {
     nfds_t count = 1;
     polled[0] = (struct pollfd){.fd = clients->paused ? -1 : clients->listener, .events = POLLIN};
-    for (size_t slot = 0; slot < MOST_CLIENTS; slot++) {
+    for (size_t slot = 0; slot < clients->top; slot++) {
         struct client *client = clients->slots[slot];
         if (client == NULL)
             continue;
@@ -115,6 +115,8 @@ static void accept_client(struct clients *clients) {
     client->number = ++clients->opened * MOST_CLIENTS + slot;
     client->place = MOST_POLLED;
     clients->slots[slot] = client;
+    if (slot == clients->top)
+        clients->top++;
 }
 
 static bool send_frame(const struct client *client, struct child *child) {
@@ -192,6 +194,8 @@ static bool write_client(struct client *client) {
 
 static void free_client(struct clients *clients, struct client *client) {
     clients->slots[client->number % MOST_CLIENTS] = NULL;
+    while (clients->top > 0 && clients->slots[clients->top - 1] == NULL)
+        clients->top--;
     close(client->descriptor);
     buffer_free(&client->in);
     buffer_free(&client->out);
@@ -221,9 +225,10 @@ static bool serve_client(struct clients *clients, struct client *client, struct 
 bool clients_serve(struct clients *clients, struct child *child, const struct pollfd *polled, nfds_t count) {
     if (polled[0].revents & POLLIN)
         accept_client(clients);
-    clients->first = (clients->first + 1) % MOST_CLIENTS;
-    for (size_t turn = 0; turn < MOST_CLIENTS; turn++) {
-        struct client *client = clients->slots[(clients->first + turn) % MOST_CLIENTS];
+    size_t top = clients->top;
+    clients->first++;
+    for (size_t turn = 0; turn < top; turn++) {
+        struct client *client = clients->slots[(clients->first + turn) % top];
         if (client == NULL)
             continue;
         short events = client->place < count ? polled[client->place].revents : 0;
@@ -258,7 +263,7 @@ bool clients_answer(struct clients *clients, uint64_t number, const char *frame,
 
 void clients_tick(struct clients *clients) {
     clients->paused = false;
-    for (size_t slot = 0; slot < MOST_CLIENTS; slot++) {
+    for (size_t slot = 0; slot < clients->top; slot++) {
         struct client *client = clients->slots[slot];
         if (client != NULL && (client->state == CLOSING || client->state == LINGERING) && --client->patience == 0)
             client->state = BROKEN;
@@ -266,9 +271,7 @@ void clients_tick(struct clients *clients) {
 }
 
 void clients_close(struct clients *clients) {
-    for (size_t slot = 0; slot < MOST_CLIENTS; slot++) {
-        if (clients->slots[slot] != NULL)
-            free_client(clients, clients->slots[slot]);
-    }
+    while (clients->top > 0)
+        free_client(clients, clients->slots[clients->top - 1]);
     close(clients->listener);
 }

@@ -15,7 +15,8 @@ struct clients {
     bool paused;  /* no connection is accepted until the next tick, because the last try failed */
     struct client *slots[MOST_CLIENTS];
     uint64_t opened;  /* connections so far */
-    size_t first;     /* the slot that is served first in this turn */
+    size_t top;       /* all slots from this one on are free */
+    size_t first;     /* the slots that are served first change from turn to turn */
 };
 
 /* Listens; says at which port, since port 0 stands for any free one. */

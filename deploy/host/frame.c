@@ -1,6 +1,5 @@
 #include "frame.h"
 
-#include <stdio.h>
 #include <string.h>
 
 /* Reads a line such as "$5\r\n" at `at`. The `next` place is behind it. */
@@ -73,12 +72,33 @@ const char *string_at(const char *bytes, size_t at, size_t *length, size_t *next
     return bytes + start;
 }
 
+/* Writes a line such as "$5\r\n", and returns the place behind it. */
+static char *put_line(char *to, char type, size_t number) {
+    char digits[20];
+    size_t count = 0;
+    do
+        digits[count++] = (char)('0' + number % 10);
+    while ((number /= 10) > 0);
+    *to++ = type;
+    while (count > 0)
+        *to++ = digits[--count];
+    *to++ = '\r';
+    *to++ = '\n';
+    return to;
+}
+
 bool add_head(struct buffer *buffer, size_t count, const char *address) {
-    char head[64 + LONGEST_ADDRESS];
-    int length = snprintf(head, sizeof head, "*%zu\r\n", count);
-    if (address != NULL)
-        length = snprintf(head, sizeof head, "*%zu\r\n$%zu\r\n%s\r\n", count + 1, strlen(address), address);
-    return buffer_add(buffer, head, (size_t)length);
+    char head[64 + LONGEST_ADDRESS], *end;
+    if (address == NULL) {
+        end = put_line(head, '*', count);
+    } else {
+        size_t length = strlen(address);
+        end = put_line(put_line(head, '*', count + 1), '$', length);
+        memcpy(end, address, length);
+        memcpy(end + length, "\r\n", 2);
+        end += length + 2;
+    }
+    return buffer_add(buffer, head, (size_t)(end - head));
 }
 
 bool read_number(const char *digits, size_t length, uint64_t *number) {

@@ -19,7 +19,7 @@
 #include <unistd.h>
 
 enum { SIGNALS, TIMER, FROM_CHILD, TO_CHILD, BUS, CLIENTS = BUS + 2 };
-enum { ONE_READ = 1 << 20, TICKS_OF_A_REPORT = 100 };
+enum { ONE_READ = KEPT_ROOM, TICKS_OF_A_REPORT = 100 };
 
 /* What the loop goes on with: it runs, it was told to stop, the child ended, or something failed that was reported. */
 enum course { RUNS, STOPS, ENDED, FAILS };
@@ -60,7 +60,7 @@ static bool route(struct host *host, const char *frame, const struct scanner *fo
 }
 
 /* Reads what the child wrote, and routes the frames that are whole. */
-static enum course read_child(struct host *host) {
+static enum course route_all(struct host *host) {
     struct child *child = &host->child;
     ssize_t count = buffer_read(&child->in, child->from, ONE_READ);
     if (count == 0)
@@ -80,6 +80,12 @@ static enum course read_child(struct host *host) {
         buffer_drop(&child->in, child->scanner.at);
         child->scanner = (struct scanner){0};
     }
+}
+
+static enum course read_child(struct host *host) {
+    enum course course = route_all(host);
+    bus_flush(&host->bus);
+    return course;
 }
 
 static bool tick(struct host *host) {

@@ -110,7 +110,7 @@ class BadMessages(unittest.TestCase):
 
     def test_messages_that_are_no_frames(self):
         source, good = random.Random(9), encode([b"stored", b"1.1.1"])
-        datas = [b"", b"hello", good[:-1], good + b"x", good + good, source.randbytes(100000), *MALFORMED]
+        datas = [b"", b"hello", good[:-1], good + b"x", source.randbytes(100000), *MALFORMED]
         self.publish([(b"cas.2.1", data) for data in datas])
         nobody = (b"x", b"02", b"-2", b"99999999999999999999")
         self.publish([(b"cas.%b.1" % name, good) for name in nobody])
@@ -118,6 +118,25 @@ class BadMessages(unittest.TestCase):
             for n in range(20):
                 self.assertEqual(client.ask(b"SET", b"behind", b"%d" % n), b"+OK")
                 self.assertEqual(client.ask(b"GET", b"behind"), b"%d" % n)
+
+    def dropped(self, client):
+        """How many frames the node program has dropped since it started, or None where it does not say so."""
+        lines = dict(line.split(b":") for line in client.ask(b"INFO").split(b"\r\n") if line)
+        return int(lines[b"frames_dropped"]) if b"frames_dropped" in lines else None
+
+    def test_frames_of_one_message(self):
+        """Three frames of one message reach the node program, and so does the whole one before a frame that is cut. It
+        drops each, since it is from no node of its cluster."""
+        frame = encode([b"stored", b"1.1.1"])
+        with Connection(PORTS[1]) as client:
+            before = self.dropped(client)
+            if before is None:
+                self.skipTest("the node program does not say how many frames it dropped")
+            self.publish([(b"cas.3.2", 3 * frame), (b"cas.3.2", frame + frame[:-1])])
+            end = time.monotonic() + 30
+            while self.dropped(client) < before + 4 and time.monotonic() < end:
+                time.sleep(0.05)
+            self.assertEqual(self.dropped(client), before + 4)
 
 
 class Sessions(unittest.TestCase):

@@ -8,8 +8,8 @@ PATIENCE = 30
 
 
 class Connection:
-    def __init__(self, port):
-        self.socket = socket.create_connection(("127.0.0.1", port), timeout=PATIENCE)
+    def __init__(self, port, address="127.0.0.1"):
+        self.socket = socket.create_connection((address, port), timeout=PATIENCE)
         self.file = self.socket.makefile("rb")
 
     def __enter__(self):
@@ -38,14 +38,16 @@ class Connection:
         return self.answer()
 
     def answer(self):
-        """The next answer as it came, without the last line end; a bulk string as its bytes; None at the end."""
+        """The next answer as it came, without the last line end; a bulk string as its bytes; None where the connection
+        ended before the whole answer came."""
         line = self.file.readline()
-        if not line:
+        if line[-1:] != b"\n":
             return None
         if line[:1] != b"$":
             return line[:-2]
         length = int(line[1:])
-        return self.file.read(length + 2)[:-2]
+        data = self.file.read(length + 2)
+        return data[:-2] if len(data) == length + 2 else None
 
     def rest(self):
         """All bytes until the other side ends the connection."""

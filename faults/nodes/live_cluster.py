@@ -1,0 +1,184 @@
+"""A cluster over NATS in real time: the processes of its nodes and of its NATS servers, which a test kills and starts."""
+import fcntl
+import os
+import shutil
+import signal
+import socket
+import subprocess
+import sys
+import time
+from pathlib import Path
+
+TOP = Path(__file__).resolve().parent.parent.parent
+sys.path.append(str(TOP / "deploy" / "test"))
+
+from connection import Connection  # noqa: E402
+
+PATIENCE = 60
+LOOPBACK = "127.0.0.1"
+
+SERVER = """server_name: nats{number}
+host: {address}
+port: {port}
+max_payload: 33554432
+max_pending: 134217728
+ping_interval: "1s"
+ping_max: 3
+write_deadline: "5s"
+"""
+ROUTES = """cluster {{
+    name: live
+    host: {address}
+    port: 6222
+    no_advertise: true
+    routes: [{routes}]
+}}
+"""
+
+
+class Broken(Exception):
+    """A process did what no fault of the test explains."""
+
+
+def free_ports(count):
+    """Ports of the loopback address that nobody uses now."""
+    taken = [socket.create_server((LOOPBACK, 0)) for _ in range(count)]
+    ports = [one.getsockname()[1] for one in taken]
+    for one in taken:
+        one.close()
+    return ports
+
+
+class Process:
+    """A process that can be started again; what it says goes to the end of a file."""
+
+    def __init__(self, words, said):
+        self.words, self.said, self.child = [str(word) for word in words], Path(said), None
+
+    def start(self):
+        with open(self.said, "ab") as said:
+            self.child = subprocess.Popen(self.words, stdin=subprocess.DEVNULL, stdout=said, stderr=said)
+
+    def end(self, number=signal.SIGKILL):
+        if self.child is not None:
+            self.child.send_signal(number)
+            self.child.wait(PATIENCE)
+            self.child = None
+
+    def runs(self):
+        return self.child is not None and self.child.poll() is None
+
+
+class LiveCluster:
+    """Nodes 1 to `count`, all on loopback addresses with one NATS server between them. Another network may give each
+    node a machine of its own: `address_of` and `words_on` say where it is and how a command runs there."""
+
+    def __init__(self, options, folder, network=None, ticks=50):
+        self.count, self.folder, self.network = options.nodes, Path(folder), network
+        self.program, self.host = options.program, options.host
+        self.numbers = range(1, self.count + 1)
+        self.file = self.folder / "cluster"
+        with open(self.file, "wb") as output:
+            subprocess.run([TOP / "deploy" / "cluster-file", str(self.count), str(ticks)], check=True, stdout=output)
+        if network is None:
+            self.nats_ports = free_ports(1)
+            self.ports = dict(zip(self.numbers, free_ports(self.count)))
+        else:
+            self.nats_ports = [4222] * self.count
+            self.ports = dict.fromkeys(self.numbers, 7000)
+        self.relays = {}  # of a node, the port through which it reaches its NATS server
+        self.servers = [self.make_server(index) for index in range(len(self.nats_ports))]
+        self.nodes = {}
+
+    def address_of(self, number):
+        return LOOPBACK if self.network is None else self.network.address_of(number)
+
+    def words_on(self, number):
+        return [] if self.network is None else self.network.words_on(number)
+
+    def make_server(self, index):
+        number = index + 1
+        text = SERVER.format(number=number, address=self.address_of(number), port=self.nats_ports[index])
+        if self.network is not None:
+            others = [f"nats://{self.address_of(other)}:6222" for other in self.numbers if other != number]
+            text += ROUTES.format(address=self.address_of(number), routes=", ".join(others))
+        path = self.folder / f"nats-{number}.conf"
+        path.write_text(text)
+        return Process([*self.words_on(number), "nats-server", "-c", path], self.folder / f"nats-{number}.log")
+
+    def make_node(self, number):
+        (self.folder / f"node-{number}").mkdir(exist_ok=True)
+        index = 0 if self.network is None else number - 1
+        port = self.relays.get(number, self.nats_ports[index])
+        return Process([*self.words_on(number), self.host, "--node", number, "--cluster", self.file,
+                        "--folder", self.folder / f"node-{number}", "--program", self.program,
+                        "--listen", self.address_of(number), "--port", self.ports[number],
+                        "--nats", f"nats://{self.address_of(number)}:{port}"], self.folder / f"node-{number}.log")
+
+    def start(self):
+        for server in self.servers:
+            server.start()
+        for number in self.numbers:
+            self.nodes[number] = self.make_node(number)
+            self.nodes[number].start()
+
+    def stop(self):
+        for process in [*self.nodes.values(), *self.servers]:
+            process.end(signal.SIGTERM)
+
+    def kill(self, number):
+        """Kills the host; the system then kills the node program, whose lock on its folder says when it has ended."""
+        self.nodes[number].end()
+        folder = os.open(self.folder / f"node-{number}", os.O_RDONLY)
+        fcntl.flock(folder, fcntl.LOCK_EX)
+        os.close(folder)
+
+    def kill_program(self, number):
+        """Kills the node program; the host then ends by itself."""
+        host = self.nodes[number].child
+        children = Path(f"/proc/{host.pid}/task/{host.pid}/children").read_text().split()
+        for child in children:
+            os.kill(int(child), signal.SIGKILL)
+        host.wait(PATIENCE)
+        self.kill(number)
+
+    def start_node(self, number):
+        self.nodes[number].start()
+
+    def has_ended(self, number):
+        """Whether the node has ended by itself."""
+        return not self.nodes[number].runs()
+
+    def connect(self, number):
+        return Connection(self.ports[number], self.address_of(number))
+
+    def wait_for_answer(self, number, words=(b"PING",), wanted=None):
+        """Asks the node until it answers, and with `wanted` until it answers that."""
+        end, answer = time.monotonic() + PATIENCE, None
+        while time.monotonic() < end:
+            try:
+                with self.connect(number) as client:
+                    answer = client.ask(*words)
+            except OSError:
+                answer = None
+            if answer is not None and wanted in (None, answer):
+                return answer
+            time.sleep(0.1)
+        raise Broken(f"node {number} does not answer {words[0].decode()} as it should within {PATIENCE} s: {answer}")
+
+    def wait_for_all(self):
+        """Until a write through each node succeeds."""
+        for number in self.numbers:
+            self.wait_for_answer(number, (b"SET", b"started", b"%d" % number), b"+OK")
+
+    def said_by(self, number):
+        return self.nodes[number].said.read_text(errors="replace")
+
+    def faults_said(self):
+        """What a sanitizer or the node program said that no fault of a test explains."""
+        words = ("Sanitizer", "runtime error", "panicked", "the log, from byte")
+        said = [line for number in self.numbers for line in self.said_by(number).split("\n")]
+        return [line for line in said if any(word in line for word in words)]
+
+    def remove(self):
+        shutil.rmtree(self.folder, ignore_errors=True)
